@@ -1,0 +1,54 @@
+-- The meet, of one mixture by one, and by the sieve.
+use Prim.Native.Nat.{ℕ, zero, suc, _+_, _-_, _*_, _^_, _≤_, _<_}
+use mathlib.Core.Path.{_≡_, refl, sym, ap, ap₂, _∙_}
+use mathlib.Core.Bool.{true, false}
+use mathlib.Core.List.{List, [], _∷_, _++_}
+use native.Mathlib.Omega.{arith}
+use lib.Bits.{bitAnd}
+use lib.ListN.{length, getD, take, length-take}
+use lib.Seq.{length-take-le}
+use mathlib.Core.Logic.{⊎-elim}
+use Rattle.rules.proofs.MeetAll.{normal-one}
+use Rattle.rules.proofs.RuleLaws.{elem-none, elem-cases, meet-comm, meet-unrestricted}
+use Rattle.rules.specs.Order.{Within}
+use Rattle.rules.specs.Rules.{normal, meet, intersections, unrestricted}
+use Rattle.rules.specs.Answers.{boundedOf}
+use Rattle.rules.specs.declared.Bounded.{Bounded}
+use Rattle.rules.specs.Sieve.{top, Listed}
+
+-- a list of one number
+pub single : (l : List ℕ) → length l ≡ 1 → l ≡ getD l 0 0 ∷ []
+single [] e = absurd (omega arith)
+single (x ∷ []) e = refl
+single (x ∷ y ∷ l) e = absurd (omega arith)
+
+pub meet-one : (r s : List ℕ) → length r ≡ 1 → length s ≡ 1 → bitAnd (getD r 0 0) (getD s 0 0) ∷ [] ≡ meet r s
+unfolding meet intersections
+meet-one r s e f =
+    sym (normal-one (bitAnd (getD r 0 0) (getD s 0 0)))
+    ∙ sym (ap₂ (λ (a b : List ℕ). normal (intersections a b)) (single r e) (single s f))
+
+-- what was listed is what the sieve is given
+pub listed-fits : (p a b : List ℕ) (n k : ℕ) → Listed p a b n k → n ≤ length b
+listed-fits p a b n k w = let e : length (take n b) ≡ n = ap length (w .words) ∙ sym (w .count) in by (e)
+  where
+    by : length (take n b) ≡ n → n ≤ length b
+    by e = omega (arith, e, length-take n b)
+
+pub meet-bounded : (r s a b : List ℕ) (n k : ℕ) (m : Bounded) → Listed (intersections r s) a b n k → m ≡ boundedOf (normal (take n b)) → m ≡ boundedOf (meet r s)
+unfolding meet
+meet-bounded r s a b n k m w e = e ∙ ap (λ (l : List ℕ). boundedOf (normal l)) (w .words)
+
+pub listed-top : (p a b : List ℕ) (n k : ℕ) → Listed p a b n k → k ≡ top (take n b)
+listed-top p a b n k w = w .most ∙ ap top (sym (w .words))
+
+-- elements below 2 to the w
+pub within-getD : (w : ℕ) (r : List ℕ) → ((k : ℕ) → getD r k 0 < 2 ^ w) → Within w r
+within-getD w [] h m e = elem-none m e
+within-getD w (n ∷ r) h m e =
+    ⊎-elim (λ q. rw q (h 0)) (λ q. within-getD w r (λ k. h (suc k)) m q) (elem-cases m n r e)
+
+-- the normal form, as the meet with the rule of all 64 atoms
+pub meet-all-atoms : (r : List ℕ) → ((k : ℕ) → getD r k 0 < 2 ^ 64) → meet (18446744073709551615 ∷ []) r ≡ normal r
+unfolding unrestricted
+meet-all-atoms r h = meet-comm (18446744073709551615 ∷ []) r ∙ meet-unrestricted 64 r (within-getD 64 r h)
