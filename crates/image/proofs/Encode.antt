@@ -1,0 +1,307 @@
+-- The bytes of a sound policy are accepted, and spell that policy.
+use Prim.Native.Nat.{ℕ, zero, suc, _+_, _*_, _/_, _%_, _^_, _≤_, _<_}
+use mathlib.Core.Path.{_≡_, refl, sym, ap, ap₂, _∙_}
+use mathlib.Core.Bool.{Bool, true, false, cond, _&&_, _||_}
+use mathlib.Core.List.{List, [], _∷_, _++_, map, append-assoc, append-nil}
+use mathlib.Core.Logic.{_⊎_, inl, inr, ⊎-elim}
+use native.Mathlib.Omega.{arith}
+use native.Mathlib.Nat.{mul-mod-left, mul-div-cancel}
+use lib.Dec.{eqb, leb, ltb}
+use lib.ListN.{length, getD, take, drop, length-append, length-map}
+use lib.Seq.{take-at, drop-at, take-append-seam}
+use borrow.Author.Tests.{eq-eqb, le-leb, lt-ltb, ltb-true, eqb-true, leb-true}
+use Rattle.rules.proofs.Bools.{and-in, and-0, and-1, or-cases}
+use Rattle.rules.specs.Answers.{dataWidth}
+use Rattle.image.specs.Limits.{isFile, isVolatile, isProcess, unrestrictedNumber, noAtom}
+use Rattle.image.specs.Bytes.{numberIn, bytesOf, field, records, every, joined, Bytes}
+use Rattle.image.specs.Policy.{Container, Policy, named, containerGood, ruleGood, Sound}
+use Rattle.image.specs.Image.{Span, containerIn, spanIn, ruleIn, containersIn, usersIn, spansIn, mixturesIn, rulesIn, policyIn, part, wholeGood, sectionsGood, spansGood, rulesGood, containersGood, usersGood, checkOf, Reading, accepted, judged, readImage, pairsGood, lengthGood}
+use Rattle.image.specs.Normal.{containerBytes, spanBytes, spansOf, pair, header, framed, encode}
+use Rattle.image.proofs.Lists.{every-0, every-1, every-nil, every-cons, every-imp, every-append}
+use Rattle.image.proofs.ByteLaws.{bytes-length, number-bytes, joined-length, section-back, byte, bytes-byte, joined-byte, every-bytes}
+use Rattle.image.proofs.Frame.{part-0, part-1, part-2, part-3, frame-length, frame-long, frame-pairs}
+
+-- ---- one record
+
+named-fits : (n r : ℕ) → n ≤ 256 → named n r ≡ true → r < 65536
+unfolding named
+named-fits n r h k = ⊎-elim (λ p. omega (arith, ltb-true r n p)) (λ p. omega (arith, eqb-true r unrestrictedNumber p)) (or-cases (ltb r n) k)
+
+record Fits (c : Container) : Type 0 where
+  kind : c .kind < 256
+  atom : c .atom < 256
+  permit : c .permit < 65536
+  run : c .run < 65536
+
+container-fits : (n : ℕ) (c : Container) → n ≤ 256 → containerGood n c ≡ true → Fits c
+unfolding containerGood isFile isVolatile isProcess
+container-fits n c h = by (isFile (c .kind)) refl
+  where
+    file : isFile (c .kind) ≡ true → ((ltb (c .atom) dataWidth || eqb (c .atom) noAtom) && (named n (c .permit) && named n (c .run))) ≡ true → Fits c
+    file e k =
+        let g : (named n (c .permit) && named n (c .run)) ≡ true = and-1 (ltb (c .atom) dataWidth || eqb (c .atom) noAtom) k in
+        record {
+          kind = omega (arith, eqb-true (c .kind) 1 e);
+          atom = ⊎-elim (λ p. omega (arith, ltb-true (c .atom) 32 p)) (λ p. omega (arith, eqb-true (c .atom) 255 p)) (or-cases (ltb (c .atom) dataWidth) (and-0 (ltb (c .atom) dataWidth || eqb (c .atom) noAtom) (named n (c .permit) && named n (c .run)) k));
+          permit = named-fits n (c .permit) h (and-0 (named n (c .permit)) (named n (c .run)) g);
+          run = named-fits n (c .run) h (and-1 (named n (c .permit)) g);
+        }
+
+    other : ((isVolatile (c .kind) || isProcess (c .kind)) && (eqb (c .atom) noAtom && (eqb (c .permit) unrestrictedNumber && eqb (c .run) unrestrictedNumber))) ≡ true → Fits c
+    other k =
+        let g : (eqb (c .atom) noAtom && (eqb (c .permit) unrestrictedNumber && eqb (c .run) unrestrictedNumber)) ≡ true = and-1 (isVolatile (c .kind) || isProcess (c .kind)) k in
+        let f : (eqb (c .permit) unrestrictedNumber && eqb (c .run) unrestrictedNumber) ≡ true = and-1 (eqb (c .atom) noAtom) g in
+        record {
+          kind = ⊎-elim (λ p. omega (arith, eqb-true (c .kind) 2 p)) (λ p. omega (arith, eqb-true (c .kind) 3 p)) (or-cases (isVolatile (c .kind)) (and-0 (isVolatile (c .kind) || isProcess (c .kind)) (eqb (c .atom) noAtom && (eqb (c .permit) unrestrictedNumber && eqb (c .run) unrestrictedNumber)) k));
+          atom = omega (arith, eqb-true (c .atom) 255 (and-0 (eqb (c .atom) noAtom) (eqb (c .permit) unrestrictedNumber && eqb (c .run) unrestrictedNumber) g));
+          permit = omega (arith, eqb-true (c .permit) unrestrictedNumber (and-0 (eqb (c .permit) unrestrictedNumber) (eqb (c .run) unrestrictedNumber) f));
+          run = omega (arith, eqb-true (c .run) unrestrictedNumber (and-1 (eqb (c .permit) unrestrictedNumber) f));
+        }
+
+    by : (b : Bool) → isFile (c .kind) ≡ b → cond b ((ltb (c .atom) dataWidth || eqb (c .atom) noAtom) && (named n (c .permit) && named n (c .run))) ((isVolatile (c .kind) || isProcess (c .kind)) && (eqb (c .atom) noAtom && (eqb (c .permit) unrestrictedNumber && eqb (c .run) unrestrictedNumber))) ≡ true → Fits c
+    by true e k = file e k
+    by false e k = other k
+
+container-back : (n : ℕ) → n ≤ 256 → (c : Container) → containerGood n c ≡ true → containerIn (containerBytes c) ≡ c
+unfolding containerIn containerBytes field numberIn bytesOf
+container-back n h c k =
+    let f : Fits c = container-fits n c h k in
+    let e0 : c .kind % 256 + 256 * 0 ≡ c .kind = omega arith in
+    let e1 : c .atom % 256 + 256 * 0 ≡ c .atom = omega arith in
+    let e2 : c .permit % 256 + 256 * (c .permit / 256 % 256 + 256 * 0) ≡ c .permit = omega arith in
+    let e3 : c .run % 256 + 256 * (c .run / 256 % 256 + 256 * 0) ≡ c .run = omega arith in
+    λ i. record { kind = e0 i; atom = e1 i; permit = e2 i; run = e3 i }
+
+container-wide : (c : Container) → length (containerBytes c) ≡ 6
+unfolding containerBytes bytesOf
+container-wide c = refl
+
+span-wide : (r : Span) → length (spanBytes r) ≡ 4
+unfolding spanBytes bytesOf
+span-wide r = refl
+
+spanFits : Span → Bool
+spanFits r = ltb (r .first) 65536 && ltb (r .count) 65536
+
+span-back : (r : Span) → spanFits r ≡ true → spanIn (spanBytes r) ≡ r
+unfolding spanIn spanBytes field numberIn bytesOf spanFits
+span-back r k =
+    let f : r .first < 65536 = ltb-true (r .first) 65536 (and-0 (ltb (r .first) 65536) (ltb (r .count) 65536) k) in
+    let g : r .count < 65536 = ltb-true (r .count) 65536 (and-1 (ltb (r .first) 65536) k) in
+    let e0 : r .first % 256 + 256 * (r .first / 256 % 256 + 256 * 0) ≡ r .first = omega arith in
+    let e1 : r .count % 256 + 256 * (r .count / 256 % 256 + 256 * 0) ≡ r .count = omega arith in
+    λ i. record { first = e0 i; count = e1 i }
+
+-- ---- the rules and their mixtures
+
+short : (r : List ℕ) → ruleGood r ≡ true → length r ≤ 8
+unfolding ruleGood
+short r h = leb-true (length r) 8 (and-0 (leb (length r) 8) (every (λ m. ltb m (2 ^ 64)) r) h)
+
+joined-short : (rules : List (List ℕ)) → every ruleGood rules ≡ true → length (joined rules) ≤ 8 * length rules
+unfolding joined
+joined-short [] h = omega arith
+joined-short (r ∷ rules) h =
+    let e : length (r ++ joined rules) ≡ length r + length (joined rules) = length-append r (joined rules) in
+    omega (arith, short r (every-0 ruleGood r rules h), joined-short rules (every-1 ruleGood r rules h))
+
+joined-words : (rules : List (List ℕ)) → every ruleGood rules ≡ true → every (λ m. ltb m (2 ^ 64)) (joined rules) ≡ true
+unfolding joined ruleGood
+joined-words [] h = every-nil (λ m. ltb m (2 ^ 64))
+joined-words (r ∷ rules) h =
+    every-append (λ m. ltb m (2 ^ 64)) r (joined rules) (and-1 (leb (length r) 8) (every-0 ruleGood r rules h)) (joined-words rules (every-1 ruleGood r rules h))
+
+pub spans-length : (first : ℕ) (rules : List (List ℕ)) → length (spansOf first rules) ≡ length rules
+unfolding spansOf
+spans-length first [] = refl
+spans-length first (r ∷ rules) = ap suc (spans-length (first + length r) rules)
+
+spans-fit : (first : ℕ) (rules : List (List ℕ)) → first + length (joined rules) < 65536 → every spanFits (spansOf first rules) ≡ true
+unfolding spansOf joined spanFits
+spans-fit first [] h = every-nil spanFits
+spans-fit first (r ∷ rules) h =
+    let e : length (r ++ joined rules) ≡ length r + length (joined rules) = length-append r (joined rules) in
+    every-cons spanFits (record { first = first; count = length r }) (spansOf (first + length r) rules)
+    (and-in (lt-ltb first 65536 (omega arith)) (lt-ltb (length r) 65536 (omega arith)))
+    (spans-fit (first + length r) rules (omega arith))
+
+spans-good : (m from first : ℕ) (rules : List (List ℕ)) → from ≤ first → first + length (joined rules) ≤ m → every ruleGood rules ≡ true → spansGood m from (spansOf first rules) ≡ true
+unfolding spansGood spansOf joined
+spans-good m from first [] l h k = refl
+spans-good m from first (r ∷ rules) l h k =
+    let e : length (r ++ joined rules) ≡ length r + length (joined rules) = length-append r (joined rules) in
+    and-in (le-leb from first l)
+    (and-in (le-leb (length r) 8 (short r (every-0 ruleGood r rules k)))
+    (and-in (le-leb (first + length r) m (omega arith))
+    (spans-good m first (first + length r) rules (omega arith) (omega arith) (every-1 ruleGood r rules k))))
+
+-- rules that are written one behind the other are read back
+rules-back : (rules : List (List ℕ)) (p q : List ℕ) (first : ℕ) → length p ≡ first → q ≡ p ++ joined rules → map (ruleIn q) (spansOf first rules) ≡ rules
+unfolding spansOf joined ruleIn
+rules-back [] p q first e f = refl
+rules-back (r ∷ rules) p q first e f =
+    ap₂ _∷_ (ap (λ (x : List ℕ). take (length r) (drop first x)) f ∙ ap (take (length r)) (drop-at p (r ++ joined rules) first e) ∙ take-append-seam r (joined rules))
+    (rules-back rules (p ++ r) q (first + length r) (length-append p r ∙ omega (arith, e)) (f ∙ sym (append-assoc p r (joined rules))))
+
+-- ---- the whole image
+
+whole : (w most n : ℕ) (s : List ℕ) → 0 < w → length s ≡ n * w → n ≤ most → wholeGood w most s ≡ true
+unfolding wholeGood
+whole w most n s h e l =
+    and-in (eq-eqb (length s % w) 0 (ap (λ (x : ℕ). x % w) e ∙ mul-mod-left n w))
+    (le-leb (length s / w) most (omega (arith, ap (λ (x : ℕ). x / w) e ∙ mul-div-cancel n h)))
+
+module _ (p : Policy) (h : Sound p) where
+  c : List ℕ
+  c = joined (map containerBytes (p .containers))
+
+  c-length : length c ≡ length (p .containers) * 6
+  unfolding c
+  c-length = joined-length 6 containerBytes container-wide (p .containers)
+
+  c-back : containersIn c ≡ p .containers
+  unfolding c containersIn
+  c-back = section-back 6 containerBytes container-wide (omega arith) (containerGood (length (p .rules))) containerIn (container-back (length (p .rules)) (h .fewRules)) (p .containers) (h .containersGood)
+
+  u : List ℕ
+  u = joined (map (bytesOf 2) (p .users))
+
+  u-length : length u ≡ length (p .users) * 2
+  unfolding u
+  u-length = joined-length 2 (bytesOf 2) (bytes-length 2) (p .users)
+
+  u-back : usersIn u ≡ p .users
+  unfolding u usersIn
+  u-back =
+      section-back 2 (bytesOf 2) (bytes-length 2) (omega arith) (named (length (p .rules))) numberIn
+      (λ n k. number-bytes 2 n (named-fits (length (p .rules)) n (h .fewRules) k)) (p .users) (h .usersGood)
+
+  r : List ℕ
+  r = joined (map spanBytes (spansOf 0 (p .rules)))
+
+  r-length : length r ≡ length (p .rules) * 4
+  unfolding r
+  r-length = joined-length 4 spanBytes span-wide (spansOf 0 (p .rules)) ∙ ap (λ (n : ℕ). n * 4) (spans-length 0 (p .rules))
+
+  all-short : length (joined (p .rules)) ≤ 2048
+  all-short = omega (arith, joined-short (p .rules) (h .rulesGood), h .fewRules)
+
+  r-back : spansIn r ≡ spansOf 0 (p .rules)
+  unfolding r spansIn
+  r-back = section-back 4 spanBytes span-wide (omega arith) spanFits spanIn span-back (spansOf 0 (p .rules)) (spans-fit 0 (p .rules) (omega (arith, all-short)))
+
+  m : List ℕ
+  m = joined (map (bytesOf 8) (joined (p .rules)))
+
+  m-length : length m ≡ length (joined (p .rules)) * 8
+  unfolding m
+  m-length = joined-length 8 (bytesOf 8) (bytes-length 8) (joined (p .rules))
+
+  m-back : mixturesIn m ≡ joined (p .rules)
+  unfolding m mixturesIn
+  m-back =
+      section-back 8 (bytesOf 8) (bytes-length 8) (omega arith) (λ n. ltb n (2 ^ 64)) numberIn
+      (λ n k. number-bytes 8 n (omega (arith, ltb-true n (2 ^ 64) k))) (joined (p .rules)) (joined-words (p .rules) (h .rulesGood))
+
+  fits : length c + length u + length r + length m ≤ 20462
+  fits = omega (arith, c-length, u-length, r-length, m-length, all-short, h .fewContainers, h .fewUsers, h .fewRules)
+
+  encoded : encode p ≡ framed c u r m
+  unfolding encode c u r m
+  encoded = refl
+
+  framed-policy : policyIn (framed c u r m) ≡ p
+  unfolding policyIn rulesIn
+  framed-policy =
+      let e0 : containersIn (part (framed c u r m) 0) ≡ p .containers = rw (part-0 c u r m fits) c-back in
+      let e1 : usersIn (part (framed c u r m) 1) ≡ p .users = rw (part-1 c u r m fits) u-back in
+      let e2 : map (ruleIn (mixturesIn (part (framed c u r m) 3))) (spansIn (part (framed c u r m) 2)) ≡ p .rules =
+      rw (part-3 c u r m fits, part-2 c u r m fits, r-back) (rules-back (p .rules) [] (mixturesIn m) 0 refl m-back) in
+      λ i. record { containers = e0 i; users = e1 i; rules = e2 i }
+
+  framed-sections : sectionsGood (framed c u r m) ≡ true
+  unfolding sectionsGood
+  framed-sections =
+      rw (part-0 c u r m fits, part-1 c u r m fits, part-2 c u r m fits, part-3 c u r m fits)
+      (and-in (whole 6 256 (length (p .containers)) c (omega arith) c-length (h .fewContainers))
+      (and-in (whole 2 16 (length (p .users)) u (omega arith) u-length (h .fewUsers))
+      (and-in (whole 4 256 (length (p .rules)) r (omega arith) r-length (h .fewRules))
+      (whole 8 2048 (length (joined (p .rules))) m (omega arith) m-length all-short))))
+
+  framed-rules : rulesGood (framed c u r m) ≡ true
+  unfolding rulesGood
+  framed-rules =
+      rw (part-3 c u r m fits, part-2 c u r m fits, r-back)
+      (spans-good (length m / 8) 0 0 (p .rules) (omega arith) (omega (arith, m-length)) (h .rulesGood))
+
+  rules-count : length r / 4 ≡ length (p .rules)
+  rules-count = omega (arith, r-length)
+
+  framed-containers : containersGood (framed c u r m) ≡ true
+  unfolding containersGood
+  framed-containers = rw (part-2 c u r m fits, part-0 c u r m fits, rules-count, c-back) (h .containersGood)
+
+  framed-users : usersGood (framed c u r m) ≡ true
+  unfolding usersGood
+  framed-users = rw (part-2 c u r m fits, part-1 c u r m fits, rules-count, u-back) (h .usersGood)
+
+  framed-check : checkOf (framed c u r m) ≡ 0
+  unfolding checkOf
+  framed-check = simp (frame-long c u r m fits, frame-pairs c u r m fits, framed-sections, framed-rules, framed-containers, framed-users)
+
+  -- DECODE AFTER ENCODE
+  pub check-encode : checkOf (encode p) ≡ 0
+  check-encode = ap checkOf encoded ∙ framed-check
+
+  pub policy-encode : policyIn (encode p) ≡ p
+  policy-encode = ap policyIn encoded ∙ framed-policy
+
+  pub read-encode : readImage (encode p) ≡ accepted p
+  unfolding readImage judged
+  read-encode = rw (check-encode, policy-encode)
+
+  pub encode-length : length (encode p) ≡ 18 + 6 * length (p .containers) + 2 * length (p .users) + 4 * length (p .rules) + 8 * length (joined (p .rules))
+  encode-length = ap length encoded ∙ frame-length c u r m fits ∙ omega (arith, c-length, u-length, r-length, m-length)
+
+  pub encode-short : length (encode p) ≤ 18994
+  encode-short = omega (arith, encode-length, all-short, h .fewContainers, h .fewUsers, h .fewRules)
+
+-- ---- it is bytes
+
+pair-byte : (o : ℕ) (s : List ℕ) → every byte (pair o s) ≡ true
+unfolding pair
+pair-byte o s = every-append byte (bytesOf 2 o) (bytesOf 2 (length s)) (bytes-byte 2 o) (bytes-byte 2 (length s))
+
+framed-byte : (c u r m : List ℕ) → every byte c ≡ true → every byte u ≡ true → every byte r ≡ true → every byte m ≡ true → every byte (framed c u r m) ≡ true
+unfolding framed header
+framed-byte c u r m hc hu hr hm =
+    every-append byte _ (c ++ (u ++ (r ++ m)))
+    (every-append byte (bytesOf 2 4) _ (bytes-byte 2 4)
+    (every-append byte (pair 18 c) _ (pair-byte 18 c)
+    (every-append byte (pair (18 + length c) u) _ (pair-byte (18 + length c) u)
+    (every-append byte (pair (18 + length c + length u) r) _ (pair-byte (18 + length c + length u) r) (pair-byte (18 + length c + length u + length r) m)))))
+    (every-append byte c (u ++ (r ++ m)) hc (every-append byte u (r ++ m) hu (every-append byte r m hr hm)))
+
+pub encode-bytes : (p : Policy) → Bytes (encode p)
+unfolding encode
+encode-bytes p =
+    every-bytes (encode p)
+    (framed-byte
+    (joined (map containerBytes (p .containers)))
+    (joined (map (bytesOf 2) (p .users)))
+    (joined (map spanBytes (spansOf 0 (p .rules))))
+    (joined (map (bytesOf 8) (joined (p .rules))))
+    (joined-byte containerBytes container-byte (p .containers))
+    (joined-byte (bytesOf 2) (bytes-byte 2) (p .users))
+    (joined-byte spanBytes span-byte (spansOf 0 (p .rules)))
+    (joined-byte (bytesOf 8) (bytes-byte 8) (joined (p .rules))))
+  where
+    container-byte : (c : Container) → every byte (containerBytes c) ≡ true
+    container-byte c =
+        unfold containerBytes in
+        every-append byte (bytesOf 1 (c .kind)) (bytesOf 1 (c .atom) ++ (bytesOf 2 (c .permit) ++ bytesOf 2 (c .run))) (bytes-byte 1 (c .kind))
+        (every-append byte (bytesOf 1 (c .atom)) (bytesOf 2 (c .permit) ++ bytesOf 2 (c .run)) (bytes-byte 1 (c .atom))
+        (every-append byte (bytesOf 2 (c .permit)) (bytesOf 2 (c .run)) (bytes-byte 2 (c .permit)) (bytes-byte 2 (c .run))))
+
+    span-byte : (r : Span) → every byte (spanBytes r) ≡ true
+    span-byte r = unfold spanBytes in every-append byte (bytesOf 2 (r .first)) (bytesOf 2 (r .count)) (bytes-byte 2 (r .first)) (bytes-byte 2 (r .count))

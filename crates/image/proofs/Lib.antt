@@ -1,0 +1,11 @@
+pub mod Lists
+pub mod ByteLaws
+pub mod Frame
+pub mod Encode
+pub mod Decode
+pub mod Numbering
+pub mod Means
+pub mod Scanning
+pub mod Places
+pub mod RuleReading
+pub mod WordLaws

@@ -1,0 +1,93 @@
+-- A rule of the image, read mixture by mixture.
+use Prim.Native.Nat.{ℕ, zero, suc, _+_, _-_, _*_, _/_, _≤_, _<_}
+use mathlib.Core.Path.{_≡_, refl, sym, ap, ap₂, _∙_}
+use mathlib.Core.List.{List, [], _∷_, _++_, map, append-nil}
+use native.Mathlib.Omega.{arith}
+use native.Mathlib.Numerals.{add-one}
+use lib.ListN.{length, length-map, replicate, length-replicate, List·getD-eq-default, length-append, getD, take, drop, set, length-set, length-take, length-drop, drop-of-length-le}
+use lib.Seq.{paste, paste-zero, paste-suc, getD-take, getD-drop, take-all, take-at}
+use mathlib.Core.Bool.{true}
+use mathlib.Core.Logic.{⊎-elim}
+use lib.Dec.{ltb, leb}
+use borrow.Author.Tests.{ltb-true, eqb-true, ne-eqb, eq-eqb, le-leb, leb-true}
+use Rattle.rules.proofs.Bools.{or-cases}
+use Rattle.rules.specs.declared.Bounded.{Bounded}
+use Rattle.rules.specs.Rules.{normal, unrestricted}
+use Rattle.rules.specs.Answers.{boundedOf, padded}
+use Rattle.image.specs.Bytes.{field, numberIn, records, every}
+use Rattle.image.specs.Policy.{unrestrictedRule, ruleAt, named}
+use Rattle.image.specs.Image.{mixturesIn, usersIn, spansIn, rulesIn, spansGood}
+use Rattle.image.specs.Normal.{normalAt}
+use Rattle.rules.proofs.RuleLaws.{normal-length}
+use native.Mathlib.Decide.{ℕ-discrete}
+use Rattle.image.proofs.Means.{normal-unrestricted}
+use Rattle.image.proofs.Places.{mixtures-count, rule-at, rule-fits, record-at, records-count, map-at}
+
+-- of the numbers of x, j are written
+pub record Gathered (x out₀ out : List ℕ) (j : ℕ) : Type 0 where
+  pub place : j ≤ length x
+  pub room : length x ≤ length out₀
+  pub long : length out ≡ length out₀
+  pub is : out ≡ paste out₀ 0 x j
+
+pub gathered-start : (x out : List ℕ) → length x ≤ length out → Gathered x out out 0
+gathered-start x out h = record { place = omega arith; room = h; long = refl; is = paste-zero out 0 x }
+
+module _ (x out₀ out : List ℕ) (j : ℕ) (g : Gathered x out₀ out j) where
+  pub gathered-next : (v : ℕ) → j < length x → v ≡ getD x j 0 → Gathered x out₀ (set out j v) (j + 1)
+  gathered-next v l e =
+      let z : 0 + j ≡ j = omega arith in
+      record {
+        place = omega arith;
+        room = g .room;
+        long = length-set out j v ∙ g .long;
+        is = ap₂ (λ (o : List ℕ) (w : ℕ). set o j w) (g .is) e ∙ ap (λ (i : ℕ). set (paste out₀ 0 x j) i (getD x j 0)) (sym z)
+            ∙ paste-suc out₀ 0 x j 0 (omega (arith, g .room)) l ∙ ap (paste out₀ 0 x) (sym (add-one j));
+      }
+
+  pub gathered-end : (n : ℕ) → length x ≡ n → n ≤ j → take n out ≡ x
+  gathered-end n e l = ap (take n) (g .is ∙ ap (λ (a : List ℕ). a ++ drop (0 + j) out₀) (take-all j x (omega arith))) ∙ take-at x (drop (0 + j) out₀) n e
+
+-- the mixtures from first on
+module _ (m : List ℕ) (first n : ℕ) (h : first + n ≤ length m / 8) where
+  pub from-length : length (take n (drop first (mixturesIn m))) ≡ n
+  from-length = omega (arith, length-take n (drop first (mixturesIn m)), length-drop first (mixturesIn m), mixtures-count m)
+
+  pub from-at : (j : ℕ) → j < n → getD (mixturesIn m) (first + j) 0 ≡ getD (take n (drop first (mixturesIn m))) j 0
+  from-at j l = sym (getD-take n (drop first (mixturesIn m)) j 0 l ∙ getD-drop first (mixturesIn m) j 0)
+
+-- ---- a rule by its number
+
+pub own-rule : (r m words : List ℕ) (n first count : ℕ) → spansGood (length m / 8) 0 (spansIn r) ≡ true → n < length r / 4 → first ≡ field r (n * 4) 2 → count ≡ field r (n * 4 + 2) 2
+    → take count words ≡ take count (drop first (mixturesIn m)) → take (count - 0) words ≡ getD (rulesIn r m) n []
+own-rule r m words n first count h l e f g =
+    let z : count - 0 ≡ count = omega arith in
+    ap (λ (k : ℕ). take k words) z ∙ g ∙ ap₂ (λ (k a : ℕ). take k (drop a (mixturesIn m))) f e ∙ sym (rule-at r m h n l)
+
+pub unrestricted-bounded : (rules : List (List ℕ)) (n : ℕ) → n ≡ 65535 → record { fits = true; count = 1; mixtures = 18446744073709551615 ∷ 0 ∷ 0 ∷ 0 ∷ 0 ∷ 0 ∷ 0 ∷ 0 ∷ [] } ≡ boundedOf (normalAt rules n)
+unfolding normalAt ruleAt
+unrestricted-bounded rules n e = rw (e, normal-unrestricted) (unfold boundedOf padded unrestrictedRule unrestricted in refl)
+
+pub named-own : (k n : ℕ) → named k n ≡ true → (n ≡ 65535 → ⊥) → n < k
+unfolding named
+named-own k n h d = ⊎-elim (λ p. ltb-true n k p) (λ p. absurd (d (eqb-true n 65535 p))) (or-cases (ltb n k) h)
+
+pub own-normal : (rules : List (List ℕ)) (n : ℕ) → (n ≡ 65535 → ⊥) → normal (getD rules n []) ≡ normalAt rules n
+unfolding normalAt ruleAt
+own-normal rules n d = rw (ne-eqb n 65535 d)
+
+pub gathered-all : (x out₀ out : List ℕ) (j : ℕ) → Gathered x out₀ out j → length x ≡ length out₀ → length out ≤ j → out ≡ x
+gathered-all x out₀ out j g e l =
+    sym (take-all (length x) out (omega (arith, g .long))) ∙ gathered-end x out₀ out j g (length x) refl (omega (arith, g .long))
+
+-- ---- a rule of an image has at most 8 mixtures
+
+pub normal-short : (r m : List ℕ) (n : ℕ) → spansGood (length m / 8) 0 (spansIn r) ≡ true → named (length r / 4) n ≡ true → length (normalAt (rulesIn r m) n) ≤ 8
+normal-short r m n h k = by (ℕ-discrete n 65535)
+  where
+    by : Dec (n ≡ 65535) → length (normalAt (rulesIn r m) n) ≤ 8
+    by (yes e) = unfold normalAt ruleAt in (rw (e, normal-unrestricted) (unfold unrestrictedRule unrestricted in (omega arith)))
+    by (no d) =
+        let l : n < length r / 4 = named-own (length r / 4) n k d in
+        rw (← own-normal (rulesIn r m) n d, rule-at r m h n l)
+        (omega (arith, normal-length (take (field r (n * 4 + 2) 2) (drop (field r (n * 4) 2) (mixturesIn m))), length-take (field r (n * 4 + 2) 2) (drop (field r (n * 4) 2) (mixturesIn m)), rule-fits r m h n l))

@@ -1,0 +1,148 @@
+-- The policy image: what it is refused for, and the policy that it spells (the paper, "Policy image" and "Refused because of the input").
+use Prim.Native.Nat.{ℕ, zero, suc, _+_, _*_, _/_, _%_}
+use mathlib.Core.Bool.{Bool, true, cond, _&&_}
+use mathlib.Core.List.{List, [], _∷_, map}
+use lib.Dec.{eqb, leb}
+use lib.ListN.{length, getD, take, drop}
+use Rattle.image.specs.Bytes.{numberIn, field, records, every}
+use Rattle.rules.specs.Answers.{mixtureLimit}
+use Rattle.image.specs.Limits.{
+  containerLimit,
+  userLimit,
+  ruleLimit,
+  mixtureTotal,
+  containerSize,
+  userSize,
+  ruleSize,
+  mixtureSize,
+  leadingNumber,
+  headerSize,
+  imageLimit,
+}
+use Rattle.image.specs.Policy.{Container, Policy, containerGood, named}
+
+-- ---- the four pairs and their sections: 0 containers, 1 users, 2 rules, 3 mixtures
+
+unfoldable pub offset : List ℕ → ℕ → ℕ
+offset i k = field i (2 + 4 * k) 2
+
+unfoldable pub size : List ℕ → ℕ → ℕ
+size i k = field i (4 + 4 * k) 2
+
+unfoldable pub part : List ℕ → ℕ → List ℕ
+part i k = take (size i k) (drop (offset i k) i)
+
+-- ---- the records
+
+unfoldable pub containerIn : List ℕ → Container
+containerIn r = record { kind = field r 0 1; atom = field r 1 1; permit = field r 2 2; run = field r 4 2 }
+
+-- a rule record: its first mixture and its count
+pub record Span : Type 0 where
+  pub first : ℕ
+  pub count : ℕ
+
+unfoldable pub spanIn : List ℕ → Span
+spanIn r = record { first = field r 0 2; count = field r 2 2 }
+
+unfoldable pub ruleIn : List ℕ → Span → List ℕ
+ruleIn mixtures r = take (r .count) (drop (r .first) mixtures)
+
+unfoldable pub containersIn : List ℕ → List Container
+containersIn s = map containerIn (records containerSize s)
+
+unfoldable pub usersIn : List ℕ → List ℕ
+usersIn s = map numberIn (records userSize s)
+
+unfoldable pub spansIn : List ℕ → List Span
+spansIn s = map spanIn (records ruleSize s)
+
+unfoldable pub mixturesIn : List ℕ → List ℕ
+mixturesIn s = map numberIn (records mixtureSize s)
+
+-- the rules of the sections of rules and mixtures
+unfoldable pub rulesIn : List ℕ → List ℕ → List (List ℕ)
+rulesIn r m = map (ruleIn (mixturesIn m)) (spansIn r)
+
+unfoldable pub policyIn : List ℕ → Policy
+policyIn i =
+    record {
+      containers = containersIn (part i 0);
+      users = usersIn (part i 1);
+      rules = rulesIn (part i 2) (part i 3);
+    }
+
+-- ---- the tests
+
+-- 1: "image under 18 or over 20,480 bytes"
+unfoldable pub lengthGood : List ℕ → Bool
+lengthGood i = leb headerSize (length i) && leb (length i) imageLimit
+
+-- "Each section starts at or after the previous end .. and ends within the image": section k, the previous end being given
+unfoldable pub partGood : List ℕ → ℕ → ℕ → Bool
+partGood i from k = leb from (offset i k) && leb (offset i k + size i k) (length i)
+
+-- 2: "the leading 4 or the pairs"
+unfoldable pub pairsGood : List ℕ → Bool
+pairsGood i =
+    eqb (field i 0 2) leadingNumber
+    && (partGood i headerSize 0
+    && (partGood i (offset i 0 + size i 0) 1
+    && (partGood i (offset i 1 + size i 1) 2
+    && partGood i (offset i 2 + size i 2) 3)))
+
+-- a section has whole records of w bytes, and no more than most
+unfoldable pub wholeGood : ℕ → ℕ → List ℕ → Bool
+wholeGood w most s = eqb (length s % w) 0 && leb (length s / w) most
+
+-- 3: "section length no multiple, or too many records"
+unfoldable pub sectionsGood : List ℕ → Bool
+sectionsGood i =
+    wholeGood containerSize containerLimit (part i 0)
+    && (wholeGood userSize userLimit (part i 1)
+    && (wholeGood ruleSize ruleLimit (part i 2) && wholeGood mixtureSize mixtureTotal (part i 3)))
+
+-- 4: "firsts never fall, ranges may overlap, first plus count is at most the number of mixtures", among m mixtures
+unfoldable pub spansGood : ℕ → ℕ → List Span → Bool
+spansGood m from [] = true
+spansGood m from (r ∷ rs) =
+    leb from (r .first) && (leb (r .count) mixtureLimit && (leb (r .first + r .count) m && spansGood m (r .first) rs))
+
+unfoldable pub rulesGood : List ℕ → Bool
+rulesGood i = spansGood (length (part i 3) / mixtureSize) 0 (spansIn (part i 2))
+
+-- 5: "container record"
+unfoldable pub containersGood : List ℕ → Bool
+containersGood i = every (containerGood (length (part i 2) / ruleSize)) (containersIn (part i 0))
+
+-- 6: "user's rule number"
+unfoldable pub usersGood : List ℕ → Bool
+usersGood i = every (named (length (part i 2) / ruleSize)) (usersIn (part i 1))
+
+-- the refusal of an image, 0 for none; each number is judged for the whole image before the next
+unfoldable pub checkOf : List ℕ → ℕ
+checkOf i =
+    cond (lengthGood i)
+    (cond (pairsGood i)
+    (cond (sectionsGood i)
+    (cond (rulesGood i)
+    (cond (containersGood i)
+    (cond (usersGood i)
+    0
+    6)
+    5)
+    4)
+    3)
+    2)
+    1
+
+pub data Reading : Type 0 where
+  refused : ℕ → Reading
+  accepted : Policy → Reading
+
+unfoldable pub judged : ℕ → Policy → Reading
+judged zero p = accepted p
+judged (suc n) p = refused (suc n)
+
+unfoldable pub readImage : List ℕ → Reading
+readImage i = judged (checkOf i) (policyIn i)

@@ -1,0 +1,83 @@
+-- The numbers of the paper's section "Policy image", each named once, and the tests of a container's kind.
+use Prim.Native.Nat.{ℕ}
+use mathlib.Core.Bool.{Bool, _||_}
+use lib.Dec.{eqb}
+
+-- ---- "kind (8 bits: 1 file, 2 volatile, 3 process)"; in a session 0 is a free row
+
+abbrev pub freeKind : ℕ
+freeKind = 0
+
+abbrev pub fileKind : ℕ
+fileKind = 1
+
+abbrev pub volatileKind : ℕ
+volatileKind = 2
+
+abbrev pub processKind : ℕ
+processKind = 3
+
+-- the only place that says which kinds serve as what
+unfoldable pub isFree : ℕ → Bool
+isFree k = eqb k freeKind
+
+unfoldable pub isFile : ℕ → Bool
+isFile k = eqb k fileKind
+
+unfoldable pub isVolatile : ℕ → Bool
+isVolatile k = eqb k volatileKind
+
+unfoldable pub isProcess : ℕ → Bool
+isProcess k = eqb k processKind
+
+-- a file or a volatile: what a process reads, writes and appends to
+unfoldable pub isStore : ℕ → Bool
+isStore k = isFile k || isVolatile k
+
+-- ---- "atom (8 bits: 0 to 31, 255 none)"; "Rule number 65535 is the unrestricted rule"
+
+abbrev pub noAtom : ℕ
+noAtom = 255
+
+abbrev pub unrestrictedNumber : ℕ
+unrestrictedNumber = 65535
+
+-- ---- the sections: how many records at most, and how many bytes each has
+
+abbrev pub containerLimit : ℕ
+containerLimit = 256
+
+abbrev pub userLimit : ℕ
+userLimit = 16
+
+abbrev pub ruleLimit : ℕ
+ruleLimit = 256
+
+abbrev pub mixtureTotal : ℕ
+mixtureTotal = 2048
+
+abbrev pub containerSize : ℕ
+containerSize = 6
+
+abbrev pub userSize : ℕ
+userSize = 2
+
+abbrev pub ruleSize : ℕ
+ruleSize = 4
+
+abbrev pub mixtureSize : ℕ
+mixtureSize = 8
+
+-- ---- "First a 16-bit 4, then four pairs .., so 18 bytes"; "At most 20,480 bytes"; "at most 18,994; the output must hold that many"
+
+abbrev pub leadingNumber : ℕ
+leadingNumber = 4
+
+abbrev pub headerSize : ℕ
+headerSize = 18
+
+abbrev pub imageLimit : ℕ
+imageLimit = 20480
+
+abbrev pub outputBound : ℕ
+outputBound = 18994
