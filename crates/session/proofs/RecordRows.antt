@@ -1,0 +1,162 @@
+-- The rows of the records of an image that is not refused.
+use Prim.Native.Nat.{ℕ, _+_, _-_, _*_, _/_, _≤_, _<_}
+use mathlib.Core.Path.{_≡_, sym, ap, ap₂, _∙_}
+use mathlib.Core.Bool.{true, _||_}
+use mathlib.Core.List.{List, [], _∷_, _++_, map}
+use native.Mathlib.Omega.{arith}
+use native.Mathlib.Nat.{add-sub-cancel-left}
+use lib.Dec.{eqb, ltb, leb}
+use lib.ListN.{length, getD, take, drop, replicate, length-map, List·getD-eq-default}
+use borrow.Author.Tests.{eq-eqb, le-leb, leb-true}
+use borrow.Rule.Slice.PartMut.{putMid}
+use Rattle.rules.specs.declared.Bounded.{Bounded}
+use Rattle.rules.specs.Answers.{dataWidth, mixtureLimit, boundedOf}
+use Rattle.image.specs.Limits.{containerLimit, userLimit, noAtom, containerSize, userSize, ruleSize, mixtureSize}
+use Rattle.image.specs.Bytes.{field, numberIn, records, every}
+use Rattle.image.specs.Policy.{Container, named, containerGood}
+use Rattle.image.specs.Image.{containerIn, containersIn, usersIn, spansIn, rulesIn, spansGood}
+use Rattle.image.specs.Normal.{Place, normalAt, placeOf}
+use Rattle.image.proofs.Lists.{every-map, every-getD}
+use Rattle.image.proofs.Means.{container-named, container-atom}
+use Rattle.image.proofs.Places.{record-at, records-count, map-at}
+use Rattle.image.proofs.RuleReading.{normal-short}
+use Rattle.session.specs.Limits.{rowWidth, userWidth}
+use Rattle.session.specs.Rows.{rowWords, userWords}
+use Rattle.session.specs.Session.{filled, startTag, startRow, placeWords}
+use Rattle.image.proofs.WordLaws.{bounded-words}
+use Rattle.session.proofs.RowLaws.{row-length, user-length}
+use Rattle.session.proofs.Filled.{wide, Rowed, rowed-next, rowed-end}
+use Rattle.session.proofs.WriteLaws.{clear-row}
+
+-- ---- users
+
+-- the rows of the users of a section
+abbrev pub userRows : List ℕ → List ℕ → List ℕ → List (List ℕ)
+userRows users rules m = map userWords (map (normalAt (rulesIn rules m)) (usersIn users))
+
+module _ (users rules m : List ℕ) (good : every (named (length rules / ruleSize)) (usersIn users) ≡ true) (spans : spansGood (length m / mixtureSize) 0 (spansIn rules) ≡ true) where
+  users-count : length (usersIn users) ≡ length users / userSize
+  unfolding usersIn
+  users-count = length-map (records userSize users) numberIn ∙ records-count userSize users
+
+  pub user-named : (i : ℕ) → i < length users / userSize → named (length rules / ruleSize) (field users (i * userSize) userSize) ≡ true
+  unfolding usersIn field
+  user-named i l =
+      rw (sym (record-at numberIn userSize i users 0 l)) (every-getD (named (length rules / ruleSize)) (usersIn users) i 0 (omega (arith, users-count)) good)
+
+  pub users-wide : every (wide userWidth) (userRows users rules m) ≡ true
+  unfolding wide
+  users-wide =
+      every-map (λ r. leb (length r) mixtureLimit) (wide userWidth) userWords (map (normalAt (rulesIn rules m)) (usersIn users))
+      (λ r h. eq-eqb (length (userWords r)) userWidth (user-length r (leb-true (length r) mixtureLimit h)))
+      (every-map (named (length rules / ruleSize)) (λ r. leb (length r) mixtureLimit) (normalAt (rulesIn rules m)) (usersIn users)
+      (λ n h. le-leb (length (normalAt (rulesIn rules m) n)) mixtureLimit (normal-short rules m n spans h)) good)
+
+  pub user-given : (i : ℕ) → i < length users / userSize → userWords (normalAt (rulesIn rules m) (field users (i * userSize) userSize)) ≡ getD (userRows users rules m) i (replicate userWidth 0)
+  unfolding usersIn field
+  user-given i l =
+      let k : i < length (usersIn users) = omega (arith, users-count) in
+      sym (map-at userWords (map (normalAt (rulesIn rules m)) (usersIn users)) i [] (replicate userWidth 0) (omega (arith, length-map (usersIn users) (normalAt (rulesIn rules m))))
+      ∙ ap userWords (map-at (normalAt (rulesIn rules m)) (usersIn users) i 0 [] k)
+      ∙ ap (λ (n : ℕ). userWords (normalAt (rulesIn rules m) n)) (record-at numberIn userSize i users 0 l))
+
+  pub user-free : (i : ℕ) → length users / userSize ≤ i → replicate userWidth 0 ≡ getD (userRows users rules m) i (replicate userWidth 0)
+  user-free i l =
+      sym (List·getD-eq-default (userRows users rules m) (replicate userWidth 0) {n = i}
+      (omega (arith, users-count, length-map (usersIn users) (normalAt (rulesIn rules m)), length-map (map (normalAt (rulesIn rules m)) (usersIn users)) userWords)))
+
+  module _ (out₀ out : List ℕ) (i : ℕ) (g : Rowed userWidth userLimit (userRows users rules m) out₀ out i) where
+    pub users-next : i < userLimit → i < length users / userSize → (row : List ℕ) → row ≡ userWords (normalAt (rulesIn rules m) (field users (i * userSize) userSize))
+        → Rowed userWidth userLimit (userRows users rules m) out₀ (putMid (i * userWidth) (i * userWidth + userWidth - i * userWidth) out row) (i + 1)
+    users-next h l row e = rw add-sub-cancel-left (rowed-next userWidth userLimit (userRows users rules m) users-wide out₀ out i g h row (e ∙ user-given i l))
+
+    pub users-clear : i < userLimit → length users / userSize ≤ i → (row : List ℕ) → row ≡ replicate (length (take (i * userWidth + userWidth - i * userWidth) (drop (i * userWidth) out))) 0
+        → Rowed userWidth userLimit (userRows users rules m) out₀ (putMid (i * userWidth) (i * userWidth + userWidth - i * userWidth) out row) (i + 1)
+    users-clear h l row e =
+        rw add-sub-cancel-left
+        (rowed-next userWidth userLimit (userRows users rules m) users-wide out₀ out i g h row (e ∙ clear-row out (i * userWidth) userWidth (omega (arith, g .long)) ∙ user-free i l))
+
+    pub users-end : userLimit ≤ i → out ≡ filled userWidth userLimit (userRows users rules m)
+    users-end h = rowed-end userWidth userLimit (userRows users rules m) users-wide out₀ out i g h
+
+-- ---- one container
+
+module _ (r rules m : List ℕ) (good : containerGood (length rules / ruleSize) (containerIn r) ≡ true) (spans : spansGood (length m / mixtureSize) 0 (spansIn rules) ≡ true) where
+  pub permit-named : named (length rules / ruleSize) (field r 2 2) ≡ true
+  unfolding containerIn
+  permit-named = container-named (length rules / ruleSize) (containerIn r) good .0
+
+  pub run-named : named (length rules / ruleSize) (field r 4 2) ≡ true
+  unfolding containerIn
+  run-named = container-named (length rules / ruleSize) (containerIn r) good .1
+
+  pub atom-good : (ltb (field r 1 1) dataWidth || eqb (field r 1 1) noAtom) ≡ true
+  unfolding containerIn
+  atom-good = container-atom (length rules / ruleSize) (containerIn r) good
+
+  pub container-row : (k t : ℕ) (p q : Bounded) → k ≡ field r 0 1 → t ≡ startTag (field r 1 1) → p ≡ boundedOf (normalAt (rulesIn rules m) (field r 2 2)) → q ≡ boundedOf (normalAt (rulesIn rules m) (field r 4 2))
+      → k ∷ t ∷ ((p .count ∷ p .mixtures) ++ (q .count ∷ q .mixtures)) ≡ placeWords (placeOf (rulesIn rules m) (containerIn r))
+  unfolding placeWords rowWords startRow placeOf containerIn
+  container-row k t p q e f g h =
+      ap₂ (λ (x y : ℕ). x ∷ y ∷ ((p .count ∷ p .mixtures) ++ (q .count ∷ q .mixtures))) e f
+      ∙ ap₂ (λ (x y : List ℕ). field r 0 1 ∷ startTag (field r 1 1) ∷ (x ++ y))
+      (bounded-words (normalAt (rulesIn rules m) (field r 2 2)) p g (normal-short rules m (field r 2 2) spans permit-named))
+      (bounded-words (normalAt (rulesIn rules m) (field r 4 2)) q h (normal-short rules m (field r 4 2) spans run-named))
+
+-- ---- containers
+
+-- the rows of the containers of a section
+abbrev pub containerRows : List ℕ → List ℕ → List ℕ → List (List ℕ)
+containerRows cs rules m = map placeWords (map (placeOf (rulesIn rules m)) (containersIn cs))
+
+module _ (cs rules m : List ℕ) (good : every (containerGood (length rules / ruleSize)) (containersIn cs) ≡ true) (spans : spansGood (length m / mixtureSize) 0 (spansIn rules) ≡ true) where
+  containers-count : length (containersIn cs) ≡ length cs / containerSize
+  unfolding containersIn
+  containers-count = length-map (records containerSize cs) containerIn ∙ records-count containerSize cs
+
+  pub container-good : (i : ℕ) → i < length cs / containerSize → containerGood (length rules / ruleSize) (containerIn (take containerSize (drop (i * containerSize) cs))) ≡ true
+  unfolding containersIn
+  container-good i l =
+      let z : Container = record { kind = 0; atom = 0; permit = 0; run = 0 } in
+      rw (sym (record-at containerIn containerSize i cs z l)) (every-getD (containerGood (length rules / ruleSize)) (containersIn cs) i z (omega (arith, containers-count)) good)
+
+  one-wide : (c : Container) → containerGood (length rules / ruleSize) c ≡ true → length (placeWords (placeOf (rulesIn rules m) c)) ≡ rowWidth
+  unfolding placeWords startRow placeOf
+  one-wide c h =
+      let g = container-named (length rules / ruleSize) c h in
+      row-length (startRow (placeOf (rulesIn rules m) c)) (normal-short rules m (c .permit) spans (g .0)) (normal-short rules m (c .run) spans (g .1))
+
+  pub containers-wide : every (wide rowWidth) (containerRows cs rules m) ≡ true
+  unfolding wide
+  containers-wide =
+      every-map (λ p. eqb (length (placeWords p)) rowWidth) (wide rowWidth) placeWords (map (placeOf (rulesIn rules m)) (containersIn cs)) (λ p h. h)
+      (every-map (containerGood (length rules / ruleSize)) (λ p. eqb (length (placeWords p)) rowWidth) (placeOf (rulesIn rules m)) (containersIn cs) (λ c h. eq-eqb (length (placeWords (placeOf (rulesIn rules m) c))) rowWidth (one-wide c h)) good)
+
+  pub container-given : (i : ℕ) → i < length cs / containerSize → placeWords (placeOf (rulesIn rules m) (containerIn (take containerSize (drop (i * containerSize) cs)))) ≡ getD (containerRows cs rules m) i (replicate rowWidth 0)
+  unfolding containersIn
+  container-given i l =
+      let z : Container = record { kind = 0; atom = 0; permit = 0; run = 0 } in
+      let y : Place = record { kind = 0; atom = 0; permit = []; run = [] } in
+      let k : i < length (containersIn cs) = omega (arith, containers-count) in
+      sym (map-at placeWords (map (placeOf (rulesIn rules m)) (containersIn cs)) i y (replicate rowWidth 0) (omega (arith, length-map (containersIn cs) (placeOf (rulesIn rules m))))
+      ∙ ap placeWords (map-at (placeOf (rulesIn rules m)) (containersIn cs) i z y k)
+      ∙ ap (λ (c : Container). placeWords (placeOf (rulesIn rules m) c)) (record-at containerIn containerSize i cs z l))
+
+  pub container-free : (i : ℕ) → length cs / containerSize ≤ i → replicate rowWidth 0 ≡ getD (containerRows cs rules m) i (replicate rowWidth 0)
+  container-free i l =
+      sym (List·getD-eq-default (containerRows cs rules m) (replicate rowWidth 0) {n = i}
+      (omega (arith, containers-count, length-map (containersIn cs) (placeOf (rulesIn rules m)), length-map (map (placeOf (rulesIn rules m)) (containersIn cs)) placeWords)))
+
+  module _ (out₀ out : List ℕ) (i : ℕ) (g : Rowed rowWidth containerLimit (containerRows cs rules m) out₀ out i) where
+    pub containers-next : i < containerLimit → i < length cs / containerSize → (row : List ℕ) → row ≡ placeWords (placeOf (rulesIn rules m) (containerIn (take containerSize (drop (i * containerSize) cs))))
+        → Rowed rowWidth containerLimit (containerRows cs rules m) out₀ (putMid (i * rowWidth) (i * rowWidth + rowWidth - i * rowWidth) out row) (i + 1)
+    containers-next h l row e = rw add-sub-cancel-left (rowed-next rowWidth containerLimit (containerRows cs rules m) containers-wide out₀ out i g h row (e ∙ container-given i l))
+
+    pub containers-clear : i < containerLimit → length cs / containerSize ≤ i → (row : List ℕ) → row ≡ replicate (length (take (i * rowWidth + rowWidth - i * rowWidth) (drop (i * rowWidth) out))) 0
+        → Rowed rowWidth containerLimit (containerRows cs rules m) out₀ (putMid (i * rowWidth) (i * rowWidth + rowWidth - i * rowWidth) out row) (i + 1)
+    containers-clear h l row e =
+        rw add-sub-cancel-left
+        (rowed-next rowWidth containerLimit (containerRows cs rules m) containers-wide out₀ out i g h row (e ∙ clear-row out (i * rowWidth) rowWidth (omega (arith, g .long)) ∙ container-free i l))
+
+    pub containers-end : containerLimit ≤ i → out ≡ filled rowWidth containerLimit (containerRows cs rules m)
+    containers-end h = rowed-end rowWidth containerLimit (containerRows cs rules m) containers-wide out₀ out i g h

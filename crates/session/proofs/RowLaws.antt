@@ -1,0 +1,225 @@
+-- Rows as numbers and as what they say.
+use Prim.Native.Nat.{ℕ, _≤_}
+use mathlib.Core.Path.{_≡_, refl, sym, ap, ap₂, _∙_}
+use mathlib.Core.Bool.{Bool, true, false, cond, _&&_, _||_}
+use mathlib.Core.List.{List, _∷_, _++_}
+use mathlib.Core.Logic.{⊎-elim}
+use native.Mathlib.Omega.{arith}
+use lib.Dec.{eqb}
+use lib.ListN.{length, getD, take, drop, replicate, length-take, length-drop, length-append, take-append-drop}
+use lib.Seq.{drop-cons, drop-drop, drop-at, take-at, take-all}
+use borrow.Author.Tests.{eqb-true, ne-eqb}
+use Rattle.rules.proofs.Bools.{and-0, and-1, or-cases, clash}
+use Rattle.rules.specs.Rules.{normal}
+use Rattle.rules.specs.Answers.{mixtureLimit}
+use Rattle.image.specs.Limits.{fileKind, volatileKind, processKind, isFree, isFile, isVolatile, isProcess, isStore}
+use Rattle.session.specs.Limits.{rowWidth, userWidth, kindAt, tagAt, permitAt, runAt, declaredAt, userRuleAt, declared}
+use Rattle.image.specs.Words.{ruleWidth}
+use Rattle.session.specs.Rows.{allZero, keptWell, Row, rowWords, freeWords, permitWords, runWords, rowOf, usedKind, containerRowGood, InUse, userWords, undeclaredWords, isDeclared, userRuleWords, userRuleOf, userRowGood}
+use Rattle.image.specs.Words.{ruleOf, wordsOf}
+use Rattle.session.proofs.RuleWords.{zeros, zero-is, words-kept, kept-count, kept-normal, kept-short, kept-words}
+use Rattle.image.proofs.WordLaws.{words-rule, words-nine}
+
+-- ---- kinds
+
+pub used-kind : (k : ℕ) → usedKind k ≡ true → (1 ≤ k) × (k ≤ processKind)
+unfolding usedKind isStore isFile isVolatile isProcess
+used-kind k h =
+    ⊎-elim
+    (λ p. ⊎-elim (λ q. file (eqb-true k fileKind q)) (λ q. volatile (eqb-true k volatileKind q)) (or-cases (eqb k fileKind) p))
+    (λ p. process (eqb-true k processKind p))
+    (or-cases (eqb k fileKind || eqb k volatileKind) h)
+  where
+    file : k ≡ fileKind → (1 ≤ k) × (k ≤ processKind)
+    file e = (omega arith, omega arith)
+
+    volatile : k ≡ volatileKind → (1 ≤ k) × (k ≤ processKind)
+    volatile e = (omega arith, omega arith)
+
+    process : k ≡ processKind → (1 ≤ k) × (k ≤ processKind)
+    process e = (omega arith, omega arith)
+
+pub used-free : (k : ℕ) → usedKind k ≡ true → isFree k ≡ false
+unfolding isFree
+used-free k h = ne-eqb k 0 (λ e. omega (arith, used-kind k h .0))
+
+-- ---- a row in use
+
+pub row-kind : (w : Row) → getD (rowWords w) kindAt 0 ≡ w .kind
+unfolding rowWords
+row-kind w = refl
+
+module _ (w : Row) (p : length (w .permit) ≤ mixtureLimit) (r : length (w .run) ≤ mixtureLimit) where
+  pub row-length : length (rowWords w) ≡ rowWidth
+  unfolding rowWords
+  row-length = omega (arith, length-append (wordsOf (w .permit)) (wordsOf (w .run)), words-nine (w .permit) p, words-nine (w .run) r)
+
+  pub row-permit : permitWords (rowWords w) ≡ wordsOf (w .permit)
+  unfolding permitWords rowWords
+  row-permit = take-at (wordsOf (w .permit)) (wordsOf (w .run)) ruleWidth (words-nine (w .permit) p)
+
+  pub row-run : runWords (rowWords w) ≡ wordsOf (w .run)
+  unfolding runWords rowWords
+  row-run =
+      ap (take ruleWidth) (drop-at (wordsOf (w .permit)) (wordsOf (w .run)) ruleWidth (words-nine (w .permit) p))
+      ∙ take-all ruleWidth (wordsOf (w .run)) (omega (arith, words-nine (w .run) r))
+
+  pub row-words : rowOf (rowWords w) ≡ w
+  unfolding rowOf
+  row-words =
+      let e : ruleOf (permitWords (rowWords w)) ≡ w .permit = ap ruleOf row-permit ∙ words-rule (w .permit) in
+      let f : ruleOf (runWords (rowWords w)) ≡ w .run = ap ruleOf row-run ∙ words-rule (w .run) in
+      said e f
+    where
+      said : ruleOf (permitWords (rowWords w)) ≡ w .permit → ruleOf (runWords (rowWords w)) ≡ w .run
+          → record { kind = getD (rowWords w) kindAt 0; tag = getD (rowWords w) tagAt 0; permit = ruleOf (permitWords (rowWords w)); run = ruleOf (runWords (rowWords w)) } ≡ w
+      said e f = unfold rowWords in (λ i. record { kind = w .kind; tag = w .tag; permit = e i; run = f i })
+
+pub row-good : (w : Row) → InUse w → containerRowGood (rowWords w) ≡ true
+unfolding containerRowGood
+row-good w u =
+    let p : length (w .permit) ≤ mixtureLimit = u .permitShort in
+    let r : length (w .run) ≤ mixtureLimit = u .runShort in
+    rw (row-kind w, used-free (w .kind) (u .used), row-permit w p r, row-run w p r, u .used, words-kept (w .permit) p (u .permitNormal), words-kept (w .run) r (u .runNormal))
+
+-- ---- a free row
+
+pub free-length : length freeWords ≡ rowWidth
+unfolding freeWords
+free-length = refl
+
+pub free-good : containerRowGood freeWords ≡ true
+unfolding containerRowGood freeWords isFree
+free-good = zeros rowWidth
+
+pub free-kind : isFree (getD freeWords kindAt 0) ≡ true
+unfolding freeWords isFree
+free-kind = refl
+
+-- ---- from a good row to the facts
+
+pub good-free : (ws : List ℕ) → length ws ≡ rowWidth → containerRowGood ws ≡ true → isFree (getD ws kindAt 0) ≡ true → ws ≡ freeWords
+unfolding containerRowGood freeWords
+good-free ws l g f = zero-is ws rowWidth l (rw f at g)
+
+module _ (ws : List ℕ) (g : containerRowGood ws ≡ true) where
+  module _ (f : isFree (getD ws kindAt 0) ≡ false) where
+    good-tests : (usedKind (getD ws kindAt 0) && (keptWell (permitWords ws) && keptWell (runWords ws))) ≡ true
+    unfolding containerRowGood
+    good-tests = rw f at g
+
+    good-rules : (keptWell (permitWords ws) && keptWell (runWords ws)) ≡ true
+    good-rules = and-1 (usedKind (getD ws kindAt 0)) good-tests
+
+    good-permit : keptWell (permitWords ws) ≡ true
+    good-permit = and-0 (keptWell (permitWords ws)) (keptWell (runWords ws)) good-rules
+
+    good-run : keptWell (runWords ws) ≡ true
+    good-run = and-1 (keptWell (permitWords ws)) good-rules
+
+    pub good-counts : (getD (permitWords ws) 0 0 ≤ mixtureLimit) × (getD (runWords ws) 0 0 ≤ mixtureLimit)
+    good-counts = (kept-count (permitWords ws) good-permit, kept-count (runWords ws) good-run)
+
+    pub good-used : InUse (rowOf ws)
+    unfolding rowOf
+    good-used =
+        record {
+          used = and-0 (usedKind (getD ws kindAt 0)) (keptWell (permitWords ws) && keptWell (runWords ws)) good-tests;
+          permitShort = kept-short (permitWords ws) good-permit;
+          permitNormal = kept-normal (permitWords ws) good-permit;
+          runShort = kept-short (runWords ws) good-run;
+          runNormal = kept-normal (runWords ws) good-run;
+        }
+
+module _ (ws : List ℕ) (l : length ws ≡ rowWidth) (g : containerRowGood ws ≡ true) (f : isFree (getD ws kindAt 0) ≡ false) where
+  permit-is : permitWords ws ≡ wordsOf (ruleOf (permitWords ws))
+  permit-is = kept-words (permitWords ws) (unfold permitWords in (omega (arith, length-take ruleWidth (drop permitAt ws), length-drop permitAt ws))) (good-permit ws g f)
+
+  run-is : runWords ws ≡ wordsOf (ruleOf (runWords ws))
+  run-is = kept-words (runWords ws) (unfold runWords in (omega (arith, length-take ruleWidth (drop runAt ws), length-drop runAt ws))) (good-run ws g f)
+
+  row-split : ws ≡ getD ws kindAt 0 ∷ getD ws tagAt 0 ∷ (permitWords ws ++ runWords ws)
+  unfolding permitWords runWords
+  row-split =
+      drop-cons ws 0 0 (omega arith)
+      ∙ ap (λ (x : List ℕ). getD ws 0 0 ∷ x)
+      (drop-cons ws 1 0 (omega arith)
+      ∙ ap (λ (x : List ℕ). getD ws 1 0 ∷ x)
+      (sym (take-append-drop ruleWidth (drop permitAt ws))
+      ∙ ap (λ (x : List ℕ). take ruleWidth (drop permitAt ws) ++ x)
+      (drop-drop ruleWidth permitAt ws ∙ sym (take-all ruleWidth (drop runAt ws) (omega (arith, length-drop runAt ws))))))
+
+  pub good-words : ws ≡ rowWords (rowOf ws)
+  unfolding rowWords rowOf
+  good-words = row-split ∙ ap₂ (λ (x y : List ℕ). getD ws kindAt 0 ∷ getD ws tagAt 0 ∷ (x ++ y)) permit-is run-is
+
+-- ---- a user row
+
+module _ (r : List ℕ) (h : length r ≤ mixtureLimit) where
+  pub user-length : length (userWords r) ≡ userWidth
+  unfolding userWords
+  user-length = omega (arith, words-nine r h)
+
+  pub user-rule : userRuleWords (userWords r) ≡ wordsOf r
+  unfolding userRuleWords userWords
+  user-rule = take-all ruleWidth (wordsOf r) (omega (arith, words-nine r h))
+
+  pub user-words : userRuleOf (userWords r) ≡ r
+  unfolding userRuleOf
+  user-words = ap ruleOf user-rule ∙ words-rule r
+
+  pub user-good : normal r ≡ r → userRowGood (userWords r) ≡ true
+  unfolding userRowGood
+  user-good n = unfold isDeclared userWords in (rw user-rule (words-kept r h n))
+
+pub user-declared : (r : List ℕ) → isDeclared (userWords r) ≡ true
+unfolding isDeclared userWords
+user-declared r = refl
+
+pub undeclared-length : length undeclaredWords ≡ userWidth
+unfolding undeclaredWords
+undeclared-length = refl
+
+pub undeclared-good : userRowGood undeclaredWords ≡ true
+unfolding userRowGood undeclaredWords
+undeclared-good = zeros userWidth
+
+pub undeclared-not : isDeclared undeclaredWords ≡ false
+unfolding isDeclared undeclaredWords
+undeclared-not = refl
+
+module _ (ws : List ℕ) (g : userRowGood ws ≡ true) where
+  good-cases : (b : Bool) → eqb (getD ws declaredAt 0) 0 ≡ b → cond b (allZero ws) (isDeclared ws && keptWell (userRuleWords ws)) ≡ true
+  unfolding userRowGood
+  good-cases b e = rw e at g
+
+  module _ (d : isDeclared ws ≡ true) where
+    first-is : getD ws declaredAt 0 ≡ declared
+    unfolding isDeclared
+    first-is = eqb-true (getD ws declaredAt 0) declared d
+
+    user-kept : keptWell (userRuleWords ws) ≡ true
+    user-kept = and-1 (isDeclared ws) (good-cases false (ne-eqb (getD ws declaredAt 0) 0 (λ e. omega (arith, first-is))))
+
+    pub good-user-count : getD (userRuleWords ws) 0 0 ≤ mixtureLimit
+    good-user-count = kept-count (userRuleWords ws) user-kept
+
+    pub good-declared : (length (userRuleOf ws) ≤ mixtureLimit) × (normal (userRuleOf ws) ≡ userRuleOf ws)
+    unfolding userRuleOf
+    good-declared = (kept-short (userRuleWords ws) user-kept, kept-normal (userRuleWords ws) user-kept)
+
+pub good-user-words : (ws : List ℕ) → length ws ≡ userWidth → userRowGood ws ≡ true → isDeclared ws ≡ true → ws ≡ userWords (userRuleOf ws)
+unfolding userWords userRuleOf userRuleWords
+good-user-words ws l g d =
+    drop-cons ws 0 0 (omega arith)
+    ∙ ap₂ (λ (a : ℕ) (x : List ℕ). a ∷ x) (first-is ws g d)
+    (sym (take-all ruleWidth (drop userRuleAt ws) (omega (arith, length-drop userRuleAt ws)))
+    ∙ kept-words (take ruleWidth (drop userRuleAt ws)) (omega (arith, length-take ruleWidth (drop userRuleAt ws), length-drop userRuleAt ws)) (user-kept ws g d))
+
+pub good-undeclared : (ws : List ℕ) → length ws ≡ userWidth → userRowGood ws ≡ true → isDeclared ws ≡ false → ws ≡ undeclaredWords
+unfolding undeclaredWords
+good-undeclared ws l g d = by (eqb (getD ws declaredAt 0) 0) (good-cases ws g (eqb (getD ws declaredAt 0) 0) refl)
+  where
+    by : (b : Bool) → cond b (allZero ws) (isDeclared ws && keptWell (userRuleWords ws)) ≡ true → ws ≡ replicate userWidth 0
+    by true h = zero-is ws userWidth l h
+    by false h = clash (and-0 (isDeclared ws) (keptWell (userRuleWords ws)) h) d

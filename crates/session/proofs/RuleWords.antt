@@ -1,0 +1,106 @@
+-- A rule as 9 words of a row.
+use Prim.Native.Nat.{ℕ, zero, suc, _+_, _-_, _≤_, _<_}
+use mathlib.Core.Path.{_≡_, refl, sym, ap, ap₂, _∙_}
+use mathlib.Core.Bool.{true, _&&_}
+use mathlib.Core.List.{List, [], _∷_, _++_, append-nil}
+use native.Mathlib.Omega.{arith}
+use native.Mathlib.Numerals.{add-one}
+use lib.Dec.{eqb, leb}
+use lib.ListN.{length, getD, take, drop, set, replicate, length-set, length-take, length-drop, take-append-drop, drop-of-length-le}
+use lib.Seq.{drop-cons, drop-drop, drop-at, length-take-le, paste, paste-zero, paste-suc, take-all, take-suc, getD-set-same}
+use borrow.Author.Tests.{eqb-true, leb-true, le-leb}
+use Rattle.rules.proofs.Bools.{and-in, and-0, and-1}
+use Rattle.rules.proofs.SameLaws.{same-refl, same-eq}
+use Rattle.rules.proofs.BoundedLaws.{padded-take, padded-length, bounded-some}
+use Rattle.rules.specs.declared.Bounded.{Bounded}
+use Rattle.rules.specs.Rules.{normal, sameList}
+use Rattle.rules.specs.Answers.{mixtureLimit, padded, boundedOf}
+use Rattle.image.proofs.WordLaws.{words-rule, words-nine, bounded-words}
+use Rattle.image.specs.Words.{ruleWidth}
+use Rattle.session.specs.Rows.{allZero, isNormal, keptWell}
+use Rattle.image.specs.Words.{ruleOf, wordsOf}
+
+-- ---- zeros
+
+pub zeros : (n : ℕ) → allZero (replicate n 0) ≡ true
+unfolding allZero
+zeros zero = refl
+zeros (suc n) = zeros n
+
+all-zero : (l : List ℕ) → allZero l ≡ true → _≡_ {A = List ℕ} l (replicate (length l) 0)
+unfolding allZero
+all-zero [] h = refl
+all-zero (x ∷ l) h = ap₂ _∷_ (eqb-true x 0 (and-0 (eqb x 0) (allZero l) h)) (all-zero l (and-1 (eqb x 0) h))
+
+pub zero-is : (l : List ℕ) (n : ℕ) → length l ≡ n → allZero l ≡ true → _≡_ {A = List ℕ} l (replicate n 0)
+zero-is l n e h = all-zero l h ∙ ap (λ (k : ℕ). replicate k 0) e
+
+-- ---- a rule's words
+
+-- ---- words that are well kept
+
+module _ (r : List ℕ) where
+  pub normal-is : isNormal r ≡ true → normal r ≡ r
+  unfolding isNormal
+  normal-is h = same-eq (normal r) r h
+
+  pub is-normal-of : normal r ≡ r → isNormal r ≡ true
+  unfolding isNormal
+  is-normal-of e = ap (λ (s : List ℕ). sameList s r) e ∙ same-refl r
+
+module _ (ws : List ℕ) (h : keptWell ws ≡ true) where
+  pub kept-count : getD ws 0 0 ≤ mixtureLimit
+  unfolding keptWell
+  kept-count = leb-true (getD ws 0 0) mixtureLimit (and-0 (leb (getD ws 0 0) mixtureLimit) (allZero (drop (getD ws 0 0 + 1) ws) && isNormal (ruleOf ws)) h)
+
+  kept-rest : (allZero (drop (getD ws 0 0 + 1) ws) && isNormal (ruleOf ws)) ≡ true
+  unfolding keptWell
+  kept-rest = and-1 (leb (getD ws 0 0) mixtureLimit) h
+
+  pub kept-normal : normal (ruleOf ws) ≡ ruleOf ws
+  kept-normal = normal-is (ruleOf ws) (and-1 (allZero (drop (getD ws 0 0 + 1) ws)) kept-rest)
+
+  pub kept-short : length (ruleOf ws) ≤ mixtureLimit
+  unfolding ruleOf
+  kept-short = omega (arith, kept-count, length-take (getD ws 0 0) (drop 1 ws))
+
+-- the first word, the mixtures and the rest
+module _ (ws : List ℕ) (e : length ws ≡ ruleWidth) (l : getD ws 0 0 ≤ mixtureLimit) where
+  pub rule-length : length (ruleOf ws) ≡ getD ws 0 0
+  unfolding ruleOf
+  rule-length = length-take-le (getD ws 0 0) (drop 1 ws) (omega (arith, length-drop 1 ws))
+
+  words-split : ws ≡ getD ws 0 0 ∷ (ruleOf ws ++ drop (getD ws 0 0 + 1) ws)
+  unfolding ruleOf
+  words-split =
+      let i : 1 + getD ws 0 0 ≡ getD ws 0 0 + 1 = omega arith in
+      drop-cons ws 0 0 (omega arith)
+      ∙ ap (λ (x : List ℕ). getD ws 0 0 ∷ x)
+      (sym (take-append-drop (getD ws 0 0) (drop 1 ws))
+      ∙ ap (λ (x : List ℕ). take (getD ws 0 0) (drop 1 ws) ++ x) (drop-drop (getD ws 0 0) 1 ws ∙ ap (λ (k : ℕ). drop k ws) i))
+
+pub kept-words : (ws : List ℕ) → length ws ≡ ruleWidth → keptWell ws ≡ true → ws ≡ wordsOf (ruleOf ws)
+unfolding wordsOf padded
+kept-words ws e h =
+    let l : getD ws 0 0 ≤ mixtureLimit = kept-count ws h in
+    let n : length (ruleOf ws) ≡ getD ws 0 0 = rule-length ws e l in
+    let k : length (drop (getD ws 0 0 + 1) ws) ≡ mixtureLimit - length (ruleOf ws) = omega (arith, length-drop (getD ws 0 0 + 1) ws) in
+    let z : drop (getD ws 0 0 + 1) ws ≡ replicate (mixtureLimit - length (ruleOf ws)) 0
+    = zero-is (drop (getD ws 0 0 + 1) ws) (mixtureLimit - length (ruleOf ws)) k (and-0 (allZero (drop (getD ws 0 0 + 1) ws)) (isNormal (ruleOf ws)) (kept-rest ws h)) in
+    words-split ws e l ∙ ap₂ (λ (a : ℕ) (x : List ℕ). a ∷ (ruleOf ws ++ x)) (sym n) z
+
+words-fit : (r : List ℕ) → length r ≤ mixtureLimit → leb (getD (wordsOf r) 0 0) mixtureLimit ≡ true
+unfolding wordsOf
+words-fit r h = le-leb (length r) mixtureLimit h
+
+words-behind : (r : List ℕ) → _≡_ {A = List ℕ} (drop (getD (wordsOf r) 0 0 + 1) (wordsOf r)) (replicate (mixtureLimit - length r) 0)
+unfolding wordsOf padded
+words-behind r =
+    ap (λ (k : ℕ). drop k (length r ∷ (r ++ replicate (mixtureLimit - length r) 0))) (add-one (length r))
+    ∙ drop-at r (replicate (mixtureLimit - length r) 0) (length r) refl
+
+pub words-kept : (r : List ℕ) → length r ≤ mixtureLimit → normal r ≡ r → keptWell (wordsOf r) ≡ true
+unfolding keptWell
+words-kept r h n =
+    and-in (words-fit r h)
+    (and-in (ap allZero (words-behind r) ∙ zeros (mixtureLimit - length r)) (ap isNormal (words-rule r) ∙ is-normal-of r n))

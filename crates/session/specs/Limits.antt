@@ -1,0 +1,43 @@
+-- The numbers of the paper's section "Session", each named once: lengths in words of 64 bits, and places in a row.
+use Prim.Native.Nat.{ℕ}
+
+-- "exactly 5,280 numbers of 64 bits: 256 rows of 20, then 16 user rows of 10"
+
+abbrev pub sessionLength : ℕ
+sessionLength = 5280
+
+abbrev pub rowWidth : ℕ
+rowWidth = 20
+
+abbrev pub userWidth : ℕ
+userWidth = 10
+
+-- the user rows begin behind the container rows
+abbrev pub usersAt : ℕ
+usersAt = 5120
+
+-- ---- "A container row: kind .., information tag, permit count, 8 mixtures, run count, 8 mixtures"
+
+abbrev pub kindAt : ℕ
+kindAt = 0
+
+abbrev pub tagAt : ℕ
+tagAt = 1
+
+abbrev pub permitAt : ℕ
+permitAt = 2
+
+abbrev pub runAt : ℕ
+runAt = 11
+
+-- ---- "A user row: 1 if declared, count, 8 mixtures"
+
+abbrev pub declaredAt : ℕ
+declaredAt = 0
+
+abbrev pub userRuleAt : ℕ
+userRuleAt = 1
+
+-- the first number of the row of a declared user
+abbrev pub declared : ℕ
+declared = 1

@@ -1,0 +1,118 @@
+-- Rows of the session, as numbers and as what they say (the paper, "Session").
+use Prim.Native.Nat.{ℕ, _+_, _*_, _≤_}
+use mathlib.Core.Path.{_≡_}
+use mathlib.Core.Bool.{Bool, true, cond, _&&_, _||_}
+use mathlib.Core.List.{List, [], _∷_, _++_}
+use lib.Dec.{eqb, leb}
+use lib.ListN.{length, getD, take, drop, replicate}
+use Rattle.rules.specs.Rules.{normal, sameList}
+use Rattle.rules.specs.Answers.{mixtureLimit, padded}
+use Rattle.image.specs.Words.{ruleOf, wordsOf}
+use Rattle.image.specs.Limits.{isFree, isStore, isProcess}
+use Rattle.session.specs.Limits.{rowWidth, userWidth, usersAt, kindAt, tagAt, permitAt, runAt, declaredAt, userRuleAt, declared}
+use Rattle.image.specs.Words.{ruleWidth}
+
+-- ---- a rule as 9 words: "count, 8 mixtures"
+
+-- all of the words are 0
+unfoldable pub allZero : List ℕ → Bool
+allZero [] = true
+allZero (x ∷ ws) = eqb x 0 && allZero ws
+
+-- r is its own normal form
+unfoldable pub isNormal : List ℕ → Bool
+isNormal r = sameList (normal r) r
+
+-- the words are a rule as a session keeps it: at most 8 mixtures, "Unused words are 0, rules in normal form"
+unfoldable pub keptWell : List ℕ → Bool
+keptWell ws = leb (getD ws 0 0) mixtureLimit && (allZero (drop (getD ws 0 0 + 1) ws) && isNormal (ruleOf ws))
+
+-- ---- a container row
+
+-- what the row of a container in use says
+pub record Row : Type 0 where
+  pub kind : ℕ
+  pub tag : ℕ
+  pub permit : List ℕ
+  pub run : List ℕ
+
+-- the numbers of a row in use
+unfoldable pub rowWords : Row → List ℕ
+rowWords w = w .kind ∷ w .tag ∷ (wordsOf (w .permit) ++ wordsOf (w .run))
+
+-- "a free .. row is all 0"
+unfoldable pub freeWords : List ℕ
+freeWords = replicate rowWidth 0
+
+unfoldable pub permitWords : List ℕ → List ℕ
+permitWords ws = take ruleWidth (drop permitAt ws)
+
+unfoldable pub runWords : List ℕ → List ℕ
+runWords ws = take ruleWidth (drop runAt ws)
+
+-- what the numbers of a row say
+unfoldable pub rowOf : List ℕ → Row
+rowOf ws =
+    record {
+      kind = getD ws kindAt 0;
+      tag = getD ws tagAt 0;
+      permit = ruleOf (permitWords ws);
+      run = ruleOf (runWords ws);
+    }
+
+-- "kind (0 free, else as in the image)"
+unfoldable pub usedKind : ℕ → Bool
+usedKind k = isStore k || isProcess k
+
+-- a container row is as "Session" says; the tag is any number
+unfoldable pub containerRowGood : List ℕ → Bool
+containerRowGood ws =
+    cond (isFree (getD ws kindAt 0))
+    (allZero ws)
+    (usedKind (getD ws kindAt 0) && (keptWell (permitWords ws) && keptWell (runWords ws)))
+
+-- a row in use as "Session" says: "0 to 8 mixtures", "rules in normal form"
+pub record InUse (w : Row) : Type 0 where
+  pub used : usedKind (w .kind) ≡ true
+  pub permitShort : length (w .permit) ≤ mixtureLimit
+  pub permitNormal : normal (w .permit) ≡ w .permit
+  pub runShort : length (w .run) ≤ mixtureLimit
+  pub runNormal : normal (w .run) ≡ w .run
+
+-- ---- a user row
+
+-- the numbers of a declared user's row
+unfoldable pub userWords : List ℕ → List ℕ
+userWords r = declared ∷ wordsOf r
+
+-- "an .. undeclared row is all 0"
+unfoldable pub undeclaredWords : List ℕ
+undeclaredWords = replicate userWidth 0
+
+unfoldable pub isDeclared : List ℕ → Bool
+isDeclared ws = eqb (getD ws declaredAt 0) declared
+
+unfoldable pub userRuleWords : List ℕ → List ℕ
+userRuleWords ws = take ruleWidth (drop userRuleAt ws)
+
+-- a declared user's rule
+unfoldable pub userRuleOf : List ℕ → List ℕ
+userRuleOf ws = ruleOf (userRuleWords ws)
+
+-- a user row is as "Session" says
+unfoldable pub userRowGood : List ℕ → Bool
+userRowGood ws = cond (eqb (getD ws declaredAt 0) 0) (allZero ws) (isDeclared ws && keptWell (userRuleWords ws))
+
+-- ---- rows in a session
+
+-- the row of container c
+unfoldable pub containerRow : List ℕ → ℕ → List ℕ
+containerRow s c = take rowWidth (drop (c * rowWidth) s)
+
+-- the row of user u
+unfoldable pub userRow : List ℕ → ℕ → List ℕ
+userRow s u = take userWidth (drop (usersAt + u * userWidth) s)
+
+-- the session with the numbers ws as the row of container c
+unfoldable pub putRow : List ℕ → ℕ → List ℕ → List ℕ
+putRow s c ws = take (c * rowWidth) s ++ (ws ++ drop rowWidth (drop (c * rowWidth) s))

@@ -1,0 +1,46 @@
+-- The session that a policy starts, and what the start answers (the paper, "Session").
+use Prim.Native.Nat.{ℕ, zero, suc, _^_}
+use mathlib.Core.Bool.{cond}
+use mathlib.Core.List.{List, [], _∷_, _++_, map}
+use lib.Dec.{eqb}
+use lib.ListN.{length, replicate}
+use Rattle.image.specs.Limits.{noAtom, containerLimit, userLimit}
+use Rattle.image.specs.Policy.{Policy}
+use Rattle.image.specs.Image.{checkOf, policyIn}
+use Rattle.image.specs.Normal.{Place, Meaning, meaning}
+use Rattle.session.specs.Limits.{sessionLength, rowWidth, userWidth}
+use Rattle.session.specs.Rows.{Row, rowWords, userWords}
+
+-- "At start a file holds its atom; the other containers hold nothing": they name none
+unfoldable pub startTag : ℕ → ℕ
+startTag atom = cond (eqb atom noAtom) 0 (2 ^ atom)
+
+-- a container at the start, its rules in normal form
+unfoldable pub startRow : Place → Row
+startRow p = record { kind = p .kind; tag = startTag (p .atom); permit = p .permit; run = p .run }
+
+unfoldable pub placeWords : Place → List ℕ
+placeWords p = rowWords (startRow p)
+
+-- n rows of w numbers: those given, and then rows that are all 0
+unfoldable pub filled : ℕ → ℕ → List (List ℕ) → List ℕ
+filled w zero rows = []
+filled w (suc n) [] = replicate w 0 ++ filled w n []
+filled w (suc n) (r ∷ rows) = r ++ filled w n rows
+
+-- "256 rows of 20, then 16 user rows of 10"
+unfoldable pub sessionOf : Meaning → List ℕ
+sessionOf m =
+    filled rowWidth containerLimit (map placeWords (m .places)) ++ filled userWidth userLimit (map userWords (m .users))
+
+-- the session that a policy starts
+unfoldable pub startOf : Policy → List ℕ
+startOf p = sessionOf (meaning p)
+
+-- "9 session of wrong length", then the image's refusals; 0 if accepted
+unfoldable pub startAnswer : List ℕ → List ℕ → ℕ
+startAnswer image session = cond (eqb (length session) sessionLength) (checkOf image) 9
+
+-- the session afterwards, whatever stood there; "A refusal .. changes no lent memory"
+unfoldable pub startEffect : List ℕ → List ℕ → List ℕ
+startEffect image session = cond (eqb (startAnswer image session) 0) (startOf (policyIn image)) session

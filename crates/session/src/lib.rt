@@ -1,0 +1,320 @@
+// The session: the test of a row, a rule in a row, and the start (the paper, "Session").
+ghost use mathlib.Core.Path.{_≡_};
+ghost use mathlib.Core.Bool.{true, _||_};
+ghost use mathlib.Core.List.{_∷_, _++_, map};
+ghost use lib.Dec.{eqb, ltb};
+ghost use Prim.Native.Nat.{ℕ, _*_, _/_, _≤_};
+ghost use lib.ListN.{length, getD, drop, replicate};
+ghost use Rattle.rules.specs.Answers.{dataWidth, mixtureLimit};
+ghost use Rattle.image.specs.Limits.{noAtom, containerLimit, userLimit, containerSize, ruleSize, mixtureSize};
+ghost use Rattle.image.specs.Bytes.{every};
+ghost use Rattle.image.specs.Policy.{named, containerGood};
+ghost use Rattle.image.specs.Image.{containerIn, containersIn, usersIn, spansIn, rulesIn, spansGood};
+ghost use Rattle.image.specs.Normal.{normalAt, placeOf};
+ghost use Rattle.session.specs.Limits.{rowWidth, userWidth, usersAt};
+ghost use Rattle.image.specs.Words.{ruleWidth};
+ghost use Rattle.session.specs.Rows.{allZero, isNormal, keptWell, usedKind, containerRowGood, userWords, userRowGood};
+ghost use Rattle.image.specs.Words.{ruleOf};
+ghost use Rattle.session.specs.Session.{filled, startTag, placeWords, startAnswer, startEffect};
+ghost use Rattle.session.specs.RowTest.{holdsOne};
+use rules::Bounded;
+
+// ---- the numbers of the layout, in words
+
+pub const SESSION_LENGTH: usize = 5280;
+
+pub const ROW_WIDTH: usize = 20;
+
+pub const USER_WIDTH: usize = 10;
+
+// The user rows begin behind the container rows.
+pub const USERS_AT: usize = 5120;
+
+// The places in a container row.
+pub const KIND_AT: usize = 0;
+
+pub const TAG_AT: usize = 1;
+
+pub const PERMIT_AT: usize = 2;
+
+pub const RUN_AT: usize = 11;
+
+// The places in a user row.
+pub const DECLARED_AT: usize = 0;
+
+pub const USER_RULE_AT: usize = 1;
+
+// The kind of a free row, and the first number of a declared user's row.
+pub const FREE_KIND: u64 = 0;
+
+pub const DECLARED: u64 = 1;
+
+// ---- a rule in a row
+
+// The rule that the words give: exactly its mixtures.
+pub fn rule_of(ws: &[u64]) -> &[u64]
+    requires { ⌜ (length (now ws) ≡ ruleWidth) × (getD (now ws) 0 0 ≤ mixtureLimit) ⌝ }
+    ensures { λ r. ⌜ now r ≡ ruleOf (now (ws .entry)) ⌝ }
+{
+    let n = ws[0] as usize;
+    let e = n + 1;
+    &ws[1..e]
+}
+
+// ---- the test of a row
+
+// All of the words are 0: so is their union.
+fn all_zero(ws: &[u64]) -> bool
+    ensures { λ r. ⌜ r ≡ allZero (now (ws .entry)) ⌝ }
+{
+    let mut all = 0;
+    let mut i = 0;
+    while i < ws.len() {
+        all = all | ws[i];
+        i += 1;
+    }
+    all == 0
+}
+
+// The seven words behind a single mixture are 0.
+fn none_behind(ws: &[u64]) -> bool
+    requires { ⌜ length (now ws) ≡ ruleWidth ⌝ }
+    ensures { λ r. ⌜ r ≡ allZero (drop 2 (now (ws .entry))) ⌝ }
+{
+    ws[2] | ws[3] | ws[4] | ws[5] | ws[6] | ws[7] | ws[8] == 0
+}
+
+// x holds one of the mixtures.
+fn holds_one(l: &[u64], x: u64) -> bool
+    ensures { λ r. ⌜ r ≡ holdsOne x (now (l .entry)) ⌝ }
+{
+    let mut i = 0;
+    while i < l.len() {
+        let m = l[i];
+        if x & m == m {
+            return true;
+        }
+        i += 1;
+    }
+    false
+}
+
+// The mixtures are in normal form: they ascend, and none is held by a later one.
+fn is_normal(r: &[u64]) -> bool
+    ensures { λ b. ⌜ b ≡ isNormal (now (r .entry)) ⌝ }
+{
+    let mut j = 1;
+    while j < r.len() {
+        let x = r[j];
+        if x <= r[j - 1] {
+            return false;
+        }
+        if holds_one(&r[0..j], x) {
+            return false;
+        }
+        j += 1;
+    }
+    true
+}
+
+// The words are a rule as a session keeps it. A rule of one mixture, the usual one, is a straight line.
+fn kept_well(ws: &[u64]) -> bool
+    requires { ⌜ length (now ws) ≡ ruleWidth ⌝ }
+    ensures { λ r. ⌜ r ≡ keptWell (now (ws .entry)) ⌝ }
+{
+    let n = ws[0];
+    if n == 1 {
+        return none_behind(ws);
+    }
+    if (rules::MIXTURE_LIMIT as u64) < n {
+        return false;
+    }
+    let e = n as usize + 1;
+    if !all_zero(&ws[e..]) {
+        return false;
+    }
+    is_normal(&ws[1..e])
+}
+
+// A kind of the image.
+fn used_kind(kind: u64) -> bool
+    ensures { λ r. ⌜ r ≡ usedKind kind ⌝ }
+{
+    if image::is_file(kind) {
+        return true;
+    }
+    if image::is_volatile(kind) {
+        return true;
+    }
+    image::is_process(kind)
+}
+
+// The container row is as the session keeps it.
+pub fn container_row_good(row: &[u64]) -> bool
+    requires { ⌜ length (now row) ≡ rowWidth ⌝ }
+    ensures { λ r. ⌜ r ≡ containerRowGood (now (row .entry)) ⌝ }
+{
+    let kind = row[KIND_AT];
+    if kind == FREE_KIND {
+        return all_zero(row);
+    }
+    if !used_kind(kind) {
+        return false;
+    }
+    if !kept_well(&row[PERMIT_AT..PERMIT_AT + image::RULE_WIDTH]) {
+        return false;
+    }
+    kept_well(&row[RUN_AT..RUN_AT + image::RULE_WIDTH])
+}
+
+// The user row is as the session keeps it.
+pub fn user_row_good(row: &[u64]) -> bool
+    requires { ⌜ length (now row) ≡ userWidth ⌝ }
+    ensures { λ r. ⌜ r ≡ userRowGood (now (row .entry)) ⌝ }
+{
+    let first = row[DECLARED_AT];
+    if first == 0 {
+        return all_zero(row);
+    }
+    if first != DECLARED {
+        return false;
+    }
+    kept_well(&row[USER_RULE_AT..USER_RULE_AT + image::RULE_WIDTH])
+}
+
+// ---- the start
+
+// A row of zeros.
+fn clear(row: &mut [u64])
+    ensures { λ _. ⌜ now (row .exit) ≡ replicate (length (now (row .entry))) 0 ⌝ }
+{
+    let mut j: usize = 0;
+    while j < row.len() {
+        row[j] = 0;
+        j += 1;
+    }
+}
+
+// The row of a user whose rule has the number n.
+fn put_user(row: &mut [u64], rules: &[u8], m: &[u8], n: usize)
+    requires { ⌜ (length (now row) ≡ userWidth) × (named (length (now rules) / ruleSize) n ≡ true) × (spansGood (length (now m) / mixtureSize) 0 (spansIn (now rules)) ≡ true) ⌝ }
+    ensures { λ _. ⌜ now (row .exit) ≡ userWords (normalAt (rulesIn (now (rules .entry)) (now (m .entry))) n) ⌝ }
+{
+    let rule = image::rule_at(rules, m, n);
+    row[DECLARED_AT] = DECLARED;
+    image::put_rule(
+        &mut row[USER_RULE_AT..USER_RULE_AT + image::RULE_WIDTH],
+        rule,
+    );
+}
+
+// The user rows.
+fn fill_users(out: &mut [u64], users: &[u8], rules: &[u8], m: &[u8])
+    requires { ⌜ (length (now out) ≡ userLimit * userWidth) × (every (named (length (now rules) / ruleSize)) (usersIn (now users)) ≡ true) × (spansGood (length (now m) / mixtureSize) 0 (spansIn (now rules)) ≡ true) ⌝ }
+    ensures { λ _. ⌜ now (out .exit) ≡ filled userWidth userLimit (map userWords (map (normalAt (rulesIn (now (rules .entry)) (now (m .entry)))) (usersIn (now (users .entry))))) ⌝ }
+{
+    let n = users.len() / image::USER_SIZE;
+    let mut i: usize = 0;
+    while i < image::USER_LIMIT {
+        let at = i * USER_WIDTH;
+        if i < n {
+            put_user(
+                &mut out[at..at + USER_WIDTH],
+                rules,
+                m,
+                image::read16(users, i * image::USER_SIZE),
+            );
+            i += 1;
+        } else {
+            clear(&mut out[at..at + USER_WIDTH]);
+            i += 1;
+        }
+    }
+}
+
+// What a container that names the atom holds.
+fn tag_of(atom: usize) -> u64
+    requires { ⌜ (ltb atom dataWidth || eqb atom noAtom) ≡ true ⌝ }
+    ensures { λ r. ⌜ r ≡ startTag atom ⌝ }
+{
+    if atom == image::NO_ATOM {
+        return 0;
+    }
+    1 << atom
+}
+
+// The numbers of a row in use.
+pub fn put_row(row: &mut [u64], kind: u64, tag: u64, permit: Bounded, run: Bounded)
+    requires { ⌜ length (now row) ≡ rowWidth ⌝ }
+    ensures { λ _. ⌜ now (row .exit) ≡ kind ∷ tag ∷ ((permit .count ∷ permit .mixtures) ++ (run .count ∷ run .mixtures)) ⌝ }
+{
+    row[KIND_AT] = kind;
+    row[TAG_AT] = tag;
+    image::put_rule(&mut row[PERMIT_AT..PERMIT_AT + image::RULE_WIDTH], permit);
+    image::put_rule(&mut row[RUN_AT..RUN_AT + image::RULE_WIDTH], run);
+}
+
+// The row of a container record.
+fn put_container(row: &mut [u64], r: &[u8], rules: &[u8], m: &[u8])
+    requires { ⌜ (length (now row) ≡ rowWidth) × (length (now r) ≡ containerSize) × (containerGood (length (now rules) / ruleSize) (containerIn (now r)) ≡ true) × (spansGood (length (now m) / mixtureSize) 0 (spansIn (now rules)) ≡ true) ⌝ }
+    ensures { λ _. ⌜ now (row .exit) ≡ placeWords (placeOf (rulesIn (now (rules .entry)) (now (m .entry))) (containerIn (now (r .entry)))) ⌝ }
+{
+    let kind = image::read8(r, 0) as u64;
+    let tag = tag_of(image::read8(r, 1));
+    let permit = image::rule_at(rules, m, image::read16(r, 2));
+    let run = image::rule_at(rules, m, image::read16(r, 4));
+    put_row(row, kind, tag, permit, run);
+}
+
+// The container rows.
+fn fill_containers(out: &mut [u64], cs: &[u8], rules: &[u8], m: &[u8])
+    requires { ⌜ (length (now out) ≡ containerLimit * rowWidth) × (every (containerGood (length (now rules) / ruleSize)) (containersIn (now cs)) ≡ true) × (spansGood (length (now m) / mixtureSize) 0 (spansIn (now rules)) ≡ true) ⌝ }
+    ensures { λ _. ⌜ now (out .exit) ≡ filled rowWidth containerLimit (map placeWords (map (placeOf (rulesIn (now (rules .entry)) (now (m .entry)))) (containersIn (now (cs .entry))))) ⌝ }
+{
+    let n = cs.len() / image::CONTAINER_SIZE;
+    let mut i: usize = 0;
+    while i < image::CONTAINER_LIMIT {
+        let at = i * ROW_WIDTH;
+        if i < n {
+            let r = i * image::CONTAINER_SIZE;
+            put_container(
+                &mut out[at..at + ROW_WIDTH],
+                &cs[r..r + image::CONTAINER_SIZE],
+                rules,
+                m,
+            );
+            i += 1;
+        } else {
+            clear(&mut out[at..at + ROW_WIDTH]);
+            i += 1;
+        }
+    }
+}
+
+// The session of an image's policy, whatever stood there: 0, or the refusal.
+pub fn start(image: &[u8], session: &mut [u64]) -> u32
+    ensures { λ r. ⌜ (r ≡ startAnswer (now (image .entry)) (now (session .entry))) × (now (session .exit) ≡ startEffect (now (image .entry)) (now (session .entry))) ⌝ }
+{
+    if session.len() != SESSION_LENGTH {
+        return 9;
+    }
+    let refusal = image::check(image);
+    if refusal != 0 {
+        return refusal;
+    }
+    let rules = image::section(image, 2);
+    let mixtures = image::section(image, 3);
+    fill_containers(
+        &mut session[0..USERS_AT],
+        image::section(image, 0),
+        rules,
+        mixtures,
+    );
+    fill_users(
+        &mut session[USERS_AT..SESSION_LENGTH],
+        image::section(image, 1),
+        rules,
+        mixtures,
+    );
+    0
+}
