@@ -1,0 +1,20 @@
+-- Read Theorems first: it states what is proved; the other files serve it.
+pub mod Theorems
+-- chains
+pub mod ChainLaws
+pub mod Inductive
+pub mod Steps
+-- rules, tags and rows that stand for chains
+pub mod Lists
+pub mod KindLaws
+pub mod Exact
+pub mod Rows
+pub mod Start
+pub mod VerdictLaws
+pub mod TableLaws
+-- a whole list of records
+pub mod Whole
+pub mod WellFormed
+-- the table as a monitor, and the paper's listing run by it
+pub mod Itself
+pub mod Listing

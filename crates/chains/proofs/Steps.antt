@@ -1,0 +1,159 @@
+-- Where each step leaves the chains into its receiver, and into every other container.
+use Prim.Native.Nat.{ℕ}
+use mathlib.Core.Path.{_≡_, refl}
+use mathlib.Core.List.{List}
+use mathlib.Core.Logic.{_⊎_, inl, inr, _≢_}
+use Rattle.image.specs.Policy.{Policy}
+use Rattle.chains.specs.History.{
+  Step,
+  read,
+  write,
+  append,
+  exec,
+  fork,
+  newFile,
+  newVolatile,
+  History,
+  _▸_,
+  receiver,
+}
+use Rattle.chains.specs.Chains.{
+  Item,
+  dataAtom,
+  runningAtom,
+  runRule,
+  Carries,
+  readAtom,
+  readRule,
+  writeAny,
+  appendAny,
+  execAtom,
+  execRule,
+  forkAny,
+  Ends,
+  writeEnds,
+  execEnds,
+  Chain,
+  Governs,
+}
+use Rattle.chains.proofs.ChainLaws.{chain-snoc, chain-stay, chain-carry}
+
+-- ---- only the receiver is concerned
+
+carries-to : {s : Step} {a c : ℕ} {x y : Item} → Carries s a x c y → c ≡ receiver s
+carries-to readAtom = refl
+carries-to readRule = refl
+carries-to writeAny = refl
+carries-to appendAny = refl
+carries-to execAtom = refl
+carries-to execRule = refl
+carries-to forkAny = refl
+
+ends-at : {s : Step} {c : ℕ} {x : Item} → Ends s c x → c ≡ receiver s
+ends-at writeEnds = refl
+ends-at execEnds = refl
+
+-- ---- what cannot be
+
+abbrev pub NotRunning : Item → Type 0
+NotRunning (dataAtom d) = Unit {0}
+NotRunning (runningAtom d) = ⊥
+NotRunning (runRule r) = Unit {0}
+
+abbrev pub NotData : Item → Type 0
+NotData (dataAtom d) = ⊥
+NotData (runningAtom d) = Unit {0}
+NotData (runRule r) = Unit {0}
+
+pub read-brings : {b p o c : ℕ} {x y : Item} → Carries (read p o) b x c y → NotRunning y
+read-brings readAtom = tt
+read-brings readRule = tt
+
+pub exec-brings : {b p o u c : ℕ} {x y : Item} → Carries (exec p o u) b x c y → NotData y
+exec-brings execAtom = tt
+exec-brings execRule = tt
+
+pub new-file-any : {b p o u c : ℕ} {x y : Item} → Carries (newFile p o u) b x c y → ⊥
+new-file-any = elim [ ]
+
+pub new-volatile-any : {b p o c : ℕ} {x y : Item} → Carries (newVolatile p o) b x c y → ⊥
+new-volatile-any = elim [ ]
+
+pub read-ends : {p o c : ℕ} {x : Item} → ¬ Ends (read p o) c x
+read-ends = elim [ ]
+
+pub append-ends : {p o c : ℕ} {x : Item} → ¬ Ends (append p o) c x
+append-ends = elim [ ]
+
+module _ (P : Policy) (h : History) where
+  -- ---- any other container
+
+  pub other-back : (s : Step) (c : ℕ) → c ≢ receiver s → (x : Item) → Chain P (h ▸ s) x c → Chain P h x c
+  other-back s c ne x ch = on (chain-snoc P h s x c ch)
+    where
+      on : (Chain P h x c × ¬ Ends s c x) ⊎ ((b : ℕ) × (y : Item) × Chain P h y b × Carries s b y c x) → Chain P h x c
+      on (inl k) = k .0
+      on (inr k) = absurd (ne (carries-to (k .3)))
+
+  pub other-on : (s : Step) (c : ℕ) → c ≢ receiver s → (x : Item) → Chain P h x c → Chain P (h ▸ s) x c
+  other-on s c ne x ch = chain-stay P h s x c ch (λ e. ne (ends-at e))
+
+  pub other-rules-back : (s : Step) (c : ℕ) → c ≢ receiver s → (r : List ℕ) → Governs P (h ▸ s) c r → Governs P h c r
+  other-rules-back (read p o) c ne r g = g
+  other-rules-back (write p o) c ne r g = g
+  other-rules-back (append p o) c ne r g = g
+  other-rules-back (exec p o u) c ne r (inl g) = absurd (ne (g .0))
+  other-rules-back (exec p o u) c ne r (inr g) = g .1
+  other-rules-back (fork p o) c ne r (inl g) = absurd (ne (g .0))
+  other-rules-back (fork p o) c ne r (inr g) = g .1
+  other-rules-back (newFile p o u) c ne r (inl g) = absurd (ne (g .0))
+  other-rules-back (newFile p o u) c ne r (inr g) = g .1
+  other-rules-back (newVolatile p o) c ne r g = g .1
+
+  pub other-rules-on : (s : Step) (c : ℕ) → c ≢ receiver s → (r : List ℕ) → Governs P h c r → Governs P (h ▸ s) c r
+  other-rules-on (read p o) c ne r g = g
+  other-rules-on (write p o) c ne r g = g
+  other-rules-on (append p o) c ne r g = g
+  other-rules-on (exec p o u) c ne r g = inr (ne, g)
+  other-rules-on (fork p o) c ne r g = inr (ne, g)
+  other-rules-on (newFile p o u) c ne r g = inr (ne, g)
+  other-rules-on (newVolatile p o) c ne r g = (ne, g)
+
+  -- ---- what a step carried to its receiver was where the step takes up
+
+  pub read-atom-from : {b p o c d : ℕ} {x : Item} → Chain P h x b → Carries (read p o) b x c (dataAtom d) → Chain P h (dataAtom d) o
+  read-atom-from ch readAtom = ch
+
+  pub read-rule-from : {b p o c : ℕ} {r : List ℕ} {x : Item} → Chain P h x b → Carries (read p o) b x c (runRule r) → Chain P h (runRule r) o
+  read-rule-from ch readRule = ch
+
+  pub write-from : {b p o c : ℕ} {x y : Item} → Chain P h x b → Carries (write p o) b x c y → Chain P h y p
+  write-from ch writeAny = ch
+
+  pub append-from : {b p o c : ℕ} {x y : Item} → Chain P h x b → Carries (append p o) b x c y → Chain P h y p
+  append-from ch appendAny = ch
+
+  pub exec-atom-from : {b p o u c d : ℕ} {x : Item} → Chain P h x b → Carries (exec p o u) b x c (runningAtom d) → Chain P h (dataAtom d) o
+  exec-atom-from ch execAtom = ch
+
+  pub exec-rule-from : {b p o u c : ℕ} {r : List ℕ} {x : Item} → Chain P h x b → Carries (exec p o u) b x c (runRule r) → Chain P h (runRule r) o
+  exec-rule-from ch execRule = ch
+
+  pub fork-from : {b p o c : ℕ} {x y : Item} → Chain P h x b → Carries (fork p o) b x c y → Chain P h y p
+  fork-from ch forkAny = ch
+
+  -- ---- a chain after one more step is one that stood there, or one that the step carried there
+
+  pub came : {Z : Type 0} {s : Step} {y : Item} {c : ℕ} → (Chain P h y c → ¬ Ends s c y → Z) → ((b : ℕ) (x : Item) → Chain P h x b → Carries s b x c y → Z)
+      → Chain P (h ▸ s) y c → Z
+  came {Z} {s} {y} {c} f g ch = on (chain-snoc P h s y c ch)
+    where
+      on : (Chain P h y c × ¬ Ends s c y) ⊎ ((b : ℕ) × (x : Item) × Chain P h x b × Carries s b x c y) → Z
+      on (inl k) = f (k .0) (k .1)
+      on (inr k) = g (k .0) (k .1) (k .2) (k .3)
+
+  pub stay : {s : Step} {y : Item} {c : ℕ} → ¬ Ends s c y → Chain P h y c → Chain P (h ▸ s) y c
+  stay {s} {y} {c} ne ch = chain-stay P h s y c ch ne
+
+  pub carry : {s : Step} {x y : Item} {b c : ℕ} → Carries s b x c y → Chain P h x b → Chain P (h ▸ s) y c
+  carry {s} {x} {y} {b} {c} ca ch = chain-carry P h s x y b c ch ca

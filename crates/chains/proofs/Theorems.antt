@@ -1,0 +1,62 @@
+-- What is proved of chains and of every monitor that follows the table (demand 3; the paper, "Chains"). Read the definitions
+-- in specs/; everything else in this folder serves these statements.
+use Prim.Native.Nat.{ℕ, suc}
+use mathlib.Core.Path.{_≡_, sym, subst}
+use mathlib.Core.Logic.{_⊎_, inl, inr, _↔_}
+use mathlib.Core.List.{List, _++_}
+use mathlib.Core.Option.{Option}
+use lib.ListN.{take}
+use Rattle.image.specs.Policy.{Policy, Sound}
+use Rattle.chains.specs.History.{Step, History, start, _▸_}
+use Rattle.chains.specs.Chains.{Item, Starts, Carries, Ends, Chain}
+use Rattle.chains.specs.Demand.{Answer, after, historyOf, historyFrom, Demand3, TagTold}
+use Rattle.chains.specs.Table.{State, begin, Formed, Faithful}
+use Rattle.chains.proofs.ChainLaws.{chain-snoc, chain-stay, chain-carry, chain-none, chain-here}
+use Rattle.chains.proofs.Inductive.{Built, listed, built}
+use Rattle.chains.proofs.Start.{Inv, begin-ok}
+use Rattle.chains.proofs.Whole.{Told, told-at, history-from-append}
+use Rattle.chains.proofs.WellFormed.{begin-formed, formed-after}
+
+-- ---- demand 3: of every monitor that follows the table, from every state that reads as the start of a sound policy
+
+module _ {S R : Type 0} (op : S → R → S × Answer) (stepOf : R → Option Step) (view : S → State) (Valid : S → Type 0) where
+  -- an accepted access is answered by an alert exactly when the chains into the receiver and the rules governing it say so
+  pub demand3 : Faithful op stepOf view Valid → (P : Policy) → Sound P → (σ : S) → Valid σ → view σ ≡ begin P → Demand3 op stepOf σ P
+  demand3 F P ok σ v e rs n s a A =
+      told-at P op stepOf view Valid F start σ v (subst (Inv P start) (sym e) (begin-ok P ok)) rs n s a A .verdict
+
+  -- an accepted access is answered with its receiver and exactly the information for which there is a chain into it
+  pub tag-told : Faithful op stepOf view Valid → (P : Policy) → Sound P → (σ : S) → Valid σ → view σ ≡ begin P → TagTold op stepOf σ P
+  tag-told F P ok σ v e rs n s a A =
+      let t : Told P (historyOf op stepOf σ (take (suc n) rs)) s a =
+      told-at P op stepOf view Valid F start σ v (subst (Inv P start) (sym e) (begin-ok P ok)) rs n s a A in
+      (t .at, t .tag)
+
+  -- after any list of records the rows are as the paper's section "Session" says, so that none is refused for them
+  pub rows-formed : Faithful op stepOf view Valid → (P : Policy) → Sound P → (σ : S) → Valid σ → view σ ≡ begin P
+      → (rs : List R) → Formed (view (after op σ rs))
+  rows-formed F P ok σ v e rs = formed-after op stepOf view Valid F σ v (subst Formed (sym e) (begin-formed P ok)) rs
+
+-- the history of a list of records begins with the history of its first records
+pub history-append : {S R : Type 0} (op : S → R → S × Answer) (stepOf : R → Option Step) (σ : S) (rs qs : List R)
+    → historyOf op stepOf σ (rs ++ qs) ≡ historyFrom op stepOf (historyOf op stepOf σ rs) (after op σ rs) qs
+history-append op stepOf σ rs qs = history-from-append op stepOf start σ rs qs
+
+-- ---- chains, by the length of the history
+
+-- with no step, a chain is one into the file in which it begins
+pub chain-start : (P : Policy) (x : Item) (c : ℕ) → Chain P start x c ↔ Starts P c x
+chain-start P x c = (chain-none P x c, chain-here P x c)
+
+-- with one more step, a chain is one that stood there and is not ended, or one that the step carries there
+pub chain-step : (P : Policy) (h : History) (s : Step) (y : Item) (c : ℕ)
+    → Chain P (h ▸ s) y c ↔ ((Chain P h y c × ¬ Ends s c y) ⊎ ((b : ℕ) × (x : Item) × Chain P h x b × Carries s b x c y))
+chain-step P h s y c = (chain-snoc P h s y c, back)
+  where
+    back : (Chain P h y c × ¬ Ends s c y) ⊎ ((b : ℕ) × (x : Item) × Chain P h x b × Carries s b x c y) → Chain P (h ▸ s) y c
+    back (inl (ch, ne)) = chain-stay P h s y c ch ne
+    back (inr (b, x, ch, ca)) = chain-carry P h s x y b c ch ca
+
+-- a chain as a rising list of steps is one built up step by step
+pub same-chains : (P : Policy) (h : History) (x : Item) (c : ℕ) → Chain P h x c ↔ Built P h x c
+same-chains P h x c = (built P h x c, listed)

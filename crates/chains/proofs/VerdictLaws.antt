@@ -1,0 +1,22 @@
+-- The two answers to a step that is not refused.
+use mathlib.Core.Path.{_≡_, ap}
+use mathlib.Core.Logic.{⊎-elim}
+use mathlib.Core.Bool.{true, false}
+use Rattle.rules.proofs.Bools.{decide}
+use Rattle.chains.specs.History.{Step, receiver}
+use Rattle.chains.specs.Demand.{quiet, alert, accepted}
+use Rattle.chains.specs.Table.{alerts, verdict}
+use Rattle.session.specs.Rows.{Row}
+
+module _ (s : Step) (w : Row) where
+  pub verdict-alert : alerts s w ≡ true → verdict s w ≡ alert (receiver s) (w .tag)
+  unfolding verdict
+  verdict-alert e = rw e
+
+  pub verdict-quiet : alerts s w ≡ false → verdict s w ≡ quiet (receiver s) (w .tag)
+  unfolding verdict
+  verdict-quiet e = rw e
+
+  -- a step that puts a row is accepted
+  pub verdict-accepted : accepted (verdict s w) ≡ true
+  verdict-accepted = ⊎-elim (λ e. ap accepted (verdict-alert e)) (λ e. ap accepted (verdict-quiet e)) (decide (alerts s w))

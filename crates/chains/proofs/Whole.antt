@@ -1,0 +1,223 @@
+-- The whole list: after any records the state stands for the chains of the history, so each answer tells what they ask for.
+use Prim.Native.Nat.{ℕ, suc, zero, _+_, _-_, _<_}
+use native.Mathlib.Omega.{arith}
+use native.Mathlib.Decide.{decLt}
+use mathlib.Core.Path.{_≡_, refl, sym, subst, _∙_, ap}
+use mathlib.Core.Logic.{_⊎_, inl, inr, _↔_}
+use mathlib.Core.Bool.{Bool, true, false, not, cond, _&&_}
+use mathlib.Core.List.{List, [], _∷_, _++_}
+use mathlib.Core.Option.{Option, none, some}
+use lib.Dec.{eqb}
+use lib.ListN.{take}
+use borrow.Author.Tests.{eqb-true, eqb-false, not-true, not-false}
+use Rattle.rules.specs.Sets.{atom}
+use Rattle.rules.specs.Rules.{covers, elem}
+use Rattle.rules.specs.Answers.{dataWidth}
+use Rattle.rules.proofs.Bools.{and-1, clash, decide}
+use Rattle.image.specs.Limits.{isFree}
+use Rattle.image.specs.Policy.{Policy}
+use Rattle.chains.specs.History.{Step, read, write, append, exec, fork, newFile, newVolatile, History, _▸_, receiver}
+use Rattle.chains.specs.Chains.{dataAtom, runningAtom, Chain, Governs, Reaches, Forbidden}
+use Rattle.chains.specs.Demand.{Answer, accepted, isAlert, receiverOf, tagOf, judged, extend, after, historyFrom, AcceptedAt}
+use Rattle.chains.specs.Table.{State, readRow, writeRow, appendRow, execRow, forkRow, newFileRow, newVolatileRow, Change, refuse, put, change, alerts, verdict, placed, applied, operate, Faithful}
+use Rattle.session.specs.Rows.{Row}
+use Rattle.chains.proofs.Exact.{Exact, covers-in, covers-out, Tagged}
+use Rattle.chains.proofs.Rows.{Good, RowOk, other, read-good, write-good, append-good, exec-good, fork-good, new-file-good, new-volatile-good}
+use Rattle.chains.proofs.Lists.{some-inj, none-some}
+use Rattle.chains.proofs.KindLaws.{process-used, file-used, store-used}
+use Rattle.chains.proofs.TableLaws.{IfPut, Puts, change-puts}
+use Rattle.chains.proofs.VerdictLaws.{verdict-alert, verdict-quiet}
+use Rattle.chains.proofs.Start.{Inv}
+
+module _ (P : Policy) where
+  -- ---- one step
+
+  -- what the row put for the receiver is after the step
+  pub record Put (h : History) (s : Step) (c : ℕ) (w : Row) : Type 0 where
+    pub at : c ≡ receiver s
+    pub ok : RowOk P (h ▸ s) c w
+    pub tag : Tagged (λ d. Chain P (h ▸ s) (dataAtom d) c) (λ d. Chain P (h ▸ s) (runningAtom d) c) (w .tag)
+    pub permit : judged s ≡ true → Exact (λ r. Governs P (h ▸ s) c r) (w .permit)
+
+  used : (h : History) (s : Step) (w : Row) → isFree (w .kind) ≡ false → Good P (h ▸ s) (receiver s) w → Put h s (receiver s) w
+  used h s w e g = record { at = refl; ok = record { empty = λ f. clash f e; good = λ f. g }; tag = g .tag; permit = λ j. g .permit }
+
+  puts : (h : History) (σ : State) → Inv P h σ → (s : Step) → Puts (Put h s) σ s
+  unfolding readRow writeRow appendRow execRow forkRow newFileRow newVolatileRow isFree
+  puts h σ I (read p o) =
+      λ ep eo em.
+      let up : isFree (σ .row p .kind) ≡ false = process-used (σ .row p .kind) ep in
+      let uo : isFree (σ .row o .kind) ≡ false = store-used (σ .row o .kind) eo in
+      used h (read p o) _ up (read-good P h p o (σ .row p) (σ .row o) (I .rows p .good up) (I .rows o .good uo))
+  puts h σ I (write p o) =
+      λ ep eo.
+      let up : isFree (σ .row p .kind) ≡ false = process-used (σ .row p .kind) ep in
+      let uo : isFree (σ .row o .kind) ≡ false = store-used (σ .row o .kind) eo in
+      used h (write p o) _ uo (write-good P h p o (σ .row p) (σ .row o) (I .rows p .good up) (I .rows o .good uo))
+  puts h σ I (append p o) =
+      λ ep eo em.
+      let up : isFree (σ .row p .kind) ≡ false = process-used (σ .row p .kind) ep in
+      let uo : isFree (σ .row o .kind) ≡ false = store-used (σ .row o .kind) eo in
+      used h (append p o) _ uo (append-good P h p o (σ .row p) (σ .row o) (I .rows p .good up) (I .rows o .good uo))
+  puts h σ I (exec p o u) =
+      λ ep eo v ev em.
+      let up : isFree (σ .row p .kind) ≡ false = process-used (σ .row p .kind) ep in
+      let uo : isFree (σ .row o .kind) ≡ false = file-used (σ .row o .kind) eo in
+      used h (exec p o u) _ up (exec-good P h p o (σ .row p) (σ .row o) u v (I .rows o .good uo) (I .users u v ev))
+  puts h σ I (fork p o) =
+      λ ep eo.
+      let up : isFree (σ .row p .kind) ≡ false = process-used (σ .row p .kind) ep in
+      used h (fork p o) _ up (fork-good P h p o (σ .row p) (σ .row o) (I .rows o .empty eo) (I .rows p .good up))
+  puts h σ I (newFile p o u) =
+      λ ep eo v ev.
+      used h (newFile p o u) _ refl (new-file-good P h p o (σ .row p) (σ .row o) u v (I .rows o .empty eo) (I .users u v ev))
+  puts h σ I (newVolatile p o) =
+      λ ep eo.
+      used h (newVolatile p o) _ refl (new-volatile-good P h p o (σ .row p) (σ .row o) (I .rows o .empty eo))
+
+  -- the row that a step puts, and every other
+  placed-ok : (h : History) (σ : State) → Inv P h σ → (s : Step) (c : ℕ) (w : Row) → Put h s c w → Inv P (h ▸ s) (placed σ c w)
+  unfolding placed
+  placed-ok h σ I s c w g = record { rows = λ x. at x (eqb x c) refl; users = I .users }
+    where
+      at : (x : ℕ) (b : Bool) → eqb x c ≡ b → RowOk P (h ▸ s) x (cond b w (σ .row x))
+      at x true e = subst (λ (z : ℕ). RowOk P (h ▸ s) z w) (sym (eqb-true x c e)) (g .ok)
+      at x false e = other P h s x (σ .row x) (λ q. eqb-false x c e (q ∙ sym (g .at))) (I .rows x)
+
+  -- ---- the answer
+
+  -- the answer to the step s tells the truth about the chains of h into the receiver
+  pub record Told (h : History) (s : Step) (a : Answer) : Type 0 where
+    pub at : receiverOf a ≡ receiver s
+    pub tag : (k : ℕ) → (atom (tagOf a) k ≡ 1) ↔ Reaches P h k (receiver s)
+    pub verdict : judged s ≡ true → (isAlert a ≡ true) ↔ Forbidden P h (receiver s)
+
+  module _ (h : History) (c : ℕ) (t : ℕ) (g : Tagged (λ d. Chain P h (dataAtom d) c) (λ d. Chain P h (runningAtom d) c) t) where
+    -- the tag is the information for which there is a chain
+    reaches : (k : ℕ) → (atom t k ≡ 1) ↔ Reaches P h k c
+    reaches k = (λ e. to (decLt k dataWidth) e, from)
+      where
+        to : Dec (k < dataWidth) → atom t k ≡ 1 → Reaches P h k c
+        to (yes l) e = inl (g .low k l e)
+        to (no l) e =
+            let q : k ≡ (k - dataWidth) + dataWidth = omega arith in
+            inr (k - dataWidth, q, g .high (k - dataWidth) (subst (λ (x : ℕ). atom t x ≡ 1) q e))
+
+        from : Reaches P h k c → atom t k ≡ 1
+        from (inl ch) = g .low-in k ch .1
+        from (inr (d, q, ch)) = subst (λ (x : ℕ). atom t x ≡ 1) (sym q) (g .high-in d ch)
+
+    -- the permit rule does not cover the tag: some governing rule forbids what the chains bring
+    uncovered : (w : List ℕ) → Exact (λ r. Governs P h c r) w → covers w t ≡ false → Forbidden P h c
+    uncovered w x e =
+        let q : (r : List ℕ) × Governs P h c r × (covers r t ≡ false) = x .fails t (g .wide) e in
+        (q .0, q .1, λ m mem ha. clash (covers-in (q .0) t m mem (λ k z. ha k (reaches k .0 z))) (q .2))
+
+    -- it does: none does
+    covered : (w : List ℕ) → Exact (λ r. Governs P h c r) w → covers w t ≡ true → ¬ Forbidden P h c
+    covered w x e (r, gr, nm) =
+        let q : (m : ℕ) × (elem m r ≡ true) × ((k : ℕ) → atom t k ≡ 1 → atom m k ≡ 1) = covers-out r t (x .holds t e r gr) in
+        nm (q .0) (q .1) (λ k z. q .2 k (reaches k .1 z))
+
+  told : (h : History) (s : Step) (w : Row) → Put h s (receiver s) w → Told (h ▸ s) s (verdict s w)
+  unfolding alerts
+  told h s w g = on (decide (alerts s w))
+    where
+      info : (k : ℕ) → (atom (w .tag) k ≡ 1) ↔ Reaches P (h ▸ s) k (receiver s)
+      info = reaches (h ▸ s) (receiver s) (w .tag) (g .tag)
+
+      alerting : alerts s w ≡ true → judged s ≡ true → Forbidden P (h ▸ s) (receiver s)
+      alerting e j =
+          uncovered (h ▸ s) (receiver s) (w .tag) (g .tag) (w .permit) (g .permit j)
+          (not-true (covers (w .permit) (w .tag)) (and-1 (judged s) e))
+
+      resting : alerts s w ≡ false → judged s ≡ true → ¬ Forbidden P (h ▸ s) (receiver s)
+      resting e j =
+          covered (h ▸ s) (receiver s) (w .tag) (g .tag) (w .permit) (g .permit j)
+          (not-false (covers (w .permit) (w .tag)) (sym (ap (λ b. b && not (covers (w .permit) (w .tag))) j) ∙ e))
+
+      on : (alerts s w ≡ true) ⊎ (alerts s w ≡ false) → Told (h ▸ s) s (verdict s w)
+      on (inl e) =
+          subst (Told (h ▸ s) s) (sym (verdict-alert s w e))
+          (record { at = refl; tag = info; verdict = λ j. (λ z. alerting e j, λ z. refl) })
+      on (inr e) =
+          subst (Told (h ▸ s) s) (sym (verdict-quiet s w e))
+          (record { at = refl; tag = info; verdict = λ j. (λ z. clash z refl, λ z. absurd (resting e j z)) })
+
+  -- ---- an accepted operation
+
+  pub record Stepped (h : History) (s : Step) (τ : State) (a : Answer) : Type 0 where
+    pub inv : Inv P (h ▸ s) τ
+    pub told : Told (h ▸ s) s a
+
+  applied-ok : (h : History) (σ : State) → Inv P h σ → (s : Step) (k : Change) → IfPut (Put h s) k → accepted (applied σ s k .1) ≡ true
+      → Stepped h s (applied σ s k .0) (applied σ s k .1)
+  applied-ok h σ I s (refuse n) f e = clash e refl
+  applied-ok h σ I s (put c w) f e = record {
+    inv = placed-ok h σ I s c w f;
+    told = told h s w (subst (λ (x : ℕ). Put h s x w) (f .at) f);
+  }
+
+  operate-ok : (h : History) (σ : State) → Inv P h σ → (s : Step) → accepted (operate σ s .1) ≡ true → Stepped h s (operate σ s .0) (operate σ s .1)
+  unfolding operate
+  operate-ok h σ I s e = applied-ok h σ I s (change σ s) (change-puts (Put h s) σ s (puts h σ I s)) e
+
+  -- ---- a monitor that follows the table
+
+  module _ {S R : Type 0} (op : S → R → S × Answer) (stepOf : R → Option Step) (view : S → State) (Valid : S → Type 0) (F : Faithful op stepOf view Valid) where
+    -- an accepted record, wherever it stands
+    op-accepted : (h : History) (σ : S) → Valid σ → Inv P h (view σ) → (r : R) → accepted (op σ r .1) ≡ true
+        → (s : Step) × (stepOf r ≡ some s) × Stepped h s (view (op σ r .0)) (op σ r .1)
+    op-accepted h σ ok I r e =
+        let f : (s : Step) × (stepOf r ≡ some s) × (view (op σ r .0) ≡ operate (view σ) s .0) × (op σ r .1 ≡ operate (view σ) s .1) = F .accepting σ r ok e in (
+          f .0,
+          f .1,
+          subst (λ (τ : State). Stepped h (f .0) τ (op σ r .1)) (sym (f .2))
+              (subst (λ (a : Answer). Stepped h (f .0) (operate (view σ) (f .0) .0) a) (sym (f .3)) (operate-ok h (view σ) I (f .0) (ap accepted (sym (f .3)) ∙ e))),
+        )
+
+    refused-extend : (h : History) (m : Option Step) → extend h m false ≡ h
+    refused-extend h none = refl
+    refused-extend h (some s) = refl
+
+    op-ok : (h : History) (σ : S) → Valid σ → Inv P h (view σ) → (r : R) → Inv P (extend h (stepOf r) (accepted (op σ r .1))) (view (op σ r .0))
+    op-ok h σ ok I r = on (accepted (op σ r .1)) refl
+      where
+        on : (b : Bool) → accepted (op σ r .1) ≡ b → Inv P (extend h (stepOf r) b) (view (op σ r .0))
+        on false e =
+            subst (λ (x : History). Inv P x (view (op σ r .0))) (sym (refused-extend h (stepOf r)))
+            (subst (λ (τ : State). Inv P h τ) (sym (F .refusing σ r ok e)) I)
+        on true e =
+            let f : (s : Step) × (stepOf r ≡ some s) × Stepped h s (view (op σ r .0)) (op σ r .1) = op-accepted h σ ok I r e in
+            subst (λ (m : Option Step). Inv P (extend h m true) (view (op σ r .0))) (sym (f .1)) (f .2 .inv)
+
+    op-told : (h : History) (σ : S) → Valid σ → Inv P h (view σ) → (r : R) (s : Step) → stepOf r ≡ some s → accepted (op σ r .1) ≡ true
+        → Told (extend h (stepOf r) (accepted (op σ r .1))) s (op σ r .1)
+    op-told h σ ok I r s es e =
+        let f : (s : Step) × (stepOf r ≡ some s) × Stepped h s (view (op σ r .0)) (op σ r .1) = op-accepted h σ ok I r e in
+        subst (λ (b : Bool). Told (extend h (stepOf r) b) s (op σ r .1)) (sym e)
+        (subst (λ (m : Option Step). Told (extend h m true) s (op σ r .1)) (sym es)
+        (subst (λ (t : Step). Told (h ▸ t) t (op σ r .1)) (some-inj (sym (f .1) ∙ es)) (f .2 .told)))
+
+    -- the state after a whole list stands for the chains of its history
+    pub inv-after : (h : History) (σ : S) → Valid σ → Inv P h (view σ) → (rs : List R) → Inv P (historyFrom op stepOf h σ rs) (view (after op σ rs))
+    inv-after h σ ok I [] = I
+    inv-after h σ ok I (r ∷ rs) = inv-after (extend h (stepOf r) (accepted (op σ r .1))) (op σ r .0) (F .stays σ r ok) (op-ok h σ ok I r) rs
+
+    -- each accepted record of a list is answered with the truth
+    pub told-at : (h : History) (σ : S) → Valid σ → Inv P h (view σ) → (rs : List R) (n : ℕ) (s : Step) (a : Answer) → AcceptedAt op stepOf σ rs n s a
+        → Told (historyFrom op stepOf h σ (take (suc n) rs)) s a
+    told-at h σ ok I [] n s a A = absurd (none-some (A .answered))
+    told-at h σ ok I (q ∷ rs) zero s a A =
+        let ea : op σ q .1 ≡ a = some-inj (A .answered) in
+        subst (λ (x : Answer). Told (extend h (stepOf q) (accepted (op σ q .1))) s x) ea
+        (op-told h σ ok I q s (ap stepOf (some-inj (A .spelled .1)) ∙ A .spelled .2) (ap accepted ea ∙ A .counted))
+    told-at h σ ok I (q ∷ rs) (suc n) s a A =
+        told-at (extend h (stepOf q) (accepted (op σ q .1))) (op σ q .0) (F .stays σ q ok) (op-ok h σ ok I q) rs n s a
+        (record { spelled = A .spelled; answered = A .answered; counted = A .counted })
+
+-- the history of a list of records begins with the history of its first records
+pub history-from-append : {S R : Type 0} (op : S → R → S × Answer) (stepOf : R → Option Step) (h : History) (σ : S) (rs qs : List R)
+    → historyFrom op stepOf h σ (rs ++ qs) ≡ historyFrom op stepOf (historyFrom op stepOf h σ rs) (after op σ rs) qs
+history-from-append op stepOf h σ [] qs = refl
+history-from-append op stepOf h σ (r ∷ rs) qs = history-from-append op stepOf (extend h (stepOf r) (accepted (op σ r .1))) (op σ r .0) rs qs

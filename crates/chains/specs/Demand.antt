@@ -1,0 +1,115 @@
+-- Demand 3, "one claim about the whole list": of any monitor, given by its operation on its states and records, and by the
+-- step that a record spells (the paper, "Operations" and "Chains").
+use Prim.Native.Nat.{ℕ, suc}
+use mathlib.Core.Path.{_≡_}
+use mathlib.Core.Logic.{_↔_}
+use mathlib.Core.Bool.{Bool, true, false}
+use mathlib.Core.List.{List, [], _∷_}
+use mathlib.Core.Option.{Option, none, some}
+use lib.ListN.{getElem?, take}
+use Rattle.rules.specs.Sets.{atom}
+use Rattle.image.specs.Policy.{Policy}
+use Rattle.chains.specs.History.{
+  Step,
+  read,
+  write,
+  append,
+  exec,
+  fork,
+  newFile,
+  newVolatile,
+  History,
+  start,
+  _▸_,
+  receiver,
+}
+use Rattle.chains.specs.Chains.{Reaches, Forbidden}
+
+-- ---- answers
+
+-- "Each answer gives receiver and tag"; "A refusal returns its number, zeros elsewhere".
+pub data Answer : Type 0 where
+  refused : (number : ℕ) → Answer
+  quiet alert : (at tag : ℕ) → Answer
+
+-- "A step is accepted if it is answered quiet or alert"
+abbrev pub accepted : Answer → Bool
+accepted (refused n) = false
+accepted (quiet c t) = true
+accepted (alert c t) = true
+
+abbrev pub isAlert : Answer → Bool
+isAlert (refused n) = false
+isAlert (quiet c t) = false
+isAlert (alert c t) = true
+
+abbrev pub receiverOf : Answer → ℕ
+receiverOf (refused n) = 0
+receiverOf (quiet c t) = c
+receiverOf (alert c t) = c
+
+abbrev pub tagOf : Answer → ℕ
+tagOf (refused n) = 0
+tagOf (quiet c t) = t
+tagOf (alert c t) = t
+
+-- "Codes 1 to 5 answer alert if ..; 6 and 7 answer quiet."
+abbrev pub judged : Step → Bool
+judged (read p o) = true
+judged (write p o) = true
+judged (append p o) = true
+judged (exec p o u) = true
+judged (fork p o) = true
+judged (newFile p o u) = false
+judged (newVolatile p o) = false
+
+-- ---- a list of records
+
+-- the history with one more record, which counts if it was accepted
+abbrev pub extend : History → Option Step → Bool → History
+extend h none b = h
+extend h (some s) false = h
+extend h (some s) true = h ▸ s
+
+module _ {S R : Type 0} (op : S → R → S × Answer) where
+  -- The answers to a list of records: "the first finds the session as the start filled it .., each later one finds it as
+  -- the one before left it".
+  abbrev pub answers : S → List R → List Answer
+  answers σ [] = []
+  answers σ (r ∷ rs) = op σ r .1 ∷ answers (op σ r .0) rs
+
+  -- the state that a list of records leaves
+  abbrev pub after : S → List R → S
+  after σ [] = σ
+  after σ (r ∷ rs) = after (op σ r .0) rs
+
+  module _ (stepOf : R → Option Step) where
+    -- the accepted steps of a list of records, in order, behind those of h
+    abbrev pub historyFrom : History → S → List R → History
+    historyFrom h σ [] = h
+    historyFrom h σ (r ∷ rs) = historyFrom (extend h (stepOf r) (accepted (op σ r .1))) (op σ r .0) rs
+
+    -- "The history is the accepted steps in order."
+    abbrev pub historyOf : S → List R → History
+    historyOf σ rs = historyFrom start σ rs
+
+    -- ---- the demand
+
+    -- Of any list of records, record number n spells the step s, and its answer a is no refusal.
+    pub record AcceptedAt (σ : S) (rs : List R) (n : ℕ) (s : Step) (a : Answer) : Type 0 where
+      pub spelled : (r : R) × (getElem? rs n ≡ some r) × (stepOf r ≡ some s)
+      pub answered : getElem? (answers σ rs) n ≡ some a
+      pub counted : accepted a ≡ true
+
+    -- Demand 3, of the state σ that the policy P starts: of any list of records, each accepted read, write, append, exec or
+    -- fork is answered by an alert exactly when its receiver is forbidden what it holds after the history up to and with it.
+    abbrev pub Demand3 : S → Policy → Type 0
+    Demand3 σ P = (rs : List R) (n : ℕ) (s : Step) (a : Answer) → AcceptedAt σ rs n s a → judged s ≡ true
+        → (isAlert a ≡ true) ↔ Forbidden P (historyOf σ (take (suc n) rs)) (receiver s)
+
+    -- Each accepted record is answered with its receiver, and with exactly the information for which the history up to and
+    -- with it has a chain into the receiver.
+    abbrev pub TagTold : S → Policy → Type 0
+    TagTold σ P = (rs : List R) (n : ℕ) (s : Step) (a : Answer) → AcceptedAt σ rs n s a
+        → (receiverOf a ≡ receiver s)
+        × ((k : ℕ) → (atom (tagOf a) k ≡ 1) ↔ Reaches P (historyOf σ (take (suc n) rs)) k (receiver s))

@@ -1,0 +1,6 @@
+-- What a reader must believe of this crate. The first three state demand 3; no row and no meet occurs in them.
+pub mod History
+pub mod Chains
+pub mod Demand
+-- What a monitor does, as the paper's table has it. Demand 3 is proved for every monitor that follows it.
+pub mod Table
