@@ -1,0 +1,60 @@
+-- Demand 3 and the tag, told by the records and their answers.
+use Prim.Native.Nat.{ℕ, suc}
+use mathlib.Core.Path.{_≡_, subst, ap, _∙_}
+use mathlib.Core.Logic.{_↔_}
+use mathlib.Core.Bool.{true}
+use mathlib.Core.List.{List, [], _∷_, _++_}
+use mathlib.Core.Option.{some}
+use lib.ListN.{length, take, getElem?}
+use Rattle.rules.specs.Sets.{atom}
+use Rattle.image.specs.Policy.{Policy}
+use Rattle.chains.specs.History.{Step, History, start, receiver}
+use Rattle.chains.specs.Chains.{Reaches, Forbidden}
+use Rattle.chains.specs.Demand.{Answer, accepted, isAlert, receiverOf, tagOf, judged, historyOf, AcceptedAt, Demand3, TagTold}
+use Rattle.operations.specs.Requests.{stepIn}
+use Rattle.monitor.specs.Records.{requestIn, stepOf}
+use Rattle.monitor.specs.Steps.{refusalOf, stepAnswer}
+use Rattle.monitor.specs.Runs.{stepOn, runAnswers, runEffect, historyIn}
+use Rattle.monitor.proofs.RecordLaws.{record-step}
+use Rattle.monitor.proofs.StepLaws.{step-record, answered}
+use Rattle.monitor.proofs.RunLaws.{history-told, history-first, answer-last, record-last, take-last}
+
+-- ---- a position of a list of records
+
+module _ (s : List ℕ) (P : Policy) (rs : List (List ℕ)) (given : List Answer) (told : runAnswers s rs ≡ given)
+    (n : ℕ) (r : List ℕ) (a : Answer) (er : getElem? rs n ≡ some r) (ea : getElem? given n ≡ some a) (k : accepted a ≡ true)
+    (t : Step) (et : stepOf r ≡ some t) (h : History) (eh : historyIn (take (suc n) rs) (take (suc n) given) ≡ h) where
+  at : AcceptedAt stepOn stepOf s rs n t a
+  unfolding runAnswers
+  at = record { spelled = (r, er, et); answered = ap (λ l. getElem? l n) told ∙ ea; counted = k }
+
+  up-to : historyOf stepOn stepOf s (take (suc n) rs) ≡ h
+  up-to = history-first (suc n) s rs ∙ ap (λ l. historyIn (take (suc n) rs) (take (suc n) l)) told ∙ eh
+
+  pub alert-at : Demand3 stepOn stepOf s P → judged t ≡ true → (isAlert a ≡ true) ↔ Forbidden P h (receiver t)
+  alert-at d j = subst (λ (x : History). (isAlert a ≡ true) ↔ Forbidden P x (receiver t)) up-to (d rs n t a at j)
+
+  pub tag-at : TagTold stepOn stepOf s P → (receiverOf a ≡ receiver t) × ((k : ℕ) → (atom (tagOf a) k ≡ 1) ↔ Reaches P h k (receiver t))
+  tag-at d =
+      subst (λ (x : History). (receiverOf a ≡ receiver t) × ((k : ℕ) → (atom (tagOf a) k ≡ 1) ↔ Reaches P x k (receiver t))) up-to (d rs n t a at)
+
+-- ---- one more record
+
+module _ (s : List ℕ) (P : Policy) (rs : List (List ℕ)) (r : List ℕ) (e : refusalOf (runEffect s rs) r ≡ 0) where
+  last : AcceptedAt stepOn stepOf s (rs ++ (r ∷ [])) (length rs) (stepIn (requestIn r)) (stepAnswer (runEffect s rs) r)
+  unfolding stepOn
+  last = record {
+    spelled = (r, record-last rs r, record-step r (step-record (runEffect s rs) r e));
+    answered = answer-last s rs r;
+    counted = answered (runEffect s rs) r e;
+  }
+
+  whole : historyOf stepOn stepOf s (take (suc (length rs)) (rs ++ (r ∷ []))) ≡ historyIn (rs ++ (r ∷ [])) (runAnswers s (rs ++ (r ∷ [])))
+  unfolding runAnswers historyIn
+  whole = ap (historyOf stepOn stepOf s) (take-last rs r) ∙ history-told start s (rs ++ (r ∷ []))
+
+  pub alert-last : Demand3 stepOn stepOf s P → judged (stepIn (requestIn r)) ≡ true
+      → (isAlert (stepAnswer (runEffect s rs) r) ≡ true) ↔ Forbidden P (historyIn (rs ++ (r ∷ [])) (runAnswers s (rs ++ (r ∷ [])))) (receiver (stepIn (requestIn r)))
+  alert-last d j =
+      subst (λ (x : History). (isAlert (stepAnswer (runEffect s rs) r) ≡ true) ↔ Forbidden P x (receiver (stepIn (requestIn r)))) whole
+      (d (rs ++ (r ∷ [])) (length rs) (stepIn (requestIn r)) (stepAnswer (runEffect s rs) r) last j)

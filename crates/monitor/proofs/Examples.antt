@@ -1,0 +1,110 @@
+-- Checked examples of the paper that concern the step.
+use Prim.Native.Nat.{ℕ, _+_, _^_}
+use mathlib.Core.Path.{_≡_, refl}
+use mathlib.Core.Bool.{true}
+use mathlib.Core.List.{List, [], _∷_, _++_}
+use lib.Bits.{or-zero-r}
+use Rattle.rules.specs.Sets.{holds, dataOf, runningOf}
+use Rattle.rules.specs.Rules.{covers, elem, distinct, heldIn, unheldIn, insert, sort, normal, intersections, meet, unrestricted, sameList}
+use Rattle.rules.specs.Answers.{padded}
+use Rattle.image.specs.Limits.{isFree, isFile, isVolatile, isProcess, isStore, fileKind, processKind, noAtom, unrestrictedNumber}
+use Rattle.image.specs.Bytes.{numberIn, bytesOf, field}
+use Rattle.image.specs.Policy.{Container, Policy, unrestrictedRule, ruleAt}
+use Rattle.image.specs.Normal.{normalAt, placeOf, meaning}
+use Rattle.chains.proofs.KindLaws.{process-used}
+use Rattle.session.specs.Rows.{Row, allZero, isNormal, keptWell, rowWords, freeWords, permitWords, runWords, rowOf, usedKind, containerRowGood, userWords, isDeclared, userRuleWords, userRuleOf, userRowGood, containerRow, userRow, putRow}
+use Rattle.image.specs.Words.{ruleOf, wordsOf}
+use Rattle.session.specs.Session.{startTag, startRow, placeWords, filled, sessionOf, startOf}
+use Rattle.chains.specs.Demand.{quiet, alert, refused}
+use Rattle.chains.specs.Table.{readRow, writeRow, appendRow, execRow, forkRow, fits, alerts, verdict}
+use Rattle.operations.specs.Codes.{readCode, writeCode, appendCode, execCode, forkCode, objectFits, codes, codeAt, isCode}
+use Rattle.operations.specs.Requests.{stepIn}
+use Rattle.operations.specs.Effects.{processRow, objectRow, userRule, rowsGood, processGood, kindGood, freeGood, userGood, meetGood, sessionRefusal, receiverRow, acceptedAnswer, acceptedEffect}
+use Rattle.monitor.specs.Records.{noUser, requestIn, userFits, recordGood}
+use Rattle.monitor.specs.Steps.{lengthGood, refusalOf, stepAnswer, stepEffect}
+use Rattle.monitor.specs.Runs.{stepOn, runAnswers}
+use Rattle.monitor.proofs.CodeLaws.{request}
+
+-- the eight bytes of a record
+abbrev recordOf : ℕ → ℕ → ℕ → ℕ → List ℕ
+recordOf c p o u = c ∷ 0 ∷ bytesOf 2 p ++ (bytesOf 2 o ++ bytesOf 2 u)
+
+abbrev file : ℕ → ℕ → Container
+file d run = record { kind = fileKind; atom = d; permit = unrestrictedNumber; run = run }
+
+abbrev process : Container
+process = record { kind = processKind; atom = noAtom; permit = unrestrictedNumber; run = unrestrictedNumber }
+
+-- two files with the atoms 1 and 2, a file that names none, two processes and a user, all rules unrestricted
+abbrev P : Policy
+P = record {
+  containers = file 1 unrestrictedNumber ∷ file 2 unrestrictedNumber ∷ file noAtom unrestrictedNumber ∷ process ∷ process ∷ [];
+  users = unrestrictedNumber ∷ [];
+  rules = [];
+}
+
+-- two files whose run rules have the mixtures 62, 61, 59 and 55, 47, 31, and a process
+abbrev Q : Policy
+Q = record { containers = file noAtom 0 ∷ file noAtom 1 ∷ process ∷ []; users = []; rules = (62 ∷ 61 ∷ 59 ∷ []) ∷ (55 ∷ 47 ∷ 31 ∷ []) ∷ [] }
+
+-- the derived policy of document 000's matrix: four files, three processes and a user
+abbrev object : ℕ → Container
+object d = record { kind = fileKind; atom = d; permit = d; run = unrestrictedNumber }
+
+abbrev pub M : Policy
+M = record {
+  containers = object 0 ∷ object 1 ∷ object 2 ∷ object 3 ∷ process ∷ process ∷ process ∷ [];
+  users = unrestrictedNumber ∷ [];
+  rules = (5 ∷ []) ∷ (3 ∷ []) ∷ (4 ∷ []) ∷ (10 ∷ []) ∷ [];
+}
+
+-- the records of the listing
+abbrev pub trace : List (List ℕ)
+trace =
+    (1 ∷ 0 ∷ 4 ∷ 0 ∷ 2 ∷ 0 ∷ 255 ∷ 255 ∷ [])
+    ∷ (3 ∷ 0 ∷ 4 ∷ 0 ∷ 0 ∷ 0 ∷ 255 ∷ 255 ∷ [])
+    ∷ (1 ∷ 0 ∷ 5 ∷ 0 ∷ 0 ∷ 0 ∷ 255 ∷ 255 ∷ [])
+    ∷ (3 ∷ 0 ∷ 5 ∷ 0 ∷ 1 ∷ 0 ∷ 255 ∷ 255 ∷ [])
+    ∷ (2 ∷ 0 ∷ 6 ∷ 0 ∷ 1 ∷ 0 ∷ 255 ∷ 255 ∷ [])
+    ∷ (1 ∷ 0 ∷ 6 ∷ 0 ∷ 9 ∷ 0 ∷ 255 ∷ 255 ∷ [])
+    ∷ []
+
+-- each a run of records from a session's start
+pub record CheckedRuns : Type 0 where
+  -- "Fork onto p itself: 13."
+  pub forkItself : runAnswers (startOf P) (recordOf forkCode 3 3 noUser ∷ []) ≡ refused 13 ∷ []
+  -- "Exec of a file holding 1 and 34: p holds 33." Process 3 executes file 1, which holds 2, and appends to
+  -- file 0, which holds 1; process 4 executes that.
+  pub execHolding : runAnswers (startOf P) (recordOf execCode 3 1 0 ∷ recordOf appendCode 3 0 noUser ∷ recordOf execCode 4 0 0 ∷ [])
+      ≡ quiet 3 (2 ^ 34) ∷ quiet 0 (2 ^ 1 + 2 ^ 34) ∷ quiet 4 (2 ^ 33) ∷ []
+  -- "Reading a file holding only 33 adds nothing." Process 3 executes file 0, which holds 1, and writes file 2; process 4
+  -- reads file 1, which holds 2, and then file 2.
+  pub readHolding : runAnswers (startOf P)
+      (recordOf execCode 3 0 0 ∷ recordOf writeCode 3 2 noUser ∷ recordOf readCode 4 1 noUser ∷ recordOf readCode 4 2 noUser ∷ [])
+      ≡ quiet 3 (2 ^ 33) ∷ quiet 2 (2 ^ 33) ∷ quiet 4 (2 ^ 2) ∷ quiet 4 (2 ^ 2) ∷ []
+  -- "Meet of 62, 61, 59 with 55, 47, 31 has nine: 15."
+  pub meetOver : runAnswers (startOf Q) (recordOf readCode 2 0 noUser ∷ recordOf readCode 2 1 noUser ∷ []) ≡ quiet 2 0 ∷ refused 15 ∷ []
+  -- the listing (Listing has it from the image's bytes)
+  pub listing : runAnswers (startOf M) trace ≡ quiet 4 4 ∷ quiet 0 5 ∷ quiet 5 5 ∷ alert 1 7 ∷ quiet 1 0 ∷ refused 12 ∷ []
+  -- "Code 9 with a short session: 9."
+  pub shortSession : stepAnswer [] (recordOf 9 0 0 0) ≡ refused 9
+
+pub checked-runs : CheckedRuns
+unfolding holds dataOf runningOf covers elem distinct heldIn unheldIn insert sort normal intersections meet unrestricted sameList padded isFree isFile isVolatile isProcess isStore numberIn bytesOf field unrestrictedRule ruleAt normalAt placeOf meaning ruleOf wordsOf allZero isNormal keptWell rowWords freeWords permitWords runWords rowOf usedKind containerRowGood userWords isDeclared userRuleWords userRuleOf userRowGood containerRow userRow putRow startTag startRow placeWords filled sessionOf startOf readRow writeRow appendRow execRow forkRow fits alerts verdict objectFits codes codeAt isCode stepIn processRow objectRow userRule rowsGood processGood kindGood freeGood userGood meetGood sessionRefusal receiverRow acceptedAnswer acceptedEffect requestIn userFits recordGood lengthGood refusalOf stepAnswer stepEffect stepOn runAnswers
+checked-runs = record { forkItself = refl; execHolding = refl; readHolding = refl; meetOver = refl; listing = refl; shortSession = refl }
+
+-- ---- the same of any session and any rows
+
+-- p itself is a process, so it is not free
+pub fork-itself : (s : List ℕ) (p u : ℕ) → rowsGood s (request forkCode p p u) ≡ true → processGood s (request forkCode p p u) ≡ true
+    → sessionRefusal s (request forkCode p p u) ≡ 13
+unfolding sessionRefusal processGood kindGood freeGood processRow objectRow codeAt codes objectFits
+fork-itself s p u g h = rw (g, h, process-used (rowOf (containerRow s p) .kind) h)
+
+pub exec-holding : (p o : Row) (u : List ℕ) → o .tag ≡ 2 ^ 1 + 2 ^ 34 → execRow p o u .tag ≡ 2 ^ 33
+unfolding execRow runningOf dataOf
+exec-holding p o u e = rw e
+
+pub read-holding : (p o : Row) → o .tag ≡ 2 ^ 33 → readRow p o .tag ≡ p .tag
+unfolding readRow dataOf
+read-holding p o e = rw e (or-zero-r (p .tag))
