@@ -1,3 +1,5 @@
+-- Theorems is the file to read: the laws of this crate, stated and cited. The others prove them.
+pub mod Theorems
 pub mod Lists
 pub mod ByteLaws
 pub mod Frame

@@ -52,7 +52,7 @@ elem-every : (f : ℕ → Bool) (r : List ℕ) → ((m : ℕ) → elem m r ≡ t
 elem-every f [] h = every-nil f
 elem-every f (n ∷ r) h = every-cons f n r (h n (elem-here n r)) (elem-every f r (λ m e. h m (elem-there m n r e)))
 
-normal-good : (r : List ℕ) → ruleGood r ≡ true → formGood (normal r) ≡ true
+pub normal-good : (r : List ℕ) → ruleGood r ≡ true → formGood (normal r) ≡ true
 unfolding formGood ruleGood
 normal-good r h =
     and-in

@@ -1,0 +1,127 @@
+-- The rules of a table: numbering their classes is numbering the rules.
+use Prim.Native.Nat.{ℕ, zero, suc, _+_, _-_, _*_, _/_, _≤_, _<_}
+use mathlib.Core.Path.{_≡_, refl, sym, ap, ap₂, _∙_}
+use mathlib.Core.Bool.{Bool, true, false, not, cond, _&&_, _||_}
+use mathlib.Core.List.{List, [], _∷_, _++_, map}
+use mathlib.Core.Logic.{⊎-elim}
+use native.Mathlib.Omega.{arith}
+use native.Mathlib.Decide.{ℕ-discrete}
+use lib.Dec.{eqb, ltb}
+use lib.ListN.{length, getD, take, drop, length-map}
+use borrow.Author.Tests.{eqb-true, eq-eqb, ne-eqb, ltb-true, lt-ltb}
+use Rattle.rules.proofs.Bools.{and-in, and-0, and-1, or-0, or-1, or-cases, decide, clash, refuted, same-test}
+use Rattle.rules.proofs.SameLaws.{same-refl, same-eq}
+use Rattle.rules.specs.Rules.{normal, elem, sameList}
+use Rattle.image.specs.Limits.{unrestrictedNumber}
+use Rattle.image.specs.Bytes.{every}
+use Rattle.image.specs.Policy.{unrestrictedRule, ruleAt, named}
+use Rattle.image.specs.Normal.{known, noted, numbered, position, numberOf}
+use Rattle.image.proofs.Lists.{every-0, every-1, every-nil, every-cons, every-append, every-map, every-getD}
+use Rattle.image.proofs.Numbering.{settled, all-settled, numbered-every, numbered-few, number-rule, number-named}
+use Rattle.normaliser.specs.Tables.{placed, placedAll, indexOf, placeIn}
+
+known-at : (rules : List (List ℕ)) (n : ℕ) → n < length rules → known (getD rules n []) rules ≡ true
+unfolding known
+known-at [] n h = absurd (omega arith)
+known-at (r ∷ rules) zero h = or-0 (sameList r r) (known r rules) (same-refl r)
+known-at (r ∷ rules) (suc n) h = or-1 (sameList (getD rules n []) r) (known (getD rules n []) rules) (known-at rules n (omega arith))
+
+-- a rule that is named is among the rules, or unrestricted
+pub settled-at : (rules : List (List ℕ)) (k : ℕ) → named (length rules) k ≡ true → settled rules (ruleAt rules k) ≡ true
+unfolding settled ruleAt named
+settled-at rules k h = by (eqb k unrestrictedNumber) h
+  where
+    by : (b : Bool) → (ltb k (length rules) || b) ≡ true
+        → (sameList (cond b unrestrictedRule (getD rules k [])) unrestrictedRule || known (cond b unrestrictedRule (getD rules k [])) rules) ≡ true
+    by true e = or-0 (sameList unrestrictedRule unrestrictedRule) (known unrestrictedRule rules) (same-refl unrestrictedRule)
+    by false e =
+        or-1 (sameList (getD rules k []) unrestrictedRule) (known (getD rules k []) rules)
+        (known-at rules k (⊎-elim (λ p. ltb-true k (length rules) p) (λ p. clash p refl) (or-cases (ltb k (length rules)) e)))
+
+module _ (F : List (List ℕ)) (few : length F ≤ 256) where
+  -- the numbers of two rules are the same just if the rules are
+  pub number-same : (r s : List ℕ) → settled F r ≡ true → settled F s ≡ true → eqb (numberOf F r) (numberOf F s) ≡ sameList r s
+  number-same r s h k =
+      same-test (eqb (numberOf F r) (numberOf F s)) (sameList r s)
+      (λ e. let q : r ≡ s = sym (number-rule F few r h) ∙ ap (ruleAt F) (eqb-true (numberOf F r) (numberOf F s) e) ∙ number-rule F few s k in rw q (same-refl s))
+      (λ e. let q : r ≡ s = same-eq r s e in rw q (eq-eqb (numberOf F s) (numberOf F s) refl))
+
+  number-none : numberOf F unrestrictedRule ≡ unrestrictedNumber
+  unfolding numberOf
+  number-none = rw (same-refl unrestrictedRule)
+
+  settled-none : settled F unrestrictedRule ≡ true
+  unfolding settled
+  settled-none = or-0 (sameList unrestrictedRule unrestrictedRule) (known unrestrictedRule F) (same-refl unrestrictedRule)
+
+  pub number-unrestricted : (r : List ℕ) → settled F r ≡ true → eqb (numberOf F r) unrestrictedNumber ≡ sameList r unrestrictedRule
+  number-unrestricted r h = ap (eqb (numberOf F r)) (sym number-none) ∙ number-same r unrestrictedRule h settled-none
+
+  elem-known : (r : List ℕ) (T : List (List ℕ)) → settled F r ≡ true → every (settled F) T ≡ true → elem (numberOf F r) (map (numberOf F) T) ≡ known r T
+  unfolding elem known
+  elem-known r [] h k = refl
+  elem-known r (s ∷ T) h k =
+      ap₂ _||_ (number-same r s h (every-0 (settled F) s T k)) (elem-known r T h (every-1 (settled F) s T k))
+
+  index-position : (r : List ℕ) (T : List (List ℕ)) → settled F r ≡ true → every (settled F) T ≡ true → indexOf (numberOf F r) (map (numberOf F) T) ≡ position r T
+  unfolding indexOf position
+  index-position r [] h k = refl
+  index-position r (s ∷ T) h k =
+      ap₂ (λ (b : Bool) (n : ℕ). cond b 0 (suc n)) (number-same r s h (every-0 (settled F) s T k)) (index-position r T h (every-1 (settled F) s T k))
+
+  pub place-number : (r : List ℕ) (T : List (List ℕ)) → settled F r ≡ true → every (settled F) T ≡ true
+      → placeIn (numberOf F r) (map (numberOf F) T) ≡ cond (known r T) (suc (position r T)) 0
+  unfolding placeIn
+  place-number r T h k = ap₂ (λ (b : Bool) (n : ℕ). cond b (suc n) 0) (elem-known r T h k) (index-position r T h k)
+
+  placed-noted : (r : List ℕ) (T : List (List ℕ)) → settled F r ≡ true → every (settled F) T ≡ true → placed (map (numberOf F) T) (numberOf F r) ≡ map (numberOf F) (noted T r)
+  unfolding placed noted
+  placed-noted r T h k =
+      ap₂ (λ (a b : Bool). cond (a || b) (map (numberOf F) T) (map (numberOf F) T ++ (numberOf F r ∷ []))) (number-unrestricted r h) (elem-known r T h k)
+      ∙ by (sameList r unrestrictedRule || known r T)
+    where
+      map-behind : (l : List (List ℕ)) → map (numberOf F) (l ++ (r ∷ [])) ≡ map (numberOf F) l ++ (numberOf F r ∷ [])
+      map-behind [] = refl
+      map-behind (s ∷ l) = ap (λ (x : List ℕ). numberOf F s ∷ x) (map-behind l)
+
+      by : (b : Bool) → cond b (map (numberOf F) T) (map (numberOf F) T ++ (numberOf F r ∷ [])) ≡ map (numberOf F) (cond b T (T ++ (r ∷ [])))
+      by true = refl
+      by false = sym (map-behind T)
+
+  noted-settled : (r : List ℕ) (T : List (List ℕ)) → settled F r ≡ true → every (settled F) T ≡ true → every (settled F) (noted T r) ≡ true
+  unfolding noted
+  noted-settled r T h k = by (sameList r unrestrictedRule || known r T)
+    where
+      by : (b : Bool) → every (settled F) (cond b T (T ++ (r ∷ []))) ≡ true
+      by true = k
+      by false = every-append (settled F) T (r ∷ []) k (every-cons (settled F) r [] h (every-nil (settled F)))
+
+  pub all-numbered : (rs T : List (List ℕ)) → every (settled F) rs ≡ true → every (settled F) T ≡ true → placedAll (map (numberOf F) T) (map (numberOf F) rs) ≡ map (numberOf F) (numbered T rs)
+  unfolding placedAll numbered
+  all-numbered [] T h k = refl
+  all-numbered (r ∷ rs) T h k =
+      let a : settled F r ≡ true = every-0 (settled F) r rs h in
+      ap (λ (t : List ℕ). placedAll t (map (numberOf F) rs)) (placed-noted r T a k) ∙ all-numbered rs (noted T r) (every-1 (settled F) r rs h) (noted-settled r T a k)
+
+-- no unrestricted rule is written
+unfoldable pub restricted : List ℕ → Bool
+restricted r = not (sameList r unrestrictedRule)
+
+pub numbered-restricted : (rs T : List (List ℕ)) → every restricted T ≡ true → every restricted (numbered T rs) ≡ true
+unfolding numbered
+numbered-restricted [] T h = h
+numbered-restricted (r ∷ rs) T h = numbered-restricted rs (noted T r) (one (sameList r unrestrictedRule) refl)
+  where
+    one : (b : Bool) → sameList r unrestrictedRule ≡ b → every restricted (noted T r) ≡ true
+    one true e = unfold noted in (rw e h)
+    one false e = more (known r T)
+      where
+        behind : every restricted (T ++ (r ∷ [])) ≡ true
+        behind = every-append restricted T (r ∷ []) h (every-cons restricted r [] (unfold restricted in (rw e)) (every-nil restricted))
+
+        by : (b : Bool) → every restricted (cond b T (T ++ (r ∷ []))) ≡ true
+        by true = h
+        by false = behind
+
+        more : (b : Bool) → every restricted (noted T r) ≡ true
+        more b = unfold noted in (rw e (by (known r T)))

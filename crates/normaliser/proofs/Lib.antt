@@ -1,0 +1,10 @@
+pub mod Laying
+pub mod Ordering
+pub mod Classes
+pub mod TableLaws
+pub mod Whole
+pub mod Seeking
+pub mod Reading
+pub mod Spans
+pub mod Assembly
+pub mod Finish

@@ -1,0 +1,3 @@
+-- What a reader must believe of this crate: Normaliser. Tables names what the code keeps on its way there.
+pub mod Normaliser
+pub mod Tables
