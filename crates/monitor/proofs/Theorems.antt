@@ -33,6 +33,7 @@ use Rattle.operations.specs.Answers.{numberOf}
 use Rattle.monitor.specs.Records.{requestIn, recordGood, stepOf}
 use Rattle.monitor.specs.Steps.{lengthGood, refusalOf, stepAnswer, stepEffect}
 use Rattle.monitor.specs.Runs.{stepOn, runAnswers, runEffect, historyIn}
+use Rattle.monitor.specs.Traces.{traceRecords, lastOf, runReport, replayReport}
 use Rattle.monitor.proofs.View.{view, Valid}
 use Rattle.monitor.proofs.CodeLaws.{request}
 use Rattle.monitor.proofs.StepRefusals.{first-9, first-7, behind, no-other}
@@ -102,6 +103,28 @@ pub alert-next : (image lent : List ℕ) → Bytes image → startAnswer image l
     → (isAlert (stepAnswer (runEffect (startEffect image lent) rs) r) ≡ true)
     ↔ Forbidden (policyIn image) (historyIn (rs ++ (r ∷ [])) (runAnswers (startEffect image lent) (rs ++ (r ∷ [])))) (receiver (stepIn (requestIn r)))
 alert-next image lent bytes ok rs r e j = alert-last (startEffect image lent) (policyIn image) rs r e (demand3-started image lent bytes ok) j
+
+-- ---- demand 3 in the contract of `replay`: what it reports of a trace's last record
+
+last-answer : (s : List ℕ) (z : Answer) (rs : List (List ℕ)) (r : List ℕ) → lastOf z (runAnswers s (rs ++ (r ∷ []))) ≡ stepAnswer (runEffect s rs) r
+unfolding lastOf runAnswers runEffect stepOn
+last-answer s z [] r = refl
+last-answer s z (q ∷ rs) r = last-answer (stepEffect s q) (stepAnswer s q) rs r
+
+reported-last : (image trace lent : List ℕ) → startAnswer image lent ≡ 0 → (rs : List (List ℕ)) (r : List ℕ) → traceRecords trace ≡ rs ++ (r ∷ [])
+    → replayReport image trace lent .last ≡ stepAnswer (runEffect (startEffect image lent) rs) r
+unfolding replayReport runReport startEffect
+reported-last image trace lent ok rs r t =
+    rw (ok, t) (last-answer (startOf (policyIn image)) (refused 0) rs r)
+
+-- Of a trace whose last record is r, if it is not refused and has a code of 1 to 5, the replay reports an alert exactly when
+-- its receiver is forbidden what it holds after the whole history.
+pub replay-exactly : (image trace lent : List ℕ) → Bytes image → startAnswer image lent ≡ 0 → (rs : List (List ℕ)) (r : List ℕ) → traceRecords trace ≡ rs ++ (r ∷ [])
+    → refusalOf (runEffect (startEffect image lent) rs) r ≡ 0 → judged (stepIn (requestIn r)) ≡ true
+    → (isAlert (replayReport image trace lent .last) ≡ true)
+    ↔ Forbidden (policyIn image) (historyIn (rs ++ (r ∷ [])) (runAnswers (startEffect image lent) (rs ++ (r ∷ [])))) (receiver (stepIn (requestIn r)))
+replay-exactly image trace lent bytes ok rs r t e j =
+    rw (reported-last image trace lent ok rs r t) (alert-next image lent bytes ok rs r e j)
 
 -- ---- each refusal has its condition, and is given only under it: of any session and any record (the paper, "Refused ..")
 
