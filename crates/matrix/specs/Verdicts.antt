@@ -1,0 +1,84 @@
+-- The verdict on a matrix (the paper, "Matrix": "The verdict is consistent, or ..").
+use Prim.Native.Nat.{ℕ, zero, suc, _+_}
+use mathlib.Core.Bool.{Bool, true, false, not, cond, _&&_, _||_}
+use mathlib.Core.List.{List}
+use Rattle.matrix.specs.Limits.{matrixRefusal}
+use Rattle.matrix.specs.Flows.{matrixGood, granted, composed}
+use Rattle.matrix.specs.declared.Consistency.{Consistency}
+use Rattle.matrix.specs.declared.Consistency.the-variants.{Refused, Consistent, Inconsistent}
+
+-- ---- numbers below n that pass a test
+
+-- how many
+unfoldable pub countBelow : (ℕ → Bool) → ℕ → ℕ
+countBelow f zero = 0
+countBelow f (suc n) = cond (f 0) 1 0 + countBelow (λ k. f (suc k)) n
+
+-- the sum of f 0 to f (n - 1)
+unfoldable pub sumBelow : (ℕ → ℕ) → ℕ → ℕ
+sumBelow f zero = 0
+sumBelow f (suc n) = f 0 + sumBelow (λ k. f (suc k)) n
+
+-- whether there is one
+unfoldable pub someBelow : (ℕ → Bool) → ℕ → Bool
+someBelow f zero = false
+someBelow f (suc n) = f 0 || someBelow (λ k. f (suc k)) n
+
+-- the least, n if there is none
+unfoldable pub leastBelow : (ℕ → Bool) → ℕ → ℕ
+leastBelow f zero = 0
+leastBelow f (suc n) = cond (f 0) 0 (suc (leastBelow (λ k. f (suc k)) n))
+
+-- ---- "composed flows not granted"
+
+unfoldable pub ungranted : List ℕ → List ℕ → ℕ → ℕ → ℕ → Bool
+ungranted reads writes objects a b = composed reads writes objects a b && not (granted reads writes a b)
+
+-- there is one from a
+unfoldable pub ungrantedFrom : List ℕ → List ℕ → ℕ → ℕ → Bool
+ungrantedFrom reads writes objects a = someBelow (ungranted reads writes objects a) objects
+
+-- "the count of set bits for composed flows not granted"
+unfoldable pub flowCount : List ℕ → List ℕ → ℕ → ℕ
+flowCount reads writes objects = sumBelow (λ a. countBelow (ungranted reads writes objects a) objects) objects
+
+-- "the smallest source"
+unfoldable pub firstSource : List ℕ → List ℕ → ℕ → ℕ
+firstSource reads writes objects = leastBelow (ungrantedFrom reads writes objects) objects
+
+-- "then the smallest target"
+unfoldable pub firstTarget : List ℕ → List ℕ → ℕ → ℕ
+firstTarget reads writes objects =
+    leastBelow (ungranted reads writes objects (firstSource reads writes objects)) objects
+
+-- each composed flow is granted
+unfoldable pub consistent : List ℕ → List ℕ → ℕ → Bool
+consistent reads writes objects = not (someBelow (ungrantedFrom reads writes objects) objects)
+
+-- ---- the verdict in numbers: 0 consistent, 1 not, or the refusal; then count, source and target
+
+pub record Values : Type 0 where
+  pub number : ℕ
+  pub count : ℕ
+  pub source : ℕ
+  pub target : ℕ
+
+-- the numbers of each case of the answer; "A refusal returns its number, zeros elsewhere"
+abbrev pub valuesOf : Consistency → Values
+valuesOf Refused = record { number = matrixRefusal; count = 0; source = 0; target = 0 }
+valuesOf Consistent = record { number = 0; count = 0; source = 0; target = 0 }
+valuesOf (Inconsistent count source target) = record { number = 1; count = count; source = source; target = target }
+
+-- a matrix that is not refused: "consistent, or the count .. and the pair"
+unfoldable pub judgedBy : ℕ → List ℕ → List ℕ → ℕ → Consistency
+judgedBy count reads writes objects =
+    cond (consistent reads writes objects)
+    Consistent
+    (Inconsistent count (firstSource reads writes objects) (firstTarget reads writes objects))
+
+unfoldable pub verdictOf : List ℕ → List ℕ → ℕ → Values
+verdictOf reads writes objects =
+    valuesOf
+    (cond (matrixGood reads writes objects)
+    (judgedBy (flowCount reads writes objects) reads writes objects)
+    Refused)
