@@ -2,12 +2,24 @@
 use Prim.Native.Nat.{ℕ, _+_, _^_}
 use mathlib.Core.Path.{_≡_, refl}
 use mathlib.Core.Bool.{true, false}
-use mathlib.Core.List.{List, [], _∷_}
+use mathlib.Core.List.{List, [], _∷_, map}
 use lib.Bits.{bitOr, or-zero-r}
 use lib.ListN.{length}
 use Rattle.rules.specs.Sets.{holds, dataOf, runningOf}
 use Rattle.rules.specs.Rules.{covers, elem, distinct, heldIn, unheldIn, insert, sort, normal, intersections, meet}
 use Rattle.rules.specs.Answers.{dataWidth, boundedOf}
+use Rattle.image.specs.Image.{offset, size}
+use Rattle.monitor.proofs.Examples.{CheckedRuns, checked-runs}
+use Rattle.matrix.specs.Verdicts.{Values, verdictOf}
+use Rattle.matrix.specs.Derived.{permitOf, countFrom, derivedImage}
+use Rattle.matrix.proofs.Examples.{flows, permits, image-length, image-offsets, image-sizes}
+
+-- document 000's matrix: "read rows 5, 3, 2, write rows 1, 2, 10, 4 objects"
+abbrev reads : List ℕ
+reads = 5 ∷ 3 ∷ 2 ∷ []
+
+abbrev writes : List ℕ
+writes = 1 ∷ 2 ∷ 10 ∷ []
 
 pub record Starred : Type 0 where
   -- "Tag {0,2}, rule {0,1},{2}: not covered."
@@ -26,6 +38,16 @@ pub record Starred : Type 0 where
   pub exec-tag : runningOf dataWidth (2 ^ 1 + 2 ^ 34) ≡ 2 ^ 33
   -- "Reading a file holding only 33 adds nothing."
   pub read-tag : (t : ℕ) → bitOr t (dataOf dataWidth (2 ^ 33)) ≡ t
+  -- the same two and 15 as runs of records from a session's start, with "Fork onto p itself: 13."
+  pub runs : CheckedRuns
+  -- "Document 000's matrix ..: 3 flows, first 0 to 3."
+  pub matrix-flows : verdictOf reads writes 4 ≡ record { number = 1; count = 3; source = 0; target = 3 }
+  -- "Permit rules 5; 3; 4; 10."
+  pub matrix-permits : map (λ b. normal (permitOf reads writes b)) (countFrom 0 4) ≡ (5 ∷ []) ∷ (3 ∷ []) ∷ (4 ∷ []) ∷ (10 ∷ []) ∷ []
+  -- "Image of 110 bytes, pairs (18,42), (60,2), (62,16), (78,32)."
+  pub matrix-image : length (derivedImage reads writes 4) ≡ 110
+  pub matrix-offsets : map (offset (derivedImage reads writes 4)) (0 ∷ 1 ∷ 2 ∷ 3 ∷ []) ≡ 18 ∷ 60 ∷ 62 ∷ 78 ∷ []
+  pub matrix-sizes : map (size (derivedImage reads writes 4)) (0 ∷ 1 ∷ 2 ∷ 3 ∷ []) ≡ 42 ∷ 2 ∷ 16 ∷ 32 ∷ []
 
 pub starred : Starred
 unfolding covers holds normal sort insert unheldIn heldIn distinct elem meet intersections boundedOf runningOf dataOf
@@ -40,4 +62,10 @@ starred =
       nine-do-not-fit = refl;
       exec-tag = refl;
       read-tag = λ t. or-zero-r t;
+      runs = checked-runs;
+      matrix-flows = flows;
+      matrix-permits = permits;
+      matrix-image = image-length;
+      matrix-offsets = image-offsets;
+      matrix-sizes = image-sizes;
     }
