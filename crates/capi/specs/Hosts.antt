@@ -1,0 +1,22 @@
+-- What a call leaves in the numbers that a host points to: "A refusal .. changes no lent memory" (the paper).
+use Prim.Native.Nat.{ℕ}
+use mathlib.Core.Bool.{cond}
+use lib.Dec.{eqb}
+use Rattle.matrix.specs.Limits.{matrixRefusal}
+use Rattle.chains.specs.Demand.{Answer, quiet, alert, refused}
+
+-- the receiver's number after an answer; in a refusal it is as it was
+abbrev pub receiverAfter : Answer → ℕ → ℕ
+receiverAfter (quiet c t) old = c
+receiverAfter (alert c t) old = c
+receiverAfter (refused n) old = old
+
+-- the tag after an answer; in a refusal it is as it was
+abbrev pub tagAfter : Answer → ℕ → ℕ
+tagAfter (quiet c t) old = t
+tagAfter (alert c t) old = t
+tagAfter (refused n) old = old
+
+-- one of the three numbers of a matrix verdict: the value, or what stood there if the matrix is refused
+abbrev pub valueAfter : ℕ → ℕ → ℕ → ℕ
+valueAfter number value old = cond (eqb number matrixRefusal) old value

@@ -1,0 +1,117 @@
+// The functions that hosts call: include/yaslaurel.h has them as C sees them. Each only calls the library's own function.
+ghost use mathlib.Core.Path.{_≡_};
+ghost use Rattle.image.specs.Image.{checkOf};
+ghost use Rattle.session.specs.Session.{startAnswer, startEffect};
+ghost use Rattle.operations.specs.Answers.{numberOf};
+ghost use Rattle.monitor.specs.Steps.{stepAnswer, stepEffect};
+ghost use Rattle.normaliser.specs.Normaliser.{normalAnswer, normalEffect};
+ghost use Rattle.matrix.specs.Verdicts.{verdictOf};
+ghost use Rattle.matrix.specs.Derived.{derivedAnswer, derivedEffect};
+ghost use Rattle.capi.specs.Hosts.{receiverAfter, tagAfter, valueAfter};
+use matrix::Consistency;
+use operations::Answer;
+
+// The number of an alert.
+const ALERT: u32 = 256;
+
+// The number of a matrix that is not consistent, and of one that is refused.
+const INCONSISTENT: u32 = 1;
+
+const MATRIX_REFUSAL: u32 = 8;
+
+// 0 if the image is accepted, else its refusal, 1 to 6.
+#[no_mangle]
+pub extern "C" fn yaslaurel_image_check(image: &[u8]) -> u32
+    ensures { λ r. ⌜ r ≡ checkOf (now (image .entry)) ⌝ }
+{
+    image::check(image)
+}
+
+// The length of the normal image, 18 or more, written to the front of out; else the refusal, 9 or 1 to 6, and out is as it was.
+#[no_mangle]
+pub extern "C" fn yaslaurel_image_normalise(image: &[u8], out: &mut [u8]) -> u32
+    ensures { λ r. ⌜ (r ≡ normalAnswer (now (image .entry)) (now (out .entry))) × (now (out .exit) ≡ normalEffect (now (image .entry)) (now (out .entry))) ⌝ }
+{
+    normaliser::normalise(image, out)
+}
+
+// 0 if the session was started, else the refusal, 9 or 1 to 6, and the session is as it was.
+#[no_mangle]
+pub extern "C" fn yaslaurel_session_start(image: &[u8], session: &mut [u64]) -> u32
+    ensures { λ r. ⌜ (r ≡ startAnswer (now (image .entry)) (now (session .entry))) × (now (session .exit) ≡ startEffect (now (image .entry)) (now (session .entry))) ⌝ }
+{
+    session::start(image, session)
+}
+
+// 0 quiet, 256 alert, with receiver and tag; else the refusal, and everything is as it was.
+#[no_mangle]
+pub extern "C" fn yaslaurel_step(
+    session: &mut [u64],
+    bytes: &[u8],
+    receiver: &mut u64,
+    tag: &mut u64,
+) -> u32
+    ensures { λ r. ⌜ (r ≡ numberOf (stepAnswer (now (session .entry)) (now (bytes .entry)))) × (now (session .exit) ≡ stepEffect (now (session .entry)) (now (bytes .entry))) × (now (receiver .exit) ≡ receiverAfter (stepAnswer (now (session .entry)) (now (bytes .entry))) (now (receiver .entry))) × (now (tag .exit) ≡ tagAfter (stepAnswer (now (session .entry)) (now (bytes .entry))) (now (tag .entry))) ⌝ }
+{
+    let answer = monitor::step(session, bytes);
+    match answer {
+        Answer::Quiet(c, t) => {
+            *receiver = c as u64;
+            *tag = t;
+            0
+        }
+        Answer::Alert(c, t) => {
+            *receiver = c as u64;
+            *tag = t;
+            ALERT
+        }
+        Answer::Refused(n) => n,
+    }
+}
+
+// 0 consistent, with zeros; 1 with the number of flows and the first of them; else 8, and everything is as it was.
+#[no_mangle]
+pub extern "C" fn yaslaurel_matrix_verdict(
+    reads: &[u32],
+    writes: &[u32],
+    objects: u32,
+    count: &mut u32,
+    source: &mut u32,
+    target: &mut u32,
+) -> u32
+    ensures { λ r. ⌜ (r ≡ verdictOf (now (reads .entry)) (now (writes .entry)) objects .number) × (now (count .exit) ≡ valueAfter (verdictOf (now (reads .entry)) (now (writes .entry)) objects .number) (verdictOf (now (reads .entry)) (now (writes .entry)) objects .count) (now (count .entry))) × (now (source .exit) ≡ valueAfter (verdictOf (now (reads .entry)) (now (writes .entry)) objects .number) (verdictOf (now (reads .entry)) (now (writes .entry)) objects .source) (now (source .entry))) × (now (target .exit) ≡ valueAfter (verdictOf (now (reads .entry)) (now (writes .entry)) objects .number) (verdictOf (now (reads .entry)) (now (writes .entry)) objects .target) (now (target .entry))) ⌝ }
+{
+    let v = matrix::verdict(reads, writes, objects);
+    match v {
+        Consistency::Refused => MATRIX_REFUSAL,
+        Consistency::Consistent => {
+            *count = 0;
+            *source = 0;
+            *target = 0;
+            0
+        }
+        Consistency::Inconsistent {
+            count: n,
+            source: a,
+            target: b,
+        } => {
+            *count = n;
+            *source = a;
+            *target = b;
+            INCONSISTENT
+        }
+    }
+}
+
+// The length of the derived policy's image, written to the front of out; else the refusal, 9 or 8, and out is as it was.
+#[no_mangle]
+pub extern "C" fn yaslaurel_matrix_policy(
+    reads: &[u32],
+    writes: &[u32],
+    objects: u32,
+    out: &mut [u8],
+) -> u32
+    ensures { λ r. ⌜ (r ≡ derivedAnswer (now (reads .entry)) (now (writes .entry)) objects (now (out .entry))) × (now (out .exit) ≡ derivedEffect (now (reads .entry)) (now (writes .entry)) objects (now (out .entry))) ⌝ }
+{
+    matrix::derive(reads, writes, objects, out)
+}
