@@ -1,0 +1,411 @@
+//! `bench` prints, as tables, the library's time for one operation and its ratio to three implementations in Rust, all
+//! measured in one run: below 1 the library is faster.
+//!
+//! - judge: the independent implementation, with `Vec`, sort and filter, `HashMap`
+//! - natural: arrays without allocation, sort and filter
+//! - tuned: arrays, with the library's own ideas (sieve, one mixture at once, equal rules first, keys)
+//!
+//! `bench PROGRAM` also measures that watch program, `bench watch PROGRAM` measures it alone.
+//! `bench listing` is the watch program in natural Rust (`BufWriter`, `writeln!`), for the comparison of whole programs;
+//! `bench trace COUNT` writes the policy and trace that both read.
+
+mod plain;
+mod race;
+mod work;
+
+use std::io::{self, BufWriter, Read, Write};
+use std::process::{Command, Stdio};
+use std::time::Instant;
+use std::{env, fs};
+
+use plain::{Natural, Tuned};
+use race::{median, race, Outcome, Variant};
+
+const ROUNDS: usize = 31;
+
+/// A line of a table.
+fn line(name: &str, outcome: &Outcome) {
+    print!("| {name} | {:.1} |", outcome.nanoseconds);
+    for column in ["judge", "natural", "tuned"] {
+        match outcome.ratios.iter().find(|(name, _)| *name == column) {
+            Some((_, ratio)) => print!(" {ratio:.2} |"),
+            None => print!(" |"),
+        }
+    }
+    println!();
+}
+
+fn head(title: &str, first: &str) {
+    println!("\n## {title}\n\n| {first} | library ns | to judge | to natural | to tuned |\n|---|---|---|---|---|");
+}
+
+type Step = fn(&mut [u64], &[u8]) -> (u32, u64, u64);
+
+fn library_step(session: &mut [u64], record: &[u8]) -> (u32, u64, u64) {
+    match yaslaurel::step_in(session, record) {
+        Ok(answer) => {
+            let number = if answer.verdict == yaslaurel::Verdict::Alert { 256 } else { 0 };
+            (number, u64::from(answer.receiver), answer.tag)
+        }
+        Err(refusal) => (refusal.number(), 0, 0),
+    }
+}
+
+fn judge_step(session: &mut [u64], record: &[u8]) -> (u32, u64, u64) {
+    let answer = judge::session::step(session, record);
+    (answer.number, answer.receiver, answer.tag)
+}
+
+const STEPS: [(&str, Step); 4] = [
+    ("library", library_step),
+    ("judge", judge_step),
+    ("natural", plain::step::<Natural>),
+    ("tuned", plain::step::<Tuned>),
+];
+
+/// A race over records, each variant on its own copy of the session. All of them are refused with that number, or none
+/// for 0.
+fn steps(session: &[u64], records: &[[u8; 8]], refusal: u32) -> Outcome {
+    let mut trial = session.to_vec();
+    for record in records {
+        let (number, ..) = judge_step(&mut trial, record);
+        let refused = if number == 256 { 0 } else { number };
+        assert_eq!(refused, refusal, "the records are what the table says");
+    }
+    let mut copies: Vec<std::cell::RefCell<Vec<u64>>> = Vec::new();
+    copies.resize_with(STEPS.len(), || std::cell::RefCell::new(session.to_vec()));
+    let mut variants: Vec<Variant<'_>> = STEPS
+        .iter()
+        .zip(&copies)
+        .map(|((name, step), copy)| Variant {
+            name,
+            prepare: Box::new(|| copy.borrow_mut().copy_from_slice(session)),
+            run: Box::new(|| {
+                let mut words = copy.borrow_mut();
+                records.iter().fold(0u64, |sum, record| {
+                    let (number, receiver, tag) = step(&mut words, record);
+                    sum.rotate_left(5) ^ tag ^ receiver ^ u64::from(number)
+                })
+            }),
+        })
+        .collect();
+    race(ROUNDS, records.len(), &mut variants)
+}
+
+fn started(image: &[u8]) -> Vec<u64> {
+    let mut session = vec![0; 5_280];
+    assert_eq!(judge::session::start(image, &mut session), 0, "the policy is accepted");
+    session
+}
+
+fn operations() {
+    head("One operation", "operation");
+    let one = started(&work::policy(1, 6));
+    for (name, codes) in
+        [("read", &[1][..]), ("write", &[2]), ("append", &[3]), ("exec", &[4]), ("mixed", &[1, 1, 2, 3, 4])]
+    {
+        line(&format!("{name}, rules of 1"), &steps(&one, &work::records(codes, 1_024), 0));
+    }
+    for (name, mixtures, variants) in
+        [("mixed, rules of 2", 2, 6), ("mixed, rules of 8, all equal", 8, 1), ("mixed, rules of 8 that differ", 8, 6)]
+    {
+        let session = started(&work::policy(mixtures, variants));
+        line(name, &steps(&session, &work::records(&[1, 1, 2, 3, 4], 1_024), 0));
+    }
+    let refused = |change: fn(&mut [u8; 8])| {
+        let mut records = work::records(&[1], 1_024);
+        records.iter_mut().for_each(change);
+        records
+    };
+    line("refused with 7", &steps(&one, &refused(|record| record[0] = 9), 7));
+    line("refused with 11", &steps(&one, &refused(|record| record[2] = record[4]), 11));
+    line("refused with 12", &steps(&one, &refused(|record| record[4] = record[2]), 12));
+    let mut damaged = one.clone();
+    (0..256).for_each(|row| damaged[20 * row] = 7);
+    line("refused with 10", &steps(&damaged, &work::records(&[1], 1_024), 10));
+    let wide: Vec<u64> = over_eight();
+    let reads: Vec<[u8; 8]> = (0..1_024).map(|_| work::record(1, 1, 0, 65535)).collect();
+    line("refused with 15", &steps(&wide, &reads, 15));
+
+    head("One read, by the mixtures of its rules", "mixtures");
+    for mixtures in 1..=8 {
+        let session = started(&work::policy(mixtures, 6));
+        line(&mixtures.to_string(), &steps(&session, &work::records(&[1], 1_024), 0));
+    }
+}
+
+/// A session whose process 1 and file 0 have run rules that meet in more than 8 mixtures.
+fn over_eight() -> Vec<u64> {
+    let all_but = |from: usize| (from..from + 8).map(|k| !(1u64 << k)).rev().collect::<Vec<u64>>();
+    let mut session = vec![0; 5_280];
+    for (row, kind, rule) in [(0, 1, all_but(8)), (1, 3, all_but(16))] {
+        let words = &mut session[20 * row..20 * row + 20];
+        words[0] = kind;
+        words[2] = 1;
+        words[3] = u64::MAX;
+        words[11] = 8;
+        words[12..20].copy_from_slice(&rule);
+    }
+    session
+}
+
+/// A variant's name, and what it does with an image.
+type OnImage<'a> = (&'static str, Box<dyn FnMut(&[u8]) -> u64 + 'a>);
+
+/// A race over one image, each variant so many times.
+fn on_image<'a>(image: &'a [u8], times: usize, variants: Vec<OnImage<'a>>) -> Outcome {
+    let mut variants: Vec<Variant<'a>> = variants
+        .into_iter()
+        .map(|(name, mut run)| Variant {
+            name,
+            prepare: Box::new(|| ()),
+            run: Box::new(move || (0..times).fold(0, |sum: u64, _| sum.wrapping_add(run(std::hint::black_box(image))))),
+        })
+        .collect();
+    race(ROUNDS, times, &mut variants)
+}
+
+fn images(list: &[(String, Vec<u8>)]) {
+    head("Image check", "image");
+    for (name, image) in list {
+        let outcome = on_image(
+            image,
+            2_000_000 / (image.len() + 200),
+            vec![
+                ("library", Box::new(|i| yaslaurel::check(i).map_or_else(|r| u64::from(r.number()), |()| 0))),
+                ("judge", Box::new(|i| u64::from(judge::image::check(i)))),
+                ("natural", Box::new(|i| u64::from(plain::check(i)))),
+            ],
+        );
+        line(name, &outcome);
+    }
+    head("Session start", "image");
+    for (name, image) in list {
+        let mut sessions = vec![vec![0u64; 5_280]; 4];
+        let [a, b, c, d] = &mut sessions[..] else { unreachable!() };
+        let outcome = on_image(
+            image,
+            200_000 / (image.len() + 200),
+            vec![
+                (
+                    "library",
+                    Box::new(|i| {
+                        let refused = yaslaurel::start_in(i, a).map_or_else(|r| r.number(), |()| 0);
+                        u64::from(refused) ^ a[3]
+                    }),
+                ),
+                ("judge", Box::new(|i| u64::from(judge::session::start(i, b)) ^ b[3])),
+                ("natural", Box::new(|i| u64::from(plain::start::<Natural>(i, c)) ^ c[3])),
+                ("tuned", Box::new(|i| u64::from(plain::start::<Tuned>(i, d)) ^ d[3])),
+            ],
+        );
+        line(name, &outcome);
+        assert!(sessions.iter().all(|session| *session == sessions[0]), "the sessions are equal");
+    }
+    head("Normaliser", "image");
+    for (name, image) in list {
+        let mut outs = vec![vec![0u8; 18_994]; 4];
+        let [a, b, c, d] = &mut outs[..] else { unreachable!() };
+        let outcome = on_image(
+            image,
+            200_000 / (image.len() + 200),
+            vec![
+                ("library", Box::new(|i| yaslaurel::normalise_into(i, a).map_or(0, |length| length as u64))),
+                ("judge", Box::new(|i| u64::from(judge::normal::normalise(i, b)))),
+                ("natural", Box::new(|i| u64::from(plain::normalise::<Natural>(i, c)))),
+                ("tuned", Box::new(|i| u64::from(plain::normalise::<Tuned>(i, d)))),
+            ],
+        );
+        line(name, &outcome);
+        assert!(outs.iter().all(|out| *out == outs[0]), "the normal images are equal");
+    }
+}
+
+fn matrices() {
+    head("Matrix verdict", "matrix");
+    let mut r = work::Random(3);
+    let mut rows = |count: usize, objects: usize| -> Vec<u32> {
+        (0..count).map(|_| (r.word() & r.word() & r.word()) as u32 & ((1u64 << objects) - 1) as u32).collect()
+    };
+    let list: Vec<(String, Vec<u32>, Vec<u32>, u32)> = [(1, 1), (3, 4), (8, 8), (8, 32)]
+        .into_iter()
+        .map(|(subjects, objects)| {
+            let name = format!("{subjects} subjects, {objects} objects");
+            (name, rows(subjects, objects), rows(subjects, objects), objects as u32)
+        })
+        .collect();
+    for (name, reads, writes, objects) in &list {
+        let sum = |(a, b, c, d): (u32, u32, u32, u32)| {
+            u64::from(a) ^ u64::from(b) << 8 ^ u64::from(c) << 16 ^ u64::from(d) << 24
+        };
+        let library = move || match yaslaurel::matrix_verdict(reads, writes, *objects) {
+            Ok(yaslaurel::MatrixVerdict::Consistent) => (0, 0, 0, 0),
+            Ok(yaslaurel::MatrixVerdict::Inconsistent { flows, source, target }) => (1, flows, source, target),
+            Err(refusal) => (refusal.number(), 0, 0, 0),
+        };
+        let judge = move || {
+            let v = judge::matrix::verdict(reads, writes, *objects);
+            (v.number, v.count, v.source, v.target)
+        };
+        let outcome = on_image(
+            &[],
+            2_000,
+            vec![
+                ("library", Box::new(move |_| sum(library()))),
+                ("judge", Box::new(move |_| sum(judge()))),
+                ("natural", Box::new(move |_| sum(plain::verdict(reads, writes, *objects)))),
+            ],
+        );
+        line(name, &outcome);
+    }
+    head("Derived policy", "matrix");
+    for (name, reads, writes, objects) in &list {
+        let mut outs = vec![vec![0u8; 18_994]; 2];
+        let [a, b] = &mut outs[..] else { unreachable!() };
+        let length = |refused: Result<usize, yaslaurel::Refusal>| refused.map_or(0, |length| length as u64);
+        let outcome = on_image(
+            &[],
+            500,
+            vec![
+                ("library", Box::new(|_| length(yaslaurel::matrix_policy_into(reads, writes, *objects, a)))),
+                ("judge", Box::new(|_| u64::from(judge::matrix::policy(reads, writes, *objects, b)))),
+            ],
+        );
+        line(name, &outcome);
+        assert_eq!(outs[0], outs[1], "the derived policies are equal");
+    }
+}
+
+/// Records for whole runs: all codes, one in ten refused.
+fn whole_trace(count: usize) -> Vec<u8> {
+    let mut records = work::records(&[1, 1, 2, 3, 4], count);
+    for (i, record) in records.iter_mut().enumerate() {
+        if i % 10 == 0 {
+            record[0] = [9, 5, 1][i / 10 % 3];
+        }
+    }
+    records.concat()
+}
+
+/// How the cost of a run grows with its length: it does not.
+fn growth() {
+    println!("\n## A trace, by its length\n\n| records | library ns a record |\n|---|---|");
+    let session = started(&work::policy(1, 6));
+    for count in [1_000, 10_000, 100_000, 1_000_000] {
+        let trace = whole_trace(count);
+        let times = (0..5)
+            .map(|_| {
+                let mut words = session.clone();
+                let begun = Instant::now();
+                let alerts = trace.chunks(8).filter(|record| library_step(&mut words, record).0 == 256).count();
+                std::hint::black_box(alerts);
+                begun.elapsed().as_nanos() as f64 / count as f64
+            })
+            .collect();
+        println!("| {count} | {:.1} |", median(times));
+    }
+}
+
+/// The watch program in natural Rust.
+fn listing() -> io::Result<()> {
+    let policy = fs::read("policy.bin").unwrap_or_default();
+    let mut session = vec![0; 5_280];
+    let mut out = BufWriter::with_capacity(1 << 16, io::stdout().lock());
+    let refused = plain::start::<Natural>(&policy, &mut session);
+    if refused != 0 {
+        return writeln!(out, "policy refused {refused}");
+    }
+    let mut trace = Vec::new();
+    if let Ok(mut file) = fs::File::open("trace.bin") {
+        file.read_to_end(&mut trace)?;
+    }
+    writeln!(out, "step op p o verdict at tag")?;
+    let words = ["other", "read", "write", "append", "exec", "fork", "file", "volatile"];
+    let (mut step, mut alerts, mut refusals) = (0u64, 0u64, 0u64);
+    for record in trace.chunks(8) {
+        step += 1;
+        let (number, receiver, tag) = plain::step::<Natural>(&mut session, record);
+        let (word, p, o) = match *record {
+            [code, _, p0, p1, o0, o1, _, _] => {
+                let word = words.get(usize::from(code)).unwrap_or(&"other");
+                (*word, u16::from_le_bytes([p0, p1]), u16::from_le_bytes([o0, o1]))
+            }
+            _ => ("other", 0, 0),
+        };
+        match number {
+            0 => writeln!(out, "{step} {word} {p} {o} quiet {receiver} {tag:016x}")?,
+            256 => {
+                alerts += 1;
+                writeln!(out, "{step} {word} {p} {o} alert {receiver} {tag:016x}")?;
+            }
+            _ => {
+                refusals += 1;
+                writeln!(out, "{step} {word} {p} {o} refused {number}")?;
+            }
+        }
+    }
+    writeln!(out, "total {step} alerts {alerts} refused {refusals}")
+}
+
+/// The watch program against `bench listing`, on a million records in a folder of their own.
+fn watch(program: &str) -> io::Result<()> {
+    println!("\n## The watch program, 1,000,000 records\n");
+    if !fs::exists(program)? {
+        println!("not measured: there is no {program}");
+        return Ok(());
+    }
+    let program = fs::canonicalize(program)?;
+    let folder = env::temp_dir().join(format!("yaslaurel-bench-{}", std::process::id()));
+    fs::create_dir_all(&folder)?;
+    fs::write(folder.join("policy.bin"), work::policy(1, 6))?;
+    fs::write(folder.join("trace.bin"), whole_trace(1_000_000))?;
+    let own = env::current_exe()?;
+    let output = |program: &std::path::Path, argument: Option<&str>| {
+        Command::new(program).args(argument).current_dir(&folder).output().map(|output| output.stdout)
+    };
+    assert!(output(&program, None)? == output(&own, Some("listing"))?, "both print the same listing");
+    let time = |program: &std::path::Path, argument: Option<&str>| -> io::Result<f64> {
+        let begun = Instant::now();
+        Command::new(program).args(argument).current_dir(&folder).stdout(Stdio::null()).status()?;
+        Ok(begun.elapsed().as_nanos() as f64 / 1e6)
+    };
+    let (mut library, mut ratios) = (Vec::new(), Vec::new());
+    for _ in 0..9 {
+        let ours = time(&program, None)?;
+        let rust = time(&own, Some("listing"))?;
+        library.push(ours);
+        ratios.push(ours / rust);
+    }
+    println!("| ns a record | records a second | to natural Rust with `writeln!` |\n|---|---|---|");
+    let each = median(library);
+    println!("| {each:.1} | {:.1} million | {:.2} |", 1e3 / each, median(ratios));
+    fs::remove_dir_all(&folder)
+}
+
+fn main() -> io::Result<()> {
+    let args: Vec<String> = env::args().skip(1).collect();
+    let words: Vec<&str> = args.iter().map(String::as_str).collect();
+    match words[..] {
+        ["listing"] => return listing(),
+        ["watch", program] => return watch(program),
+        ["trace", count] => {
+            fs::write("policy.bin", work::policy(1, 6))?;
+            return fs::write("trace.bin", whole_trace(count.parse().expect("a number of records")));
+        }
+        _ => {}
+    }
+    println!("Ratios are the library's time by the other's, medians of {ROUNDS} rounds in which all run by turns.");
+    operations();
+    images(&[
+        ("smallest, 18 bytes".into(), work::image(&[], &[], &[])),
+        ("typical, 160 containers, rules of 1".into(), work::policy(1, 6)),
+        ("typical, 160 containers, rules of 8".into(), work::policy(8, 6)),
+        ("largest, 18,994 bytes".into(), work::policy_of_files(256, 8, 5)),
+    ]);
+    println!("\nBy the number of files, each with rules of 2 mixtures of its own:");
+    let sizes = [1, 4, 16, 64, 256];
+    images(&sizes.map(|files| (format!("{files} files"), work::policy_of_files(files, 2, 9))));
+    matrices();
+    growth();
+    watch(words.first().unwrap_or(&"target/bin/watch"))
+}

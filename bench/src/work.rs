@@ -1,0 +1,102 @@
+//! What is timed: sessions, records, images and matrices of several sizes.
+
+/// A small generator of random numbers.
+pub struct Random(pub u64);
+
+impl Random {
+    pub fn word(&mut self) -> u64 {
+        self.0 = self.0.wrapping_add(0x9e37_79b9_7f4a_7c15);
+        let mut z = self.0;
+        z = (z ^ (z >> 30)).wrapping_mul(0xbf58_476d_1ce4_e5b9);
+        z = (z ^ (z >> 27)).wrapping_mul(0x94d0_49bb_1331_11eb);
+        z ^ (z >> 31)
+    }
+
+    pub fn below(&mut self, bound: usize) -> usize {
+        (self.word() % bound as u64) as usize
+    }
+}
+
+/// A rule of so many mixtures in normal form. Each mixture has a block of atoms of its own, without one that depends on
+/// `variant`, so that two variants meet in as many mixtures.
+pub fn rule(mixtures: usize, variant: usize) -> Vec<u64> {
+    let width = 64 / mixtures;
+    let block = if width == 64 { u64::MAX } else { (1 << width) - 1 };
+    (0..mixtures)
+        .map(|i| {
+            let without = if variant == 0 { 0 } else { 1 << (variant % (width - 1)) };
+            (block & !without) << (width * i)
+        })
+        .collect()
+}
+
+/// An image: containers as (kind, atom, permit, run), users, rules.
+pub fn image(containers: &[(u8, u8, u16, u16)], users: &[u16], rules: &[Vec<u64>]) -> Vec<u8> {
+    let mut sections: [Vec<u8>; 4] = Default::default();
+    for (kind, atom, permit, run) in containers {
+        sections[0].extend([*kind, *atom]);
+        sections[0].extend(permit.to_le_bytes());
+        sections[0].extend(run.to_le_bytes());
+    }
+    for user in users {
+        sections[1].extend(user.to_le_bytes());
+    }
+    let mut first = 0u16;
+    for rule in rules {
+        sections[2].extend(first.to_le_bytes());
+        sections[2].extend((rule.len() as u16).to_le_bytes());
+        sections[3].extend(rule.iter().flat_map(|mixture| mixture.to_le_bytes()));
+        first += rule.len() as u16;
+    }
+    let mut bytes = vec![4, 0];
+    let mut offset = 18;
+    for section in &sections {
+        bytes.extend((offset as u16).to_le_bytes());
+        bytes.extend((section.len() as u16).to_le_bytes());
+        offset += section.len();
+    }
+    bytes.extend(sections.concat());
+    bytes
+}
+
+/// 100 files, 20 volatiles and 40 processes, the files with rules of so many mixtures, in 1 or 6 variants; 4 users.
+pub fn policy(mixtures: usize, variants: usize) -> Vec<u8> {
+    let mut containers = Vec::new();
+    for i in 0..100 {
+        let number = (i % variants) as u16;
+        containers.push((1, (i % 32) as u8, number, number));
+    }
+    containers.extend([(2, 255, 65535, 65535); 20]);
+    containers.extend([(3, 255, 65535, 65535); 40]);
+    let rules: Vec<Vec<u64>> = (0..variants).map(|v| rule(mixtures, if variants == 1 { 0 } else { v + 1 })).collect();
+    image(&containers, &[0, 0, 0, 0], &rules)
+}
+
+/// A policy of so many files, each with two rules of its own of so many mixtures, and users as many as there can be.
+pub fn policy_of_files(files: usize, mixtures: usize, seed: u64) -> Vec<u8> {
+    let mut r = Random(seed);
+    let rules: Vec<Vec<u64>> = (0..files).map(|_| (0..mixtures).map(|_| r.word()).collect()).collect();
+    let number = |i: usize| i as u16;
+    let containers: Vec<_> = (0..files).map(|i| (1, (i % 32) as u8, number(i), number(files - 1 - i))).collect();
+    let users: Vec<u16> = (0..files.min(16)).map(number).collect();
+    image(&containers, &users, &rules)
+}
+
+/// The bytes of a record.
+pub fn record(code: u8, p: usize, o: usize, u: u16) -> [u8; 8] {
+    let [u0, u1] = u.to_le_bytes();
+    [code, 0, p as u8, 0, o as u8, 0, u0, u1]
+}
+
+/// Records of the given codes on a session of [`policy`], none of them refused.
+pub fn records(codes: &[u8], count: usize) -> Vec<[u8; 8]> {
+    let mut r = Random(7);
+    (0..count)
+        .map(|_| {
+            let code = codes[r.below(codes.len())];
+            let o = if code == 4 { r.below(100) } else { r.below(120) };
+            let u = if code == 4 { r.below(4) as u16 } else { 65535 };
+            record(code, 120 + r.below(40), o, u)
+        })
+        .collect()
+}

@@ -1,0 +1,35 @@
+//! The functions of `include/yaslaurel.h` as they are. What a caller owes stands there; a Rust slice, even an empty
+//! one, always keeps it.
+
+extern "C" {
+    pub fn yaslaurel_image_check(image: *const u8, image_len: usize) -> u32;
+    pub fn yaslaurel_image_normalise(image: *const u8, image_len: usize, out: *mut u8, out_len: usize) -> u32;
+    pub fn yaslaurel_session_start(image: *const u8, image_len: usize, session: *mut u64, session_len: usize) -> u32;
+    pub fn yaslaurel_step(
+        session: *mut u64,
+        session_len: usize,
+        record: *const u8,
+        record_len: usize,
+        receiver: *mut u64,
+        tag: *mut u64,
+    ) -> u32;
+    pub fn yaslaurel_matrix_verdict(
+        reads: *const u32,
+        reads_len: usize,
+        writes: *const u32,
+        writes_len: usize,
+        objects: u32,
+        count: *mut u32,
+        source: *mut u32,
+        target: *mut u32,
+    ) -> u32;
+    pub fn yaslaurel_matrix_policy(
+        reads: *const u32,
+        reads_len: usize,
+        writes: *const u32,
+        writes_len: usize,
+        objects: u32,
+        out: *mut u8,
+        out_len: usize,
+    ) -> u32;
+}

@@ -1,0 +1,300 @@
+//! Safe Rust interface of Yaslaurel, a proved information-flow monitor.
+//!
+//! A policy says which mixtures of sources each file, user and program may take in. The host reports each operation as
+//! a record of 8 bytes; the monitor keeps, for every container, the set of sources that its content came from, and
+//! answers [`Verdict::Alert`] when a mixture lands where the policy forbids it.
+//!
+//! ```
+//! use yaslaurel::{matrix_policy, Operation, Session, Verdict};
+//!
+//! // Three subjects and four objects. Objects become containers 0 to 3, subjects processes 4 to 6.
+//! let image = matrix_policy(&[5, 3, 2], &[1, 2, 10], 4)?;
+//! let mut session = Session::start(&image)?;
+//!
+//! let quiet = session.step(&Operation::Read { process: 4, object: 2 }.record())?;
+//! assert_eq!((quiet.verdict, quiet.receiver, quiet.tag), (Verdict::Quiet, 4, 0b0100));
+//! session.step(&Operation::Append { process: 4, object: 0 }.record())?;
+//! session.step(&Operation::Read { process: 5, object: 0 }.record())?;
+//!
+//! // Object 1 may hold objects 0 and 1, and now receives what came from object 2.
+//! let alert = session.step(&Operation::Append { process: 5, object: 1 }.record())?;
+//! assert_eq!((alert.verdict, alert.receiver, alert.tag), (Verdict::Alert, 1, 0b0111));
+//! # Ok::<(), yaslaurel::Refusal>(())
+//! ```
+//!
+//! The functions whose names end in `_into` or `_in` work on memory that the caller lends, of any length: a wrong length
+//! is a [`Refusal`]. The others bring their own.
+
+pub mod ffi;
+mod operation;
+mod refusal;
+
+use std::fmt;
+
+pub use operation::Operation;
+pub use refusal::Refusal;
+
+/// Numbers of 64 bits in a session.
+pub const SESSION_LENGTH: usize = 5_280;
+
+/// Bytes that an output for an image must hold.
+pub const OUTPUT_LENGTH: usize = 18_994;
+
+/// What the monitor says of an accepted operation.
+#[derive(Clone, Copy, Debug, PartialEq, Eq, Hash)]
+#[non_exhaustive]
+pub enum Verdict {
+    /// The receiver's permit rule covers its tag, or the operation made a new file or volatile.
+    Quiet,
+    /// The receiver's permit rule does not cover its tag. The access is not undone.
+    Alert,
+}
+
+/// The answer to an accepted operation.
+#[derive(Clone, Copy, Debug, PartialEq, Eq, Hash)]
+pub struct Answer {
+    pub verdict: Verdict,
+    /// The number of the container that received.
+    pub receiver: u8,
+    /// The set of atoms that the receiver now holds: atom k is worth 2 to the k, data atoms 0 to 31, their running
+    /// atoms 32 to 63.
+    pub tag: u64,
+}
+
+impl Answer {
+    /// The atoms of the tag, rising.
+    ///
+    /// ```
+    /// use yaslaurel::{Answer, Verdict};
+    /// let answer = Answer { verdict: Verdict::Quiet, receiver: 4, tag: 0b101 };
+    /// assert_eq!(answer.atoms().collect::<Vec<_>>(), [0, 2]);
+    /// ```
+    pub fn atoms(self) -> impl Iterator<Item = u32> {
+        (0..64).filter(move |atom| self.tag >> atom & 1 == 1)
+    }
+}
+
+/// The verdict on an access matrix.
+#[derive(Clone, Copy, Debug, PartialEq, Eq, Hash)]
+pub enum MatrixVerdict {
+    /// Every composed flow is granted.
+    Consistent,
+    /// So many composed flows are not granted, the first from object `source` to object `target`.
+    Inconsistent { flows: u32, source: u32, target: u32 },
+}
+
+/// The refusal of a number that the library returned.
+fn refusal(number: u32) -> Refusal {
+    Refusal::from_number(number).expect("the library's contract gives no other number")
+}
+
+/// An image's length, or a refusal: every image has 18 bytes or more.
+fn length(number: u32) -> Result<usize, Refusal> {
+    if number < 18 {
+        Err(refusal(number))
+    } else {
+        Ok(number as usize)
+    }
+}
+
+/// Checks a policy image.
+///
+/// ```
+/// use yaslaurel::{check, Refusal};
+/// let empty = [4, 0, 18, 0, 0, 0, 18, 0, 0, 0, 18, 0, 0, 0, 18, 0, 0, 0];
+/// assert_eq!(check(&empty), Ok(()));
+/// assert_eq!(check(&empty[..17]), Err(Refusal::ImageLength));
+/// assert_eq!(check(&[]), Err(Refusal::ImageLength));
+/// ```
+pub fn check(image: &[u8]) -> Result<(), Refusal> {
+    // SAFETY: a slice is valid, aligned and not null for its length.
+    match unsafe { ffi::yaslaurel_image_check(image.as_ptr(), image.len()) } {
+        0 => Ok(()),
+        number => Err(refusal(number)),
+    }
+}
+
+/// The normal image of a policy image. Two accepted images have the same one exactly when they start equal sessions.
+///
+/// ```
+/// // One byte behind the last section is ignored.
+/// let image = [4, 0, 18, 0, 0, 0, 18, 0, 0, 0, 18, 0, 0, 0, 18, 0, 0, 0, 99];
+/// assert_eq!(yaslaurel::normalise(&image)?, image[..18]);
+/// # Ok::<(), yaslaurel::Refusal>(())
+/// ```
+pub fn normalise(image: &[u8]) -> Result<Vec<u8>, Refusal> {
+    let mut out = vec![0; OUTPUT_LENGTH];
+    let length = normalise_into(image, &mut out)?;
+    out.truncate(length);
+    Ok(out)
+}
+
+/// Writes the normal image of a policy image to the front of an output of [`OUTPUT_LENGTH`] bytes or more, and gives its
+/// length. The bytes behind it stay; a refusal changes none.
+///
+/// ```
+/// use yaslaurel::{normalise_into, Refusal};
+/// let empty = [4, 0, 18, 0, 0, 0, 18, 0, 0, 0, 18, 0, 0, 0, 18, 0, 0, 0];
+/// assert_eq!(normalise_into(&empty, &mut vec![0; 18_994]), Ok(18));
+/// assert_eq!(normalise_into(&empty, &mut vec![0; 18_993]), Err(Refusal::LentLength));
+/// ```
+pub fn normalise_into(image: &[u8], out: &mut [u8]) -> Result<usize, Refusal> {
+    // SAFETY: both slices are valid for their lengths, and Rust keeps `out` apart from `image`.
+    length(unsafe { ffi::yaslaurel_image_normalise(image.as_ptr(), image.len(), out.as_mut_ptr(), out.len()) })
+}
+
+/// Fills a lent session of exactly [`SESSION_LENGTH`] numbers from a policy image, whatever stood there.
+pub fn start_in(image: &[u8], session: &mut [u64]) -> Result<(), Refusal> {
+    // SAFETY: both slices are valid and aligned for their lengths, and Rust keeps `session` apart from `image`.
+    match unsafe { ffi::yaslaurel_session_start(image.as_ptr(), image.len(), session.as_mut_ptr(), session.len()) } {
+        0 => Ok(()),
+        number => Err(refusal(number)),
+    }
+}
+
+/// Judges one operation record on a lent session of exactly [`SESSION_LENGTH`] numbers.
+pub fn step_in(session: &mut [u64], record: &[u8]) -> Result<Answer, Refusal> {
+    let (mut receiver, mut tag) = (0, 0);
+    // SAFETY: the slices are valid and aligned for their lengths, the two numbers are ours, and Rust keeps what is
+    // written apart from the rest.
+    let number = unsafe {
+        ffi::yaslaurel_step(session.as_mut_ptr(), session.len(), record.as_ptr(), record.len(), &mut receiver, &mut tag)
+    };
+    let verdict = match number {
+        0 => Verdict::Quiet,
+        256 => Verdict::Alert,
+        number => return Err(refusal(number)),
+    };
+    Ok(Answer { verdict, receiver: receiver as u8, tag })
+}
+
+/// A running session.
+#[derive(Clone, PartialEq, Eq)]
+pub struct Session {
+    words: Box<[u64; SESSION_LENGTH]>,
+}
+
+impl Session {
+    /// Starts a session from a policy image.
+    ///
+    /// ```
+    /// use yaslaurel::{Refusal, Session};
+    /// let empty = [4, 0, 18, 0, 0, 0, 18, 0, 0, 0, 18, 0, 0, 0, 18, 0, 0, 0];
+    /// let session = Session::start(&empty)?;
+    /// assert!(session.words().iter().all(|&word| word == 0));
+    /// assert_eq!(Session::start(&empty[1..]), Err(Refusal::ImageLength));
+    /// # Ok::<(), Refusal>(())
+    /// ```
+    pub fn start(image: &[u8]) -> Result<Session, Refusal> {
+        let mut session = Session { words: vec![0; SESSION_LENGTH].try_into().expect("the length is right") };
+        start_in(image, &mut session.words[..])?;
+        Ok(session)
+    }
+
+    /// Judges one operation record, of any bytes and length, and brings the session up to date. A refusal changes
+    /// nothing.
+    ///
+    /// ```
+    /// use yaslaurel::{matrix_policy, Operation, Refusal, Session};
+    /// let mut session = Session::start(&matrix_policy(&[1], &[1], 1)?)?;
+    /// let before = session.clone();
+    /// assert_eq!(session.step(&[1, 0, 1]), Err(Refusal::OperationRecord));
+    /// assert_eq!(session.step(&Operation::Read { process: 0, object: 1 }.record()), Err(Refusal::NoProcess));
+    /// assert_eq!(session, before);
+    /// # Ok::<(), Refusal>(())
+    /// ```
+    pub fn step(&mut self, record: &[u8]) -> Result<Answer, Refusal> {
+        step_in(&mut self.words[..], record)
+    }
+
+    /// The numbers of the session: 256 container rows of 20, then 16 user rows of 10.
+    pub fn words(&self) -> &[u64; SESSION_LENGTH] {
+        &self.words
+    }
+
+    /// A session from its numbers, as [`words`](Session::words) gave them. Any numbers will do: an operation that
+    /// names a row that is not well formed is refused with [`Refusal::Row`].
+    ///
+    /// ```
+    /// use yaslaurel::{Operation, Refusal, Session};
+    /// let mut words = vec![0; 5_280];
+    /// words[0] = 7;
+    /// let mut session = Session::from_words(words.try_into().unwrap());
+    /// let record = Operation::Read { process: 0, object: 1 }.record();
+    /// assert_eq!(session.step(&record), Err(Refusal::Row));
+    /// ```
+    pub fn from_words(words: Box<[u64; SESSION_LENGTH]>) -> Session {
+        Session { words }
+    }
+}
+
+impl fmt::Debug for Session {
+    fn fmt(&self, f: &mut fmt::Formatter<'_>) -> fmt::Result {
+        let taken = self.words[..5_120].chunks(20).filter(|row| row[0] != 0).count();
+        let declared = self.words[5_120..].chunks(10).filter(|row| row[0] != 0).count();
+        write!(f, "Session {{ {taken} containers, {declared} users }}")
+    }
+}
+
+/// The verdict on an access matrix: one row for each subject, bit k for object k.
+///
+/// ```
+/// use yaslaurel::{matrix_verdict, MatrixVerdict, Refusal};
+/// let verdict = matrix_verdict(&[5, 3, 2], &[1, 2, 10], 4);
+/// assert_eq!(verdict, Ok(MatrixVerdict::Inconsistent { flows: 3, source: 0, target: 3 }));
+/// assert_eq!(matrix_verdict(&[1], &[1], 1), Ok(MatrixVerdict::Consistent));
+/// assert_eq!(matrix_verdict(&[], &[], 4), Err(Refusal::Matrix));
+/// ```
+pub fn matrix_verdict(reads: &[u32], writes: &[u32], objects: u32) -> Result<MatrixVerdict, Refusal> {
+    let (mut flows, mut source, mut target) = (0, 0, 0);
+    // SAFETY: the slices are valid and aligned for their lengths, and the three numbers are ours.
+    let number = unsafe {
+        ffi::yaslaurel_matrix_verdict(
+            reads.as_ptr(),
+            reads.len(),
+            writes.as_ptr(),
+            writes.len(),
+            objects,
+            &mut flows,
+            &mut source,
+            &mut target,
+        )
+    };
+    match number {
+        0 => Ok(MatrixVerdict::Consistent),
+        1 => Ok(MatrixVerdict::Inconsistent { flows, source, target }),
+        number => Err(refusal(number)),
+    }
+}
+
+/// The policy image that an access matrix stands for.
+///
+/// ```
+/// let image = yaslaurel::matrix_policy(&[5, 3, 2], &[1, 2, 10], 4)?;
+/// assert_eq!(image.len(), 110);
+/// assert_eq!(yaslaurel::normalise(&image)?, image);
+/// # Ok::<(), yaslaurel::Refusal>(())
+/// ```
+pub fn matrix_policy(reads: &[u32], writes: &[u32], objects: u32) -> Result<Vec<u8>, Refusal> {
+    let mut out = vec![0; OUTPUT_LENGTH];
+    let length = matrix_policy_into(reads, writes, objects, &mut out)?;
+    out.truncate(length);
+    Ok(out)
+}
+
+/// Writes the policy image that an access matrix stands for to the front of an output of [`OUTPUT_LENGTH`] bytes or
+/// more, and gives its length. The bytes behind it stay; a refusal changes none.
+pub fn matrix_policy_into(reads: &[u32], writes: &[u32], objects: u32, out: &mut [u8]) -> Result<usize, Refusal> {
+    // SAFETY: the slices are valid and aligned for their lengths, and Rust keeps `out` apart from the rows.
+    length(unsafe {
+        ffi::yaslaurel_matrix_policy(
+            reads.as_ptr(),
+            reads.len(),
+            writes.as_ptr(),
+            writes.len(),
+            objects,
+            out.as_mut_ptr(),
+            out.len(),
+        )
+    })
+}

@@ -1,0 +1,118 @@
+use std::error::Error;
+use std::fmt;
+
+/// Why a call was refused. A refused call changes nothing that it was lent.
+///
+/// The numbers are the paper's. Where several conditions fail, the first in this order counts: 9, 1 to 8, 10 to 15.
+///
+/// ```
+/// use yaslaurel::Refusal;
+/// assert_eq!(yaslaurel::check(&[4, 0]), Err(Refusal::ImageLength));
+/// assert_eq!(Refusal::ImageLength.number(), 1);
+/// assert_eq!(Refusal::ImageLength.to_string(), "refused 1: the image is under 18 or over 20,480 bytes");
+/// ```
+#[derive(Clone, Copy, Debug, PartialEq, Eq, Hash, PartialOrd, Ord)]
+#[non_exhaustive]
+#[repr(u32)]
+pub enum Refusal {
+    /// The image is under 18 or over 20,480 bytes.
+    ImageLength = 1,
+    /// The image's leading 4, or the offsets and lengths of its four sections.
+    Sections = 2,
+    /// A section's length is no multiple of its record's size, or it has too many records.
+    RecordCount = 3,
+    /// A rule record of the image: over 8 mixtures, a first that falls, or mixtures that are not there.
+    RuleRecord = 4,
+    /// A container record of the image: kind, atom or a rule number.
+    ContainerRecord = 5,
+    /// A user's rule number in the image.
+    UserRule = 6,
+    /// The operation record: not 8 bytes, unknown code, second byte not 0, user set wrongly, container over 255 or
+    /// user over 15.
+    OperationRecord = 7,
+    /// The matrix: row counts differ, 0 or over 8 subjects, 0 or over 32 objects, or a bit beyond the objects.
+    Matrix = 8,
+    /// The session is not 5,280 numbers, or the output is under 18,994 bytes.
+    LentLength = 9,
+    /// A session row that the record names is not well formed.
+    Row = 10,
+    /// p is no process.
+    NoProcess = 11,
+    /// o is of the wrong kind for a read, write, append or exec.
+    WrongKind = 12,
+    /// o is not free for a fork, new file or new volatile.
+    NotFree = 13,
+    /// The user is not declared by the policy.
+    Undeclared = 14,
+    /// A meet of two rules has over 8 mixtures.
+    Meet = 15,
+}
+
+impl Refusal {
+    /// All refusals, by rising number.
+    pub const ALL: [Refusal; 15] = [
+        Refusal::ImageLength,
+        Refusal::Sections,
+        Refusal::RecordCount,
+        Refusal::RuleRecord,
+        Refusal::ContainerRecord,
+        Refusal::UserRule,
+        Refusal::OperationRecord,
+        Refusal::Matrix,
+        Refusal::LentLength,
+        Refusal::Row,
+        Refusal::NoProcess,
+        Refusal::WrongKind,
+        Refusal::NotFree,
+        Refusal::Undeclared,
+        Refusal::Meet,
+    ];
+
+    /// The refusal of a number from 1 to 15.
+    ///
+    /// ```
+    /// use yaslaurel::Refusal;
+    /// for refusal in Refusal::ALL {
+    ///     assert_eq!(Refusal::from_number(refusal.number()), Some(refusal));
+    /// }
+    /// assert_eq!(Refusal::from_number(0), None);
+    /// assert_eq!(Refusal::from_number(16), None);
+    /// ```
+    pub fn from_number(number: u32) -> Option<Refusal> {
+        Refusal::ALL.into_iter().find(|refusal| refusal.number() == number)
+    }
+
+    /// The paper's number.
+    pub fn number(self) -> u32 {
+        self as u32
+    }
+
+    /// What the number means, in a few words.
+    pub fn meaning(self) -> &'static str {
+        match self {
+            Refusal::ImageLength => "the image is under 18 or over 20,480 bytes",
+            Refusal::Sections => "the image's leading 4 or the offsets and lengths of its sections",
+            Refusal::RecordCount => "a section's length is no multiple of its record, or it has too many records",
+            Refusal::RuleRecord => "a rule record of the image",
+            Refusal::ContainerRecord => "a container record of the image",
+            Refusal::UserRule => "a user's rule number in the image",
+            Refusal::OperationRecord => "the operation record",
+            Refusal::Matrix => "the matrix",
+            Refusal::LentLength => "the session is not 5,280 numbers or the output under 18,994 bytes",
+            Refusal::Row => "a session row that the record names is not well formed",
+            Refusal::NoProcess => "p is no process",
+            Refusal::WrongKind => "o is of the wrong kind",
+            Refusal::NotFree => "o is not free",
+            Refusal::Undeclared => "the user is not declared",
+            Refusal::Meet => "a meet of two rules has over 8 mixtures",
+        }
+    }
+}
+
+impl fmt::Display for Refusal {
+    fn fmt(&self, f: &mut fmt::Formatter<'_>) -> fmt::Result {
+        write!(f, "refused {}: {}", self.number(), self.meaning())
+    }
+}
+
+impl Error for Refusal {}

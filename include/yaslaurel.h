@@ -1,0 +1,164 @@
+/*
+ * Yaslaurel: a proved information-flow monitor for hosts in C and C++.
+ *
+ * Link with libyaslaurel.a. The library holds no state of its own, allocates nothing, takes no locks and calls nothing
+ * but the C library's functions on memory (memset, memcpy and the like): it reads and writes only its own stack and the
+ * memory that a call lends it. Formats and refusals: docs/FORMATS.md.
+ *
+ * Every function returns one number.
+ *
+ *   0          accepted; for yaslaurel_step: quiet; for yaslaurel_matrix_verdict: consistent
+ *   1          yaslaurel_matrix_verdict alone: not consistent
+ *   18 or more the length of the image written, from the two functions that write one
+ *   256        yaslaurel_step alone: alert
+ *   1 to 15    otherwise: refused, with the number of the first condition that fails, in this order
+ *
+ *        9  the session is not 5,280 numbers, or the output is under 18,994 bytes
+ *        1  the image is under 18 or over 20,480 bytes
+ *        2  the image's leading 4, or the offsets and lengths of its four sections
+ *        3  a section's length is no multiple of its record, or it has too many records
+ *        4  a rule record of the image
+ *        5  a container record of the image
+ *        6  a user's rule number in the image
+ *        7  the operation record: not 8 bytes, code, zero byte, user set wrongly, container over 255, user over 15
+ *        8  the matrix: row counts differ, 0 or over 8 subjects, 0 or over 32 objects, a bit beyond the objects
+ *       10  a session row that the record names is not well formed
+ *       11  p is no process
+ *       12  o is of the wrong kind (read, write, append, exec)
+ *       13  o is not free (fork, new file, new volatile)
+ *       14  the user is not declared
+ *       15  a meet of two rules has over 8 mixtures
+ *
+ * A refused call changes no lent memory: neither a slice nor a number behind a pointer.
+ *
+ * What the host owes in each call. Given this, the contracts hold for ALL contents and ALL lengths: no content of an
+ * image, a session, a record or a row makes a call misbehave.
+ *
+ *   - A pointer with its length names that many elements (not bytes) of valid memory: readable, and writable where
+ *     the pointer is not const. A pointer without a length names one element.
+ *   - Every pointer is aligned for its type: 8 for uint64_t, 4 for uint32_t. Bytes need no alignment, so a record may
+ *     be passed where it lies in a trace.
+ *   - No pointer is null, not even with length 0. With length 0 nothing is read or written through it, so the address
+ *     of any object of its type will do: yaslaurel_bytes, yaslaurel_output, yaslaurel_words and yaslaurel_rows below
+ *     turn a null into one.
+ *   - What a call may write overlaps nothing else that the call is lent.
+ *   - Nobody else writes the lent memory during the call, and nobody else reads what the call may write. Calls on
+ *     different sessions may run at the same time.
+ *   - Between calls, the session is the host's memory. The promise about chains is for a session that only
+ *     yaslaurel_session_start and yaslaurel_step write.
+ */
+#ifndef YASLAUREL_H
+#define YASLAUREL_H
+
+#include <stddef.h>
+#include <stdint.h>
+
+#ifdef __cplusplus
+extern "C" {
+#endif
+
+/* Lengths in elements. */
+#define YASLAUREL_SESSION_LENGTH 5280u /* numbers of 64 bits of a session */
+#define YASLAUREL_OUTPUT_LENGTH 18994u /* bytes that an output for an image must hold */
+#define YASLAUREL_IMAGE_LIMIT 20480u   /* bytes of the longest image */
+#define YASLAUREL_RECORD_LENGTH 8u     /* bytes of an operation record */
+
+/* Answers that are no refusals. */
+#define YASLAUREL_ACCEPTED 0u
+#define YASLAUREL_QUIET 0u
+#define YASLAUREL_ALERT 256u
+#define YASLAUREL_CONSISTENT 0u
+#define YASLAUREL_NOT_CONSISTENT 1u
+
+/* Refusals. */
+#define YASLAUREL_REFUSED_IMAGE_LENGTH 1u
+#define YASLAUREL_REFUSED_SECTIONS 2u
+#define YASLAUREL_REFUSED_RECORD_COUNT 3u
+#define YASLAUREL_REFUSED_RULE 4u
+#define YASLAUREL_REFUSED_CONTAINER 5u
+#define YASLAUREL_REFUSED_USER 6u
+#define YASLAUREL_REFUSED_RECORD 7u
+#define YASLAUREL_REFUSED_MATRIX 8u
+#define YASLAUREL_REFUSED_LENT_LENGTH 9u
+#define YASLAUREL_REFUSED_ROW 10u
+#define YASLAUREL_REFUSED_NO_PROCESS 11u
+#define YASLAUREL_REFUSED_KIND 12u
+#define YASLAUREL_REFUSED_NOT_FREE 13u
+#define YASLAUREL_REFUSED_UNDECLARED 14u
+#define YASLAUREL_REFUSED_MEET 15u
+
+/*
+ * Checks a policy image. 0 if it is accepted, else 1 to 6.
+ */
+uint32_t yaslaurel_image_check(const uint8_t *image, size_t image_len);
+
+/*
+ * Writes the normal image of a policy image to the front of `out`; the bytes behind it stay. Two accepted images have
+ * the same normal image exactly when they start equal sessions.
+ * The length of the normal image (18 to 18,994), else 9, then 1 to 6. The two ranges do not meet.
+ */
+uint32_t yaslaurel_image_normalise(const uint8_t *image, size_t image_len, uint8_t *out, size_t out_len);
+
+/*
+ * Starts a session: fills all 5,280 numbers from the policy image, whatever stood there.
+ * 0 if the image is accepted, else 9, then 1 to 6.
+ */
+uint32_t yaslaurel_session_start(const uint8_t *image, size_t image_len, uint64_t *session, size_t session_len);
+
+/*
+ * Judges one operation record and brings the session up to date. An alert does not undo the access.
+ * 0 quiet or 256 alert: `receiver` is then the number of the container that received, `tag` the set of its atoms, atom
+ * k worth 2 to the k. Else 9, then 7, then 10 to 15, and `receiver` and `tag` keep what they held.
+ */
+uint32_t yaslaurel_step(uint64_t *session, size_t session_len, const uint8_t *record, size_t record_len,
+                        uint64_t *receiver, uint64_t *tag);
+
+/*
+ * The verdict on an access matrix: `reads` and `writes` have one row for each subject, bit k for object k.
+ * 0 consistent, with 0 in all three numbers. 1 not consistent: `count` composed flows are not granted, the first of
+ * them (smallest source, then smallest target) from object `source` to object `target`. Else 8, and the three numbers
+ * keep what they held.
+ */
+uint32_t yaslaurel_matrix_verdict(const uint32_t *reads, size_t reads_len, const uint32_t *writes, size_t writes_len,
+                                  uint32_t objects, uint32_t *count, uint32_t *source, uint32_t *target);
+
+/*
+ * Writes the policy image that an access matrix stands for to the front of `out`; the bytes behind it stay.
+ * The length of the image (18 or more), else 9, then 8.
+ */
+uint32_t yaslaurel_matrix_policy(const uint32_t *reads, size_t reads_len, const uint32_t *writes, size_t writes_len,
+                                 uint32_t objects, uint8_t *out, size_t out_len);
+
+#ifdef __cplusplus
+}
+#endif
+
+/*
+ * For hosts whose empty slices may be null: the pointer itself, or for a null the address of one element that nobody
+ * uses. Meant for slices of length 0; a null with another length breaks what the host owes all the same.
+ */
+static inline const uint8_t *yaslaurel_bytes(const uint8_t *bytes)
+{
+    static const uint8_t none = 0;
+    return bytes != NULL ? bytes : &none;
+}
+
+static inline uint64_t *yaslaurel_words(uint64_t *words)
+{
+    static uint64_t none = 0;
+    return words != NULL ? words : &none;
+}
+
+static inline const uint32_t *yaslaurel_rows(const uint32_t *rows)
+{
+    static const uint32_t none = 0;
+    return rows != NULL ? rows : &none;
+}
+
+static inline uint8_t *yaslaurel_output(uint8_t *out)
+{
+    static uint8_t none = 0;
+    return out != NULL ? out : &none;
+}
+
+#endif

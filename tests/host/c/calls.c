@@ -1,0 +1,216 @@
+/*
+ * Calls every function of the library as a host might get it wrong within what the header says it owes: wrong lengths,
+ * length 0, records at odd addresses, random bytes. Every call must give the number that the header promises and leave
+ * what it must leave. Prints a line for each check and `N passed, M failed`.
+ */
+#include <stdio.h>
+#include <string.h>
+
+#include "yaslaurel.h"
+
+static unsigned passed, failed;
+
+static void check(int good, const char *text)
+{
+    printf("%s %s\n", good ? "ok" : "FAILED", text);
+    if (good) {
+        passed++;
+    } else {
+        failed++;
+    }
+}
+
+enum { SESSION = YASLAUREL_SESSION_LENGTH, OUTPUT = YASLAUREL_OUTPUT_LENGTH, MARK = 0x5a };
+
+static uint64_t session[SESSION + 1];
+static uint64_t before[SESSION + 1];
+static uint8_t out[OUTPUT + 1];
+
+static void mark_session(void)
+{
+    for (size_t i = 0; i < SESSION + 1; i++) {
+        session[i] = 0x0101010101010101u * (i % 251);
+    }
+    memcpy(before, session, sizeof session);
+}
+
+static int session_stayed(void) { return memcmp(before, session, sizeof session) == 0; }
+
+static void mark_out(void) { memset(out, MARK, sizeof out); }
+
+static int out_stayed_from(size_t from)
+{
+    for (size_t i = from; i < sizeof out; i++) {
+        if (out[i] != MARK) {
+            return 0;
+        }
+    }
+    return 1;
+}
+
+/* The empty policy: 4, then four empty sections at 18. */
+static const uint8_t empty[18] = {4, 0, 18, 0, 0, 0, 18, 0, 0, 0, 18, 0, 0, 0, 18, 0, 0, 0};
+
+/* The matrix of the paper's example. */
+static const uint32_t reads[3] = {5, 3, 2};
+static const uint32_t writes[3] = {1, 2, 10};
+
+static void lengths(void)
+{
+    uint64_t receiver = 11, tag = 22;
+    const uint8_t record[9] = {4, 0, 0, 0, 0, 0, 0, 0, 0};
+
+    mark_session();
+    check(yaslaurel_session_start(empty, 18, session, SESSION - 1) == 9, "start: session one short");
+    check(yaslaurel_session_start(empty, 18, session, SESSION + 1) == 9, "start: session one long");
+    check(yaslaurel_session_start(empty, 18, session, 0) == 9, "start: session of length 0");
+    check(yaslaurel_session_start(empty, 17, session, SESSION) == 1, "start: image one short");
+    check(yaslaurel_session_start(empty, 17, session, SESSION - 1) == 9, "start: 9 comes before 1");
+    check(yaslaurel_step(session, SESSION - 1, record, 8, &receiver, &tag) == 9, "step: session one short");
+    check(yaslaurel_step(session, SESSION, record, 7, &receiver, &tag) == 7, "step: record one short");
+    check(yaslaurel_step(session, SESSION, record, 9, &receiver, &tag) == 7, "step: record one long");
+    check(yaslaurel_step(session, SESSION, record, 0, &receiver, &tag) == 7, "step: record of length 0");
+    check(yaslaurel_step(session, 0, record, 0, &receiver, &tag) == 9, "step: 9 comes before 7");
+    check(yaslaurel_step(session, SESSION, record, 8, &receiver, &tag) == 10, "step: rows that are not well formed");
+    check(session_stayed(), "refused calls leave the session");
+    check(receiver == 11 && tag == 22, "refused calls leave receiver and tag");
+
+    mark_out();
+    check(yaslaurel_image_normalise(empty, 18, out, OUTPUT - 1) == 9, "normalise: output one short");
+    check(yaslaurel_image_normalise(empty, 18, out, 0) == 9, "normalise: output of length 0");
+    check(yaslaurel_image_normalise(empty, 0, out, OUTPUT) == 1, "normalise: image of length 0");
+    check(yaslaurel_matrix_policy(reads, 3, writes, 3, 4, out, OUTPUT - 1) == 9, "matrix policy: output one short");
+    check(yaslaurel_matrix_policy(reads, 3, writes, 2, 4, out, OUTPUT) == 8, "matrix policy: row counts differ");
+    check(yaslaurel_matrix_policy(reads, 3, writes, 2, 4, out, 0) == 9, "matrix policy: 9 comes before 8");
+    check(out_stayed_from(0), "refused calls leave the output");
+    check(yaslaurel_image_normalise(empty, 18, out, OUTPUT + 1) == 18, "normalise: the empty policy has 18 bytes");
+    check(memcmp(out, empty, 18) == 0, "normalise: the empty policy is its own normal image");
+    check(out_stayed_from(18), "normalise: the bytes behind the image stay");
+}
+
+/* The header lets a host turn a null with length 0 into an address. */
+static void nulls(void)
+{
+    uint64_t receiver = 11, tag = 22;
+    uint32_t count = 1, source = 2, target = 3;
+
+    check(yaslaurel_image_check(yaslaurel_bytes(NULL), 0) == 1, "check: a null image");
+    check(yaslaurel_image_normalise(yaslaurel_bytes(NULL), 0, yaslaurel_output(NULL), 0) == 9, "normalise: nulls");
+    check(yaslaurel_session_start(yaslaurel_bytes(NULL), 0, yaslaurel_words(NULL), 0) == 9, "start: nulls");
+    check(yaslaurel_step(yaslaurel_words(NULL), 0, yaslaurel_bytes(NULL), 0, &receiver, &tag) == 9, "step: nulls");
+    check(yaslaurel_matrix_verdict(yaslaurel_rows(NULL), 0, yaslaurel_rows(NULL), 0, 4, &count, &source, &target) == 8,
+          "verdict: null rows");
+    check(yaslaurel_matrix_policy(yaslaurel_rows(NULL), 0, yaslaurel_rows(NULL), 0, 4, out, OUTPUT) == 8,
+          "matrix policy: null rows");
+    check(receiver == 11 && tag == 22 && count == 1 && source == 2 && target == 3, "refused calls leave the numbers");
+}
+
+static void example(void)
+{
+    uint32_t count = 9, source = 9, target = 9;
+    static const uint8_t steps[6][8] = {
+        {1, 0, 4, 0, 2, 0, 255, 255}, {3, 0, 4, 0, 0, 0, 255, 255}, {1, 0, 5, 0, 0, 0, 255, 255},
+        {3, 0, 5, 0, 1, 0, 255, 255}, {2, 0, 6, 0, 1, 0, 255, 255}, {1, 0, 6, 0, 9, 0, 255, 255},
+    };
+    static const uint32_t answers[6] = {0, 0, 0, YASLAUREL_ALERT, 0, 12};
+    static const uint64_t receivers[5] = {4, 0, 5, 1, 1};
+    static const uint64_t tags[5] = {4, 5, 5, 7, 0};
+    uint8_t trace[49];
+    int good = 1;
+
+    check(yaslaurel_matrix_verdict(reads, 3, writes, 3, 4, &count, &source, &target) == 1, "verdict: not consistent");
+    check(count == 3 && source == 0 && target == 3, "verdict: 3 flows, the first from 0 to 3");
+    check(yaslaurel_matrix_verdict(reads, 1, reads, 1, 4, &count, &source, &target) == 0, "verdict: consistent");
+    check(count == 0 && source == 0 && target == 0, "verdict: consistent gives zeros");
+    mark_out();
+    check(yaslaurel_matrix_policy(reads, 3, writes, 3, 4, out, OUTPUT) == 110, "matrix policy: 110 bytes");
+    check(out_stayed_from(110), "matrix policy: the bytes behind the image stay");
+    check(yaslaurel_image_check(out, 110) == 0, "the derived policy is accepted");
+    mark_session();
+    check(yaslaurel_session_start(out, 110, session, SESSION) == 0, "the derived policy starts a session");
+    check(session[SESSION] == before[SESSION], "the start leaves the number behind the session");
+
+    /* The records lie at odd addresses. */
+    memcpy(trace + 1, steps, 48);
+    for (int i = 0; i < 6; i++) {
+        uint64_t receiver = 77, tag = 88;
+        uint32_t answer = yaslaurel_step(session, SESSION, trace + 1 + 8 * i, 8, &receiver, &tag);
+        good = good && answer == answers[i];
+        if (i < 5) {
+            good = good && receiver == receivers[i] && tag == tags[i];
+        } else {
+            good = good && receiver == 77 && tag == 88;
+        }
+    }
+    check(good, "the paper's trace, from odd addresses");
+}
+
+/* A small generator of random numbers. */
+static uint32_t draw(uint64_t *state)
+{
+    *state = *state * 6364136223846793005u + 1442695040888963407u;
+    return (uint32_t)(*state >> 33);
+}
+
+/* Random bytes and numbers everywhere: every answer is one that the function can give. */
+static void random_bytes(void)
+{
+    static uint8_t image[YASLAUREL_IMAGE_LIMIT + 100];
+    uint32_t rows[10];
+    int good = 1;
+    uint64_t seed = 20261115;
+
+    for (int round = 0; round < 3000; round++) {
+        size_t length = (size_t)draw(&seed) % sizeof image;
+        uint64_t receiver = 0, tag = 0;
+        uint32_t answer, count, source, target;
+        uint8_t record[8];
+        if (round % 4 != 0) {
+            length %= 64;
+        }
+        for (size_t i = 0; i < length; i++) {
+            image[i] = (uint8_t)(draw(&seed));
+        }
+        if (round % 3 == 0 && length >= 2) {
+            image[0] = 4;
+            image[1] = 0;
+        }
+        for (int i = 0; i < 8; i++) {
+            record[i] = (uint8_t)(draw(&seed));
+        }
+        record[0] %= 9;
+        record[1] = record[3] = record[5] = 0;
+        record[6] = record[7] = 255;
+        if (round % 8 == 0) {
+            for (size_t i = 0; i < SESSION; i++) {
+                session[i] = (uint64_t)draw(&seed) % 4;
+            }
+        }
+        answer = yaslaurel_image_check(image, length);
+        good = good && answer <= 6;
+        good = good && yaslaurel_session_start(image, length, session, SESSION) == answer;
+        count = yaslaurel_image_normalise(image, length, out, OUTPUT);
+        good = good && (answer == 0 ? count >= 18 && count <= OUTPUT : count == answer);
+        answer = yaslaurel_step(session, SESSION, record, 8, &receiver, &tag);
+        good = good && (answer == 0 || answer == 256 || answer == 7 || (answer >= 10 && answer <= 15));
+        good = good && (answer == 0 || answer == 256 || (receiver == 0 && tag == 0));
+        good = good && receiver < 256;
+        for (int i = 0; i < 10; i++) {
+            rows[i] = draw(&seed) & draw(&seed) & (round % 2 ? 0xffu : 0xffffffffu);
+        }
+        answer = yaslaurel_matrix_verdict(rows, record[2] % 6u, rows + 5, record[2] % 6u, 4u * record[0], &count,
+                                          &source, &target);
+        good = good && (answer <= 1 || answer == 8);
+    }
+    check(good, "random bytes: every answer is one that the function can give");
+}
+
+int main(void)
+{
+    lengths();
+    nulls();
+    example();
+    random_bytes();
+    printf("%u passed, %u failed\n", passed, failed);
+    return failed != 0;
+}

@@ -1,0 +1,428 @@
+//! One case: what library and judge are both given, and how their results are compared.
+
+use std::fmt::Write as _;
+
+use judge::session::Record;
+use judge::{chains, image, matrix, normal, session};
+use yaslaurel::{MatrixVerdict, Refusal, Session, Verdict};
+
+use crate::counters::Counters;
+use crate::lent::{self, Guarded};
+
+/// Container rows and user rows that a session holds at these numbers.
+#[derive(Clone, Debug, Default, PartialEq, Eq)]
+pub struct Rows {
+    pub containers: Vec<(usize, [u64; 20])>,
+    pub users: Vec<(usize, [u64; 10])>,
+}
+
+/// One operation on a session made for it.
+#[derive(Clone, Debug, PartialEq, Eq)]
+pub struct StepCase {
+    pub rows: Rows,
+    /// What every other number of the session is.
+    pub background: u64,
+    /// The session's length, right or wrong.
+    pub length: usize,
+    pub record: Vec<u8>,
+}
+
+#[derive(Clone, Debug, PartialEq, Eq)]
+pub enum Case {
+    /// An image for check, normaliser and start.
+    Image {
+        image: Vec<u8>,
+        out_length: usize,
+        session_length: usize,
+    },
+    /// Two accepted images: their normal images are equal exactly when their sessions are.
+    Pair {
+        one: Vec<u8>,
+        other: Vec<u8>,
+    },
+    Step(StepCase),
+    /// A session from its start through a list of records. With `chains`, the judge of chains is asked too.
+    Trace {
+        image: Vec<u8>,
+        records: Vec<Vec<u8>>,
+        chains: bool,
+    },
+    /// A session of the library alone, its answers judged by the chains of its history and by nothing else.
+    History {
+        image: Vec<u8>,
+        records: Vec<Vec<u8>>,
+    },
+    Matrix {
+        reads: Vec<u32>,
+        writes: Vec<u32>,
+        objects: u32,
+        out_length: usize,
+    },
+}
+
+/// What went wrong, in words.
+pub type Difference = Option<String>;
+
+fn differ<T: PartialEq + std::fmt::Debug>(what: &str, library: T, judge: T) -> Difference {
+    (library != judge).then(|| format!("{what}: library {library:?}, judge {judge:?}"))
+}
+
+/// The first place where two slices differ.
+fn differ_at<T: PartialEq + std::fmt::Debug>(what: &str, library: &[T], judge: &[T]) -> Difference {
+    if library == judge {
+        return None;
+    }
+    let at = library.iter().zip(judge).position(|(a, b)| a != b);
+    Some(match at {
+        Some(at) => format!("{what}: at {at} library {:?}, judge {:?}", library[at], judge[at]),
+        None => format!("{what}: library has {} elements, judge {}", library.len(), judge.len()),
+    })
+}
+
+/// Buffers that are used again and again.
+pub struct Bench {
+    image: Guarded<u8>,
+    out: Guarded<u8>,
+    session: Guarded<u64>,
+    record: Guarded<u8>,
+    reads: Guarded<u32>,
+    writes: Guarded<u32>,
+    judge_out: Vec<u8>,
+    judge_session: Vec<u64>,
+}
+
+impl Bench {
+    pub fn new() -> Bench {
+        Bench {
+            image: Guarded::new(&[]),
+            out: Guarded::new(&[]),
+            session: Guarded::new(&[]),
+            record: Guarded::new(&[]),
+            reads: Guarded::new(&[]),
+            writes: Guarded::new(&[]),
+            judge_out: Vec::new(),
+            judge_session: Vec::new(),
+        }
+    }
+
+    /// Runs a case on library and judge, counts what it reached and gives the first difference.
+    pub fn run(&mut self, case: &Case, counters: &mut Counters) -> Difference {
+        match case {
+            Case::Image { image, out_length, session_length } => {
+                self.image_case(image, *out_length, *session_length, counters)
+            }
+            Case::Pair { one, other } => self.pair_case(one, other, counters),
+            Case::Step(step) => self.step_case(step, counters),
+            Case::Trace { image, records, chains } => self.trace_case(image, records, *chains, counters),
+            Case::History { image, records } => history_case(image, records, counters),
+            Case::Matrix { reads, writes, objects, out_length } => {
+                self.matrix_case(reads, writes, *objects, *out_length, counters)
+            }
+        }
+    }
+
+    fn guards(&self) -> Difference {
+        let stand = self.image.guards_stand()
+            && self.out.guards_stand()
+            && self.session.guards_stand()
+            && self.record.guards_stand()
+            && self.reads.guards_stand()
+            && self.writes.guards_stand();
+        (!stand).then(|| "memory beside a lent slice was written".to_string())
+    }
+
+    fn image_case(&mut self, image: &[u8], out_length: usize, length: usize, c: &mut Counters) -> Difference {
+        c.images += 1;
+        self.image.fill(image);
+        let number = lent::check(&self.image);
+        let expected = image::check(image);
+        c.checks[expected as usize] += 1;
+        differ("image check", number, expected)
+            .or_else(|| self.normal_of(image, out_length, c))
+            .or_else(|| self.start_of(image, length, c))
+            .or_else(|| differ_at("the image itself", self.image.content(), image))
+            .or_else(|| self.guards())
+    }
+
+    fn normal_of(&mut self, image: &[u8], out_length: usize, c: &mut Counters) -> Difference {
+        self.judge_out.clear();
+        self.judge_out.resize(out_length, 0x5a);
+        self.out.fill(&self.judge_out);
+        let number = lent::normalise(&self.image, &mut self.out);
+        let expected = normal::normalise(image, &mut self.judge_out);
+        match expected {
+            0..=17 => c.normalised[expected as usize] += 1,
+            length => {
+                c.normalised[0] += 1;
+                c.longest_normal = c.longest_normal.max(length as usize);
+                let same = self.judge_out[..length as usize] == *image;
+                *if same { &mut c.already_normal } else { &mut c.changed_by_normal } += 1;
+            }
+        }
+        differ("normaliser", number, expected)
+            .or_else(|| differ_at("output of the normaliser", self.out.content(), &self.judge_out))
+            .or_else(|| if expected >= 18 { self.normal_again(expected as usize) } else { None })
+    }
+
+    /// A normal image is its own normal image.
+    fn normal_again(&mut self, length: usize) -> Difference {
+        let first = self.judge_out[..length].to_vec();
+        self.record.fill(&first);
+        let number = lent::normalise(&self.record, &mut self.out);
+        differ("normaliser on a normal image", number, length as u32)
+            .or_else(|| differ_at("normal image of a normal image", &self.out.content()[..length], &first))
+    }
+
+    fn start_of(&mut self, image: &[u8], length: usize, c: &mut Counters) -> Difference {
+        self.judge_session.clear();
+        self.judge_session.resize(length, 0x0123_4567_89ab_cdef);
+        self.session.fill(&self.judge_session);
+        let number = lent::start(&self.image, &mut self.session);
+        let expected = session::start(image, &mut self.judge_session);
+        c.started[expected as usize] += 1;
+        differ("start", number, expected)
+            .or_else(|| differ_at("session after start", self.session.content(), &self.judge_session))
+    }
+
+    fn pair_case(&mut self, one: &[u8], other: &[u8], c: &mut Counters) -> Difference {
+        let mut images = Vec::new();
+        let mut sessions = Vec::new();
+        for image in [one, other] {
+            // By the safe interface, so that it is compared too.
+            match (yaslaurel::normalise(image), Session::start(image)) {
+                (Ok(normal), Ok(session)) => {
+                    images.push(normal);
+                    sessions.push(session);
+                }
+                (Err(a), Err(b)) if image::check(image) == a.number() && a == b => return None,
+                _ => return Some("normaliser and start of the Rust interface do not agree".into()),
+            }
+        }
+        let (normals, starts) = (images[0] == images[1], sessions[0] == sessions[1]);
+        *if starts { &mut c.pairs_equal } else { &mut c.pairs_different } += 1;
+        let expected = normal::encode(&image::read(one).unwrap()) == normal::encode(&image::read(other).unwrap());
+        differ("equal normal images", normals, expected)
+            .or_else(|| (normals != starts).then(|| format!("equal normal images {normals}, equal sessions {starts}")))
+    }
+
+    /// One step on both sides, on the sessions as they stand.
+    fn step(&mut self, record: &[u8], c: &mut Counters) -> Result<session::Answer, String> {
+        c.steps += 1;
+        self.record.fill(record);
+        let (number, receiver, tag) = lent::step(&mut self.session, &self.record);
+        let expected = session::step(&mut self.judge_session, record);
+        let accepted = expected.number == session::QUIET || expected.number == session::ALERT;
+        match expected.number {
+            session::QUIET => c.quiet[usize::from(record[0])] += 1,
+            session::ALERT => c.alert[usize::from(record[0])] += 1,
+            refusal => c.refused[refusal as usize] += 1,
+        }
+        // "changes no lent memory"
+        let numbers = if accepted { (expected.receiver, expected.tag) } else { lent::BEFORE };
+        let difference = differ("step", number, expected.number)
+            .or_else(|| differ("receiver and tag", (receiver, tag), numbers))
+            .or_else(|| differ_at("session after the step", self.session.content(), &self.judge_session))
+            .or_else(|| differ_at("the record itself", self.record.content(), record))
+            .or_else(|| self.guards());
+        match difference {
+            Some(difference) => Err(difference),
+            None => Ok(expected),
+        }
+    }
+
+    fn step_case(&mut self, case: &StepCase, c: &mut Counters) -> Difference {
+        self.judge_session.clear();
+        self.judge_session.resize(case.length, case.background);
+        for (number, row) in &case.rows.containers {
+            if let Some(place) = self.judge_session.get_mut(20 * number..20 * number + 20) {
+                place.copy_from_slice(row);
+            }
+        }
+        for (number, row) in &case.rows.users {
+            if let Some(place) = self.judge_session.get_mut(5_120 + 10 * number..5_130 + 10 * number) {
+                place.copy_from_slice(row);
+            }
+        }
+        self.session.fill(&self.judge_session);
+        self.step(&case.record, c).err()
+    }
+
+    fn trace_case(&mut self, image: &[u8], records: &[Vec<u8>], listed: bool, c: &mut Counters) -> Difference {
+        self.image.fill(image);
+        if let Some(difference) = self.start_of(image, 5_280, c) {
+            return Some(difference);
+        }
+        let Ok(policy) = image::read(image) else { return None };
+        // The safe interface runs beside it.
+        let mut safe = listed.then(|| Session::start(image).expect("the image is accepted"));
+        c.longest_trace = c.longest_trace.max(records.len());
+        let mut history: Vec<Record> = Vec::new();
+        let mut answers = Vec::new();
+        for (at, record) in records.iter().enumerate() {
+            let answer = match self.step(record, c) {
+                Ok(answer) => answer,
+                Err(difference) => return Some(format!("record {}: {difference}", at + 1)),
+            };
+            // A session that only start and step have written is never refused with 10.
+            if answer.number == 10 {
+                return Some(format!("record {}: 10 on a session that nobody else wrote", at + 1));
+            }
+            if let Some(safe) = &mut safe {
+                if let Some(difference) = safe_differs(safe.step(record), answer) {
+                    return Some(format!("record {}: {difference}", at + 1));
+                }
+            }
+            if answer.number == session::QUIET || answer.number == session::ALERT {
+                history.push(session::read_record(record).expect("the record was accepted"));
+                answers.push(answer);
+            }
+        }
+        if listed {
+            judged_by_chains(&policy, &history, &answers, c)
+        } else {
+            None
+        }
+    }
+
+    fn matrix_case(
+        &mut self,
+        reads: &[u32],
+        writes: &[u32],
+        objects: u32,
+        out_length: usize,
+        c: &mut Counters,
+    ) -> Difference {
+        c.matrices += 1;
+        self.reads.fill(reads);
+        self.writes.fill(writes);
+        let library = lent::matrix_verdict(&self.reads, &self.writes, objects);
+        let expected = matrix::verdict(reads, writes, objects);
+        match expected.number {
+            0 => c.consistent += 1,
+            1 => c.inconsistent += 1,
+            _ => c.verdicts_refused += 1,
+        }
+        let (count, source, target) = if expected.number <= 1 {
+            (expected.count, expected.source, expected.target)
+        } else {
+            lent::BEFORE_VERDICT
+        };
+        let safe = match yaslaurel::matrix_verdict(reads, writes, objects) {
+            Ok(MatrixVerdict::Consistent) => (0, 0, 0, 0),
+            Ok(MatrixVerdict::Inconsistent { flows, source, target }) => (1, flows, source, target),
+            Err(refusal) => (refusal.number(), 0, 0, 0),
+        };
+        self.judge_out.clear();
+        self.judge_out.resize(out_length, 0x5a);
+        self.out.fill(&self.judge_out);
+        let length = lent::matrix_policy(&self.reads, &self.writes, objects, &mut self.out);
+        let expected_length = matrix::policy(reads, writes, objects, &mut self.judge_out);
+        c.derived[if expected_length < 18 { expected_length as usize } else { 0 }] += 1;
+        differ("matrix verdict", library, (expected.number, count, source, target))
+            .or_else(|| {
+                let judge = (expected.number, expected.count, expected.source, expected.target);
+                differ("matrix verdict of the Rust interface", safe, judge)
+            })
+            .or_else(|| differ("derived policy", length, expected_length))
+            .or_else(|| differ_at("output of the derived policy", self.out.content(), &self.judge_out))
+            .or_else(|| differ_at("the read rows", self.reads.content(), reads))
+            .or_else(|| differ_at("the write rows", self.writes.content(), writes))
+            .or_else(|| self.guards())
+    }
+}
+
+/// Compares an answer of the safe interface with the judge's.
+fn safe_differs(safe: Result<yaslaurel::Answer, Refusal>, judge: session::Answer) -> Difference {
+    let safe = match safe {
+        Ok(answer) => {
+            let number = if answer.verdict == Verdict::Alert { session::ALERT } else { session::QUIET };
+            session::Answer { number, receiver: u64::from(answer.receiver), tag: answer.tag }
+        }
+        Err(refusal) => session::Answer { number: refusal.number(), receiver: 0, tag: 0 },
+    };
+    differ("step of the Rust interface", safe, judge)
+}
+
+/// The library's session on its own: what it accepts makes the history, and the chains judge its answers.
+fn history_case(image: &[u8], records: &[Vec<u8>], c: &mut Counters) -> Difference {
+    let (Ok(policy), Ok(mut session)) = (image::read(image), Session::start(image)) else { return None };
+    let mut history = Vec::new();
+    let mut answers = Vec::new();
+    for record in records {
+        if let Ok(answer) = session.step(record) {
+            let Some(read) = session::read_record(record) else {
+                return Some("a malformed record was accepted".into());
+            };
+            let number = if answer.verdict == Verdict::Alert { session::ALERT } else { session::QUIET };
+            history.push(read);
+            answers.push(session::Answer { number, receiver: u64::from(answer.receiver), tag: answer.tag });
+        }
+    }
+    judged_by_chains(&policy, &history, &answers, c)
+}
+
+/// Compares the answers with those of the judge of chains, which knows the image and which records were accepted.
+fn judged_by_chains(
+    policy: &image::Policy,
+    history: &[Record],
+    answers: &[session::Answer],
+    c: &mut Counters,
+) -> Difference {
+    c.chain_traces += 1;
+    c.chains += chains::list(policy, history).len() as u64;
+    for (at, (judged, answer)) in chains::judge(policy, history).iter().zip(answers).enumerate() {
+        let alert = answer.number == session::ALERT;
+        c.chain_steps += 1;
+        c.chain_alerts += u64::from(judged.alert);
+        c.chain_running += u64::from(judged.information >> 32 != 0);
+        let same =
+            judged.alert == alert && judged.receiver as u64 == answer.receiver && judged.information == answer.tag;
+        if !same {
+            return Some(format!("accepted step {}: by chains {judged:?}, by tags {answer:?}", at + 1));
+        }
+    }
+    None
+}
+
+fn hex(bytes: &[u8]) -> String {
+    if bytes.len() > 600 {
+        return format!("{} bytes, the first 600: {}", bytes.len(), hex(&bytes[..600]));
+    }
+    bytes.iter().map(|byte| format!("{byte:02x}")).collect()
+}
+
+/// A case as text, with all that is needed to run it again by hand.
+pub fn show(case: &Case) -> String {
+    let mut text = String::new();
+    match case {
+        Case::Image { image, out_length, session_length } => {
+            writeln!(text, "image of {} bytes: {}", image.len(), hex(image)).unwrap();
+            writeln!(text, "output of {out_length} bytes, session of {session_length} numbers").unwrap();
+        }
+        Case::Pair { one, other } => {
+            writeln!(text, "one image: {}", hex(one)).unwrap();
+            writeln!(text, "other image: {}", hex(other)).unwrap();
+        }
+        Case::Step(step) => {
+            writeln!(text, "session of {} numbers, each {:#x} but:", step.length, step.background).unwrap();
+            for (number, row) in &step.rows.containers {
+                writeln!(text, "  container {number}: {row:x?}").unwrap();
+            }
+            for (number, row) in &step.rows.users {
+                writeln!(text, "  user {number}: {row:x?}").unwrap();
+            }
+            writeln!(text, "record: {}", hex(&step.record)).unwrap();
+        }
+        Case::Trace { image, records, .. } | Case::History { image, records } => {
+            writeln!(text, "image of {} bytes: {}", image.len(), hex(image)).unwrap();
+            for record in records {
+                writeln!(text, "record: {}", hex(record)).unwrap();
+            }
+        }
+        Case::Matrix { reads, writes, objects, out_length } => {
+            writeln!(text, "read rows {reads:x?}, write rows {writes:x?}, {objects} objects").unwrap();
+            writeln!(text, "output of {out_length} bytes").unwrap();
+        }
+    }
+    text
+}

@@ -1,0 +1,108 @@
+//! What a run reached.
+
+use std::fmt::Write as _;
+
+#[derive(Default)]
+pub struct Counters {
+    pub images: u64,
+    /// Answers of the image check, 0 to 6.
+    pub checks: [u64; 16],
+    /// Refusals of the normaliser and of the start; 0 counts what was accepted.
+    pub normalised: [u64; 16],
+    pub started: [u64; 16],
+    /// Accepted images that are their own normal image, and that are not.
+    pub already_normal: u64,
+    pub changed_by_normal: u64,
+    pub longest_normal: usize,
+    pub pairs_equal: u64,
+    pub pairs_different: u64,
+    pub steps: u64,
+    /// By code, 1 to 7.
+    pub quiet: [u64; 8],
+    pub alert: [u64; 8],
+    /// By refusal number.
+    pub refused: [u64; 16],
+    pub longest_trace: usize,
+    pub matrices: u64,
+    pub consistent: u64,
+    pub inconsistent: u64,
+    /// Refusals of verdict and of derived policy; 0 counts what was accepted.
+    pub verdicts_refused: u64,
+    pub derived: [u64; 16],
+    pub chain_traces: u64,
+    pub chain_steps: u64,
+    pub chain_alerts: u64,
+    pub chain_running: u64,
+    pub chains: u64,
+}
+
+impl Counters {
+    /// What the run did not reach and must.
+    pub fn missing(&self) -> Vec<String> {
+        let mut missing = Vec::new();
+        let mut need = |reached: u64, what: String| {
+            if reached == 0 {
+                missing.push(what);
+            }
+        };
+        for number in 0..=6 {
+            need(self.checks[number], format!("image check answers {number}"));
+            need(self.normalised[number], format!("normaliser answers {number} (0: a length)"));
+            need(self.started[number], format!("start answers {number}"));
+        }
+        need(self.normalised[9], "normaliser answers 9".into());
+        need(self.started[9], "start answers 9".into());
+        for number in [7, 9, 10, 11, 12, 13, 14, 15] {
+            need(self.refused[number], format!("step answers {number}"));
+        }
+        for code in 1..=7 {
+            need(self.quiet[code], format!("code {code} answers quiet"));
+        }
+        for code in 1..=5 {
+            need(self.alert[code], format!("code {code} answers alert"));
+        }
+        need(u64::from(self.longest_normal == 18_994), "a normal image of 18,994 bytes".into());
+        need(self.already_normal, "an accepted image is its own normal image".into());
+        need(self.changed_by_normal, "an accepted image is not its own normal image".into());
+        need(self.pairs_equal, "two images start equal sessions".into());
+        need(self.pairs_different, "two images start different sessions".into());
+        need(self.consistent, "a consistent matrix".into());
+        need(self.inconsistent, "a matrix that is not consistent".into());
+        need(self.verdicts_refused, "verdict answers 8".into());
+        for number in [0, 8, 9] {
+            need(self.derived[number], format!("derived policy answers {number} (0: a length)"));
+        }
+        need(self.chain_alerts, "an alert on a trace whose chains were listed".into());
+        need(self.chain_running, "a running atom on a trace whose chains were listed".into());
+        missing
+    }
+
+    pub fn table(&self) -> String {
+        let mut text = String::new();
+        let by_number = |counts: &[u64]| {
+            let shown = counts.iter().enumerate().filter(|(_, &count)| count > 0);
+            shown.map(|(number, count)| format!("{number}: {count}")).collect::<Vec<_>>().join(", ")
+        };
+        let mut line = |name: &str, value: String| writeln!(text, "  {name:<38}{value}").unwrap();
+        line("images", self.images.to_string());
+        line("image check, by answer", by_number(&self.checks));
+        line("normaliser, by refusal (0 accepted)", by_number(&self.normalised));
+        line("start, by refusal (0 accepted)", by_number(&self.started));
+        line("normal image equal, not equal", format!("{}, {}", self.already_normal, self.changed_by_normal));
+        line("longest normal image", self.longest_normal.to_string());
+        line("pairs equal, different", format!("{}, {}", self.pairs_equal, self.pairs_different));
+        line("operations", self.steps.to_string());
+        line("quiet, by code", by_number(&self.quiet));
+        line("alert, by code", by_number(&self.alert));
+        line("step, by refusal", by_number(&self.refused));
+        line("longest trace", self.longest_trace.to_string());
+        line("matrices", self.matrices.to_string());
+        let verdicts = (self.consistent, self.inconsistent, self.verdicts_refused);
+        line("consistent, not, refused", format!("{}, {}, {}", verdicts.0, verdicts.1, verdicts.2));
+        line("derived policy, by refusal", by_number(&self.derived));
+        line("traces judged by chains", self.chain_traces.to_string());
+        let chains = (self.chain_steps, self.chain_alerts, self.chain_running, self.chains);
+        line("steps, alerts, running atoms, chains", format!("{}, {}, {}, {}", chains.0, chains.1, chains.2, chains.3));
+        text
+    }
+}

@@ -1,0 +1,524 @@
+//! Random policies, damaged images, sessions, records and matrices.
+
+use judge::rules::normal;
+
+use crate::case::{Rows, StepCase};
+use crate::random::Random;
+use crate::spec::Spec;
+
+/// A set of mixtures to draw from: few enough that rules repeat, hold one another and meet in many ways.
+fn pool(r: &mut Random) -> Vec<u64> {
+    let size = r.between(1, 12);
+    match r.below(5) {
+        // All of a few atoms but one: meets of these have many mixtures.
+        0 => {
+            let atoms = r.between(4, 8);
+            let all = (1u64 << atoms) - 1;
+            let shift = r.pick(&[0, 0, 3, 32]);
+            (0..atoms).map(|k| (all & !(1 << k)) << shift).collect()
+        }
+        // Sets of few atoms.
+        1 => (0..size).map(|_| (0..r.between(0, 3)).fold(0, |m, _| m | 1 << r.below(6))).collect(),
+        // Sets of few data atoms and running atoms.
+        2 => (0..size).map(|_| r.word() & r.pick(&[0x7, 0x3f]) & r.word() | (r.word() & 0x7) << 32).collect(),
+        // Any sets.
+        3 => (0..size).map(|_| if r.percent(10) { u64::MAX } else { r.word() }).collect(),
+        // Most atoms.
+        _ => (0..size).map(|_| r.word() | r.word() | r.word()).collect(),
+    }
+}
+
+/// How many records a section has: few, or up to its limit.
+fn count(r: &mut Random, class: usize, limit: usize) -> usize {
+    match class {
+        0 => r.below(4).min(limit),
+        1 => r.below(13).min(limit),
+        2 => r.below(61).min(limit),
+        _ => r.between(limit - limit / 8, limit),
+    }
+}
+
+fn rule_number(r: &mut Random, rules: usize) -> u16 {
+    if rules == 0 || r.percent(20) {
+        65535
+    } else {
+        r.below(rules) as u16
+    }
+}
+
+/// The rules of a spec and their mixtures: each with mixtures of its own, or ranges that overlap.
+fn rules(r: &mut Random, class: usize, spec: &mut Spec) {
+    let mut pool = pool(r);
+    if r.percent(30) {
+        pool.extend(self::pool(r));
+    }
+    let wanted = count(r, class, 256);
+    let most = r.pick(&[1, 2, 8, 8]);
+    let least = if r.percent(30) { 0 } else { 1 };
+    if r.percent(60) {
+        for _ in 0..wanted {
+            let count = r.between(least, most);
+            if spec.mixtures.len() + count > 2048 {
+                break;
+            }
+            spec.rules.push((spec.mixtures.len() as u16, count as u16));
+            for _ in 0..count {
+                spec.mixtures.push(r.pick(&pool));
+            }
+        }
+    } else {
+        let mixtures = count(r, class, 2048).max(least);
+        spec.mixtures = (0..mixtures).map(|_| r.pick(&pool)).collect();
+        let mut firsts: Vec<usize> = (0..wanted).map(|_| r.below(mixtures + 1)).collect();
+        firsts.sort_unstable();
+        for first in firsts {
+            let count = r.between(least.min(mixtures - first), most.min(mixtures - first));
+            spec.rules.push((first as u16, count as u16));
+        }
+    }
+}
+
+/// A policy that is accepted. `class` 0 to 3: tiny, small, middle, largest.
+pub fn policy(r: &mut Random, class: usize) -> Spec {
+    let mut spec = Spec { containers: vec![], users: vec![], rules: vec![], mixtures: vec![], gaps: [0; 5] };
+    rules(r, class, &mut spec);
+    let rules = spec.rules.len();
+    let atoms = r.pick(&[2, 4, 32]);
+    for _ in 0..count(r, class, 256) {
+        spec.containers.push(match r.below(20) {
+            0..=10 => {
+                let atom = if r.percent(10) { 255 } else { r.below(atoms) as u8 };
+                let run = if r.percent(40) { 65535 } else { rule_number(r, rules) };
+                (1, atom, rule_number(r, rules), run)
+            }
+            11..=13 => (2, 255, 65535, 65535),
+            _ => (3, 255, 65535, 65535),
+        });
+    }
+    for _ in 0..count(r, class.max(1), 16) {
+        spec.users.push(rule_number(r, rules));
+    }
+    if r.percent(30) {
+        for gap in &mut spec.gaps {
+            *gap = r.below(6);
+        }
+    }
+    spec
+}
+
+/// A policy whose normal image is the longest: every record that there can be, and no two rules alike.
+pub fn largest(r: &mut Random) -> Spec {
+    Spec {
+        containers: (0..256).map(|i| (1, r.below(32) as u8, i, 255 - i)).collect(),
+        users: (0..16).map(|_| r.below(256) as u16).collect(),
+        rules: (0..256).map(|i| (8 * i, 8)).collect(),
+        mixtures: (0..2048).map(|_| r.word()).collect(),
+        gaps: [0, r.below(200), r.below(200), r.below(200), r.below(200)],
+    }
+}
+
+/// A spec with the same meaning, spelled differently: rules copied, padded with repeats and with rules that nothing
+/// names.
+pub fn respelled(r: &mut Random, spec: &Spec) -> Spec {
+    let mut other = Spec { rules: vec![], mixtures: vec![], ..spec.clone() };
+    let mut moved = Vec::new();
+    for &(first, count) in &spec.rules {
+        if r.percent(20) && other.rules.len() < 200 {
+            other.rules.push((other.mixtures.len() as u16, 1));
+            other.mixtures.push(r.word());
+        }
+        let mut own: Vec<u64> = spec.mixtures[usize::from(first)..usize::from(first + count)].to_vec();
+        if let (true, Some(&some)) = (own.len() < 8 && r.percent(50), own.first()) {
+            own.push(some & r.word());
+        }
+        for i in (1..own.len()).rev() {
+            own.swap(i, r.below(i + 1));
+        }
+        moved.push(other.rules.len() as u16);
+        other.rules.push((other.mixtures.len() as u16, own.len() as u16));
+        other.mixtures.extend(own);
+    }
+    let renumber = |number: &mut u16| {
+        if *number != 65535 {
+            *number = moved[usize::from(*number)];
+        }
+    };
+    for container in &mut other.containers {
+        renumber(&mut container.2);
+        renumber(&mut container.3);
+    }
+    other.users.iter_mut().for_each(renumber);
+    for gap in &mut other.gaps {
+        *gap = r.below(4);
+    }
+    other
+}
+
+/// Breaks a spec in one place that refusals 3 to 6 look at.
+fn damage_spec(r: &mut Random, spec: &mut Spec) {
+    let (rules, mixtures) = (spec.rules.len() as u16, spec.mixtures.len() as u16);
+    match r.below(10) {
+        0 if rules > 0 => {
+            let at = r.below(spec.rules.len());
+            spec.rules[at].1 = r.pick(&[9, 10, 255, 256, 65535]);
+        }
+        1 if rules > 0 => {
+            let at = r.below(spec.rules.len());
+            spec.rules[at].0 = r.pick(&[0, mixtures, mixtures + 1, 65535]);
+        }
+        2 | 3 if !spec.containers.is_empty() => {
+            let at = r.below(spec.containers.len());
+            let container = &mut spec.containers[at];
+            match r.below(5) {
+                0 => container.0 = r.pick(&[0, 1, 2, 3, 4, 255]),
+                1 => container.1 = r.pick(&[0, 31, 32, 63, 254, 255]),
+                2 => container.2 = r.pick(&[0, rules, rules + 1, 65534, 65535]),
+                3 => container.3 = r.pick(&[0, rules, rules + 1, 65534, 65535]),
+                _ => *container = (r.pick(&[2, 3]), r.pick(&[0, 255]), r.pick(&[0, 65535]), r.pick(&[0, 65535])),
+            }
+        }
+        4 | 5 if !spec.users.is_empty() => {
+            let at = r.below(spec.users.len());
+            spec.users[at] = r.pick(&[rules, rules + 1, 65534]);
+        }
+        6 => spec.users.resize(r.between(15, 18), 65535),
+        7 => spec.containers.resize(r.between(255, 258), (3, 255, 65535, 65535)),
+        8 => spec.rules.resize(r.between(255, 258), (mixtures, 0)),
+        _ => spec.mixtures.resize(r.between(2046, 2051), 1),
+    }
+}
+
+/// Breaks the bytes of an image.
+fn damage_bytes(r: &mut Random, image: &mut Vec<u8>) {
+    match r.below(8) {
+        0 => image[r.below(18)] = r.word() as u8,
+        1 => {
+            // One of the offsets and lengths, a little off or anything.
+            let at = 2 * r.between(1, 8);
+            let old = u16::from_le_bytes([image[at], image[at + 1]]);
+            let new = match r.below(4) {
+                0 => old.wrapping_add(1),
+                1 => old.wrapping_sub(1),
+                2 => r.pick(&[0, 17, 18, 65535]),
+                _ => r.word() as u16,
+            };
+            image[at..at + 2].copy_from_slice(&new.to_le_bytes());
+        }
+        2 => image.truncate(r.below(image.len() + 1)),
+        3 => image.truncate(image.len() - 1),
+        4 => image.resize(r.pick(&[20_479, 20_480, 20_481, 21_000]), 7),
+        5 => {
+            let at = 2 * r.between(1, 8) + 1;
+            image[at] = image[at].wrapping_add(r.pick(&[1, 255]));
+        }
+        _ => {
+            for _ in 0..r.between(1, 3) {
+                let at = r.below(image.len());
+                image[at] = match r.below(3) {
+                    0 => r.word() as u8,
+                    1 => image[at] ^ 1 << r.below(8),
+                    _ => r.pick(&[0, 1, 255]),
+                };
+            }
+        }
+    }
+}
+
+/// The class of a policy: mostly tiny and small, now and then the largest.
+pub fn class(r: &mut Random) -> usize {
+    match r.below(100) {
+        0..=34 => 0,
+        35..=79 => 1,
+        80..=97 => 2,
+        _ => 3,
+    }
+}
+
+/// An image: accepted, or damaged in one or several places, or any bytes at all.
+pub fn image(r: &mut Random) -> Vec<u8> {
+    if r.percent(3) {
+        let length = r.pick(&[0, 1, 17, 18, 19, 40]);
+        let mut bytes: Vec<u8> = (0..length).map(|_| r.word() as u8).collect();
+        if length > 2 && r.percent(70) {
+            bytes[..2].copy_from_slice(&[4, 0]);
+        }
+        return bytes;
+    }
+    let class = class(r);
+    let mut spec = if class == 3 && r.percent(50) { largest(r) } else { policy(r, class) };
+    let damaged = r.percent(50);
+    if damaged {
+        for _ in 0..r.pick(&[0, 1, 1, 2, 3]) {
+            damage_spec(r, &mut spec);
+        }
+    }
+    let mut image = spec.encode(r.word() as u8);
+    if damaged {
+        for _ in 0..r.pick(&[0, 0, 1, 1, 2]) {
+            if image.len() >= 18 {
+                damage_bytes(r, &mut image);
+            }
+        }
+    }
+    image
+}
+
+/// The length of a lent slice: right, or a little or quite wrong.
+pub fn length(r: &mut Random, right: usize, longer: bool) -> usize {
+    match r.below(40) {
+        0 => right - 1,
+        1 => right + 1,
+        2 => 0,
+        3 => r.below(2 * right),
+        4 | 5 if longer => right + r.below(3_000),
+        _ => right,
+    }
+}
+
+/// A rule in normal form, of 0 to 8 mixtures.
+fn normal_rule(r: &mut Random, pool: &[u64]) -> Vec<u64> {
+    let wanted = r.pick(&[0, 1, 1, 1, 2, 3, 4, 8, 8]);
+    if wanted == 1 && r.percent(40) {
+        return vec![u64::MAX];
+    }
+    let drawn: Vec<u64> = (0..2 * wanted).map(|_| r.pick(pool)).collect();
+    let mut rule = normal(&drawn);
+    rule.truncate(wanted);
+    rule
+}
+
+fn nine(rule: &[u64]) -> [u64; 9] {
+    let mut words = [0; 9];
+    words[0] = rule.len() as u64;
+    words[1..1 + rule.len()].copy_from_slice(rule);
+    words
+}
+
+fn tag(r: &mut Random) -> u64 {
+    match r.below(4) {
+        0 => 0,
+        1 => 1 << r.below(64),
+        2 => r.word() & r.word() & 0x3f_0000_003f,
+        _ => r.word() & r.word(),
+    }
+}
+
+fn container_row(r: &mut Random, kind: u64, pool: &[u64]) -> [u64; 20] {
+    let mut row = [0; 20];
+    if kind == 0 {
+        return row;
+    }
+    row[0] = kind;
+    row[1] = tag(r);
+    row[2..11].copy_from_slice(&nine(&normal_rule(r, pool)));
+    row[11..20].copy_from_slice(&nine(&normal_rule(r, pool)));
+    row
+}
+
+/// Breaks the nine words of a rule in a way that refusal 10 looks at.
+fn damage_rule(r: &mut Random, words: &mut [u64]) {
+    let count = words[0].min(8) as usize;
+    match r.below(6) {
+        0 => words[0] = r.pick(&[9, 1 << 32, (1 << 32) + 1, u64::MAX, words[0] + 1]),
+        1 => words[8] ^= 1 << r.below(64),
+        2 if count >= 2 => words.swap(1, count),
+        3 if (1..8).contains(&count) => {
+            // A repeat, or a mixture that the last one holds.
+            words[count + 1] = words[count] & r.pick(&[u64::MAX, 0xff, 0]);
+            words[0] += 1;
+        }
+        4 if count >= 1 => words[0] -= 1,
+        _ => words[1 + r.below(8)] ^= 1 << r.below(64),
+    }
+}
+
+fn damage_row(r: &mut Random, row: &mut [u64]) {
+    match r.below(4) {
+        0 => row[0] = r.pick(&[0, 4, 1 << 32, (1 << 32) + 1, u64::MAX, 2, 3]),
+        1 => row[r.below(20)] ^= 1 << r.below(64),
+        2 => damage_rule(r, &mut row[2..11]),
+        _ => damage_rule(r, &mut row[11..20]),
+    }
+}
+
+fn damage_user(r: &mut Random, row: &mut [u64]) {
+    match r.below(3) {
+        0 => row[0] = r.pick(&[0, 2, (1 << 32) + 1, u64::MAX]),
+        1 => row[r.below(10)] ^= 1 << r.below(64),
+        _ => damage_rule(r, &mut row[1..10]),
+    }
+}
+
+/// The bytes of a record.
+pub fn record_bytes(code: u8, p: u16, o: u16, u: u16) -> Vec<u8> {
+    let mut bytes = vec![code, 0];
+    for number in [p, o, u] {
+        bytes.extend(number.to_le_bytes());
+    }
+    bytes
+}
+
+/// Breaks a record: its length, or one of its fields.
+pub fn damage_record(r: &mut Random, record: &mut Vec<u8>) {
+    match r.below(6) {
+        0 => {
+            let length = r.below(21);
+            record.resize(length, 0);
+        }
+        1 => *record = (0..r.below(21)).map(|_| r.word() as u8).collect(),
+        2 => record[0] = r.pick(&[0, 8, 9, 255]),
+        3 => record[1] = r.pick(&[1, 128, 255]),
+        4 => {
+            let at = r.pick(&[2, 4]);
+            record[at..at + 2].copy_from_slice(&r.pick(&[256u16, 257, 65535, 0x0100]).to_le_bytes());
+        }
+        _ => record[6..8].copy_from_slice(&r.pick(&[0u16, 15, 16, 65534, 65535]).to_le_bytes()),
+    }
+}
+
+/// The kind of object that a code wants, or sometimes another.
+fn object_kind(r: &mut Random, code: u8) -> u64 {
+    if r.percent(10) {
+        return r.below(4) as u64;
+    }
+    match code {
+        1..=3 => r.pick(&[1, 1, 2]),
+        4 => 1,
+        _ => 0,
+    }
+}
+
+/// A rule of `count` mixtures, each all atoms of `universe` but one of those from atom `from` on. Two such rules over
+/// different atoms meet in as many mixtures as the product of their counts: around 8 the meets that just fit.
+fn all_but_one(universe: u64, from: usize, count: usize) -> Vec<u64> {
+    let mut rule: Vec<u64> = (from..from + count).map(|atom| universe & !(1 << atom)).collect();
+    rule.sort_unstable();
+    rule
+}
+
+/// Gives p and o run rules, and the user a rule, whose meets have about 8 mixtures.
+fn about_eight(r: &mut Random, rows: &mut Rows) {
+    let universe = r.pick(&[u64::MAX, 0xffff_ffff, 0xffff]);
+    let (few, more) = r.pick(&[(1, 8), (2, 4), (3, 3), (2, 5), (2, 3), (3, 2), (4, 2), (8, 1), (8, 8)]);
+    let rules = [all_but_one(universe, 0, few), all_but_one(universe, 8, more)];
+    for (i, (_, row)) in rows.containers.iter_mut().enumerate() {
+        if row[0] != 0 {
+            row[11..20].copy_from_slice(&nine(&rules[i]));
+        }
+    }
+    for (_, row) in &mut rows.users {
+        if row[0] == 1 {
+            row[1..10].copy_from_slice(&nine(&rules[0]));
+        }
+    }
+}
+
+/// One operation on rows made for it, well formed or damaged.
+pub fn step(r: &mut Random) -> StepCase {
+    let code = r.between(1, 7) as u8;
+    let pool = pool(r);
+    let (p, o, u) = (r.below(256), r.below(256), r.below(16));
+    let o = if r.percent(4) { p } else { o };
+    let kind = if r.percent(6) { r.below(4) as u64 } else { 3 };
+    let mut rows = Rows::default();
+    rows.containers.push((p, container_row(r, kind, &pool)));
+    // Rules from two sets of mixtures meet in more ways than rules from one, which share mixtures.
+    let pool = if r.percent(50) { self::pool(r) } else { pool };
+    if o != p {
+        let kind = object_kind(r, code);
+        rows.containers.push((o, container_row(r, kind, &pool)));
+    }
+    if r.percent(94) {
+        let mut row = [0; 10];
+        row[0] = 1;
+        row[1..10].copy_from_slice(&nine(&normal_rule(r, &pool)));
+        rows.users.push((u, row));
+    } else {
+        rows.users.push((u, [0; 10]));
+    }
+    if r.percent(12) {
+        about_eight(r, &mut rows);
+    }
+    if r.percent(35) {
+        for _ in 0..r.pick(&[1, 1, 2]) {
+            let at = r.below(rows.containers.len() + 1);
+            match rows.containers.get_mut(at) {
+                Some((_, row)) => damage_row(r, row),
+                None => damage_user(r, &mut rows.users[0].1),
+            }
+        }
+    }
+    let user = if code == 4 || code == 6 { u as u16 } else { 65535 };
+    let mut record = record_bytes(code, p as u16, o as u16, user);
+    if r.percent(8) {
+        damage_record(r, &mut record);
+    }
+    // What the other rows hold must not matter.
+    let background = if r.percent(50) { 0 } else { r.word() };
+    StepCase { rows, background, length: length(r, 5_280, false), record }
+}
+
+/// A record that suits the session in most ways.
+pub fn record(r: &mut Random, session: &[u64], containers: usize) -> Vec<u8> {
+    let code = r.pick(&[1, 1, 1, 2, 2, 3, 3, 3, 4, 4, 5, 6, 7]) as u8;
+    // The first container from a random place on whose kind will do.
+    let find = |r: &mut Random, wanted: &[u64], bound: usize| {
+        let from = r.below(bound.max(1));
+        let turn = (from..bound).chain(0..from).find(|&c| wanted.contains(&session[20 * c]));
+        turn.unwrap_or(from) as u16
+    };
+    let any = |r: &mut Random| r.below(containers.max(1)) as u16;
+    let p = if r.percent(96) { find(r, &[3], containers) } else { any(r) };
+    let kinds: &[u64] = match code {
+        1..=3 => &[1, 2],
+        4 => &[1],
+        _ => &[0],
+    };
+    let bound = if code >= 5 { 256 } else { containers };
+    let o = if r.percent(94) { find(r, kinds, bound) } else { any(r) };
+    let declared = (0..16).filter(|u| session[5_120 + 10 * u] == 1).count();
+    let u = match code {
+        4 | 6 if declared > 0 && r.percent(95) => r.below(declared) as u16,
+        4 | 6 => r.below(16) as u16,
+        _ => 65535,
+    };
+    let mut record = record_bytes(code, p, o, u);
+    if r.percent(3) {
+        damage_record(r, &mut record);
+    }
+    record
+}
+
+/// A matrix: read rows, write rows and objects.
+pub fn matrix(r: &mut Random) -> (Vec<u32>, Vec<u32>, u32) {
+    let objects = match r.below(20) {
+        0 => r.pick(&[0, 33, 64, u32::MAX]),
+        1 => 32,
+        _ => r.between(1, 12) as u32,
+    };
+    let subjects = match r.below(20) {
+        0 => r.pick(&[0, 9, 20]),
+        _ => r.between(1, 8),
+    };
+    let mask = if objects >= 32 { u32::MAX } else { (1u32 << objects) - 1 };
+    let dense = r.below(4);
+    let row = |r: &mut Random| {
+        let row = match dense {
+            0 => r.word() & r.word() & r.word(),
+            1 => r.word() & r.word(),
+            2 => r.word(),
+            _ => 1 << r.below(32) | 1 << r.below(32),
+        };
+        let row = row as u32;
+        if r.percent(1) {
+            row
+        } else {
+            row & mask
+        }
+    };
+    let reads: Vec<u32> = (0..subjects).map(|_| row(r)).collect();
+    let differ = r.percent(2);
+    let writers = if differ { r.below(10) } else { subjects };
+    let writes = (0..writers).map(|_| row(r)).collect();
+    (reads, writes, objects)
+}

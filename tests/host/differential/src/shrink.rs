@@ -1,0 +1,217 @@
+//! Makes a case that shows a difference as small as it can.
+
+use std::time::{Duration, Instant};
+
+use crate::case::{Bench, Case, Rows, StepCase};
+use crate::counters::Counters;
+use crate::spec::Spec;
+
+/// The smallest case found within the time, and its difference.
+pub fn shrink(bench: &mut Bench, case: Case, difference: String, time: Duration) -> (Case, String) {
+    let deadline = Instant::now() + time;
+    let mut best = (case, difference);
+    let mut candidates = simpler(&best.0);
+    // The place among the candidates, and how many in a row were no smaller case.
+    let (mut place, mut in_vain) = (0, 0);
+    while in_vain < candidates.len() && Instant::now() < deadline {
+        let candidate = candidates[place % candidates.len()].clone();
+        place += 1;
+        in_vain += 1;
+        if let Some(difference) = bench.run(&candidate, &mut Counters::default()) {
+            best = (candidate, difference);
+            candidates = simpler(&best.0);
+            // The same kind of change is tried again first.
+            place = (place - 1) % candidates.len().max(1);
+            in_vain = 0;
+        }
+    }
+    best
+}
+
+/// Cases a little simpler than this one, the boldest first.
+fn simpler(case: &Case) -> Vec<Case> {
+    match case {
+        Case::Image { image, out_length, session_length } => {
+            let (out, session) = (*out_length, *session_length);
+            let mut found: Vec<Case> = images(image)
+                .into_iter()
+                .map(|image| Case::Image { image, out_length: out, session_length: session })
+                .collect();
+            if (out, session) != (18_994, 5_280) {
+                found.insert(0, Case::Image { image: image.clone(), out_length: 18_994, session_length: 5_280 });
+            }
+            found
+        }
+        Case::Pair { one, other } => {
+            let ones = images(one).into_iter().map(|one| Case::Pair { one, other: other.clone() });
+            let others = images(other).into_iter().map(|other| Case::Pair { one: one.clone(), other });
+            ones.chain(others).collect()
+        }
+        Case::Step(step) => steps(step).into_iter().map(Case::Step).collect(),
+        Case::Trace { image, records, chains } => traces(image, records)
+            .into_iter()
+            .map(|(image, records)| Case::Trace { image, records, chains: *chains })
+            .collect(),
+        Case::History { image, records } => {
+            traces(image, records).into_iter().map(|(image, records)| Case::History { image, records }).collect()
+        }
+        Case::Matrix { reads, writes, objects, out_length } => matrices(reads, writes, *objects, *out_length),
+    }
+}
+
+/// Fewer records, then a simpler image.
+fn traces(image: &[u8], records: &[Vec<u8>]) -> Vec<(Vec<u8>, Vec<Vec<u8>>)> {
+    let mut found = Vec::new();
+    for keep in [records.len() / 2, records.len().saturating_sub(1)] {
+        if keep < records.len() {
+            found.push((image.to_vec(), records[..keep].to_vec()));
+        }
+    }
+    let mut width = records.len() / 2;
+    while width > 0 {
+        for at in (0..records.len()).step_by(width) {
+            let end = (at + width).min(records.len());
+            found.push((image.to_vec(), [&records[..at], &records[end..]].concat()));
+        }
+        width /= 2;
+    }
+    found.extend(images(image).into_iter().map(|image| (image, records.to_vec())));
+    found
+}
+
+/// Simpler images: of an accepted one the simpler specs, of any other simpler bytes.
+fn images(image: &[u8]) -> Vec<Vec<u8>> {
+    if judge::image::check(image) == 0 {
+        let spec = Spec::of_accepted(image);
+        let mut found: Vec<Vec<u8>> = spec.simpler().iter().map(|simpler| simpler.encode(0)).collect();
+        let plain = spec.encode(0);
+        if plain.len() < image.len() {
+            found.insert(0, plain);
+        }
+        return found;
+    }
+    let mut found = Vec::new();
+    for keep in [image.len() / 2, image.len().saturating_sub(8), image.len().saturating_sub(1)] {
+        if keep < image.len() {
+            found.push(image[..keep].to_vec());
+        }
+    }
+    // One record less in one section, the bytes behind it moved up.
+    if image.len() >= 18 {
+        for (place, size) in [6usize, 2, 4, 8].into_iter().enumerate() {
+            let at = |field: usize| usize::from(u16::from_le_bytes([image[field], image[field + 1]]));
+            let (offset, length) = (at(2 + 4 * place), at(4 + 4 * place));
+            if length >= size && offset + length <= image.len() {
+                let mut less = image.to_vec();
+                less.drain(offset + length - size..offset + length);
+                less[4 + 4 * place..6 + 4 * place].copy_from_slice(&((length - size) as u16).to_le_bytes());
+                for later in place + 1..4 {
+                    let moved = at(2 + 4 * later).saturating_sub(size) as u16;
+                    less[2 + 4 * later..4 + 4 * later].copy_from_slice(&moved.to_le_bytes());
+                }
+                found.push(less);
+            }
+        }
+    }
+    for at in (0..image.len().min(2_000)).filter(|&at| image[at] != 0) {
+        let mut zeroed = image.to_vec();
+        zeroed[at] = 0;
+        found.push(zeroed);
+    }
+    found
+}
+
+fn steps(step: &StepCase) -> Vec<StepCase> {
+    let mut found = Vec::new();
+    let mut add = |change: &dyn Fn(&mut StepCase)| {
+        let mut simpler = step.clone();
+        change(&mut simpler);
+        if simpler != *step {
+            found.push(simpler);
+        }
+    };
+    add(&|s| s.rows = Rows::default());
+    add(&|s| s.background = 0);
+    add(&|s| s.length = 5_280);
+    for i in 0..step.rows.containers.len() {
+        add(&|s| {
+            s.rows.containers.remove(i);
+        });
+    }
+    for i in 0..step.rows.users.len() {
+        add(&|s| {
+            s.rows.users.remove(i);
+        });
+    }
+    for at in 0..step.record.len() {
+        add(&|s| s.record.truncate(at));
+        add(&|s| s.record[at] = 0);
+    }
+    for (i, (_, row)) in step.rows.containers.iter().enumerate() {
+        for (at, &word) in row.iter().enumerate() {
+            add(&|s| s.rows.containers[i].1[at] = 0);
+            let lowest = word & word.wrapping_neg();
+            if at == 1 {
+                add(&|s| s.rows.containers[i].1[at] = lowest);
+            }
+            add(&|s| s.rows.containers[i].1[at] &= !lowest);
+        }
+        // The unrestricted rule in place of another, then one mixture less.
+        for at in [2, 11] {
+            let plain = [1, u64::MAX, 0, 0, 0, 0, 0, 0, 0];
+            if row[at] > 1 {
+                add(&|s| s.rows.containers[i].1[at..at + 9].copy_from_slice(&plain));
+            }
+            let last = at + row[at].min(8) as usize;
+            if last > at {
+                add(&|s| {
+                    s.rows.containers[i].1[last] = 0;
+                    s.rows.containers[i].1[at] -= 1;
+                });
+            }
+        }
+    }
+    for (i, (_, row)) in step.rows.users.iter().enumerate() {
+        for (at, &word) in row.iter().enumerate() {
+            let lowest = word & word.wrapping_neg();
+            add(&|s| s.rows.users[i].1[at] &= !lowest);
+        }
+    }
+    found
+}
+
+fn matrices(reads: &[u32], writes: &[u32], objects: u32, out_length: usize) -> Vec<Case> {
+    let mut found = Vec::new();
+    let mut add = |reads: Vec<u32>, writes: Vec<u32>, objects: u32, out_length: usize| {
+        found.push(Case::Matrix { reads, writes, objects, out_length });
+    };
+    if out_length != 18_994 {
+        add(reads.to_vec(), writes.to_vec(), objects, 18_994);
+    }
+    for at in 0..reads.len().min(writes.len()) {
+        let (mut r, mut w) = (reads.to_vec(), writes.to_vec());
+        r.remove(at);
+        w.remove(at);
+        add(r, w, objects, out_length);
+    }
+    if (2..=32).contains(&objects) {
+        let mask = ((1u64 << (objects - 1)) - 1) as u32;
+        let cut = |rows: &[u32]| rows.iter().map(|row| row & mask).collect::<Vec<u32>>();
+        add(cut(reads), cut(writes), objects - 1, out_length);
+    }
+    for at in 0..reads.len() {
+        for bit in (0..32).filter(|bit| reads[at] >> bit & 1 == 1) {
+            let mut r = reads.to_vec();
+            r[at] &= !(1 << bit);
+            add(r, writes.to_vec(), objects, out_length);
+        }
+    }
+    for at in 0..writes.len() {
+        for bit in (0..32).filter(|bit| writes[at] >> bit & 1 == 1) {
+            let mut w = writes.to_vec();
+            w[at] &= !(1 << bit);
+            add(reads.to_vec(), w, objects, out_length);
+        }
+    }
+    found
+}

@@ -1,0 +1,218 @@
+//! "Chains": a judge of alerts that works from the history alone. It lists every chain, holds no tags and keeps no
+//! session. The number of chains can double with each step, so it is for short traces.
+
+use crate::image::{Kind, Policy};
+use crate::rules::{covers, Rule};
+use crate::session::Record;
+
+/// What travels along a chain. "Information means data atoms and twins." "A file's run rule starts in that file and
+/// travels along every carrier."
+#[derive(Clone, Copy, Debug, PartialEq, Eq)]
+pub enum Carried {
+    Data(u8),
+    Running(u8),
+    /// The run rule of this file of the image.
+    RunRule(usize),
+}
+
+/// A chain: where it begins, its rising list of steps, what it brings and where it stands.
+#[derive(Clone, Debug, PartialEq, Eq)]
+pub struct Chain {
+    /// "A chain begins at the session's start in a file of the image."
+    pub file: usize,
+    /// "It is a rising list of accepted steps, possibly none". Positions in the history, from 0.
+    pub steps: Vec<usize>,
+    pub carried: Carried,
+    /// "It is a chain into the container where its last step put down, or, with no step, into that file."
+    pub into: usize,
+    /// The first step that ends what this container held after the chain put down there, if any.
+    pub ended_by: Option<usize>,
+}
+
+/// "Codes 1 and 4 carry from o to p, codes 2, 3 and 5 from p to o." Codes 6 and 7 carry nothing.
+fn carries(step: Record) -> Option<(usize, usize)> {
+    match step.code {
+        1 | 4 => Some((step.o, step.p)),
+        2 | 3 | 5 => Some((step.p, step.o)),
+        _ => None,
+    }
+}
+
+/// "A write ends what o held before, an exec what p held".
+fn ends(step: Record) -> Option<usize> {
+    match step.code {
+        2 => Some(step.o),
+        4 => Some(step.p),
+        _ => None,
+    }
+}
+
+/// What a carrier makes of what it takes up: "exec turns it into its twin; twins pass by 2, 3 and 5 only".
+fn passes(code: u8, carried: Carried) -> Option<Carried> {
+    match carried {
+        Carried::RunRule(_) => Some(carried),
+        Carried::Data(atom) if code == 4 => Some(Carried::Running(atom)),
+        Carried::Data(_) => Some(carried),
+        Carried::Running(_) => [2, 3, 5].contains(&code).then_some(carried),
+    }
+}
+
+/// All chains of a history.
+pub fn list(policy: &Policy, history: &[Record]) -> Vec<Chain> {
+    let mut found = Vec::new();
+    for (file, container) in policy.containers.iter().enumerate() {
+        if container.kind != Kind::File {
+            continue;
+        }
+        // "A data atom starts in each file naming it". "A file's run rule starts in that file".
+        let starts = container.atom.map(Carried::Data).into_iter().chain([Carried::RunRule(file)]);
+        for carried in starts {
+            extend(history, file, &mut Vec::new(), carried, file, &mut found);
+        }
+    }
+    found
+}
+
+/// Notes the chain that stands at `into` after `steps`, then every chain that goes on from there.
+fn extend(
+    history: &[Record],
+    file: usize,
+    steps: &mut Vec<usize>,
+    carried: Carried,
+    into: usize,
+    found: &mut Vec<Chain>,
+) {
+    let from = steps.last().map_or(0, |&last| last + 1);
+    // "a chain that stood there is no longer one into it and goes no further"
+    let ended_by = (from..history.len()).find(|&at| ends(history[at]) == Some(into));
+    found.push(Chain { file, steps: steps.clone(), carried, into, ended_by });
+    // "the first takes up in that file, each other where the one before it put down"
+    for at in from..ended_by.unwrap_or(history.len()) {
+        let Some((source, target)) = carries(history[at]) else { continue };
+        if source != into {
+            continue;
+        }
+        if let Some(passed) = passes(history[at].code, carried) {
+            steps.push(at);
+            extend(history, file, steps, passed, target, found);
+            steps.pop();
+        }
+    }
+}
+
+/// The chains into a container after the first `after` steps.
+fn into(chains: &[Chain], container: usize, after: usize) -> impl Iterator<Item = &Chain> {
+    chains.iter().filter(move |chain| {
+        chain.into == container
+            && chain.steps.last().is_none_or(|&last| last < after)
+            && chain.ended_by.is_none_or(|end| end >= after)
+    })
+}
+
+/// The information in a container after the first `after` steps, as a set of atoms.
+pub fn information(chains: &[Chain], container: usize, after: usize) -> u64 {
+    into(chains, container, after).fold(0, |atoms, chain| match chain.carried {
+        Carried::Data(atom) => atoms | 1 << atom,
+        Carried::Running(atom) => atoms | 1 << (atom + 32),
+        Carried::RunRule(_) => atoms,
+    })
+}
+
+/// "The rules governing a container", after the first `after` steps. Rules as the image writes them.
+pub fn governing(policy: &Policy, history: &[Record], chains: &[Chain], container: usize, after: usize) -> Vec<Rule> {
+    for at in (0..after).rev() {
+        let step = history[at];
+        match step.code {
+            // "for a process, those of its last exec: u's, and each run rule with a chain into o just before that
+            // step"
+            4 if step.p == container => {
+                let user = step.u.expect("an accepted exec names a user");
+                let mut rules = vec![policy.rule(policy.users[user])];
+                for chain in into(chains, step.o, at) {
+                    if let Carried::RunRule(file) = chain.carried {
+                        rules.push(policy.rule(policy.containers[file].run));
+                    }
+                }
+                return rules;
+            }
+            // "a forked process has its parent's as at the fork until it makes its own; none if there was none"
+            5 if step.o == container => return governing(policy, history, chains, step.p, at),
+            // "for a new file its creating user's"
+            6 if step.o == container => {
+                let user = step.u.expect("an accepted new file names a user");
+                return vec![policy.rule(policy.users[user])];
+            }
+            // "for a new volatile none"
+            7 if step.o == container => return vec![],
+            _ => {}
+        }
+    }
+    // "for a file or volatile of the image its own permit rule"; a process without an exec has none
+    match policy.containers.get(container) {
+        Some(own) if own.kind != Kind::Process => vec![policy.rule(own.permit)],
+        _ => vec![],
+    }
+}
+
+/// What the judge of chains says of one accepted step.
+#[derive(Clone, Copy, Debug, PartialEq, Eq)]
+pub struct Judged {
+    pub alert: bool,
+    pub receiver: usize,
+    pub information: u64,
+}
+
+/// Judges every step of a history: an alert exactly when one of the rules that govern the receiver does not cover the
+/// information that has come there; "6 and 7 answer quiet".
+pub fn judge(policy: &Policy, history: &[Record]) -> Vec<Judged> {
+    let chains = list(policy, history);
+    history
+        .iter()
+        .enumerate()
+        .map(|(at, step)| {
+            let receiver = if step.code == 1 || step.code == 4 { step.p } else { step.o };
+            let information = information(&chains, receiver, at + 1);
+            let rules = governing(policy, history, &chains, receiver, at + 1);
+            let alert = step.code <= 5 && rules.iter().any(|rule| !covers(rule, information));
+            Judged { alert, receiver, information }
+        })
+        .collect()
+}
+
+#[cfg(test)]
+mod tests {
+    use super::*;
+    use crate::image::{Container, UNRESTRICTED};
+
+    fn file(atom: u8) -> Container {
+        Container { kind: Kind::File, atom: Some(atom), permit: UNRESTRICTED, run: UNRESTRICTED }
+    }
+
+    fn process() -> Container {
+        Container { kind: Kind::Process, atom: None, permit: UNRESTRICTED, run: UNRESTRICTED }
+    }
+
+    fn step(code: u8, p: usize, o: usize) -> Record {
+        Record { code, p, o, u: None }
+    }
+
+    /// "A write ends what o held before": file 1's own atom is gone after the write.
+    #[test]
+    fn a_write_ends_the_old_chain() {
+        let policy = Policy { containers: vec![file(0), file(1), process()], users: vec![], rules: vec![] };
+        let history = [step(1, 2, 0), step(2, 2, 1)];
+        let chains = list(&policy, &history);
+        assert_eq!(information(&chains, 1, 1), 0b10);
+        assert_eq!(information(&chains, 1, 2), 0b01);
+    }
+
+    /// The order of steps counts: what p reads after its write does not reach the file.
+    #[test]
+    fn chains_rise() {
+        let policy = Policy { containers: vec![file(0), file(1), process()], users: vec![], rules: vec![] };
+        let history = [step(3, 2, 1), step(1, 2, 0)];
+        let chains = list(&policy, &history);
+        assert_eq!(information(&chains, 1, 2), 0b10);
+        assert_eq!(information(&chains, 2, 2), 0b01);
+    }
+}

@@ -1,0 +1,182 @@
+//! "Policy image".
+
+use crate::rules::{unrestricted, Rule};
+
+/// The three kinds of container, "1 file, 2 volatile, 3 process".
+#[derive(Clone, Copy, Debug, PartialEq, Eq)]
+pub enum Kind {
+    File,
+    Volatile,
+    Process,
+}
+
+impl Kind {
+    /// The kind as the number that image and session store.
+    pub fn number(self) -> u8 {
+        match self {
+            Kind::File => 1,
+            Kind::Volatile => 2,
+            Kind::Process => 3,
+        }
+    }
+
+    /// The kind that a number names.
+    pub fn of(number: u64) -> Option<Kind> {
+        match number {
+            1 => Some(Kind::File),
+            2 => Some(Kind::Volatile),
+            3 => Some(Kind::Process),
+            _ => None,
+        }
+    }
+}
+
+/// "Rule number 65535 is the unrestricted rule."
+pub const UNRESTRICTED: u16 = 65535;
+
+/// "atom (8 bits: 0 to 31, 255 none)".
+pub const NO_ATOM: u8 = 255;
+
+/// One container record, as written.
+#[derive(Clone, Copy, Debug, PartialEq, Eq)]
+pub struct Container {
+    pub kind: Kind,
+    pub atom: Option<u8>,
+    pub permit: u16,
+    pub run: u16,
+}
+
+/// An accepted image, as written: the rules are not yet in normal form.
+#[derive(Clone, Debug, PartialEq, Eq)]
+pub struct Policy {
+    pub containers: Vec<Container>,
+    pub users: Vec<u16>,
+    pub rules: Vec<Rule>,
+}
+
+impl Policy {
+    /// The mixtures of a rule number, as the image writes them.
+    pub fn rule(&self, number: u16) -> Rule {
+        if number == UNRESTRICTED {
+            unrestricted()
+        } else {
+            self.rules[usize::from(number)].clone()
+        }
+    }
+}
+
+/// "Stored numbers are little-endian."
+fn u16_at(bytes: &[u8], at: usize) -> u16 {
+    u16::from_le_bytes([bytes[at], bytes[at + 1]])
+}
+
+fn u64_at(bytes: &[u8], at: usize) -> u64 {
+    let mut eight = [0; 8];
+    eight.copy_from_slice(&bytes[at..at + 8]);
+    u64::from_le_bytes(eight)
+}
+
+/// The four sections of an image that passes "2 the leading 4 or the pairs".
+fn sections(image: &[u8]) -> Result<[&[u8]; 4], u32> {
+    // "1 image under 18 or over 20,480 bytes"
+    if image.len() < 18 || image.len() > 20_480 {
+        return Err(1);
+    }
+    // "First a 16-bit 4, then four pairs of 16-bit offset and length, sorted by offset, so 18 bytes."
+    if u16_at(image, 0) != 4 {
+        return Err(2);
+    }
+    // "Each section starts at or after the previous end (the first at 18 or later) and ends within the image."
+    let mut previous_end = 18;
+    let mut found: [&[u8]; 4] = [&[]; 4];
+    for (place, section) in found.iter_mut().enumerate() {
+        let offset = usize::from(u16_at(image, 2 + 4 * place));
+        let length = usize::from(u16_at(image, 4 + 4 * place));
+        if offset < previous_end || offset + length > image.len() {
+            return Err(2);
+        }
+        *section = &image[offset..offset + length];
+        previous_end = offset + length;
+    }
+    Ok(found)
+}
+
+/// "3 section length no multiple, or too many records".
+fn records(section: &[u8], size: usize, most: usize) -> Result<Vec<&[u8]>, u32> {
+    if !section.len().is_multiple_of(size) || section.len() / size > most {
+        return Err(3);
+    }
+    Ok(section.chunks_exact(size).collect())
+}
+
+/// A rule number that a container or a user may name.
+fn names_a_rule(number: u16, rules: usize) -> bool {
+    number == UNRESTRICTED || usize::from(number) < rules
+}
+
+/// One container record, "5 container record".
+fn container(record: &[u8], rules: usize) -> Result<Container, u32> {
+    let (kind, atom) = (record[0], record[1]);
+    let (permit, run) = (u16_at(record, 2), u16_at(record, 4));
+    match Kind::of(u64::from(kind)) {
+        None => Err(5),
+        // "atom (8 bits: 0 to 31, 255 none)"
+        Some(Kind::File) => {
+            if (atom > 31 && atom != NO_ATOM) || !names_a_rule(permit, rules) || !names_a_rule(run, rules) {
+                return Err(5);
+            }
+            let atom = if atom == NO_ATOM { None } else { Some(atom) };
+            Ok(Container { kind: Kind::File, atom, permit, run })
+        }
+        // "Kinds 2 and 3 have atom 255 and both rules 65535."
+        Some(kind) => {
+            if atom != NO_ATOM || permit != UNRESTRICTED || run != UNRESTRICTED {
+                return Err(5);
+            }
+            Ok(Container { kind, atom: None, permit, run })
+        }
+    }
+}
+
+/// Reads an image, or gives the number of its refusal, "In this order" 1 to 6.
+pub fn read(image: &[u8]) -> Result<Policy, u32> {
+    let [containers, users, rules, mixtures] = sections(image)?;
+
+    // "Containers, at most 256, 6 bytes", "Users, at most 16: one 16-bit rule number", "Rules, at most 256: 16-bit
+    // first mixture and 16-bit count", "Mixtures, at most 2,048, 64 bits each"
+    let containers = records(containers, 6, 256)?;
+    let users = records(users, 2, 16)?;
+    let rules = records(rules, 4, 256)?;
+    let mixtures: Vec<u64> = records(mixtures, 8, 2048)?.iter().map(|r| u64_at(r, 0)).collect();
+
+    // "at most 8; firsts never fall, ranges may overlap, first plus count is at most the number of mixtures"
+    let mut written: Vec<Rule> = Vec::new();
+    let mut previous_first = 0;
+    for record in &rules {
+        let first = usize::from(u16_at(record, 0));
+        let count = usize::from(u16_at(record, 2));
+        if count > 8 || first < previous_first || first + count > mixtures.len() {
+            return Err(4);
+        }
+        written.push(mixtures[first..first + count].to_vec());
+        previous_first = first;
+    }
+
+    let containers: Vec<Container> =
+        containers.iter().map(|record| container(record, written.len())).collect::<Result<_, _>>()?;
+
+    // "6 user's rule number"
+    let users: Vec<u16> = users.iter().map(|record| u16_at(record, 0)).collect();
+    if users.iter().any(|&number| !names_a_rule(number, written.len())) {
+        return Err(6);
+    }
+    Ok(Policy { containers, users, rules: written })
+}
+
+/// The image check: 0 if the image is accepted, else the number of its refusal.
+pub fn check(image: &[u8]) -> u32 {
+    match read(image) {
+        Ok(_) => 0,
+        Err(number) => number,
+    }
+}

@@ -1,0 +1,341 @@
+//! "Session" and "Operations".
+
+use crate::image::{read, Kind};
+use crate::rules::{covers, data_atoms, meet, normal, running_atoms, unrestricted, Rule, MOST_MIXTURES};
+
+/// "The session is a lent slice of exactly 5,280 numbers of 64 bits: 256 rows of 20, then 16 user rows of 10."
+pub const LENGTH: usize = 5_280;
+
+/// The number of an answer that is quiet and of one that is an alert.
+pub const QUIET: u32 = 0;
+pub const ALERT: u32 = 256;
+
+/// What one operation returns: quiet, alert or the number of its refusal; "Each answer gives receiver and tag".
+#[derive(Clone, Copy, Debug, PartialEq, Eq)]
+pub struct Answer {
+    pub number: u32,
+    pub receiver: u64,
+    pub tag: u64,
+}
+
+/// "A refusal returns its number, zeros elsewhere".
+fn refused(number: u32) -> Answer {
+    Answer { number, receiver: 0, tag: 0 }
+}
+
+/// A container row that is not free.
+#[derive(Clone, Debug)]
+struct Row {
+    kind: Kind,
+    tag: u64,
+    permit: Rule,
+    run: Rule,
+}
+
+/// What a well-formed container row says.
+enum Place {
+    Free,
+    Taken(Row),
+}
+
+impl Place {
+    fn row(&self) -> Option<&Row> {
+        match self {
+            Place::Free => None,
+            Place::Taken(row) => Some(row),
+        }
+    }
+}
+
+/// "256 rows of 20".
+fn container_row(session: &[u64], number: usize) -> &[u64] {
+    &session[20 * number..20 * number + 20]
+}
+
+/// "then 16 user rows of 10".
+fn user_row(session: &[u64], number: usize) -> &[u64] {
+    &session[256 * 20 + 10 * number..256 * 20 + 10 * number + 10]
+}
+
+/// A rule in nine words: "permit count, 8 mixtures". "Unused words are 0, rules in normal form".
+fn read_rule(words: &[u64]) -> Option<Rule> {
+    let (count, places) = (words[0], &words[1..9]);
+    if count > 8 {
+        return None;
+    }
+    let (mixtures, unused) = places.split_at(count as usize);
+    let well = unused.iter().all(|&word| word == 0) && normal(mixtures) == mixtures;
+    well.then(|| mixtures.to_vec())
+}
+
+/// "A container row: kind (0 free, else as in the image), information tag, permit count, 8 mixtures, run count,
+/// 8 mixtures." "a free or undeclared row is all 0". Nothing for a row that is not as "Session" says.
+fn read_container(words: &[u64]) -> Option<Place> {
+    if words[0] == 0 {
+        return words.iter().all(|&word| word == 0).then_some(Place::Free);
+    }
+    let kind = Kind::of(words[0])?;
+    let permit = read_rule(&words[2..11])?;
+    let run = read_rule(&words[11..20])?;
+    Some(Place::Taken(Row { kind, tag: words[1], permit, run }))
+}
+
+/// "A user row: 1 if declared, count, 8 mixtures." Nothing for a row that is not as "Session" says, an empty
+/// inner option for a user that is not declared.
+fn read_user(words: &[u64]) -> Option<Option<Rule>> {
+    match words[0] {
+        0 => words.iter().all(|&word| word == 0).then_some(None),
+        1 => read_rule(&words[1..10]).map(Some),
+        _ => None,
+    }
+}
+
+/// A rule as nine words.
+fn rule_words(rule: &[u64]) -> [u64; 9] {
+    let mut words = [0; 9];
+    words[0] = rule.len() as u64;
+    words[1..1 + rule.len()].copy_from_slice(rule);
+    words
+}
+
+fn write_container(session: &mut [u64], number: usize, row: &Row) {
+    let words = &mut session[20 * number..20 * number + 20];
+    words[0] = u64::from(row.kind.number());
+    words[1] = row.tag;
+    words[2..11].copy_from_slice(&rule_words(&row.permit));
+    words[11..20].copy_from_slice(&rule_words(&row.run));
+}
+
+fn write_user(session: &mut [u64], number: usize, rule: &[u64]) {
+    let words = &mut session[5_120 + 10 * number..5_120 + 10 * number + 10];
+    words[0] = 1;
+    words[1..10].copy_from_slice(&rule_words(rule));
+}
+
+/// The session start: 0 if the image is accepted, else the number of the refusal, 9 before 1 to 6.
+pub fn start(image: &[u8], session: &mut [u64]) -> u32 {
+    // "9 session of wrong length"
+    if session.len() != LENGTH {
+        return 9;
+    }
+    let policy = match read(image) {
+        Ok(policy) => policy,
+        Err(number) => return number,
+    };
+    session.fill(0);
+    for (number, container) in policy.containers.iter().enumerate() {
+        // "At start a file holds its atom; the other containers hold nothing."
+        let row = Row {
+            kind: container.kind,
+            tag: container.atom.map_or(0, |atom| 1 << atom),
+            permit: normal(&policy.rule(container.permit)),
+            run: normal(&policy.rule(container.run)),
+        };
+        write_container(session, number, &row);
+    }
+    for (number, &user) in policy.users.iter().enumerate() {
+        write_user(session, number, &normal(&policy.rule(user)));
+    }
+    0
+}
+
+/// A record that passes refusal 7.
+#[derive(Clone, Copy, Debug, PartialEq, Eq)]
+pub struct Record {
+    pub code: u8,
+    pub p: usize,
+    pub o: usize,
+    pub u: Option<usize>,
+}
+
+/// "A record has 8 bytes: code and a zero (8 bits each), process p, object o, user u (16 bits each); u is 65535
+/// except for codes 4 and 6." "7 operation record (not 8 bytes, code, zero byte, u set wrongly, container over 255,
+/// user over 15)".
+pub fn read_record(bytes: &[u8]) -> Option<Record> {
+    let &[code, zero, p0, p1, o0, o1, u0, u1] = bytes else {
+        return None;
+    };
+    let (p, o, u) = (u16::from_le_bytes([p0, p1]), u16::from_le_bytes([o0, o1]), u16::from_le_bytes([u0, u1]));
+    if !(1..=7).contains(&code) || zero != 0 || p > 255 || o > 255 {
+        return None;
+    }
+    let u = match code {
+        4 | 6 if u <= 15 => Some(usize::from(u)),
+        4 | 6 => return None,
+        _ if u == 65535 => None,
+        _ => return None,
+    };
+    Some(Record { code, p: usize::from(p), o: usize::from(o), u })
+}
+
+/// What an accepted operation changes: one row, the receiver's.
+struct Effect {
+    receiver: usize,
+    row: Row,
+}
+
+/// "15 a meet has over 8 mixtures".
+fn bounded(rule: Rule) -> Result<Rule, u32> {
+    if rule.len() > MOST_MIXTURES {
+        Err(15)
+    } else {
+        Ok(rule)
+    }
+}
+
+/// The column "effect" of the table, for rows that are as "Session" says, after refusals 11 to 14.
+fn effect(record: Record, p: &Row, o: Option<&Row>, user: Option<&Rule>) -> Result<Effect, u32> {
+    let taken = || o.expect("codes 1 to 4 were refused with 12").clone();
+    let user = || user.expect("codes 4 and 6 were refused with 14").clone();
+    // "The receiver is p for 1 and 4, else o."
+    let receiver = if record.code == 1 || record.code == 4 { record.p } else { record.o };
+    let row = match record.code {
+        // "p's tag gains o's data atoms; p's run rule becomes its meet with o's"
+        1 => {
+            let o = taken();
+            Row { tag: p.tag | data_atoms(o.tag), run: bounded(meet(&p.run, &o.run))?, ..p.clone() }
+        }
+        // "o's tag and run rule become p's"
+        2 => Row { tag: p.tag, run: p.run.clone(), ..taken() },
+        // "o's tag gains all of p's; o's run rule becomes its meet with p's"
+        3 => {
+            let o = taken();
+            Row { tag: o.tag | p.tag, run: bounded(meet(&o.run, &p.run))?, ..o }
+        }
+        // "p's tag becomes the twins of o's data atoms, nothing else; p's run rule becomes o's; p's permit rule
+        // becomes the meet of o's run rule and u's"
+        4 => {
+            let o = taken();
+            Row { kind: p.kind, tag: running_atoms(o.tag), permit: bounded(meet(&o.run, &user()))?, run: o.run }
+        }
+        // "o becomes a copy of p"
+        5 => p.clone(),
+        // "empty tag, permit u's rule, run unrestricted"
+        6 => Row { kind: Kind::File, tag: 0, permit: user(), run: unrestricted() },
+        // "empty tag, both unrestricted"
+        _ => Row { kind: Kind::Volatile, tag: 0, permit: unrestricted(), run: unrestricted() },
+    };
+    Ok(Effect { receiver, row })
+}
+
+/// Reads the named rows and goes through "Refused because of the session" in order.
+fn judged(session: &[u64], record: Record) -> Result<Effect, u32> {
+    // "10 a named row (p, o, and u for 4 and 6) is not as "Session" says"
+    let p = read_container(container_row(session, record.p)).ok_or(10u32)?;
+    let o = read_container(container_row(session, record.o)).ok_or(10u32)?;
+    let user = match record.u {
+        None => None,
+        Some(u) => read_user(user_row(session, u)).ok_or(10u32)?,
+    };
+    // "11 p is no process"
+    let p = p.row().filter(|row| row.kind == Kind::Process).ok_or(11u32)?;
+    // "12 o of the wrong kind (codes 1 to 4)"; the column "o" of the table
+    let kind = o.row().map(|row| row.kind);
+    let right = match record.code {
+        1..=3 => kind == Some(Kind::File) || kind == Some(Kind::Volatile),
+        4 => kind == Some(Kind::File),
+        _ => true,
+    };
+    if !right {
+        return Err(12);
+    }
+    // "13 o not free (5 to 7)"
+    if record.code >= 5 && kind.is_some() {
+        return Err(13);
+    }
+    // "14 u not declared"
+    if record.u.is_some() && user.is_none() {
+        return Err(14);
+    }
+    effect(record, p, o.row(), user.as_ref())
+}
+
+/// One operation on the session, "9" first, then "7", then the refusals because of the session.
+pub fn step(session: &mut [u64], record: &[u8]) -> Answer {
+    // "9 session of wrong length"
+    if session.len() != LENGTH {
+        return refused(9);
+    }
+    let Some(record) = read_record(record) else {
+        return refused(7);
+    };
+    match judged(session, record) {
+        Err(number) => refused(number),
+        Ok(Effect { receiver, row }) => {
+            write_container(session, receiver, &row);
+            // "Codes 1 to 5 answer alert if the receiver's permit rule does not cover its tag afterwards, else quiet;
+            // 6 and 7 answer quiet." "An alert does not undo the access."
+            let alert = record.code <= 5 && !covers(&row.permit, row.tag);
+            let number = if alert { ALERT } else { QUIET };
+            Answer { number, receiver: receiver as u64, tag: row.tag }
+        }
+    }
+}
+
+#[cfg(test)]
+mod tests {
+    use super::*;
+
+    fn session_with(rows: &[(usize, Row)], users: &[(usize, Rule)]) -> Vec<u64> {
+        let mut session = vec![0; LENGTH];
+        for (number, row) in rows {
+            write_container(&mut session, *number, row);
+        }
+        for (number, rule) in users {
+            write_user(&mut session, *number, rule);
+        }
+        session
+    }
+
+    fn row(kind: Kind, tag: u64) -> Row {
+        Row { kind, tag, permit: unrestricted(), run: unrestricted() }
+    }
+
+    fn record(code: u8, p: u16, o: u16, u: u16) -> Vec<u8> {
+        let mut bytes = vec![code, 0];
+        for number in [p, o, u] {
+            bytes.extend(number.to_le_bytes());
+        }
+        bytes
+    }
+
+    /// "Exec of a file holding 1 and 34: p holds 33."
+    #[test]
+    fn exec_takes_the_running_atoms() {
+        let rows = [(0, row(Kind::Process, 7)), (1, row(Kind::File, 1 << 1 | 1 << 34))];
+        let mut session = session_with(&rows, &[(3, unrestricted())]);
+        let answer = step(&mut session, &record(4, 0, 1, 3));
+        assert_eq!(answer, Answer { number: QUIET, receiver: 0, tag: 1 << 33 });
+    }
+
+    /// "Reading a file holding only 33 adds nothing."
+    #[test]
+    fn read_takes_no_running_atom() {
+        let mut session = session_with(&[(0, row(Kind::Process, 5)), (1, row(Kind::File, 1 << 33))], &[]);
+        assert_eq!(step(&mut session, &record(1, 0, 1, 65535)), Answer { number: QUIET, receiver: 0, tag: 5 });
+    }
+
+    /// "Fork onto p itself: 13."
+    #[test]
+    fn fork_onto_itself() {
+        let mut session = session_with(&[(0, row(Kind::Process, 5))], &[]);
+        assert_eq!(step(&mut session, &record(5, 0, 0, 65535)).number, 13);
+    }
+
+    /// "Meet of 62, 61, 59 with 55, 47, 31 has nine: 15."
+    #[test]
+    fn meet_over_eight_is_refused() {
+        let process = Row { run: vec![59, 61, 62], ..row(Kind::Process, 0) };
+        let file = Row { run: vec![31, 47, 55], ..row(Kind::File, 1) };
+        let mut session = session_with(&[(0, process), (1, file)], &[]);
+        let before = session.clone();
+        assert_eq!(step(&mut session, &record(1, 0, 1, 65535)).number, 15);
+        assert_eq!(session, before);
+    }
+
+    /// "Code 9 with a short session: 9."
+    #[test]
+    fn session_comes_before_record() {
+        assert_eq!(step(&mut [0; 100], &record(9, 0, 0, 65535)).number, 9);
+    }
+}

@@ -1,0 +1,283 @@
+//! The judge behind the C interface of the library, under the same names. Linked in place of the library it tests the
+//! tests: the whole judge must pass them, and with a planted fault (the variable `YASLAUREL_FAULT` names its number)
+//! they must fail.
+
+use std::env;
+use std::slice::{from_raw_parts, from_raw_parts_mut};
+use std::sync::OnceLock;
+
+use judge::rules::{holds, meet};
+use judge::{image, matrix, normal, session};
+
+/// The planted faults, each a mistake that a reviewer would try.
+pub const FAULTS: [&str; 20] = [
+    "1 a monitor that is always quiet",
+    "2 a running atom passes by read",
+    "3 covering is tested atom by atom",
+    "4 an overwritten file keeps its old tag",
+    "5 a read narrows p's permit rule",
+    "6 a meet of exactly 8 is refused with 15",
+    "7 the normaliser copies",
+    "8 the count of flows is one too high",
+    "9 a user's rule number is judged before the containers",
+    "10 a refused start clears the session",
+    "11 a refused step clears receiver and tag",
+    "12 the normaliser writes one byte behind its image",
+    "13 unused words of a row are not looked at",
+    "14 exec keeps p's old tag",
+    "15 a derived permit rule lacks its own object",
+    "16 the start leaves the last user row as it was",
+    "17 the pair has the smallest target, then the smallest source",
+    "18 a step writes one number behind the session",
+    "19 a session left untouched",
+    "20 a short record is padded with zeros",
+];
+
+/// The number of the planted fault, 0 for none.
+fn planted() -> u32 {
+    static PLANTED: OnceLock<u32> = OnceLock::new();
+    *PLANTED.get_or_init(|| {
+        let planted = env::var("YASLAUREL_FAULT").ok().and_then(|text| text.parse().ok()).unwrap_or(0);
+        assert!(planted as usize <= FAULTS.len(), "there are {} faults", FAULTS.len());
+        planted
+    })
+}
+
+fn fault(number: u32) -> bool {
+    planted() == number
+}
+
+/// # Safety
+/// As `include/yaslaurel.h` says.
+#[no_mangle]
+pub unsafe extern "C" fn yaslaurel_image_check(bytes: *const u8, length: usize) -> u32 {
+    let bytes = from_raw_parts(bytes, length);
+    let number = image::check(bytes);
+    if fault(9) && number == 5 && users_wrong(bytes) {
+        return 6;
+    }
+    number
+}
+
+/// Whether a user's rule number is wrong in an image that is refused with 5.
+fn users_wrong(bytes: &[u8]) -> bool {
+    let at = |place: usize| usize::from(bytes[place]) + 256 * usize::from(bytes[place + 1]);
+    let (offset, length, rules) = (at(6), at(8), at(12) / 4);
+    (offset..offset + length).step_by(2).any(|place| at(place) != 65535 && at(place) >= rules)
+}
+
+/// # Safety
+/// As `include/yaslaurel.h` says.
+#[no_mangle]
+pub unsafe extern "C" fn yaslaurel_image_normalise(
+    bytes: *const u8,
+    length: usize,
+    out: *mut u8,
+    out_length: usize,
+) -> u32 {
+    let bytes = from_raw_parts(bytes, length);
+    let out = from_raw_parts_mut(out, out_length);
+    if fault(7) && out.len() >= bytes.len() && out.len() >= normal::LONGEST && image::check(bytes) == 0 {
+        return normal::put(bytes, out);
+    }
+    let number = normal::normalise(bytes, out);
+    if fault(12) && number >= 18 && (number as usize) < out.len() {
+        out[number as usize] = 0;
+    }
+    number
+}
+
+/// # Safety
+/// As `include/yaslaurel.h` says.
+#[no_mangle]
+pub unsafe extern "C" fn yaslaurel_session_start(
+    bytes: *const u8,
+    length: usize,
+    words: *mut u64,
+    words_length: usize,
+) -> u32 {
+    let words = from_raw_parts_mut(words, words_length);
+    let last_user: Option<Vec<u64>> = words.get(5_270..5_280).map(<[u64]>::to_vec);
+    let number = session::start(from_raw_parts(bytes, length), words);
+    if fault(10) && number != 0 {
+        words.fill(0);
+    }
+    if let (true, 0, Some(last)) = (fault(16), number, last_user) {
+        words[5_270..5_280].copy_from_slice(&last);
+    }
+    number
+}
+
+/// # Safety
+/// As `include/yaslaurel.h` says.
+#[no_mangle]
+pub unsafe extern "C" fn yaslaurel_step(
+    words: *mut u64,
+    words_length: usize,
+    record: *const u8,
+    record_length: usize,
+    receiver: *mut u64,
+    tag: *mut u64,
+) -> u32 {
+    let session = from_raw_parts_mut(words, words_length);
+    let record = from_raw_parts(record, record_length);
+    let answer = step(session, record);
+    if fault(18) && answer.number == 0 {
+        *words.add(words_length) = 1;
+    }
+    if answer.number == session::QUIET || answer.number == session::ALERT || fault(11) {
+        *receiver = answer.receiver;
+        *tag = answer.tag;
+    }
+    answer.number
+}
+
+/// A row's rule of nine words, its mixtures.
+fn rule(words: &[u64]) -> &[u64] {
+    &words[1..1 + words[0] as usize]
+}
+
+fn step(session: &mut [u64], bytes: &[u8]) -> session::Answer {
+    if planted() == 0 {
+        return session::step(session, bytes);
+    }
+    let padded: Vec<u8>;
+    let bytes = if fault(20) && bytes.len() < 8 {
+        padded = bytes.iter().copied().chain([0; 8]).take(8).collect();
+        &padded
+    } else {
+        bytes
+    };
+    let before = session.to_vec();
+    let mut answer = session::step(session, bytes);
+    if fault(13) && answer.number == 10 {
+        let mut cleared = before.clone();
+        for row in cleared[..5_120].chunks_mut(20) {
+            let (permit, run) = (row[2].min(8) as usize, row[11].min(8) as usize);
+            row[3 + permit..11].fill(0);
+            row[12 + run..20].fill(0);
+        }
+        let again = session::step(&mut cleared, bytes);
+        if again.number == 0 {
+            session.copy_from_slice(&cleared);
+            return again;
+        }
+    }
+    if answer.number != session::QUIET && answer.number != session::ALERT {
+        return answer;
+    }
+    if fault(19) {
+        session.copy_from_slice(&before);
+    }
+    let code = bytes[0];
+    let (p, o) = (20 * usize::from(bytes[2]), 20 * usize::from(bytes[4]));
+    let at = 20 * answer.receiver as usize;
+    if fault(2) && code == 1 {
+        session[p + 1] |= before[o + 1];
+    }
+    if fault(4) && code == 2 {
+        session[o + 1] |= before[o + 1];
+    }
+    if fault(14) && code == 4 {
+        session[p + 1] |= before[p + 1];
+    }
+    if fault(5) && code == 1 {
+        let narrowed = meet(rule(&before[p + 2..p + 11]), rule(&before[o + 11..o + 20]));
+        if narrowed.len() <= 8 {
+            session[p + 2..p + 11].fill(0);
+            session[p + 2] = narrowed.len() as u64;
+            session[p + 3..p + 3 + narrowed.len()].copy_from_slice(&narrowed);
+        }
+    }
+    if fault(6) && [1, 3].contains(&code) && session[at + 11] == 8 && before[p + 11..p + 20] != before[o + 11..o + 20] {
+        session.copy_from_slice(&before);
+        return session::Answer { number: 15, receiver: 0, tag: 0 };
+    }
+    if fault(19) {
+        return answer;
+    }
+    answer.tag = session[at + 1];
+    let permit = rule(&session[at + 2..at + 11]).to_vec();
+    let covered = if fault(3) {
+        (0..64).filter(|k| answer.tag >> k & 1 == 1).all(|k| permit.iter().any(|&m| holds(m, 1 << k)))
+    } else {
+        judge::rules::covers(&permit, answer.tag)
+    };
+    answer.number = if fault(1) || code > 5 || covered { session::QUIET } else { session::ALERT };
+    answer
+}
+
+/// # Safety
+/// As `include/yaslaurel.h` says.
+#[no_mangle]
+pub unsafe extern "C" fn yaslaurel_matrix_verdict(
+    reads: *const u32,
+    reads_length: usize,
+    writes: *const u32,
+    writes_length: usize,
+    objects: u32,
+    count: *mut u32,
+    source: *mut u32,
+    target: *mut u32,
+) -> u32 {
+    let (reads, writes) = (from_raw_parts(reads, reads_length), from_raw_parts(writes, writes_length));
+    let mut verdict = matrix::verdict(reads, writes, objects);
+    if fault(8) && verdict.number == 1 {
+        verdict.count += 1;
+    }
+    if fault(17) && verdict.number == 1 {
+        (verdict.source, verdict.target) = smallest_target(reads, writes, objects as usize);
+    }
+    if verdict.number <= 1 {
+        *count = verdict.count;
+        *source = verdict.source;
+        *target = verdict.target;
+    }
+    verdict.number
+}
+
+/// The composed flow not granted with the smallest target, then the smallest source.
+fn smallest_target(reads: &[u32], writes: &[u32], objects: usize) -> (u32, u32) {
+    let rows: Vec<(u32, u32)> = reads.iter().copied().zip(writes.iter().copied()).collect();
+    let granted = |a: usize, b: usize| a == b || rows.iter().any(|(r, w)| r >> a & w >> b & 1 == 1);
+    let mut flow: Vec<u64> =
+        (0..objects).map(|a| (0..objects).filter(|&b| granted(a, b)).fold(0, |set, b| set | 1 << b)).collect();
+    for via in 0..objects {
+        for a in 0..objects {
+            if flow[a] >> via & 1 == 1 {
+                flow[a] |= flow[via];
+            }
+        }
+    }
+    for b in 0..objects {
+        for (a, row) in flow.iter().enumerate() {
+            if row >> b & 1 == 1 && !granted(a, b) {
+                return (a as u32, b as u32);
+            }
+        }
+    }
+    (0, 0)
+}
+
+/// # Safety
+/// As `include/yaslaurel.h` says.
+#[no_mangle]
+pub unsafe extern "C" fn yaslaurel_matrix_policy(
+    reads: *const u32,
+    reads_length: usize,
+    writes: *const u32,
+    writes_length: usize,
+    objects: u32,
+    out: *mut u8,
+    out_length: usize,
+) -> u32 {
+    let (reads, writes) = (from_raw_parts(reads, reads_length), from_raw_parts(writes, writes_length));
+    let out = from_raw_parts_mut(out, out_length);
+    let number = matrix::policy(reads, writes, objects, out);
+    if fault(15) && number >= 18 {
+        // Takes object 0 out of the first mixture, which is object 0's own.
+        let first = usize::from(out[14]) + 256 * usize::from(out[15]);
+        out[first] &= 0xfe;
+    }
+    number
+}
