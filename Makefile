@@ -1,7 +1,12 @@
+# make demo    runs the watch program on the demonstration in demo/
 # make test    everything that can fail, as the gate runs it
 # make lib     target/lib: libyaslaurel.a, yaslaurel.h and yaslaurel.pc, for hosts in C and Rust
 # make bench   ratios against Rust, in one run
-.PHONY: test lib bench
+.PHONY: demo test lib bench
+
+demo:
+	rt check watch
+	cd demo && python3 make.py > /dev/null && ../target/bin/watch
 
 test:
 	./.ci/run

@@ -1,0 +1,102 @@
+-- The lines as their parts one behind the other, and their lengths.
+use Prim.Native.Nat.{ℕ, _+_, _≤_}
+use native.Mathlib.Omega.{arith}
+use mathlib.Core.Path.{_≡_}
+use mathlib.Core.Bool.{Bool, true, false, cond}
+use mathlib.Core.List.{List, [], _∷_, _++_, append-assoc}
+use lib.Dec.{eqb}
+use lib.ListN.{length, length-append}
+use borrow.Author.Tests.{ne-eqb}
+use Rattle.listing.specs.declared.Outcome.{Outcome}
+use Rattle.listing.specs.declared.Outcome.the-variants.{Quiet, Alert, Refused}
+use Rattle.listing.specs.Text.{ascii, decimalLimit, decimal}
+use Rattle.listing.specs.Lines.{space, newline, line, spaced, wordOf, verdictOf, valuesOf, heading, stepLine, shortLine, totalLine, policyLine}
+use Rattle.listing.specs.Buffer.{wordLimit, accessLimit, outcomeLimit, lineLimit}
+use Rattle.listing.proofs.TextLaws.{decimal-length, hexadecimal-length}
+
+-- ---- texts
+
+pub other-word : (code : ℕ) → (code ≡ 1 → ⊥) → (code ≡ 2 → ⊥) → (code ≡ 3 → ⊥) → (code ≡ 4 → ⊥) → (code ≡ 5 → ⊥) → (code ≡ 6 → ⊥) → (code ≡ 7 → ⊥)
+    → wordOf code ≡ ascii "other"
+unfolding wordOf
+other-word code a b d e f g h =
+    simp (ne-eqb code 1 a, ne-eqb code 2 b, ne-eqb code 3 d, ne-eqb code 4 e, ne-eqb code 5 f, ne-eqb code 6 g, ne-eqb code 7 h)
+
+pub access-text : (s w p o : List ℕ)
+    → (((s ++ (space ∷ [])) ++ (w ++ (space ∷ []))) ++ (p ++ (space ∷ []))) ++ (o ++ (space ∷ [])) ≡ spaced (s ∷ w ∷ p ∷ o ∷ [])
+unfolding spaced
+access-text s w p o = simp append-assoc
+
+pub verdict-text : (w d h : List ℕ) → (w ++ (d ++ (space ∷ []))) ++ (h ++ (newline ∷ [])) ≡ w ++ line d (h ∷ [])
+unfolding line
+verdict-text w d h = simp append-assoc
+
+pub step-text : (step code p o : ℕ) (x : Outcome)
+    → spaced (decimal step ∷ wordOf code ∷ decimal p ∷ decimal o ∷ []) ++ line (verdictOf x) (valuesOf x) ≡ stepLine step code p o x
+unfolding spaced stepLine line
+step-text step code p o x = simp append-assoc
+
+pub short-text : (step : ℕ) → (decimal step ++ (space ∷ [])) ++ ascii "other 0 0 refused 7\n" ≡ shortLine step
+unfolding shortLine line ascii
+short-text step = simp append-assoc
+
+pub total-text : (records alerts refused : ℕ)
+    → ((ascii "total " ++ (decimal records ++ (space ∷ []))) ++ (ascii "alerts " ++ (decimal alerts ++ (space ∷ [])))) ++ (ascii "refused " ++ (decimal refused ++ (newline ∷ [])))
+    ≡ totalLine records alerts refused
+unfolding totalLine line ascii
+total-text records alerts refused = simp append-assoc
+
+-- ---- lengths
+
+pub number-length : (n e : ℕ) → length (decimal n ++ (e ∷ [])) ≤ decimalLimit + 1
+number-length n e = simp length-append (omega (arith, decimal-length n))
+
+cond-length : (k : ℕ) (b : Bool) (x y : List ℕ) → length x ≤ k → length y ≤ k → length (cond b x y) ≤ k
+cond-length k true x y p q = p
+cond-length k false x y p q = q
+
+wordOf-length : (code : ℕ) → length (wordOf code) ≤ wordLimit
+unfolding wordOf ascii
+wordOf-length code =
+    cond-length wordLimit (eqb code 1) _ _ (omega arith)
+    (cond-length wordLimit (eqb code 2) _ _ (omega arith)
+    (cond-length wordLimit (eqb code 3) _ _ (omega arith)
+    (cond-length wordLimit (eqb code 4) _ _ (omega arith)
+    (cond-length wordLimit (eqb code 5) _ _ (omega arith)
+    (cond-length wordLimit (eqb code 6) _ _ (omega arith)
+    (cond-length wordLimit (eqb code 7) _ _ (omega arith) (omega arith)))))))
+
+pub word-length : (code : ℕ) → length (wordOf code ++ (space ∷ [])) ≤ wordLimit + 1
+word-length code = simp length-append (omega (arith, wordOf-length code))
+
+pub access-length : (step code p o : ℕ) → length (spaced (decimal step ∷ wordOf code ∷ decimal p ∷ decimal o ∷ [])) ≤ accessLimit
+unfolding spaced
+access-length step code p o =
+    simp length-append (omega (arith, decimal-length step, wordOf-length code, decimal-length p, decimal-length o))
+
+outcome-length : (x : Outcome) → length (line (verdictOf x) (valuesOf x)) ≤ outcomeLimit
+unfolding verdictOf valuesOf line ascii
+outcome-length (Quiet receiver tag) = simp length-append (omega (arith, decimal-length receiver, hexadecimal-length tag))
+outcome-length (Alert receiver tag) = simp length-append (omega (arith, decimal-length receiver, hexadecimal-length tag))
+outcome-length (Refused number) = simp length-append (omega (arith, decimal-length number))
+
+pub step-length : (step code p o : ℕ) (x : Outcome) → length (stepLine step code p o x) ≤ lineLimit
+step-length step code p o x =
+    rw (← step-text step code p o x, length-append) (omega (arith, access-length step code p o, outcome-length x))
+
+pub heading-length : length heading ≤ lineLimit
+unfolding heading line ascii
+heading-length = omega arith
+
+pub short-length : (step : ℕ) → length (shortLine step) ≤ lineLimit
+unfolding shortLine line ascii
+short-length step = simp length-append (omega (arith, decimal-length step))
+
+pub total-length : (records alerts refused : ℕ) → length (totalLine records alerts refused) ≤ lineLimit
+unfolding totalLine line ascii
+total-length records alerts refused =
+    simp length-append (omega (arith, decimal-length records, decimal-length alerts, decimal-length refused))
+
+pub policy-length : (number : ℕ) → length (policyLine number) ≤ lineLimit
+unfolding policyLine line ascii
+policy-length number = simp length-append (omega (arith, decimal-length number))

@@ -1,0 +1,71 @@
+-- What is proved of the listing, beside the contracts of src/: the statements, each with the law that proves it.
+-- `decimal`, `hexadecimal` and `spelled` are the definitions of specs/Text.antt, the lines those of specs/Lines.antt,
+-- `placed` and `Appended` those of specs/Buffer.antt.
+use Prim.Native.Nat.{ℕ, _/_, _%_, _^_, _≤_, _<_}
+use native.Mathlib.Omega.{arith}
+use mathlib.Core.Path.{_≡_, refl}
+use mathlib.Core.List.{List, [], _∷_, _++_}
+use lib.ListN.{length, getD}
+use Rattle.listing.specs.declared.Outcome.{Outcome}
+use Rattle.listing.specs.declared.Outcome.the-variants.{Refused}
+use Rattle.listing.specs.Text.{ascii, digit, decimalLimit, decimalIn, decimal, tagDigits, hexadecimal, spelled}
+use Rattle.listing.specs.Lines.{line, wordOf, verdictOf, valuesOf, heading, stepLine, shortLine, totalLine, policyLine}
+use Rattle.listing.specs.Buffer.{lineLimit, Appended}
+use Rattle.listing.proofs.TextLaws as text
+use Rattle.listing.proofs.LineLaws as lines
+use Rattle.listing.proofs.BufferLaws as buffer
+
+-- ---- numbers
+
+-- a number below 10 is one digit; any other is a tenth of it and its last digit
+pub decimal-below : (n : ℕ) → n < 10 → decimal n ≡ digit n ∷ []
+decimal-below = text.decimal-below
+
+pub decimal-above : (n : ℕ) → 10 ≤ n → n < 10 ^ decimalLimit → decimal n ≡ decimal (n / 10) ++ (digit (n % 10) ∷ [])
+decimal-above = text.decimal-above
+
+-- the digits spell the number
+pub decimal-spells : (n : ℕ) → n < 10 ^ decimalLimit → spelled 0 (decimal n) ≡ n
+decimal-spells = text.spelled-decimal
+
+-- no leading zeros
+pub decimal-leads : (n : ℕ) → 0 < n → n < 10 ^ decimalLimit → digit 0 < getD (decimal n) 0 0
+unfolding digit ascii
+decimal-leads = text.first-decimal
+
+-- the numbers of 64 bits are among those
+pub decimal-serves : (n : ℕ) → n < 2 ^ 64 → n < 10 ^ decimalLimit
+decimal-serves n h = omega arith
+
+pub hexadecimal-length : (tag : ℕ) → length (hexadecimal tag) ≡ tagDigits
+hexadecimal-length = text.hexadecimal-length
+
+-- ---- lines
+
+-- a short last record is listed as a step with an unknown code that is refused with 7
+pub short-step : (step : ℕ) → shortLine step ≡ stepLine step 0 0 0 (Refused 7)
+unfolding shortLine stepLine line wordOf verdictOf valuesOf decimal decimalIn digit ascii
+short-step step = refl
+
+-- no line has more bytes than the functions ask room for
+pub step-fits : (step code p o : ℕ) (x : Outcome) → length (stepLine step code p o x) ≤ lineLimit
+step-fits = lines.step-length
+
+pub heading-fits : length heading ≤ lineLimit
+heading-fits = lines.heading-length
+
+pub short-fits : (step : ℕ) → length (shortLine step) ≤ lineLimit
+short-fits = lines.short-length
+
+pub total-fits : (records alerts refused : ℕ) → length (totalLine records alerts refused) ≤ lineLimit
+total-fits = lines.total-length
+
+pub policy-fits : (number : ℕ) → length (policyLine number) ≤ lineLimit
+policy-fits = lines.policy-length
+
+-- ---- buffers
+
+-- two texts written one behind the other are their concatenation, written at once
+pub appended-join : {x y before between after : List ℕ} {at next end : ℕ} → at ≤ length before
+    → Appended x before between at next → Appended y between after next end → Appended (x ++ y) before after at end
+appended-join = buffer.appended-join

@@ -1,0 +1,35 @@
+use mathlib.Core.Path.{sym}
+use Rattle.listing.proofs.TextLaws.{digit-low, digit-high}
+use borrow.Author.Needs.{needs}
+use Rattle.listing.proofs.digit.Statement.{statement}
+use Rattle.listing.proofs.digit.Tie as tie
+use Rattle.listing.proofs.digit.Reads as reads
+use Rattle.listing.proofs.digit.Lts as lts
+
+-- src/lib.rt:98:24
+cast-result : tie.Need-cast-result
+cast-result c = search needs
+
+-- src/lib.rt:98:17
+add-result : tie.Need-add-result
+add-result c = search needs
+
+-- src/lib.rt:98:51
+cast-result-2 : tie.Need-cast-result-2
+cast-result-2 c = search needs
+
+-- src/lib.rt:98:41
+add-result-2 : tie.Need-add-result-2
+add-result-2 c = search needs
+
+-- src/lib.rt:94:1
+returns : tie.Need-returns
+returns c = sym (digit-low (c .before .args .d) (c .if1 .taken))
+
+-- src/lib.rt:94:1
+returns-2 : tie.Need-returns-2
+returns-2 c = sym (digit-high (c .before .args .d) (c .if1 .left) (c .before .pre))
+
+pub digit-spec : {M : Type 1} → statement M
+digit-spec =
+    tie.close (tie.spec cast-result add-result cast-result-2 add-result-2 returns returns-2)

@@ -1,0 +1,43 @@
+use Prim.Native.Nat.{_≤_}
+use native.Mathlib.Omega.{arith}
+use lib.ListN.{length}
+use Rattle.listing.specs.Text.{ascii}
+use Rattle.listing.specs.Lines.{space}
+use Rattle.listing.proofs.BufferLaws.{appended-join, appended-as}
+use Rattle.listing.proofs.LineLaws.{short-text, number-length}
+use borrow.Author.Needs.{needs}
+use Rattle.listing.proofs.put_short.Statement.{statement}
+use Rattle.listing.proofs.put_short.Tie as tie
+use Rattle.listing.proofs.put_short.Reads as reads
+use Rattle.listing.proofs.put_short.Lts as lts
+use Rattle.listing.proofs.put_number.Reads as put-number-reads
+use Rattle.listing.proofs.put_text.Reads as put-text-reads
+
+-- src/lib.rt:216:9
+put-number-requires : tie.Need-put-number-requires
+put-number-requires c κs = search needs
+
+-- src/lib.rt:217:25
+slice-aggregate-put-text : tie.Need-slice-aggregate-put-text
+slice-aggregate-put-text c = search needs
+
+-- src/lib.rt:217:5
+put-text-requires : tie.Need-put-text-requires
+put-text-requires c κs = omega (arith, number-length (c .before .before .before .before .before .before .before .args .step) space)
+
+-- src/lib.rt:212:1
+same-length : tie.Need-same-length
+same-length c = search needs
+
+-- src/lib.rt:212:1
+returns : tie.Need-returns
+unfolding ascii
+returns c =
+    let a = c .before .before .before .before .before .before .before .before .before .before .args in
+    let h : a .at ≤ length (a .out .now) = omega arith in
+    appended-as (short-text (a .step)) (appended-join h (c .before .before .before .before .before .before .before .put-number .ensures) (c .before .before .put-text .ensures))
+
+pub put-short-spec : {M : Type 1} → statement M
+put-short-spec =
+    tie.close
+    (tie.spec put-number-requires slice-aggregate-put-text put-text-requires same-length returns)

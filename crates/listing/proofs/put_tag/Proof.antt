@@ -1,0 +1,40 @@
+use Prim.Native.Nat.{_≤_, _<_}
+use native.Mathlib.Omega.{arith}
+use lib.ListN.{length}
+use Rattle.listing.proofs.TextLaws.{hexadecimal-length}
+use Rattle.listing.proofs.BufferLaws.{appended-join, appended-byte}
+use borrow.Author.Needs.{needs}
+use Rattle.listing.proofs.put_tag.Statement.{statement}
+use Rattle.listing.proofs.put_tag.Tie as tie
+use Rattle.listing.proofs.put_tag.Reads as reads
+use Rattle.listing.proofs.put_tag.Lts as lts
+use Rattle.listing.proofs.put_hexadecimal.Reads as put-hexadecimal-reads
+
+-- src/lib.rt:131:9
+put-hexadecimal-requires : tie.Need-put-hexadecimal-requires
+put-hexadecimal-requires c κs = search needs
+
+-- src/lib.rt:132:5
+slice-write-out : tie.Need-slice-write-out
+slice-write-out c = omega (arith, hexadecimal-length (c .before .before .before .before .before .args .tag))
+
+-- src/lib.rt:133:5
+add-result : tie.Need-add-result
+add-result c = omega (arith, hexadecimal-length (c .before .before .before .before .before .args .tag))
+
+-- src/lib.rt:127:1
+same-length : tie.Need-same-length
+same-length c = search needs
+
+-- src/lib.rt:127:1
+returns : tie.Need-returns
+returns c =
+    let a = c .before .before .before .before .before .args in
+    let p = c .before .before .put-hexadecimal in
+    let h : a .at ≤ length (a .out .now) = omega arith in
+    let l : p .result < length (p .last .0) = omega (arith, hexadecimal-length (a .tag)) in
+    appended-join h (p .ensures) (appended-byte 10 (p .result) (p .last .0) l)
+
+pub put-tag-spec : {M : Type 1} → statement M
+put-tag-spec =
+    tie.close (tie.spec put-hexadecimal-requires slice-write-out add-result same-length returns)

@@ -1,0 +1,30 @@
+-- What it is to write a text into a buffer, and how much room a line needs.
+use Prim.Native.Nat.{ℕ, _+_}
+use mathlib.Core.Path.{_≡_}
+use mathlib.Core.List.{List, _++_}
+use lib.ListN.{length, take, drop}
+
+-- the buffer with the text at its place, every other byte as it was
+unfoldable pub placed : List ℕ → ℕ → List ℕ → List ℕ
+placed text at before = take at before ++ text ++ drop (at + length text) before
+
+-- the text was written at `at`, and `next` is the place behind it
+pub record Appended (text before after : List ℕ) (at next : ℕ) : Type 0 where
+  pub bytes : after ≡ placed text at before
+  pub ends : next ≡ at + length text
+
+-- the most bytes of an operation's word
+abbrev pub wordLimit : ℕ
+wordLimit = 8
+
+-- the most bytes of a step's number, word, p and o, with the space behind each
+abbrev pub accessLimit : ℕ
+accessLimit = 72
+
+-- the most bytes of a verdict with its values and byte 10
+abbrev pub outcomeLimit : ℕ
+outcomeLimit = 44
+
+-- no line has more bytes: the sum of the two
+abbrev pub lineLimit : ℕ
+lineLimit = 116

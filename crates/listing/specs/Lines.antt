@@ -1,0 +1,72 @@
+-- The lines of the listing, as the paper's "Checked examples" words them.
+use Prim.Native.Nat.{ℕ}
+use mathlib.Core.Bool.{cond}
+use mathlib.Core.List.{List, [], _∷_, _++_}
+use lib.Dec.{eqb}
+use Rattle.listing.specs.Text.{ascii, decimal, hexadecimal}
+use Rattle.listing.specs.declared.Outcome.{Outcome}
+use Rattle.listing.specs.declared.Outcome.the-variants.{Quiet, Alert, Refused}
+
+-- the byte between two fields
+abbrev pub space : ℕ
+space = 32
+
+-- "byte 10"
+abbrev pub newline : ℕ
+newline = 10
+
+-- "Fields stand one space apart, and byte 10 ends each line": the line of a field and those behind it
+unfoldable pub line : List ℕ → List (List ℕ) → List ℕ
+line f [] = f ++ (newline ∷ [])
+line f (g ∷ gs) = f ++ (space ∷ line g gs)
+
+-- fields with the space behind each: the part of a line before its last fields
+unfoldable pub spaced : List (List ℕ) → List ℕ
+spaced [] = []
+spaced (f ∷ fs) = f ++ (space ∷ spaced fs)
+
+-- "Words: read, write, append, exec, fork, file, volatile, other (unknown code)"
+unfoldable pub wordOf : ℕ → List ℕ
+wordOf code =
+    cond (eqb code 1) (ascii "read")
+    (cond (eqb code 2) (ascii "write")
+    (cond (eqb code 3) (ascii "append")
+    (cond (eqb code 4) (ascii "exec")
+    (cond (eqb code 5) (ascii "fork")
+    (cond (eqb code 6) (ascii "file")
+    (cond (eqb code 7) (ascii "volatile")
+    (ascii "other")))))))
+
+-- the verdict's word, as in the paper's listing
+unfoldable pub verdictOf : Outcome → List ℕ
+verdictOf (Quiet receiver tag) = ascii "quiet"
+verdictOf (Alert receiver tag) = ascii "alert"
+verdictOf (Refused number) = ascii "refused"
+
+-- "receiver, tag in 16 hexadecimal digits (small letters), or the refusal number": the fields behind the verdict
+unfoldable pub valuesOf : Outcome → List (List ℕ)
+valuesOf (Quiet receiver tag) = decimal receiver ∷ hexadecimal tag ∷ []
+valuesOf (Alert receiver tag) = decimal receiver ∷ hexadecimal tag ∷ []
+valuesOf (Refused number) = decimal number ∷ []
+
+-- "The first line names the fields"
+unfoldable pub heading : List ℕ
+heading = line (ascii "step") (ascii "op" ∷ ascii "p" ∷ ascii "o" ∷ ascii "verdict" ∷ ascii "at" ∷ ascii "tag" ∷ [])
+
+-- "Fields: step, operation, p, o, verdict, receiver, tag .., or the refusal number"
+unfoldable pub stepLine : ℕ → ℕ → ℕ → ℕ → Outcome → List ℕ
+stepLine step code p o outcome =
+    line (decimal step) (wordOf code ∷ decimal p ∷ decimal o ∷ verdictOf outcome ∷ valuesOf outcome)
+
+-- "a short last record counts as a step and is listed, behind its step number, as `other 0 0 refused 7`"
+unfoldable pub shortLine : ℕ → List ℕ
+shortLine step = line (decimal step) (ascii "other 0 0 refused 7" ∷ [])
+
+-- "the last gives the number of records, alerts and refusals"
+unfoldable pub totalLine : ℕ → ℕ → ℕ → List ℕ
+totalLine records alerts refused =
+    line (ascii "total") (decimal records ∷ ascii "alerts" ∷ decimal alerts ∷ ascii "refused" ∷ decimal refused ∷ [])
+
+-- "A refused policy prints only `policy refused` and its number"
+unfoldable pub policyLine : ℕ → List ℕ
+policyLine number = line (ascii "policy refused") (decimal number ∷ [])

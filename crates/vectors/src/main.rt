@@ -1,0 +1,51 @@
+// The checked examples of the paper that are run and not proved; the listing is the watch program's.
+use libc::STDOUT_FILENO;
+use operations::Answer;
+
+// Writes a line: what was tried, and the number that came of it.
+fn line(name: &[u8], number: u64) {
+    io::write_all(STDOUT_FILENO, name);
+    io::write_all(STDOUT_FILENO, b" ");
+    io::print_decimal(STDOUT_FILENO, number);
+    io::write_all(STDOUT_FILENO, b"\n");
+}
+
+// The number of a refusal, and 0 where there is none.
+fn refusal(answer: Answer) -> u64 {
+    match answer {
+        Answer::Refused(number) => number as u64,
+        _ => 0,
+    }
+}
+
+// "Empty policy: 18 bytes."
+fn empty_policy() {
+    let image: [u8; 18] = [4, 0, 18, 0, 0, 0, 18, 0, 0, 0, 18, 0, 0, 0, 18, 0, 0, 0];
+    let mut session = [0u64; 5280];
+    line(b"empty policy, check", image::check(&image) as u64);
+    line(
+        b"empty policy, start",
+        session::start(&image, &mut session) as u64,
+    );
+    line(b"17 bytes of it, check", image::check(&image[0..17]) as u64);
+}
+
+// "Code 9 with a short session: 9."
+fn short_session() {
+    let record: [u8; 8] = [9, 0, 4, 0, 2, 0, 255, 255];
+    let mut short = [0u64; 5279];
+    let mut whole = [0u64; 5280];
+    line(
+        b"code 9, session of 5279",
+        refusal(monitor::step(&mut short, &record)),
+    );
+    line(
+        b"code 9, session of 5280",
+        refusal(monitor::step(&mut whole, &record)),
+    );
+}
+
+fn main() {
+    empty_policy();
+    short_session();
+}

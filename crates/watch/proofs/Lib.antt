@@ -1,0 +1,2 @@
+-- Where a line ends, and the line of a record.
+pub mod StepLaws
