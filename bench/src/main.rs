@@ -2,8 +2,10 @@
 //! measured in one run: below 1 the library is faster.
 //!
 //! - judge: the independent implementation, with `Vec`, sort and filter, `HashMap`
-//! - natural: arrays without allocation, sort and filter
+//! - natural: arrays, sort and filter, a `HashMap` for the numbers of rules
 //! - tuned: arrays, with the library's own ideas (sieve, one mixture at once, equal rules first, keys)
+//!
+//! The library is called by its C functions, as every host calls it.
 //!
 //! `bench PROGRAM` also measures that watch program, `bench watch PROGRAM` measures it alone.
 //! `bench listing` is the watch program in natural Rust (`BufWriter`, `writeln!`), for the comparison of whole programs;
@@ -20,6 +22,7 @@ use std::{env, fs};
 
 use plain::{Natural, Tuned};
 use race::{median, race, Outcome, Variant};
+use yaslaurel::ffi;
 
 const ROUNDS: usize = 31;
 
@@ -41,14 +44,28 @@ fn head(title: &str, first: &str) {
 
 type Step = fn(&mut [u64], &[u8]) -> (u32, u64, u64);
 
+/// One operation by the function that hosts call, as C sees it.
 fn library_step(session: &mut [u64], record: &[u8]) -> (u32, u64, u64) {
-    match yaslaurel::step_in(session, record) {
-        Ok(answer) => {
-            let number = if answer.verdict == yaslaurel::Verdict::Alert { 256 } else { 0 };
-            (number, u64::from(answer.receiver), answer.tag)
-        }
-        Err(refusal) => (refusal.number(), 0, 0),
-    }
+    let (mut receiver, mut tag) = (0, 0);
+    let (words, bytes) = (session.as_mut_ptr(), record.as_ptr());
+    // SAFETY: the slices are valid and aligned for their lengths, and the two numbers are ours.
+    let number = unsafe { ffi::yaslaurel_step(words, session.len(), bytes, record.len(), &mut receiver, &mut tag) };
+    (number, receiver, tag)
+}
+
+fn library_check(image: &[u8]) -> u32 {
+    // SAFETY: the slice is valid for its length.
+    unsafe { ffi::yaslaurel_image_check(image.as_ptr(), image.len()) }
+}
+
+fn library_start(image: &[u8], session: &mut [u64]) -> u32 {
+    // SAFETY: both slices are valid and aligned for their lengths, and Rust keeps them apart.
+    unsafe { ffi::yaslaurel_session_start(image.as_ptr(), image.len(), session.as_mut_ptr(), session.len()) }
+}
+
+fn library_normalise(image: &[u8], out: &mut [u8]) -> u32 {
+    // SAFETY: both slices are valid for their lengths, and Rust keeps them apart.
+    unsafe { ffi::yaslaurel_image_normalise(image.as_ptr(), image.len(), out.as_mut_ptr(), out.len()) }
 }
 
 fn judge_step(session: &mut [u64], record: &[u8]) -> (u32, u64, u64) {
@@ -172,7 +189,7 @@ fn images(list: &[(String, Vec<u8>)]) {
             image,
             2_000_000 / (image.len() + 200),
             vec![
-                ("library", Box::new(|i| yaslaurel::check(i).map_or_else(|r| u64::from(r.number()), |()| 0))),
+                ("library", Box::new(|i| u64::from(library_check(i)))),
                 ("judge", Box::new(|i| u64::from(judge::image::check(i)))),
                 ("natural", Box::new(|i| u64::from(plain::check(i)))),
             ],
@@ -187,13 +204,7 @@ fn images(list: &[(String, Vec<u8>)]) {
             image,
             200_000 / (image.len() + 200),
             vec![
-                (
-                    "library",
-                    Box::new(|i| {
-                        let refused = yaslaurel::start_in(i, a).map_or_else(|r| r.number(), |()| 0);
-                        u64::from(refused) ^ a[3]
-                    }),
-                ),
+                ("library", Box::new(|i| u64::from(library_start(i, a)) ^ a[3])),
                 ("judge", Box::new(|i| u64::from(judge::session::start(i, b)) ^ b[3])),
                 ("natural", Box::new(|i| u64::from(plain::start::<Natural>(i, c)) ^ c[3])),
                 ("tuned", Box::new(|i| u64::from(plain::start::<Tuned>(i, d)) ^ d[3])),
@@ -210,7 +221,7 @@ fn images(list: &[(String, Vec<u8>)]) {
             image,
             200_000 / (image.len() + 200),
             vec![
-                ("library", Box::new(|i| yaslaurel::normalise_into(i, a).map_or(0, |length| length as u64))),
+                ("library", Box::new(|i| u64::from(library_normalise(i, a)))),
                 ("judge", Box::new(|i| u64::from(judge::normal::normalise(i, b)))),
                 ("natural", Box::new(|i| u64::from(plain::normalise::<Natural>(i, c)))),
                 ("tuned", Box::new(|i| u64::from(plain::normalise::<Tuned>(i, d)))),

@@ -2,9 +2,9 @@
 use Prim.Native.Nat.{ℕ, _+_, _-_, _*_, _≤_, _<_}
 use mathlib.Core.Path.{_≡_, refl, sym, ap, ap₂, _∙_}
 use mathlib.Core.Bool.{Bool, true, false, not, cond}
-use mathlib.Core.List.{List}
+use mathlib.Core.List.{List, [], _∷_}
 use native.Mathlib.Omega.{arith}
-use lib.Bits.{bitOr}
+use lib.Bits.{bitAnd, bitOr}
 use lib.ListN.{length, getD, take, drop}
 use borrow.Author.Tests.{le-leb}
 use borrow.Rule.Slice.PartMut.{putMid}
@@ -15,7 +15,7 @@ use Rattle.rules.specs.declared.Bounded.{Bounded}
 use Rattle.rules.proofs.BoundedLaws.{bounded-some, padded-take}
 use Rattle.image.specs.Limits.{containerLimit, fileKind, volatileKind, processKind}
 use Rattle.image.specs.Policy.{unrestrictedRule}
-use Rattle.session.specs.Limits.{sessionLength, rowWidth}
+use Rattle.session.specs.Limits.{sessionLength, rowWidth, runAt}
 use Rattle.session.specs.Rows.{Row, rowOf, rowWords, permitWords, containerRow, userRow, userRuleOf}
 use Rattle.session.proofs.PutLaws.{container-row-length, row-lent, row-returned}
 use Rattle.chains.specs.History.{Step, read, write, append, exec, fork, newFile, newVolatile, receiver}
@@ -25,9 +25,9 @@ use Rattle.operations.specs.declared.Request.{Request}
 use Rattle.operations.specs.Codes.{readCode, writeCode, appendCode, execCode, forkCode, newFileCode, newVolatileCode}
 use Rattle.operations.specs.Requests.{stepIn}
 use Rattle.operations.specs.Effects.{processRow, objectRow, userRule, meetGood, receiverRow, acceptedAnswer, acceptedEffect}
-use Rattle.operations.specs.Parts.{Ready, UsedAt, contentWords, newWords, coverAnswer, lateAnswer, lateEffect}
-use Rattle.operations.proofs.ReadyLaws.{process-kind, ready-process, write-object, append-object, exec-object, file-user}
-use Rattle.operations.proofs.RowSteps.{row-used, row-counts, row-long, content-row, new-row, fits-short, fits-made, rule-short}
+use Rattle.operations.specs.Parts.{Ready, UsedAt, contentWords, newWords, coverAnswer, lateAnswer, lateEffect, sharedRun, absorbed, absorbAnswer, absorbEffect}
+use Rattle.operations.proofs.ReadyLaws.{process-kind, ready-process, write-object, exec-object, file-user}
+use Rattle.operations.proofs.RowSteps.{row-used, row-counts, row-long, content-row, new-row, fits-short, fits-made, rule-short, single-run, meet-singles}
 
 -- the answer a and the session s₁ afterwards are as the request q asks
 abbrev pub Done : List ℕ → Request → Answer → List ℕ → Type 0
@@ -108,24 +108,65 @@ module _ (s : List ℕ) (q : Request) (t : Step) (w : Row) (g : meetGood s q ≡
       (ea ∙ ap (λ (x : List ℕ). coverAnswer (receiver t) x (w .tag)) (bounded-rule (w .permit) m em lm .1) ∙ verdict-covers t w j)
       (e ∙ ap (λ (k : ℕ). newWords k (w .tag) m n) (sym ek))
 
+-- ---- a container that takes in what another has
+
+module _ (s : List ℕ) (c d t : ℕ) (h : UsedAt s c) (m : Bounded) (em : m ≡ boundedOf (sharedRun s c d)) where
+  shared-fits : fits (sharedRun s c d) ≡ m .fits
+  shared-fits = sym (fits-made (sharedRun s c d) m em)
+
+  pub absorb-over : m .fits ≡ false → (refused 15 ≡ absorbAnswer s c d t) × (s ≡ absorbEffect s c d t)
+  unfolding absorbAnswer absorbEffect
+  absorb-over f = (rw (shared-fits ∙ f), rw (shared-fits ∙ f))
+
+  pub absorb-done : m .fits ≡ true → (a : Answer) (ws : List ℕ) → a ≡ coverAnswer c (rowOf (lent s c) .permit) t → ws ≡ contentWords (lent s c) t m
+      → (a ≡ absorbAnswer s c d t) × (returned s c ws ≡ absorbEffect s c d t)
+  unfolding absorbAnswer absorbEffect absorbed
+  absorb-done f a ws ea ew =
+      let g : fits (sharedRun s c d) ≡ true = shared-fits ∙ f in
+      let e : ws ≡ rowWords (absorbed s c d t) = ew ∙ ap (λ (x : List ℕ). contentWords x t m) (row-lent s c) ∙ content-row s c h t (sharedRun s c d) m em (fits-short (sharedRun s c d) g) in
+      (ea ∙ ap (λ (x : List ℕ). coverAnswer c (rowOf x .permit) t) (row-lent s c) ∙ rw g, row-returned s c ws ∙ rw (g, e))
+
+-- where both run rules have one mixture, so has their meet
+pub absorb-single : (s : List ℕ) (c d t : ℕ) → UsedAt s c → UsedAt s d → getD s (c * rowWidth + runAt) 0 ≡ 1 → getD s (d * rowWidth + runAt) 0 ≡ 1
+    → (m : Bounded) → m ≡ boundedOf (bitAnd (getD s (c * rowWidth + runAt + 1) 0) (getD s (d * rowWidth + runAt + 1) 0) ∷ [])
+    → (a : Answer) (ws : List ℕ) → a ≡ coverAnswer c (rowOf (lent s c) .permit) t → ws ≡ contentWords (lent s c) t m
+    → (a ≡ absorbAnswer s c d t) × (returned s c ws ≡ absorbEffect s c d t)
+unfolding sharedRun
+absorb-single s c d t h k e f m em a ws ea ew =
+    absorb-done s c d t h m (em ∙ ap boundedOf (meet-singles _ _ _ _ (single-run s c h e) (single-run s d k f))) (ap (λ (n : Bounded). n .fits) em ∙ (unfold boundedOf in refl)) a ws ea ew
+
+-- what an absorbing step is answered, and does, is what the table says
+module _ (s : List ℕ) (q : Request) (c d t : ℕ) (step : Step) (j : judged step ≡ true) (er : receiver step ≡ c) (es : stepIn q ≡ step) (ew : receiverRow s q ≡ absorbed s c d t) (eg : meetGood s q ≡ fits (sharedRun s c d)) where
+  absorb-answer : absorbAnswer s c d t ≡ lateAnswer s q
+  unfolding lateAnswer acceptedAnswer absorbAnswer absorbed
+  absorb-answer =
+      ap (λ (x : Answer). cond (fits (sharedRun s c d)) x (refused 15)) (ap (λ (k : ℕ). coverAnswer k (rowOf (containerRow s c) .permit) t) (sym er) ∙ verdict-covers step (absorbed s c d t) j)
+      ∙ rw (es, ew, eg)
+
+  absorb-effect : absorbEffect s c d t ≡ lateEffect s q
+  unfolding lateEffect acceptedEffect absorbEffect
+  absorb-effect = rw (es, ew, eg, er)
+
+  absorb-late : (a : Answer) (s₁ : List ℕ) → (a ≡ absorbAnswer s c d t) × (s₁ ≡ absorbEffect s c d t) → Done s q a s₁
+  absorb-late a s₁ h = (h .0 ∙ absorb-answer, h .1 ∙ absorb-effect)
+
 -- ---- read
 
-module _ (s : List ℕ) (q : Request) (h : Ready s q) (e : q .code ≡ readCode) (m : Bounded) (em : m ≡ boundedOf (meet (rowOf (containerRow s (q .p)) .run) (rowOf (containerRow s (q .o)) .run))) where
-  read-meet : meetGood s q ≡ m .fits
-  unfolding meetGood processRow objectRow
-  read-meet = rw e (sym (fits-made (meet (rowOf (containerRow s (q .p)) .run) (rowOf (containerRow s (q .o)) .run)) m em))
+module _ (s : List ℕ) (q : Request) (e : q .code ≡ readCode) (t : ℕ) (et : t ≡ bitOr (rowOf (containerRow s (q .p)) .tag) (dataOf dataWidth (rowOf (containerRow s (q .o)) .tag))) where
+  read-row : receiverRow s q ≡ absorbed s (q .p) (q .o) t
+  unfolding receiverRow readRow processRow objectRow absorbed sharedRun
+  read-row = rw (e, et)
 
-  pub read-over : m .fits ≡ false → Done s q (refused 15) s
-  read-over f = refused-done s q (read-meet ∙ f)
+  read-meet : meetGood s q ≡ fits (sharedRun s (q .p) (q .o))
+  unfolding meetGood processRow objectRow sharedRun
+  read-meet = rw e
 
-  pub read-done : m .fits ≡ true → (t : ℕ) → t ≡ bitOr (rowOf (containerRow s (q .p)) .tag) (dataOf dataWidth (rowOf (containerRow s (q .o)) .tag)) → (a : Answer) (ws : List ℕ)
-      → a ≡ coverAnswer (q .p) (rowOf (lent s (q .p)) .permit) t → ws ≡ contentWords (lent s (q .p)) t m → Done s q a (returned s (q .p) ws)
-  unfolding readRow processRow objectRow stepIn receiverRow
-  read-done f t et a ws ea ew =
-      update-done s q (read (q .p) (q .o)) (readRow (processRow s q) (objectRow s q)) (read-meet ∙ f) (rw e) (rw e) m a ws refl (ready-process s q h) refl refl em
-      (fits-short (meet (rowOf (containerRow s (q .p)) .run) (rowOf (containerRow s (q .o)) .run)) (sym (fits-made (meet (rowOf (containerRow s (q .p)) .run) (rowOf (containerRow s (q .o)) .run)) m em) ∙ f))
-      (rw et at ea)
-      (rw et at ew)
+  read-step : stepIn q ≡ read (q .p) (q .o)
+  unfolding stepIn
+  read-step = rw e
+
+  pub read-done : (a : Answer) (s₁ : List ℕ) → (a ≡ absorbAnswer s (q .p) (q .o) t) × (s₁ ≡ absorbEffect s (q .p) (q .o) t) → Done s q a s₁
+  read-done a s₁ h = absorb-late s q (q .p) (q .o) t (read (q .p) (q .o)) refl refl read-step read-row read-meet a s₁ h
 
 -- ---- write
 
@@ -145,22 +186,21 @@ module _ (s : List ℕ) (q : Request) (h : Ready s q) (e : q .code ≡ writeCode
 
 -- ---- append
 
-module _ (s : List ℕ) (q : Request) (h : Ready s q) (e : q .code ≡ appendCode) (m : Bounded) (em : m ≡ boundedOf (meet (rowOf (containerRow s (q .o)) .run) (rowOf (containerRow s (q .p)) .run))) where
-  append-meet : meetGood s q ≡ m .fits
-  unfolding meetGood processRow objectRow
-  append-meet = rw e (sym (fits-made (meet (rowOf (containerRow s (q .o)) .run) (rowOf (containerRow s (q .p)) .run)) m em))
+module _ (s : List ℕ) (q : Request) (e : q .code ≡ appendCode) (t : ℕ) (et : t ≡ bitOr (rowOf (containerRow s (q .o)) .tag) (rowOf (containerRow s (q .p)) .tag)) where
+  append-row : receiverRow s q ≡ absorbed s (q .o) (q .p) t
+  unfolding receiverRow appendRow processRow objectRow absorbed sharedRun
+  append-row = rw (e, et)
 
-  pub append-over : m .fits ≡ false → Done s q (refused 15) s
-  append-over f = refused-done s q (append-meet ∙ f)
+  append-meet : meetGood s q ≡ fits (sharedRun s (q .o) (q .p))
+  unfolding meetGood processRow objectRow sharedRun
+  append-meet = rw e
 
-  pub append-done : m .fits ≡ true → (t : ℕ) → t ≡ bitOr (rowOf (containerRow s (q .o)) .tag) (rowOf (containerRow s (q .p)) .tag) → (a : Answer) (ws : List ℕ)
-      → a ≡ coverAnswer (q .o) (rowOf (lent s (q .o)) .permit) t → ws ≡ contentWords (lent s (q .o)) t m → Done s q a (returned s (q .o) ws)
-  unfolding appendRow processRow objectRow stepIn receiverRow
-  append-done f t et a ws ea ew =
-      update-done s q (append (q .p) (q .o)) (appendRow (processRow s q) (objectRow s q)) (append-meet ∙ f) (rw e) (rw e) m a ws refl (append-object s q h e) refl refl em
-      (fits-short (meet (rowOf (containerRow s (q .o)) .run) (rowOf (containerRow s (q .p)) .run)) (sym (fits-made (meet (rowOf (containerRow s (q .o)) .run) (rowOf (containerRow s (q .p)) .run)) m em) ∙ f))
-      (rw et at ea)
-      (rw et at ew)
+  append-step : stepIn q ≡ append (q .p) (q .o)
+  unfolding stepIn
+  append-step = rw e
+
+  pub append-done : (a : Answer) (s₁ : List ℕ) → (a ≡ absorbAnswer s (q .o) (q .p) t) × (s₁ ≡ absorbEffect s (q .o) (q .p) t) → Done s q a s₁
+  append-done a s₁ h = absorb-late s q (q .o) (q .p) t (append (q .p) (q .o)) refl refl append-step append-row append-meet a s₁ h
 
 -- ---- exec
 
@@ -222,7 +262,7 @@ module _ (s : List ℕ) (q : Request) (h : Ready s q) where
     unfolding newFileRow userRule unrestrictedRule stepIn receiverRow
     file-done m em n en ws ew =
         new-done s q (newFile (q .p) (q .o) (q .u)) (newFileRow (userRule s q)) file-meet (rw e) (rw e) m n (quiet (q .o) 0) ws em
-        (rule-short s (q .u) (userRuleOf (userRow s (q .u))) (file-user s q h e) refl) en all-short
+        (rule-short s (q .u) (file-user s q h e)) en all-short
         (verdict-unjudged (newFile (q .p) (q .o) (q .u)) (newFileRow (userRule s q)) refl) ew
 
   module _ (e : q .code ≡ newVolatileCode) where

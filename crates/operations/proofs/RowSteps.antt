@@ -5,23 +5,28 @@ use mathlib.Core.Bool.{Bool, true, false}
 use mathlib.Core.List.{List, [], _∷_, _++_, append-nil}
 use native.Mathlib.Omega.{arith}
 use lib.ListN.{length, getD, take, drop, set, length-take, length-drop, length-append, drop-of-length-le}
-use lib.Seq.{take-nil, take-take, drop-drop, getD-take, getD-drop, take-at}
+use lib.Bits.{bitAnd}
+use lib.Seq.{take-nil, take-take, drop-drop, drop-cons, getD-take, getD-drop, take-at}
 use borrow.Author.Tests.{leb-true}
 use borrow.Rule.Slice.PartMut.{putMid}
-use Rattle.rules.specs.Rules.{covers, normal}
+use Rattle.rules.specs.Rules.{covers, meet, refines}
 use Rattle.rules.specs.Answers.{mixtureLimit, boundedOf}
 use Rattle.rules.specs.declared.Bounded.{Bounded}
-use Rattle.rules.proofs.BoundedLaws.{bounded-test}
+use Rattle.rules.proofs.BoundedLaws.{bounded-test, bounded-fits}
+use Rattle.rules.proofs.RuleLaws.{meet-comm}
+use Rattle.rules.proofs.RefineLaws.{refines-meet}
+use Rattle.rules.proofs.MeetLaws.{meet-one}
 use Rattle.session.specs.Limits.{rowWidth, userWidth, usersAt, kindAt, tagAt, permitAt, runAt, userRuleAt}
 use Rattle.image.specs.Words.{ruleWidth}
 use Rattle.session.specs.Rows.{Row, InUse, rowOf, rowWords, permitWords, runWords, containerRow, userRow, userRuleWords, userRuleOf}
 use Rattle.image.specs.Words.{ruleOf, wordsOf}
 use Rattle.image.proofs.WordLaws.{bounded-words}
-use Rattle.session.proofs.RowLaws.{row-permit, good-counts, good-used, good-words, good-user-count, good-declared}
+use Rattle.session.proofs.RuleWords.{kept-count, kept-normal, kept-words, rule-length}
+use Rattle.session.proofs.RowLaws.{row-permit, good-counts, good-used, good-words, good-permit, good-run, user-kept, good-declared}
 use Rattle.session.proofs.PutLaws.{container-row-length, user-row-length}
 use Rattle.chains.specs.Table.{fits}
 use Rattle.chains.specs.Demand.{Answer, quiet, alert}
-use Rattle.operations.specs.Parts.{UsedAt, DeclaredAt, boundedWords, contentWords, newWords, coverAnswer}
+use Rattle.operations.specs.Parts.{Kept, UsedAt, DeclaredAt, boundedWords, contentWords, newWords, coverAnswer}
 
 -- ---- a part of a row as it is lent
 
@@ -114,42 +119,120 @@ Readable ws = (length ws ≡ ruleWidth) × (getD ws 0 0 ≤ mixtureLimit)
 pub row-readable : (row : List ℕ) → length row ≡ rowWidth → getD (permitWords row) 0 0 ≤ mixtureLimit → Readable (permitWords row)
 row-readable row l h = (permit-long row l, h)
 
+pub kept-readable : (ws : List ℕ) → Kept ws → Readable ws
+kept-readable ws k = (k .long, kept-count ws (k .well))
+
+-- the rules of rows, as they are lent
+abbrev pub runPart : List ℕ → ℕ → List ℕ
+runPart s c = take (c * rowWidth + runAt + ruleWidth - (c * rowWidth + runAt)) (drop (c * rowWidth + runAt) s)
+
+abbrev pub permitPart : List ℕ → ℕ → List ℕ
+permitPart s c = take (c * rowWidth + permitAt + ruleWidth - (c * rowWidth + permitAt)) (drop (c * rowWidth + permitAt) s)
+
+abbrev pub rulePart : List ℕ → ℕ → List ℕ
+rulePart s u = take (usersAt + u * userWidth + userRuleAt + ruleWidth - (usersAt + u * userWidth + userRuleAt)) (drop (usersAt + u * userWidth + userRuleAt) s)
+
 module _ (s : List ℕ) (c : ℕ) where
-  pub permit-readable : UsedAt s c → Readable (take (c * rowWidth + permitAt + ruleWidth - (c * rowWidth + permitAt)) (drop (c * rowWidth + permitAt) s))
-  permit-readable h = rw permit-lent (permit-long (containerRow s c) (row-long s c h), row-counts s c h .0)
+  permit-part : ruleOf (permitPart s c) ≡ rowOf (containerRow s c) .permit
+  unfolding rowOf
+  permit-part = ap ruleOf (permit-lent s c)
 
-  pub run-readable : UsedAt s c → Readable (take (c * rowWidth + runAt + ruleWidth - (c * rowWidth + runAt)) (drop (c * rowWidth + runAt) s))
-  run-readable h = rw run-lent (run-long (containerRow s c) (row-long s c h), row-counts s c h .1)
+  pub run-part : ruleOf (runPart s c) ≡ rowOf (containerRow s c) .run
+  unfolding rowOf
+  run-part = ap ruleOf (run-lent s c)
 
-  pub rule-readable : DeclaredAt s c → Readable (take (usersAt + c * userWidth + userRuleAt + ruleWidth - (usersAt + c * userWidth + userRuleAt)) (drop (usersAt + c * userWidth + userRuleAt) s))
-  rule-readable h = rw rule-lent (rule-long (userRow s c) (user-row-length s c (h .long) (h .low)), good-user-count (userRow s c) (h .good) (h .declared))
+  pub rule-part : ruleOf (rulePart s c) ≡ userRuleOf (userRow s c)
+  unfolding userRuleOf
+  rule-part = ap ruleOf (rule-lent s c)
 
-  module _ (rule : List ℕ) where
-    pub permit-is : rule ≡ ruleOf (take (c * rowWidth + permitAt + ruleWidth - (c * rowWidth + permitAt)) (drop (c * rowWidth + permitAt) s)) → rule ≡ rowOf (containerRow s c) .permit
-    unfolding rowOf
-    permit-is e = e ∙ ap ruleOf (permit-lent s c)
+  pub permit-kept : UsedAt s c → Kept (permitPart s c)
+  permit-kept h = rw permit-lent (record { long = permit-long (containerRow s c) (row-long s c h); well = good-permit (containerRow s c) (h .good) (h .used) })
 
-    pub run-is : rule ≡ ruleOf (take (c * rowWidth + runAt + ruleWidth - (c * rowWidth + runAt)) (drop (c * rowWidth + runAt) s)) → rule ≡ rowOf (containerRow s c) .run
-    unfolding rowOf
-    run-is e = e ∙ ap ruleOf (run-lent s c)
+  pub run-kept : UsedAt s c → Kept (runPart s c)
+  run-kept h = rw run-lent (record { long = run-long (containerRow s c) (row-long s c h); well = good-run (containerRow s c) (h .good) (h .used) })
 
-    pub rule-is : rule ≡ ruleOf (take (usersAt + c * userWidth + userRuleAt + ruleWidth - (usersAt + c * userWidth + userRuleAt)) (drop (usersAt + c * userWidth + userRuleAt) s)) → rule ≡ userRuleOf (userRow s c)
-    unfolding userRuleOf
-    rule-is e = e ∙ ap ruleOf (rule-lent s c)
+  pub rule-kept : DeclaredAt s c → Kept (rulePart s c)
+  rule-kept h = rw rule-lent (record { long = rule-long (userRow s c) (user-row-length s c (h .long) (h .low)); well = user-kept (userRow s c) (h .good) (h .declared) })
 
-    -- ---- how long they are, and their normal form
+  module _ (m : Bounded) where
+    pub permit-copied : m ≡ boundedOf (ruleOf (permitPart s c)) → m ≡ boundedOf (rowOf (containerRow s c) .permit)
+    permit-copied e = e ∙ ap boundedOf permit-part
 
-    pub permit-short : UsedAt s c → rule ≡ rowOf (containerRow s c) .permit → length rule ≤ mixtureLimit
-    permit-short h e = rw e (row-used s c h .permitShort)
+    pub run-copied : m ≡ boundedOf (ruleOf (runPart s c)) → m ≡ boundedOf (rowOf (containerRow s c) .run)
+    run-copied e = e ∙ ap boundedOf run-part
 
-    pub run-short : UsedAt s c → rule ≡ rowOf (containerRow s c) .run → length rule ≤ mixtureLimit
-    run-short h e = rw e (row-used s c h .runShort)
+    pub rule-copied : m ≡ boundedOf (ruleOf (rulePart s c)) → m ≡ boundedOf (userRuleOf (userRow s c))
+    rule-copied e = e ∙ ap boundedOf rule-part
 
-    pub run-normal : UsedAt s c → rule ≡ rowOf (containerRow s c) .run → normal rule ≡ rule
-    run-normal h e = rw e (row-used s c h .runNormal)
+pub rule-short : (s : List ℕ) (u : ℕ) → DeclaredAt s u → length (userRuleOf (userRow s u)) ≤ mixtureLimit
+rule-short s u h = good-declared (userRow s u) (h .good) (h .declared) .0
 
-    pub rule-short : DeclaredAt s c → rule ≡ userRuleOf (userRow s c) → length rule ≤ mixtureLimit
-    rule-short h e = rw e (good-declared (userRow s c) (h .good) (h .declared) .0)
+-- ---- the words of a rule, copied as they stand
+
+words-behind : (ws : List ℕ) → length ws ≡ ruleWidth
+    → getD ws 1 0 ∷ getD ws 2 0 ∷ getD ws 3 0 ∷ getD ws 4 0 ∷ getD ws 5 0 ∷ getD ws 6 0 ∷ getD ws 7 0 ∷ getD ws 8 0 ∷ [] ≡ drop 1 ws
+words-behind ws l =
+    sym
+    (drop-cons ws 1 0 (omega arith)
+    ∙ ap (λ (x : List ℕ). getD ws 1 0 ∷ x)
+    (drop-cons ws 2 0 (omega arith)
+    ∙ ap (λ (x : List ℕ). getD ws 2 0 ∷ x)
+    (drop-cons ws 3 0 (omega arith)
+    ∙ ap (λ (x : List ℕ). getD ws 3 0 ∷ x)
+    (drop-cons ws 4 0 (omega arith)
+    ∙ ap (λ (x : List ℕ). getD ws 4 0 ∷ x)
+    (drop-cons ws 5 0 (omega arith)
+    ∙ ap (λ (x : List ℕ). getD ws 5 0 ∷ x)
+    (drop-cons ws 6 0 (omega arith)
+    ∙ ap (λ (x : List ℕ). getD ws 6 0 ∷ x)
+    (drop-cons ws 7 0 (omega arith)
+    ∙ ap (λ (x : List ℕ). getD ws 7 0 ∷ x)
+    (drop-cons ws 8 0 (omega arith)
+    ∙ ap (λ (x : List ℕ). getD ws 8 0 ∷ x) (drop-of-length-le ws {i = 9} (omega arith))))))))))
+
+pub words-copied : (ws : List ℕ) → Kept ws
+    → _≡_ {A = Bounded} (record { fits = true; count = getD ws 0 0; mixtures = getD ws 1 0 ∷ getD ws 2 0 ∷ getD ws 3 0 ∷ getD ws 4 0 ∷ getD ws 5 0 ∷ getD ws 6 0 ∷ getD ws 7 0 ∷ getD ws 8 0 ∷ [] }) (boundedOf (ruleOf ws))
+unfolding wordsOf
+words-copied ws k =
+    bounded-fits (ruleOf ws) (ruleOf ws) _ (getD ws 0 0) refl
+    (rule-length ws (k .long) (kept-count ws (k .well)))
+    (kept-count ws (k .well))
+    (words-behind ws (k .long) ∙ ap (drop 1) (kept-words ws (k .long) (k .well)))
+
+-- ---- the meet of two rules
+
+module _ (a b : List ℕ) (k : Kept a) where
+  pub meet-first : refines (ruleOf a) (ruleOf b) ≡ true → ruleOf a ≡ meet (ruleOf a) (ruleOf b)
+  meet-first h = refines-meet (ruleOf a) (ruleOf b) (kept-normal a (k .well)) h
+
+  pub meet-second : refines (ruleOf a) (ruleOf b) ≡ true → ruleOf a ≡ meet (ruleOf b) (ruleOf a)
+  meet-second h = meet-first h ∙ meet-comm (ruleOf a) (ruleOf b)
+
+-- rules of one mixture
+single-rule : (s : List ℕ) (at : ℕ) → getD s at 0 ≡ 1 → length (take ruleWidth (drop at s)) ≡ ruleWidth → ruleOf (take ruleWidth (drop at s)) ≡ getD s (at + 1) 0 ∷ []
+unfolding ruleOf
+single-rule s at e l =
+    let z : at + 0 ≡ at = omega arith in
+    let w : List ℕ = take ruleWidth (drop at s) in
+    let f : getD w 0 0 ≡ 1 = getD-take ruleWidth (drop at s) 0 0 (omega arith) ∙ getD-drop at s 0 0 ∙ ap (λ (k : ℕ). getD s k 0) z ∙ e in
+    let g : getD w 1 0 ≡ getD s (at + 1) 0 = getD-take ruleWidth (drop at s) 1 0 (omega arith) ∙ getD-drop at s 1 0 in
+    ap (λ (k : ℕ). take k (drop 1 w)) f ∙ ap (take 1) (drop-cons w 1 0 (omega arith)) ∙ ap (λ (x : ℕ). x ∷ []) g
+
+part-is : (s : List ℕ) (at : ℕ) → take (at + ruleWidth - at) (drop at s) ≡ take ruleWidth (drop at s)
+part-is s at = let e : at + ruleWidth - at ≡ ruleWidth = omega arith in ap (λ (k : ℕ). take k (drop at s)) e
+
+pub single-run : (s : List ℕ) (c : ℕ) → UsedAt s c → getD s (c * rowWidth + runAt) 0 ≡ 1 → rowOf (containerRow s c) .run ≡ getD s (c * rowWidth + runAt + 1) 0 ∷ []
+single-run s c h e =
+    sym (run-part s c) ∙ ap ruleOf (part-is s (c * rowWidth + runAt))
+    ∙ single-rule s (c * rowWidth + runAt) e (ap length (sym (part-is s (c * rowWidth + runAt))) ∙ run-kept s c h .long)
+
+pub single-user : (s : List ℕ) (u : ℕ) → DeclaredAt s u → getD s (usersAt + u * userWidth + userRuleAt) 0 ≡ 1 → userRuleOf (userRow s u) ≡ getD s (usersAt + u * userWidth + userRuleAt + 1) 0 ∷ []
+single-user s u h e =
+    sym (rule-part s u) ∙ ap ruleOf (part-is s (usersAt + u * userWidth + userRuleAt))
+    ∙ single-rule s (usersAt + u * userWidth + userRuleAt) e (ap length (sym (part-is s (usersAt + u * userWidth + userRuleAt))) ∙ rule-kept s u h .long)
+
+pub meet-singles : (r v : List ℕ) (x y : ℕ) → r ≡ x ∷ [] → v ≡ y ∷ [] → bitAnd x y ∷ [] ≡ meet r v
+meet-singles r v x y e f = meet-one (x ∷ []) (y ∷ []) refl refl ∙ sym (ap₂ meet e f)
 
 -- ---- a row with another tag and run rule
 

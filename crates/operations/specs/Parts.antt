@@ -5,12 +5,14 @@ use mathlib.Core.Path.{_≡_}
 use mathlib.Core.Bool.{true, false, cond}
 use mathlib.Core.List.{List, _∷_, _++_}
 use lib.ListN.{length, getD}
-use Rattle.rules.specs.Rules.{covers}
+use Rattle.rules.specs.Rules.{covers, meet}
 use Rattle.rules.specs.declared.Bounded.{Bounded}
 use Rattle.image.specs.Limits.{containerLimit, userLimit, isFree}
+use Rattle.image.specs.Words.{ruleWidth}
 use Rattle.session.specs.Limits.{sessionLength, kindAt}
-use Rattle.session.specs.Rows.{permitWords, containerRow, containerRowGood, userRow, userRowGood, isDeclared}
+use Rattle.session.specs.Rows.{keptWell, Row, rowOf, rowWords, permitWords, containerRow, containerRowGood, putRow, userRow, userRowGood, isDeclared}
 use Rattle.chains.specs.Demand.{Answer, refused, quiet, alert}
+use Rattle.chains.specs.Table.{fits}
 use Rattle.operations.specs.declared.Request.{Request}
 use Rattle.operations.specs.Codes.{codeAt}
 use Rattle.operations.specs.Effects.{rowsGood, processGood, kindGood, freeGood, userGood, meetGood, acceptedAnswer, acceptedEffect}
@@ -67,6 +69,11 @@ pub record DeclaredAt (s : List ℕ) (u : ℕ) : Type 0 where
   pub good : userRowGood (userRow s u) ≡ true
   pub declared : isDeclared (userRow s u) ≡ true
 
+-- the words of a rule as a session keeps it
+pub record Kept (ws : List ℕ) : Type 0 where
+  pub long : length ws ≡ ruleWidth
+  pub well : keptWell ws ≡ true
+
 -- ---- what is written
 
 -- the numbers of a rule
@@ -84,3 +91,24 @@ newWords kind tag permit run = kind ∷ tag ∷ (boundedWords permit ++ boundedW
 -- the answer by whether the permit rule covers the tag
 unfoldable pub coverAnswer : ℕ → List ℕ → ℕ → Answer
 coverAnswer c permit tag = cond (covers permit tag) (quiet c tag) (alert c tag)
+
+-- ---- container c takes in what d has, as a reader or a file that is appended to does: the tag t, and the meet of both run rules
+
+unfoldable pub sharedRun : List ℕ → ℕ → ℕ → List ℕ
+sharedRun s c d = meet (rowOf (containerRow s c) .run) (rowOf (containerRow s d) .run)
+
+unfoldable pub absorbed : List ℕ → ℕ → ℕ → ℕ → Row
+absorbed s c d t =
+    record {
+      kind = rowOf (containerRow s c) .kind;
+      tag = t;
+      permit = rowOf (containerRow s c) .permit;
+      run = sharedRun s c d;
+    }
+
+unfoldable pub absorbAnswer : List ℕ → ℕ → ℕ → ℕ → Answer
+absorbAnswer s c d t =
+    cond (fits (sharedRun s c d)) (coverAnswer c (rowOf (containerRow s c) .permit) t) (refused 15)
+
+unfoldable pub absorbEffect : List ℕ → ℕ → ℕ → ℕ → List ℕ
+absorbEffect s c d t = cond (fits (sharedRun s c d)) (putRow s c (rowWords (absorbed s c d t))) s

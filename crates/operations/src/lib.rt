@@ -5,11 +5,12 @@ ghost use lib.ListN.{length, getD, take};
 ghost use Rattle.rules.specs.Rules.{meet};
 ghost use Rattle.rules.specs.Answers.{mixtureLimit, boundedOf};
 ghost use Rattle.image.specs.Limits.{isStore, containerLimit, processKind};
+ghost use Rattle.image.specs.Words.{ruleOf};
 ghost use Rattle.session.specs.Limits.{sessionLength, rowWidth};
 ghost use Rattle.session.specs.Rows.{rowOf, permitWords, containerRow, userRow, userRuleOf};
 ghost use Rattle.operations.specs.Codes.{readCode, writeCode, appendCode, execCode, forkCode, newFileCode, newVolatileCode, codeAt, objectFits};
 ghost use Rattle.operations.specs.Answers.{answerOf};
-ghost use Rattle.operations.specs.Parts.{Ready, lateAnswer, lateEffect, UsedAt, DeclaredAt, contentWords, newWords, coverAnswer};
+ghost use Rattle.operations.specs.Parts.{Ready, lateAnswer, lateEffect, sharedRun, absorbAnswer, absorbEffect, Kept, UsedAt, DeclaredAt, contentWords, newWords, coverAnswer};
 use image::FILE_KIND;
 use image::PROCESS_KIND;
 use image::RULE_WIDTH;
@@ -151,49 +152,25 @@ fn tag_of(s: &[u64], c: usize) -> u64
     s[c * ROW_WIDTH + TAG_AT]
 }
 
+// A rule of the session, to be written: the words as they stand, the unused ones being 0.
+fn rule_copy(ws: &[u64]) -> Bounded
+    requires { ⌜ Kept (now ws) ⌝ }
+    ensures { λ r. ⌜ r ≡ boundedOf (ruleOf (now (ws .entry))) ⌝ }
+{
+    Bounded {
+        fits: true,
+        count: ws[0] as usize,
+        mixtures: [ws[1], ws[2], ws[3], ws[4], ws[5], ws[6], ws[7], ws[8]],
+    }
+}
+
 // The permit rule of a container in use, to be written.
 fn permit_copy(s: &[u64], c: usize) -> Bounded
     requires { ⌜ UsedAt (now s) c ⌝ }
     ensures { λ r. ⌜ r ≡ boundedOf (rowOf (containerRow (now (s .entry)) c) .permit) ⌝ }
 {
     let at = c * ROW_WIDTH + PERMIT_AT;
-    rules::placed(session::rule_of(&s[at..at + RULE_WIDTH]))
-}
-
-// The run rule of a container in use: exactly its mixtures.
-fn run_of(s: &[u64], c: usize) -> &[u64]
-    requires { ⌜ UsedAt (now s) c ⌝ }
-    ensures { λ r. ⌜ now r ≡ rowOf (containerRow (now (s .entry)) c) .run ⌝ }
-{
-    let at = c * ROW_WIDTH + RUN_AT;
-    session::rule_of(&s[at..at + RULE_WIDTH])
-}
-
-// The rule of a declared user: exactly its mixtures.
-fn user_rule(s: &[u64], u: usize) -> &[u64]
-    requires { ⌜ DeclaredAt (now s) u ⌝ }
-    ensures { λ r. ⌜ now r ≡ userRuleOf (userRow (now (s .entry)) u) ⌝ }
-{
-    let at = USERS_AT + u * USER_WIDTH + USER_RULE_AT;
-    session::rule_of(&s[at..at + RULE_WIDTH])
-}
-
-// The meet of the run rules of two containers in use.
-fn meet_runs(s: &[u64], a: usize, b: usize) -> Bounded
-    requires { ⌜ (UsedAt (now s) a) × (UsedAt (now s) b) ⌝ }
-    ensures { λ r. ⌜ r ≡ boundedOf (meet (rowOf (containerRow (now (s .entry)) a) .run) (rowOf (containerRow (now (s .entry)) b) .run)) ⌝ }
-{
-    rules::meet_normal(run_of(s, a), run_of(s, b))
-}
-
-// The meet of a container's run rule and a user's rule.
-fn meet_user(s: &[u64], c: usize, u: usize) -> Bounded
-    requires { ⌜ (UsedAt (now s) c) × (DeclaredAt (now s) u) ⌝ }
-    ensures { λ r. ⌜ r ≡ boundedOf (meet (rowOf (containerRow (now (s .entry)) c) .run) (userRuleOf (userRow (now (s .entry)) u))) ⌝ }
-{
-    let r = run_of(s, c);
-    let v = user_rule(s, u);
-    rules::meet_normal(r, v)
+    rule_copy(&s[at..at + RULE_WIDTH])
 }
 
 // The run rule of a container in use, to be written.
@@ -201,7 +178,8 @@ fn run_copy(s: &[u64], c: usize) -> Bounded
     requires { ⌜ UsedAt (now s) c ⌝ }
     ensures { λ r. ⌜ r ≡ boundedOf (rowOf (containerRow (now (s .entry)) c) .run) ⌝ }
 {
-    rules::placed(run_of(s, c))
+    let at = c * ROW_WIDTH + RUN_AT;
+    rule_copy(&s[at..at + RULE_WIDTH])
 }
 
 // The rule of a declared user, to be written.
@@ -209,7 +187,49 @@ fn user_copy(s: &[u64], u: usize) -> Bounded
     requires { ⌜ DeclaredAt (now s) u ⌝ }
     ensures { λ r. ⌜ r ≡ boundedOf (userRuleOf (userRow (now (s .entry)) u)) ⌝ }
 {
-    rules::placed(user_rule(s, u))
+    let at = USERS_AT + u * USER_WIDTH + USER_RULE_AT;
+    rule_copy(&s[at..at + RULE_WIDTH])
+}
+
+// The meet of two rules of the session. A rule that refines the other is their meet: the common case where the same flows recur.
+fn meet_kept(a: &[u64], b: &[u64]) -> Bounded
+    requires { ⌜ (Kept (now a)) × (Kept (now b)) ⌝ }
+    ensures { λ r. ⌜ r ≡ boundedOf (meet (ruleOf (now (a .entry))) (ruleOf (now (b .entry)))) ⌝ }
+{
+    let r = session::rule_of(a);
+    let v = session::rule_of(b);
+    if rules::refines(r, v) {
+        return rule_copy(a);
+    }
+    if rules::refines(v, r) {
+        return rule_copy(b);
+    }
+    rules::meet(r, v)
+}
+
+// The meet of the run rules of two containers in use.
+fn meet_runs(s: &[u64], a: usize, b: usize) -> Bounded
+    requires { ⌜ (UsedAt (now s) a) × (UsedAt (now s) b) ⌝ }
+    ensures { λ r. ⌜ r ≡ boundedOf (sharedRun (now (s .entry)) a b) ⌝ }
+{
+    let x = a * ROW_WIDTH + RUN_AT;
+    let y = b * ROW_WIDTH + RUN_AT;
+    meet_kept(&s[x..x + RULE_WIDTH], &s[y..y + RULE_WIDTH])
+}
+
+// The meet of a container's run rule and a user's rule. Rules of one mixture, the usual ones, are a straight line.
+fn meet_user(s: &[u64], c: usize, u: usize) -> Bounded
+    requires { ⌜ (UsedAt (now s) c) × (DeclaredAt (now s) u) ⌝ }
+    ensures { λ r. ⌜ r ≡ boundedOf (meet (rowOf (containerRow (now (s .entry)) c) .run) (userRuleOf (userRow (now (s .entry)) u))) ⌝ }
+{
+    let x = c * ROW_WIDTH + RUN_AT;
+    let y = USERS_AT + u * USER_WIDTH + USER_RULE_AT;
+    if s[x] == 1 {
+        if s[y] == 1 {
+            return rules::one(s[x + 1] & s[y + 1]);
+        }
+    }
+    meet_kept(&s[x..x + RULE_WIDTH], &s[y..y + RULE_WIDTH])
 }
 
 // ---- a row that is lent
@@ -258,6 +278,26 @@ fn replace(row: &mut [u64], receiver: usize, tag: u64, permit: Bounded, run: Bou
 
 // ---- the seven operations
 
+// The receiver takes in what the giver has: it gets the tag, and the meet of both run rules. Rules of one mixture, the usual ones, are a straight line.
+fn absorb(s: &mut [u64], receiver: usize, giver: usize, tag: u64) -> Answer
+    requires { ⌜ (UsedAt (now s) receiver) × (UsedAt (now s) giver) ⌝ }
+    ensures { λ r. ⌜ (answerOf r ≡ absorbAnswer (now (s .entry)) receiver giver tag) × (now (s .exit) ≡ absorbEffect (now (s .entry)) receiver giver tag) ⌝ }
+{
+    let a = receiver * ROW_WIDTH;
+    let b = giver * ROW_WIDTH;
+    if s[a + RUN_AT] == 1 {
+        if s[b + RUN_AT] == 1 {
+            let met = rules::one(s[a + RUN_AT + 1] & s[b + RUN_AT + 1]);
+            return update(&mut s[a..a + ROW_WIDTH], receiver, tag, met);
+        }
+    }
+    let met = meet_runs(s, receiver, giver);
+    if !met.fits {
+        return Answer::Refused(OVER_LIMIT);
+    }
+    update(&mut s[a..a + ROW_WIDTH], receiver, tag, met)
+}
+
 // Code 1: the process reads the object.
 fn read(s: &mut [u64], q: Request) -> Answer
     requires { ⌜ (Ready (now s) q) × (q .code ≡ readCode) ⌝ }
@@ -265,15 +305,10 @@ fn read(s: &mut [u64], q: Request) -> Answer
 {
     let p = q.p;
     let o = q.o;
-    let met = meet_runs(s, p, o);
-    if !met.fits {
-        return Answer::Refused(OVER_LIMIT);
-    }
     let held = tag_of(s, p);
     let gained = tag_of(s, o);
     let tag = rules::add_data_atoms(held, gained);
-    let a = p * ROW_WIDTH;
-    update(&mut s[a..a + ROW_WIDTH], p, tag, met)
+    absorb(s, p, o, tag)
 }
 
 // Code 2: the process writes the object anew.
@@ -296,13 +331,8 @@ fn append(s: &mut [u64], q: Request) -> Answer
 {
     let p = q.p;
     let o = q.o;
-    let met = meet_runs(s, o, p);
-    if !met.fits {
-        return Answer::Refused(OVER_LIMIT);
-    }
     let tag = tag_of(s, o) | tag_of(s, p);
-    let b = o * ROW_WIDTH;
-    update(&mut s[b..b + ROW_WIDTH], o, tag, met)
+    absorb(s, o, p, tag)
 }
 
 // Code 4: the process executes the object for the user.

@@ -11,4 +11,4 @@ pub mod Rounds
 pub mod ListLaws
 pub mod MeetLaws
 pub mod SameLaws
-pub mod PlacedLaws
+pub mod RefineLaws

@@ -4,17 +4,17 @@ use mathlib.Core.Path.{_≡_, refl, sym, ap, ap₂, _∙_}
 use mathlib.Core.Bool.{true, false}
 use mathlib.Core.List.{List, [], _∷_, _++_}
 use native.Mathlib.Omega.{arith}
+use native.Mathlib.Nat.{suc-mul}
 use lib.Bits.{bitAnd}
-use lib.ListN.{length, getD, take, length-take}
-use lib.Seq.{length-take-le}
+use lib.ListN.{length, getD, take}
 use mathlib.Core.Logic.{⊎-elim}
 use Rattle.rules.proofs.MeetAll.{normal-one}
-use Rattle.rules.proofs.RuleLaws.{elem-none, elem-cases, meet-comm, meet-unrestricted}
+use Rattle.rules.proofs.RuleLaws.{elem-none, elem-cases, normal-unique, meet-comm, meet-none, meet-unrestricted}
 use Rattle.rules.specs.Order.{Within}
 use Rattle.rules.specs.Rules.{normal, meet, intersections, unrestricted}
 use Rattle.rules.specs.Answers.{boundedOf}
 use Rattle.rules.specs.declared.Bounded.{Bounded}
-use Rattle.rules.specs.Sieve.{top, Listed}
+use Rattle.rules.specs.Sieve.{Candidates}
 
 -- a list of one number
 pub single : (l : List ℕ) → length l ≡ 1 → l ≡ getD l 0 0 ∷ []
@@ -28,19 +28,16 @@ meet-one r s e f =
     sym (normal-one (bitAnd (getD r 0 0) (getD s 0 0)))
     ∙ sym (ap₂ (λ (a b : List ℕ). normal (intersections a b)) (single r e) (single s f))
 
--- what was listed is what the sieve is given
-pub listed-fits : (p a b : List ℕ) (n k : ℕ) → Listed p a b n k → n ≤ length b
-listed-fits p a b n k w = let e : length (take n b) ≡ n = ap length (w .words) ∙ sym (w .count) in by (e)
-  where
-    by : length (take n b) ≡ n → n ≤ length b
-    by e = omega (arith, e, length-take n b)
+-- no pair of mixtures
+pub meet-no-pair : (r s : List ℕ) → length r * length s ≡ 0 → [] ≡ meet r s
+meet-no-pair [] s e = sym (meet-none s) ∙ meet-comm s []
+meet-no-pair (m ∷ r) [] e = sym (meet-none (m ∷ r))
+meet-no-pair (m ∷ r) (n ∷ s) e = absurd (omega (arith, suc-mul (length r) (length (n ∷ s))))
 
-pub meet-bounded : (r s a b : List ℕ) (n k : ℕ) (m : Bounded) → Listed (intersections r s) a b n k → m ≡ boundedOf (normal (take n b)) → m ≡ boundedOf (meet r s)
+-- what is listed covers what all intersections cover: it has their normal form
+pub meet-bounded : (r s a b : List ℕ) (n k : ℕ) (m : Bounded) → Candidates (intersections r s) a b n k → m ≡ boundedOf (normal (take n b)) → m ≡ boundedOf (meet r s)
 unfolding meet
-meet-bounded r s a b n k m w e = e ∙ ap (λ (l : List ℕ). boundedOf (normal l)) (w .words)
-
-pub listed-top : (p a b : List ℕ) (n k : ℕ) → Listed p a b n k → k ≡ top (take n b)
-listed-top p a b n k w = w .most ∙ ap top (sym (w .words))
+meet-bounded r s a b n k m w e = e ∙ ap boundedOf (normal-unique (take n b) (intersections r s) (w .same))
 
 -- elements below 2 to the w
 pub within-getD : (w : ℕ) (r : List ℕ) → ((k : ℕ) → getD r k 0 < 2 ^ w) → Within w r

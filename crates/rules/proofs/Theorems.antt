@@ -9,12 +9,13 @@ use mathlib.Core.List.{List, [], _∷_, _++_, List·Memᴰ}
 use lib.Bits.{bitAnd, bitOr}
 use lib.ListN.{length}
 use Rattle.rules.specs.Sets.{atom, holds, dataOf, runningOf}
-use Rattle.rules.specs.Rules.{covers, elem, normal, meet, unrestricted, meetAll, allCover, sameList}
+use Rattle.rules.specs.Rules.{covers, elem, normal, meet, unrestricted, meetAll, allCover, sameList, refines}
 use Rattle.rules.specs.Order.{Ascending, Antichain, Within}
 use Rattle.rules.proofs.SetLaws as sets
 use Rattle.rules.proofs.RuleLaws as rules
 use Rattle.rules.proofs.MeetAll as all
 use Rattle.rules.proofs.SameLaws as same
+use Rattle.rules.proofs.RefineLaws as refine
 
 -- ---- sets
 
@@ -116,6 +117,13 @@ meet-unrestricted = rules.meet-unrestricted
 
 pub meet-empty : (r : List ℕ) → meet r [] ≡ []
 meet-empty = rules.meet-none
+
+-- a rule refines another exactly when the other covers whatever it covers; in normal form it is then their meet
+pub refines-is : (r s : List ℕ) → (refines r s ≡ true) ↔ ((t : ℕ) → covers r t ≡ true → covers s t ≡ true)
+refines-is r s = (refine.refines-covers r s, refine.covers-refines r s)
+
+pub meet-refined : (r s : List ℕ) → normal r ≡ r → refines r s ≡ true → r ≡ meet r s
+meet-refined = refine.refines-meet
 
 -- ---- several rules: the meet goes by what they all cover, so neither order nor repeats matter
 

@@ -111,10 +111,10 @@ module _ (ws : List ℕ) (g : containerRowGood ws ≡ true) where
     good-rules : (keptWell (permitWords ws) && keptWell (runWords ws)) ≡ true
     good-rules = and-1 (usedKind (getD ws kindAt 0)) good-tests
 
-    good-permit : keptWell (permitWords ws) ≡ true
+    pub good-permit : keptWell (permitWords ws) ≡ true
     good-permit = and-0 (keptWell (permitWords ws)) (keptWell (runWords ws)) good-rules
 
-    good-run : keptWell (runWords ws) ≡ true
+    pub good-run : keptWell (runWords ws) ≡ true
     good-run = and-1 (keptWell (permitWords ws)) good-rules
 
     pub good-counts : (getD (permitWords ws) 0 0 ≤ mixtureLimit) × (getD (runWords ws) 0 0 ≤ mixtureLimit)
@@ -198,7 +198,7 @@ module _ (ws : List ℕ) (g : userRowGood ws ≡ true) where
     unfolding isDeclared
     first-is = eqb-true (getD ws declaredAt 0) declared d
 
-    user-kept : keptWell (userRuleWords ws) ≡ true
+    pub user-kept : keptWell (userRuleWords ws) ≡ true
     user-kept = and-1 (isDeclared ws) (good-cases false (ne-eqb (getD ws declaredAt 0) 0 (λ e. omega (arith, first-is))))
 
     pub good-user-count : getD (userRuleWords ws) 0 0 ≤ mixtureLimit
