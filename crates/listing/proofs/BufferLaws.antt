@@ -1,13 +1,13 @@
 -- Laws of texts written into a buffer.
-use Prim.Native.Nat.{ℕ, suc, _+_, _≤_, _<_}
-use native.Mathlib.Nat.{add-assoc}
+use Prim.Native.Nat.{ℕ, suc, _+_, _-_, _≤_, _<_}
+use native.Mathlib.Nat.{add-assoc, add-zero}
 use native.Mathlib.Numerals.{add-one}
 use native.Mathlib.Omega.{arith}
 use mathlib.Core.Path.{_≡_, refl, sym, ap, ap₂, _∙_, subst}
 use mathlib.Core.List.{List, [], _∷_, _++_, append-assoc}
-use lib.ListN.{length, take, drop, set, length-append}
-use lib.Seq.{length-take-le, take-at, drop-append-add, drop-drop, take-set-le, drop-set-lt, drop-cons, getD-set-same, lt-length-set, paste, paste-zero, take-all, sets-eq}
-use Rattle.listing.specs.Buffer.{placed, Appended}
+use lib.ListN.{length, take, drop, set, length-append, length-drop, take-append-drop}
+use lib.Seq.{length-take-le, take-at, drop-append-add, drop-drop, take-set-le, drop-set-lt, drop-cons, getD-set-same, lt-length-set, paste, paste-zero, take-all, take-length, sets-eq}
+use Rattle.listing.specs.Buffer.{placed, Appended, Written}
 
 -- ---- the buffer with a text
 
@@ -77,19 +77,98 @@ appended-paste text b a at i e p =
       ends = refl;
     }
 
--- two and three bytes, stored one after the other
-pub appended-two : (d e at : ℕ) (b : List ℕ) → at + 2 ≤ length b → Appended (d ∷ e ∷ []) b (set (set b at d) (at + 1) e) at (at + 2)
-appended-two d e at b h =
+-- four bytes, stored one after the other
+pub appended-four : (d e f g at : ℕ) (b : List ℕ) → at + 4 ≤ length b
+    → Appended (d ∷ e ∷ f ∷ g ∷ []) b (set (set (set (set b at d) (at + 1) e) (at + 2) f) (at + 3) g) at (at + 4)
+appended-four d e f g at b h =
+    let s : at + 2 ≡ suc (suc at) = omega arith in
+    let t : at + 3 ≡ suc (suc (suc at)) = omega arith in
     record {
-      bytes = ap (λ (i : ℕ). set (set b at d) i e) (add-one at) ∙ placed-sets (d ∷ e ∷ []) b at h;
+      bytes =
+          ap (λ (i : ℕ). set (set (set (set b at d) i e) (at + 2) f) (at + 3) g) (add-one at)
+          ∙ ap₂ (λ (i j : ℕ). set (set (set (set b at d) (suc at) e) i f) j g) s t
+          ∙ placed-sets (d ∷ e ∷ f ∷ g ∷ []) b at h;
       ends = refl;
     }
 
-pub appended-three : (d e f at : ℕ) (b : List ℕ) → at + 3 ≤ length b
-    → Appended (d ∷ e ∷ f ∷ []) b (set (set (set b at d) (at + 1) e) (at + 2) f) at (at + 3)
-appended-three d e f at b h =
-    let s : at + 2 ≡ suc (suc at) = omega arith in
+-- ---- texts with bytes behind them that do not count
+
+-- a text whose last bytes do not count
+written-part : (x y b a : List ℕ) (at n k : ℕ) → at ≤ length b → Appended (x ++ y) b a at n → length y ≤ k → Written x k b a at (at + length x)
+unfolding placed
+written-part x y b a at n k h p l =
+    let q : List ℕ = take at b ++ x in
+    let r : List ℕ = drop (at + length (x ++ y)) b in
+    let e : length q ≡ at + length x = length-append (take at b) x ∙ ap (λ (j : ℕ). j + length x) (length-take-le at b h) in
+    let f : a ≡ q ++ (y ++ r) = p .bytes ∙ simp append-assoc in
+    let g : length (q ++ y) ≡ at + length x + length y = length-append q y ∙ ap (λ (j : ℕ). j + length y) e in
+    let m : at + length x + k ≡ length (q ++ y) + (k - length y) = omega (arith, g) in
+    let w : at + length (x ++ y) + (k - length y) ≡ at + length x + k = omega (arith, length-append x y) in
     record {
-      bytes = ap₂ (λ (i j : ℕ). set (set (set b at d) i e) j f) (add-one at) s ∙ placed-sets (d ∷ e ∷ f ∷ []) b at h;
+      starts = ap (λ (z : List ℕ). take (at + length x) z) f ∙ take-at q (y ++ r) (at + length x) e;
+      rest =
+          ap₂ (λ (j : ℕ) (z : List ℕ). drop j z) m (f ∙ sym (append-assoc q y r))
+          ∙ drop-append-add (q ++ y) r (k - length y)
+          ∙ drop-drop (k - length y) (at + length (x ++ y)) b
+          ∙ ap (λ (j : ℕ). drop j b) w;
       ends = refl;
+    }
+
+-- a text of which only the first bytes count
+pub written-front : (x y b a : List ℕ) (at n k m : ℕ) → at ≤ length b → take (length x) y ≡ x → length y ≤ length x + k → Appended y b a at n
+    → m ≡ at + length x → Written x k b a at m
+written-front x y b a at n k m h e l p q =
+    let f : y ≡ x ++ drop (length x) y = sym (take-append-drop (length x) y) ∙ ap (λ (z : List ℕ). z ++ drop (length x) y) e in
+    let g : length (drop (length x) y) ≤ k = omega (arith, length-drop (length x) y) in
+    subst (λ (j : ℕ). Written x k b a at j) (sym q) (written-part x (drop (length x) y) b a at n k h (appended-as f p) g)
+
+-- a text without such bytes
+pub appended-written : {x b a : List ℕ} {at n : ℕ} → (k : ℕ) → at ≤ length b → Appended x b a at n → Written x k b a at n
+appended-written {x} {b} {a} {at} {n} k h p = written-front x x b a at n k n h (take-length x) (omega arith) p (p .ends)
+
+pub written-appended : {x b a : List ℕ} {at n : ℕ} → Written x 0 b a at n → Appended x b a at n
+unfolding placed
+written-appended {x} {b} {a} {at} {n} w =
+    record {
+      bytes =
+          sym (take-append-drop n a)
+          ∙ ap₂ (λ (y z : List ℕ). y ++ z) (w .starts) (simp add-zero at (w .rest))
+          ∙ ap (λ (j : ℕ). take at b ++ x ++ drop j b) (w .ends);
+      ends = w .ends;
+    }
+
+-- two texts, of which the second overwrites what does not count behind the first
+pub written-join : {x y b m a : List ℕ} {at n e k : ℕ} → (l : ℕ) → k ≤ length y + l → Written x k b m at n → Written y l m a n e → Written (x ++ y) l b a at e
+written-join {x} {y} {b} {m} {a} {at} {n} {e} {k} l h p q =
+    let j : ℕ = length y + l - k in
+    let f : n + k + j ≡ e + l = omega (arith, q .ends) in
+    record {
+      starts = q .starts ∙ ap (λ (z : List ℕ). z ++ y) (p .starts) ∙ append-assoc (take at b) x y;
+      rest =
+          q .rest
+          ∙ ap (λ (i : ℕ). drop i m) (sym f)
+          ∙ sym (drop-drop j (n + k) m)
+          ∙ ap (λ (z : List ℕ). drop j z) (p .rest)
+          ∙ drop-drop j (n + k) b
+          ∙ ap (λ (i : ℕ). drop i b) f;
+      ends = omega (arith, p .ends, q .ends, length-append x y);
+    }
+
+-- the same text, spelled otherwise
+pub written-as : {x y b a : List ℕ} {at n k : ℕ} → x ≡ y → Written x k b a at n → Written y k b a at n
+written-as {b = b} {a = a} {at = at} {n = n} {k = k} e p = subst (λ (t : List ℕ). Written t k b a at n) e p
+
+-- more bytes may not count
+pub written-more : {x b a : List ℕ} {at n k : ℕ} → (l : ℕ) → k ≤ l → Written x k b a at n → Written x l b a at n
+written-more {x} {b} {a} {at} {n} {k} l h p =
+    let f : n + k + (l - k) ≡ n + l = omega arith in
+    record {
+      starts = p .starts;
+      rest =
+          ap (λ (i : ℕ). drop i a) (sym f)
+          ∙ sym (drop-drop (l - k) (n + k) a)
+          ∙ ap (λ (z : List ℕ). drop (l - k) z) (p .rest)
+          ∙ drop-drop (l - k) (n + k) b
+          ∙ ap (λ (i : ℕ). drop i b) f;
+      ends = p .ends;
     }

@@ -4,6 +4,7 @@ pub mod Theorems
 pub mod Examples
 pub mod Finite
 pub mod TextLaws
+pub mod Hexadecimal
 pub mod BufferLaws
 pub mod LineLaws
 pub mod Spelling

@@ -51,38 +51,43 @@ total-text records alerts refused = simp append-assoc
 pub number-length : (n e : ℕ) → length (decimal n ++ (e ∷ [])) ≤ decimalLimit + 1
 number-length n e = simp length-append (omega (arith, decimal-length n))
 
-cond-length : (k : ℕ) (b : Bool) (x y : List ℕ) → length x ≤ k → length y ≤ k → length (cond b x y) ≤ k
-cond-length k true x y p q = p
-cond-length k false x y p q = q
+cond-either : (P : List ℕ → Type 0) (b : Bool) (x y : List ℕ) → P x → P y → P (cond b x y)
+cond-either P true x y p q = p
+cond-either P false x y p q = q
 
-wordOf-length : (code : ℕ) → length (wordOf code) ≤ wordLimit
+abbrev Word : List ℕ → Type 0
+Word w = (4 ≤ length w) × (length w ≤ wordLimit)
+
+pub word-lengths : (code : ℕ) → (4 ≤ length (wordOf code)) × (length (wordOf code) ≤ wordLimit)
 unfolding wordOf ascii
-wordOf-length code =
-    cond-length wordLimit (eqb code 1) _ _ (omega arith)
-    (cond-length wordLimit (eqb code 2) _ _ (omega arith)
-    (cond-length wordLimit (eqb code 3) _ _ (omega arith)
-    (cond-length wordLimit (eqb code 4) _ _ (omega arith)
-    (cond-length wordLimit (eqb code 5) _ _ (omega arith)
-    (cond-length wordLimit (eqb code 6) _ _ (omega arith)
-    (cond-length wordLimit (eqb code 7) _ _ (omega arith) (omega arith)))))))
+word-lengths code =
+    cond-either Word (eqb code 1) _ _ (omega arith, omega arith)
+    (cond-either Word (eqb code 2) _ _ (omega arith, omega arith)
+    (cond-either Word (eqb code 3) _ _ (omega arith, omega arith)
+    (cond-either Word (eqb code 4) _ _ (omega arith, omega arith)
+    (cond-either Word (eqb code 5) _ _ (omega arith, omega arith)
+    (cond-either Word (eqb code 6) _ _ (omega arith, omega arith)
+    (cond-either Word (eqb code 7) _ _ (omega arith, omega arith) (omega arith, omega arith)))))))
 
 pub word-length : (code : ℕ) → length (wordOf code ++ (space ∷ [])) ≤ wordLimit + 1
-word-length code = simp length-append (omega (arith, wordOf-length code))
+word-length code = simp length-append (omega (arith, word-lengths code))
 
 pub access-length : (step code p o : ℕ) → length (spaced (decimal step ∷ wordOf code ∷ decimal p ∷ decimal o ∷ [])) ≤ accessLimit
 unfolding spaced
 access-length step code p o =
-    simp length-append (omega (arith, decimal-length step, wordOf-length code, decimal-length p, decimal-length o))
+    simp length-append (omega (arith, decimal-length step, word-lengths code, decimal-length p, decimal-length o))
 
-outcome-length : (x : Outcome) → length (line (verdictOf x) (valuesOf x)) ≤ outcomeLimit
+pub outcome-lengths : (x : Outcome) → (2 ≤ length (line (verdictOf x) (valuesOf x))) × (length (line (verdictOf x) (valuesOf x)) ≤ outcomeLimit)
 unfolding verdictOf valuesOf line ascii
-outcome-length (Quiet receiver tag) = simp length-append (omega (arith, decimal-length receiver, hexadecimal-length tag))
-outcome-length (Alert receiver tag) = simp length-append (omega (arith, decimal-length receiver, hexadecimal-length tag))
-outcome-length (Refused number) = simp length-append (omega (arith, decimal-length number))
+outcome-lengths (Quiet receiver tag) =
+    (simp length-append (omega arith), simp length-append (omega (arith, decimal-length receiver, hexadecimal-length tag)))
+outcome-lengths (Alert receiver tag) =
+    (simp length-append (omega arith), simp length-append (omega (arith, decimal-length receiver, hexadecimal-length tag)))
+outcome-lengths (Refused number) = (simp length-append (omega arith), simp length-append (omega (arith, decimal-length number)))
 
 pub step-length : (step code p o : ℕ) (x : Outcome) → length (stepLine step code p o x) ≤ lineLimit
 step-length step code p o x =
-    rw (← step-text step code p o x, length-append) (omega (arith, access-length step code p o, outcome-length x))
+    rw (← step-text step code p o x, length-append) (omega (arith, access-length step code p o, outcome-lengths x))
 
 pub heading-length : length heading ≤ lineLimit
 unfolding heading line ascii

@@ -1,4 +1,4 @@
--- The loops that write a number's digits from the last to the first.
+-- The loop that writes a number's digits from the last to the first.
 use Prim.Native.Nat.{ℕ, suc, _+_, _-_, _/_, _%_, _≤_, _<_}
 use native.Mathlib.Omega.{arith}
 use mathlib.Core.Path.{_≡_, refl, sym, ap, _∙_}

@@ -1,37 +1,35 @@
 -- Laws of numbers as text.
 use Prim.Native.Nat.{ℕ, zero, suc, _+_, _*_, _-_, _/_, _%_, _^_, _≤_, _<_}
-use native.Mathlib.Nat.{pow-succ'}
+use native.Mathlib.Nat.{pow-succ', add-zero, zero-add, add-suc, suc-add, suc-mul}
 use native.Mathlib.Numerals.{add-one}
 use native.Mathlib.Omega.{arith}
 use mathlib.Core.Path.{_≡_, refl, sym, ap, ap₂, _∙_}
-use mathlib.Core.Bool.{Bool, true, false, cond}
-use mathlib.Core.List.{List, [], _∷_, _++_}
+use mathlib.Core.Bool.{Bool, true, false}
+use mathlib.Core.List.{List, [], _∷_, _++_, append-assoc}
 use lib.Dec.{ltb, eqb, eqb→eq}
-use lib.ListN.{length, getD, length-append, List·getD-append}
+use lib.ListN.{length, getD, take, drop, length-append, List·getD-append, drop-of-length-le}
+use lib.Seq.{drop-append-le}
+use lib.Pow.{shr-shr, mod-mod-pow}
+use lib.Pow as Pow
 use borrow.Author.Tests.{lt-ltb, le-ltb, ltb-true, ltb-false}
-use Rattle.listing.specs.Text.{ascii, digit, digits, decimalLimit, decimalIn, decimal, tagDigits, hexadecimal, spelled}
+use Rattle.listing.specs.Text.{ascii, digit, digits, packed, decimalLimit, decimalIn, decimal, tagDigits, hexadecimal, spelled}
 use Rattle.listing.proofs.Finite.{all-at}
 
 -- ---- one digit
 
--- the digits' codes, by ranges
+-- a digit's code from its value: one from 10 on reaches 16 once 6 is added, and is a letter
 glyph : ℕ → ℕ
-glyph d = cond (ltb d 10) (48 + d) (87 + d)
+glyph d = d + 48 + (d + 6) / 16 * 39
 
 same-digit : ℕ → Bool
 same-digit d = eqb (digit d) (glyph d)
 
-digit-glyph : (d : ℕ) → d < 16 → digit d ≡ glyph d
+pub digit-glyph : (d : ℕ) → d < 16 → digit d ≡ d + 48 + (d + 6) / 16 * 39
 unfolding same-digit digit glyph ascii
 digit-glyph d h = eqb→eq _ _ (all-at same-digit 16 d tt h)
 
 pub digit-low : (d : ℕ) → d < 10 → digit d ≡ 48 + d
-unfolding glyph
-digit-low d h = digit-glyph d (omega arith) ∙ simp (lt-ltb d 10 h)
-
-pub digit-high : (d : ℕ) → 10 ≤ d → d < 16 → digit d ≡ 87 + d
-unfolding glyph
-digit-high d l h = digit-glyph d h ∙ simp (le-ltb d 10 l)
+digit-low d h = let l : d < 16 = omega arith in omega (arith, digit-glyph d l)
 
 -- ---- digits
 
@@ -80,6 +78,19 @@ decimalIn-length (suc k) n =
     (λ l. omega (arith, ap length (decimalIn-below k n l)))
     (λ l. omega (arith, ap length (decimalIn-above k n l), length-append (decimalIn k (n / 10)) (digit (n % 10) ∷ []), decimalIn-length k (n / 10)))
 
+-- a smaller number has fewer digits
+decimalIn-few : (j k n : ℕ) → n < 10 ^ suc k → length (decimalIn j n) ≤ suc k
+unfolding decimalIn
+decimalIn-few zero k n h = omega arith
+decimalIn-few (suc j) k n h =
+    small n (λ l. omega (arith, ap length (decimalIn-below j n l))) (more k h (λ (i : ℕ) (l : n / 10 < 10 ^ suc i). decimalIn-few j i (n / 10) l))
+  where
+    more : (k : ℕ) → n < 10 ^ suc k → ((i : ℕ) → n / 10 < 10 ^ suc i → length (decimalIn j (n / 10)) ≤ suc i) → 10 ≤ n
+        → length (decimalIn (suc j) n) ≤ suc k
+    more zero h f l = absurd (omega arith)
+    more (suc k) h f l =
+        omega (arith, ap length (decimalIn-above j n l), length-append (decimalIn j (n / 10)) (digit (n % 10) ∷ []), f k (tenth (suc k) n h))
+
 none-digits : (n : ℕ) → digits 10 (length (decimalIn 0 n)) n ≡ decimalIn 0 n
 unfolding digits decimalIn
 none-digits n = refl
@@ -106,6 +117,10 @@ pub decimal-length : (n : ℕ) → length (decimal n) ≤ decimalLimit
 unfolding decimal
 decimal-length n = decimalIn-length decimalLimit n
 
+pub decimal-few : (k n : ℕ) → n < 10 ^ suc k → length (decimal n) ≤ suc k
+unfolding decimal
+decimal-few k n h = decimalIn-few decimalLimit k n h
+
 pub decimal-digits : (n : ℕ) → digits 10 (length (decimal n)) n ≡ decimal n
 unfolding decimal
 decimal-digits n = decimalIn-digits decimalLimit n
@@ -114,32 +129,162 @@ pub hexadecimal-length : (n : ℕ) → length (hexadecimal n) ≡ tagDigits
 unfolding hexadecimal
 hexadecimal-length n = digits-length 16 tagDigits n
 
+-- the digits of a number's halves
+digits-halves : (n : ℕ) → digits 16 16 n ≡ digits 16 8 (n / 16 / 16 / 16 / 16 / 16 / 16 / 16 / 16) ++ digits 16 8 n
+unfolding digits
+digits-halves n = refl
+
+digits-rest : (k n : ℕ) → digits 16 k (n % 2 ^ (k * 4)) ≡ digits 16 k n
+unfolding digits
+digits-rest zero n = refl
+digits-rest (suc k) n =
+    rw (suc-mul k 4)
+    (ap₂ (λ (x y : ℕ). digits 16 k x ++ (digit y ∷ [])) (Pow.field n (k * 4) 4) (mod-mod-pow n (k * 4) 4)
+    ∙ ap (λ (x : List ℕ). x ++ (digit (n % 16) ∷ [])) (digits-rest k (n / 16)))
+
+pub hexadecimal-halves : (n : ℕ) → digits 16 8 (n / 4294967296) ++ digits 16 8 (n % 4294967296) ≡ hexadecimal n
+unfolding hexadecimal
+hexadecimal-halves n =
+    let e : n / 16 / 16 / 16 / 16 / 16 / 16 / 16 / 16 ≡ n / 4294967296 = omega arith in
+    ap (λ (x : List ℕ). digits 16 8 (n / 4294967296) ++ x) (digits-rest 8 n)
+    ∙ ap (λ (x : ℕ). digits 16 8 x ++ digits 16 8 n) (sym e)
+    ∙ sym (digits-halves n)
+
 -- one more digit where the number is 10 or more
 pub decimal-longer : (n : ℕ) → 10 ≤ n → n < 10 ^ decimalLimit → length (decimal n) ≡ length (decimal (n / 10)) + 1
 decimal-longer n l h = ap length (decimal-above n l h) ∙ length-append (decimal (n / 10)) (digit (n % 10) ∷ [])
 
--- ---- short numbers
+pub length-one : (n : ℕ) → n < 10 → length (decimal n) ≡ 1
+length-one n h = ap length (decimal-below n h)
 
-pub decimal-one : (n : ℕ) → n < 10 → decimal n ≡ (48 + n) ∷ []
-decimal-one n h = decimal-below n h ∙ ap (λ (d : ℕ). d ∷ []) (digit-low n h)
-
-pub decimal-two : (n : ℕ) → 10 ≤ n → n < 100 → decimal n ≡ (48 + n / 10) ∷ (48 + n % 10) ∷ []
-decimal-two n l h =
+pub length-two : (n : ℕ) → 10 ≤ n → n < 100 → length (decimal n) ≡ 2
+length-two n l h =
     let t : n / 10 < 10 = omega arith in
-    let u : n % 10 < 10 = omega arith in
     let b : n < 10 ^ decimalLimit = omega arith in
-    decimal-above n l b ∙ ap₂ (λ (x : List ℕ) (d : ℕ). x ++ (d ∷ [])) (decimal-one (n / 10) t) (digit-low (n % 10) u)
+    omega (arith, decimal-longer n l b, length-one (n / 10) t)
 
-pub decimal-three : (n : ℕ) → 100 ≤ n → n < 1000 → decimal n ≡ (48 + n / 100) ∷ (48 + n / 10 % 10) ∷ (48 + n % 10) ∷ []
-decimal-three n l h =
-    let t : 10 ≤ n / 10 = omega arith in
-    let s : n / 10 < 100 = omega arith in
-    let u : n % 10 < 10 = omega arith in
+pub length-three : (n : ℕ) → 100 ≤ n → n < 1000 → length (decimal n) ≡ 3
+length-three n l h =
+    let s : 10 ≤ n = omega arith in
+    let u : 10 ≤ n / 10 = omega arith in
+    let t : n / 10 < 100 = omega arith in
     let b : n < 10 ^ decimalLimit = omega arith in
-    let e : n / 10 / 10 ≡ n / 100 = omega arith in
-    decimal-above n (omega arith) b
-    ∙ ap₂ (λ (x : List ℕ) (d : ℕ). x ++ (d ∷ [])) (decimal-two (n / 10) t s) (digit-low (n % 10) u)
-    ∙ ap (λ (d : ℕ). (48 + d) ∷ (48 + n / 10 % 10) ∷ (48 + n % 10) ∷ []) e
+    omega (arith, decimal-longer n s b, length-two (n / 10) u t)
+
+-- ---- digits as the bytes of a number
+
+pub packed-length : (k n : ℕ) → length (packed k n) ≡ k
+unfolding packed
+packed-length zero n = refl
+packed-length (suc k) n = ap suc (packed-length k (n / 256))
+
+pub packed-four : (n : ℕ) → packed 4 n ≡ n % 256 ∷ n / 256 % 256 ∷ n / 65536 % 256 ∷ n / 16777216 % 256 ∷ []
+unfolding packed
+packed-four n =
+    let e : n / 256 / 256 ≡ n / 65536 = omega arith in
+    let f : n / 65536 / 256 ≡ n / 16777216 = omega arith in
+    rw (e, f)
+
+pub packed-eight : (n : ℕ) → packed 8 n ≡ packed 4 n ++ packed 4 (n / 4294967296)
+unfolding packed
+packed-eight n = let e : n / 256 / 256 / 256 / 256 ≡ n / 4294967296 = omega arith in rw e
+
+-- fewer bytes are the first of them
+pub packed-take : (m j n : ℕ) → take m (packed (m + j) n) ≡ packed m n
+unfolding packed
+packed-take zero j n = refl
+packed-take (suc m) j n = rw (suc-add m j) (ap (λ (x : List ℕ). n % 256 ∷ x) (packed-take m j (n / 256)))
+
+-- a shift by whole bytes drops them
+packed-drop : (k m n : ℕ) → drop k (packed (k + m) n) ≡ packed m (n / 2 ^ (8 * k))
+unfolding packed
+packed-drop zero m n = let e : n / 1 ≡ n = omega arith in rw (zero-add m, e)
+packed-drop (suc k) m n =
+    let e : 8 + 8 * k ≡ 8 * suc k = omega arith in
+    rw (suc-add k m) (packed-drop k m (n / 256) ∙ ap (λ (x : ℕ). packed m x) (shr-shr n 8 (8 * k) ∙ ap (λ (i : ℕ). n / 2 ^ i) e))
+
+digits-drop : (b k m n : ℕ) → drop k (digits b (k + m) n) ≡ digits b m n
+unfolding digits
+digits-drop b k zero n = rw (add-zero k) (drop-of-length-le (digits b k n) {i = k} (omega (arith, digits-length b k n)))
+digits-drop b k (suc m) n =
+    rw (add-suc k m)
+    (drop-append-le k (digits b (k + m) (n / b)) (digit (n % b) ∷ []) (omega (arith, digits-length b (k + m) (n / b)))
+    ∙ ap (λ (x : List ℕ). x ++ (digit (n % b) ∷ [])) (digits-drop b k m (n / b)))
+
+-- a number of at most three digits, which are the bytes of x: its first bytes once the unused digits are shifted out
+pub short-number : (n k x : ℕ) → k + length (decimal n) ≡ 3 → packed 3 x ≡ digits 10 3 n
+    → take (length (decimal n)) (packed 4 (x / 2 ^ (8 * k))) ≡ decimal n
+short-number n k x e p =
+    let m : ℕ = length (decimal n) in
+    let f : m + (4 - m) ≡ 4 = omega arith in
+    ap (λ (i : ℕ). take m (packed i (x / 2 ^ (8 * k)))) (sym f)
+    ∙ packed-take m (4 - m) (x / 2 ^ (8 * k))
+    ∙ sym (packed-drop k m x)
+    ∙ ap (λ (i : ℕ). drop k (packed i x)) e
+    ∙ ap (λ (y : List ℕ). drop k y) p
+    ∙ ap (λ (i : ℕ). drop k (digits 10 i n)) (sym e)
+    ∙ digits-drop 10 k m n
+    ∙ decimal-digits n
+
+low-digit : (n : ℕ) → digit (n % 10) ≡ 48 + n % 10
+low-digit n = let l : n % 10 < 10 = omega arith in digit-low (n % 10) l
+
+-- the number of which these are the bytes, the lowest first
+abbrev pub joined : List ℕ → ℕ
+joined [] = 0
+joined (d ∷ ds) = joined ds * 256 + d
+
+-- each is below the bound
+abbrev pub Below : ℕ → List ℕ → Type 0
+Below k [] = Unit {0}
+Below k (d ∷ ds) = (d < k) × Below k ds
+
+pub packed-joined : (ds : List ℕ) → Below 256 ds → packed (length ds) (joined ds) ≡ ds
+unfolding packed
+packed-joined [] h = refl
+packed-joined (d ∷ ds) (l, h) =
+    let e : (joined ds * 256 + d) % 256 ≡ d = omega arith in
+    let f : (joined ds * 256 + d) / 256 ≡ joined ds = omega arith in
+    rw (e, f) (ap (λ (x : List ℕ). d ∷ x) (packed-joined ds h))
+
+three-joined : (h t d : ℕ) → (h * 100 + t * 10 + d) * 65536 + 3158064 - (h * 10 + t) * 655104 - h * 2559
+    ≡ joined ((48 + h) ∷ (48 + t) ∷ (48 + d) ∷ [])
+three-joined h t d = omega arith
+
+pub three-digits : (n : ℕ) → n < 1000 → packed 3 (n * 65536 + 3158064 - n / 10 * 655104 - n / 100 * 2559) ≡ digits 10 3 n
+unfolding digits
+three-digits n l =
+    let h : ℕ = n / 10 / 10 % 10 in
+    let t : ℕ = n / 10 % 10 in
+    let d : ℕ = n % 10 in
+    let u : n ≡ h * 100 + t * 10 + d = omega arith in
+    let v : n / 10 ≡ h * 10 + t = omega arith in
+    let w : n / 100 ≡ h = omega arith in
+    ap (λ (i : ℕ). packed 3 (i * 65536 + 3158064 - n / 10 * 655104 - n / 100 * 2559)) u
+    ∙ ap₂ (λ (i j : ℕ). packed 3 ((h * 100 + t * 10 + d) * 65536 + 3158064 - i * 655104 - j * 2559)) v w
+    ∙ ap (λ (i : ℕ). packed 3 i) (three-joined h t d)
+    ∙ packed-joined ((48 + h) ∷ (48 + t) ∷ (48 + d) ∷ []) (omega arith, (omega arith, (omega arith, tt)))
+    ∙ rw (low-digit (n / 10 / 10), low-digit (n / 10), low-digit n)
+
+-- the last three digits are those of the rest by 1,000
+pub group-digits : (n : ℕ) → digits 10 3 (n % 1000) ≡ digits 10 3 n
+unfolding digits
+group-digits n =
+    let a : n % 1000 / 10 / 10 % 10 ≡ n / 10 / 10 % 10 = omega arith in
+    let b : n % 1000 / 10 % 10 ≡ n / 10 % 10 = omega arith in
+    let d : n % 1000 % 10 ≡ n % 10 = omega arith in
+    rw (a, b, d)
+
+-- a number of four digits or more is its thousands and the last three digits
+pub decimal-thousands : (n : ℕ) → 1000 ≤ n → n < 10 ^ decimalLimit → decimal (n / 1000) ++ digits 10 3 n ≡ decimal n
+unfolding digits
+decimal-thousands n l h =
+    let p : 10 ≤ n / 10 / 10 = omega arith in
+    let q : 10 ≤ n / 10 = omega arith in
+    let b : n / 10 < 10 ^ decimalLimit = omega arith in
+    let d : n / 10 / 10 < 10 ^ decimalLimit = omega arith in
+    let e : n / 10 / 10 / 10 ≡ n / 1000 = omega arith in
+    rw (decimal-above n (omega arith) h, decimal-above (n / 10) q b, decimal-above (n / 10 / 10) p d, e) (simp append-assoc)
 
 -- ---- reading back
 
@@ -178,6 +323,10 @@ some-digit k n =
     n
     (λ l. omega (arith, ap length (decimalIn-below k n l)))
     (λ l. omega (arith, ap length (decimalIn-above k n l), length-append (decimalIn k (n / 10)) (digit (n % 10) ∷ [])))
+
+pub decimal-some : (n : ℕ) → 0 < length (decimal n)
+unfolding decimal
+decimal-some n = some-digit 19 n
 
 first-digit : (k n : ℕ) → 0 < n → n < 10 ^ suc k → 48 < getD (decimalIn (suc k) n) 0 0
 first-digit zero n p h = let l : n < 10 = omega arith in rw (decimalIn-below 0 n l) (omega (arith, digit-low n l))

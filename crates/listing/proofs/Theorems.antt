@@ -1,7 +1,7 @@
 -- What is proved of the listing, beside the contracts of src/: the statements, each with the law that proves it.
 -- `decimal`, `hexadecimal` and `spelled` are the definitions of specs/Text.antt, the lines those of specs/Lines.antt,
--- `placed` and `Appended` those of specs/Buffer.antt.
-use Prim.Native.Nat.{ℕ, _/_, _%_, _^_, _≤_, _<_}
+-- `placed`, `Appended` and `Written` those of specs/Buffer.antt.
+use Prim.Native.Nat.{ℕ, _+_, _/_, _%_, _^_, _≤_, _<_}
 use native.Mathlib.Omega.{arith}
 use mathlib.Core.Path.{_≡_, refl}
 use mathlib.Core.List.{List, [], _∷_, _++_}
@@ -10,7 +10,7 @@ use Rattle.listing.specs.declared.Outcome.{Outcome}
 use Rattle.listing.specs.declared.Outcome.the-variants.{Refused}
 use Rattle.listing.specs.Text.{ascii, digit, decimalLimit, decimalIn, decimal, tagDigits, hexadecimal, spelled}
 use Rattle.listing.specs.Lines.{line, wordOf, verdictOf, valuesOf, heading, stepLine, shortLine, totalLine, policyLine}
-use Rattle.listing.specs.Buffer.{lineLimit, Appended}
+use Rattle.listing.specs.Buffer.{lineLimit, Appended, Written}
 use Rattle.listing.proofs.TextLaws as text
 use Rattle.listing.proofs.LineLaws as lines
 use Rattle.listing.proofs.BufferLaws as buffer
@@ -69,3 +69,12 @@ policy-fits = lines.policy-length
 pub appended-join : {x y before between after : List ℕ} {at next end : ℕ} → at ≤ length before
     → Appended x before between at next → Appended y between after next end → Appended (x ++ y) before after at end
 appended-join = buffer.appended-join
+
+-- bytes behind a text that do not count are overwritten by the next text
+pub written-join : {x y before between after : List ℕ} {at next end spare : ℕ} → (more : ℕ) → spare ≤ length y + more
+    → Written x spare before between at next → Written y more between after next end → Written (x ++ y) more before after at end
+written-join = buffer.written-join
+
+-- where there are none, every other byte is as it was
+pub written-appended : {x before after : List ℕ} {at next : ℕ} → Written x 0 before after at next → Appended x before after at next
+written-appended = buffer.written-appended

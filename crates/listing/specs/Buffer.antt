@@ -13,6 +13,13 @@ pub record Appended (text before after : List ℕ) (at next : ℕ) : Type 0 wher
   pub bytes : after ≡ placed text at before
   pub ends : next ≡ at + length text
 
+-- the text was written at `at`, `next` is the place behind it, and beside it nothing changed but at most `spare` bytes from
+-- `next` on, which the next text of the line overwrites
+pub record Written (text : List ℕ) (spare : ℕ) (before after : List ℕ) (at next : ℕ) : Type 0 where
+  pub starts : take next after ≡ take at before ++ text
+  pub rest : drop (next + spare) after ≡ drop (next + spare) before
+  pub ends : next ≡ at + length text
+
 -- the most bytes of an operation's word
 abbrev pub wordLimit : ℕ
 wordLimit = 8

@@ -1,27 +1,31 @@
 // The listing that the watch program prints, line by line, into a lent buffer (the paper, "Checked examples").
-// Each function writes its text at a place of the buffer, returns the place behind it and leaves every other byte.
+// Each function writes its text at a place of the buffer and returns the place behind it. Every other byte is left by the
+// public ones; a part of a step's line may change up to three bytes behind it, which the next part overwrites.
 ghost use mathlib.Core.Path.{_≡_};
 ghost use mathlib.Core.List.{[], _∷_, _++_};
 ghost use Prim.Native.Nat.{_+_, _≤_, _<_};
-ghost use lib.ListN.{length};
-ghost use Rattle.listing.specs.Text.{digit, decimalLimit, decimal, tagDigits, hexadecimal};
+ghost use lib.ListN.{length, take};
+ghost use Rattle.listing.specs.Text.{digits, packed, decimalLimit, decimal, tagDigits, hexadecimal};
 ghost use Rattle.listing.specs.Lines.{space, newline, line, spaced, wordOf, verdictOf, valuesOf, heading, stepLine, shortLine, totalLine, policyLine};
-ghost use Rattle.listing.specs.Buffer.{Appended, wordLimit, accessLimit, outcomeLimit, lineLimit};
+ghost use Rattle.listing.specs.Buffer.{Appended, Written, wordLimit, accessLimit, outcomeLimit, lineLimit};
 
 // The most bytes of a line.
 pub const LINE_LIMIT: usize = 116;
 
-const TAG_DIGITS: usize = 16;
-
 // The code of the digit 0.
 const ZERO: u8 = 48;
 
-// What a digit from 10 on adds to: 10 gives the code of `a`.
-const LETTERS: u8 = 87;
+// What a letter's code has beside its value and the code of the digit 0: 10 gives the code of `a`.
+const LETTERS: u64 = 39;
 
 const SPACE: u8 = 32;
 
 const NEWLINE: u8 = 10;
+
+// The verdicts' words as the bytes of a number, the first letter lowest, with spaces behind them.
+const QUIET: u64 = 0x2020207465697571;
+
+const ALERT: u64 = 0x2020207472656c61;
 
 // What a step was answered: quiet or alert with the receiver and its tag, or the refusal's number.
 pub enum Outcome {
@@ -72,54 +76,124 @@ fn put_long(out: &mut [u8], at: usize, n: u64) -> usize
     at + k
 }
 
-// A number in decimal. Most are below 1,000: those are written without a loop.
-fn put_decimal(out: &mut [u8], at: usize, n: u64) -> usize
-    requires { ⌜ at + decimalLimit ≤ length (now out) ⌝ }
-    ensures { λ r. ⌜ Appended (decimal n) (now (out .entry)) (now (out .exit)) at r ⌝ }
+// The four lowest bytes of a number, the lowest first: one store.
+fn put_four(out: &mut [u8], at: usize, x: u64) -> usize
+    requires { ⌜ at + 4 ≤ length (now out) ⌝ }
+    ensures { λ r. ⌜ Appended (packed 4 x) (now (out .entry)) (now (out .exit)) at r ⌝ }
+{
+    out[at] = (x % 256) as u8;
+    out[at + 1] = (x / 256 % 256) as u8;
+    out[at + 2] = (x / 65536 % 256) as u8;
+    out[at + 3] = (x / 16777216 % 256) as u8;
+    at + 4
+}
+
+// The eight bytes of a number, the lowest first.
+fn put_eight(out: &mut [u8], at: usize, x: u64) -> usize
+    requires { ⌜ at + 8 ≤ length (now out) ⌝ }
+    ensures { λ r. ⌜ Appended (packed 8 x) (now (out .entry)) (now (out .exit)) at r ⌝ }
+{
+    let next = put_four(out, at, x);
+    put_four(out, next, x / 4294967296)
+}
+
+// The three digits of a number below 1,000 as the bytes of a number, the highest first: with t for n / 10 and h for n / 100
+// it is h + 256 (t - 10 h) + 65,536 (n - 10 t), and 48 in each byte.
+fn three_digits(n: u64) -> u64
+    requires { ⌜ n < 1000 ⌝ }
+    ensures { λ r. ⌜ packed 3 r ≡ digits 10 3 n ⌝ }
+{
+    n * 65536 + 0x303030 - n / 10 * 655104 - n / 100 * 2559
+}
+
+// How many of three digits a number below 1,000 does not need.
+fn unused_digits(n: u64) -> usize
+    requires { ⌜ n < 1000 ⌝ }
+    ensures { λ r. ⌜ r + length (decimal n) ≡ 3 ⌝ }
 {
     if n < 10 {
-        out[at] = ZERO + n as u8;
-        return at + 1;
+        return 2;
     }
     if n < 100 {
-        out[at] = ZERO + (n / 10) as u8;
-        out[at + 1] = ZERO + (n % 10) as u8;
-        return at + 2;
+        return 1;
     }
+    0
+}
+
+// A number below 1,000 in decimal.
+fn put_short_number(out: &mut [u8], at: usize, n: u64) -> usize
+    requires { ⌜ (n < 1000) × (at + 4 ≤ length (now out)) ⌝ }
+    ensures { λ r. ⌜ Written (decimal n) 3 (now (out .entry)) (now (out .exit)) at r ⌝ }
+{
+    let k = unused_digits(n);
+    put_four(out, at, three_digits(n) >> (8 * k));
+    at + (3 - k)
+}
+
+// The last three digits of a number.
+fn put_group(out: &mut [u8], at: usize, n: u64) -> usize
+    requires { ⌜ at + 4 ≤ length (now out) ⌝ }
+    ensures { λ r. ⌜ Written (digits 10 3 n) 1 (now (out .entry)) (now (out .exit)) at r ⌝ }
+{
+    put_four(out, at, three_digits(n % 1000));
+    at + 3
+}
+
+// A number of four to six digits.
+fn put_thousands(out: &mut [u8], at: usize, n: u64) -> usize
+    requires { ⌜ (1000 ≤ n) × (n < 1000000) × (at + 7 ≤ length (now out)) ⌝ }
+    ensures { λ r. ⌜ Written (decimal n) 1 (now (out .entry)) (now (out .exit)) at r ⌝ }
+{
+    let next = put_short_number(out, at, n / 1000);
+    put_group(out, next, n)
+}
+
+// A number of seven to nine digits.
+fn put_millions(out: &mut [u8], at: usize, n: u64) -> usize
+    requires { ⌜ (1000000 ≤ n) × (n < 1000000000) × (at + 10 ≤ length (now out)) ⌝ }
+    ensures { λ r. ⌜ Written (decimal n) 1 (now (out .entry)) (now (out .exit)) at r ⌝ }
+{
+    let next = put_thousands(out, at, n / 1000);
+    put_group(out, next, n)
+}
+
+// A number in decimal. Up to nine digits are written three at a time.
+fn put_decimal(out: &mut [u8], at: usize, n: u64) -> usize
+    requires { ⌜ at + decimalLimit ≤ length (now out) ⌝ }
+    ensures { λ r. ⌜ Written (decimal n) 3 (now (out .entry)) (now (out .exit)) at r ⌝ }
+{
     if n < 1000 {
-        out[at] = ZERO + (n / 100) as u8;
-        out[at + 1] = ZERO + (n / 10 % 10) as u8;
-        out[at + 2] = ZERO + (n % 10) as u8;
-        return at + 3;
+        return put_short_number(out, at, n);
+    }
+    if n < 1000000 {
+        return put_thousands(out, at, n);
+    }
+    if n < 1000000000 {
+        return put_millions(out, at, n);
     }
     put_long(out, at, n)
 }
 
-// A digit's code, with small letters from 10 on.
-fn digit(d: u64) -> u8
-    requires { ⌜ d < 16 ⌝ }
-    ensures { λ r. ⌜ r ≡ digit d ⌝ }
+// Eight hexadecimal digits as the bytes of a number, the highest first, all at once: the halves, quarters and eighths of x
+// are laid apart. A value from 10 on reaches 16 once 6 is added, and is written as a letter.
+fn eight_digits(x: u64) -> u64
+    requires { ⌜ x < 4294967296 ⌝ }
+    ensures { λ r. ⌜ packed 8 r ≡ digits 16 8 x ⌝ }
 {
-    if d < 10 {
-        ZERO + d as u8
-    } else {
-        LETTERS + d as u8
-    }
+    let two = x / 65536 + x % 65536 * 4294967296;
+    let four = (two / 256 & 0x000000ff000000ff) + (two & 0x000000ff000000ff) * 65536;
+    let eight = (four / 16 & 0x000f000f000f000f) + (four & 0x000f000f000f000f) * 256;
+    let letters = (eight + 0x0606060606060606) / 16 & 0x0101010101010101;
+    eight + 0x3030303030303030 + letters * LETTERS
 }
 
-// A tag, from the last digit to the first.
+// A tag.
 fn put_hexadecimal(out: &mut [u8], at: usize, tag: u64) -> usize
     requires { ⌜ at + tagDigits ≤ length (now out) ⌝ }
     ensures { λ r. ⌜ Appended (hexadecimal tag) (now (out .entry)) (now (out .exit)) at r ⌝ }
 {
-    let mut rest = tag;
-    let mut i = TAG_DIGITS;
-    while i > 0 {
-        i -= 1;
-        out[at + i] = digit(rest % 16);
-        rest /= 16;
-    }
-    at + TAG_DIGITS
+    let next = put_eight(out, at, eight_digits(tag / 4294967296));
+    put_eight(out, next, eight_digits(tag % 4294967296))
 }
 
 // A number and the byte behind it.
@@ -127,7 +201,7 @@ fn put_number(out: &mut [u8], at: usize, n: u64, end: u8) -> usize
     requires { ⌜ at + decimalLimit < length (now out) ⌝ }
     ensures { λ r. ⌜ Appended (decimal n ++ (end ∷ [])) (now (out .entry)) (now (out .exit)) at r ⌝ }
 {
-    let next = put_decimal(out, at, n);
+    let next = put_long(out, at, n);
     out[next] = end;
     next + 1
 }
@@ -151,40 +225,90 @@ fn put_named(out: &mut [u8], at: usize, name: &[u8], n: u64, end: u8) -> usize
     put_number(out, next, n, end)
 }
 
+// An operation's word as the bytes of a number, the first letter lowest, with spaces behind it.
+fn word(code: u64) -> u64
+    ensures { λ r. ⌜ take (length (wordOf code)) (packed 8 r) ≡ wordOf code ⌝ }
+{
+    match code {
+        1 => 0x2020202064616572,
+        2 => 0x2020206574697277,
+        3 => 0x2020646e65707061,
+        4 => 0x2020202063657865,
+        5 => 0x202020206b726f66,
+        6 => 0x20202020656c6966,
+        7 => 0x656c6974616c6f76,
+        _ => 0x202020726568746f,
+    }
+}
+
+// How many letters the word has.
+fn word_length(code: u64) -> usize
+    ensures { λ r. ⌜ r ≡ length (wordOf code) ⌝ }
+{
+    match code {
+        1 => 4,
+        2 => 5,
+        3 => 6,
+        4 => 4,
+        5 => 4,
+        6 => 4,
+        7 => 8,
+        _ => 5,
+    }
+}
+
 // An operation's word and the space behind it.
 fn put_word(out: &mut [u8], at: usize, code: u64) -> usize
     requires { ⌜ at + wordLimit < length (now out) ⌝ }
-    ensures { λ r. ⌜ Appended (wordOf code ++ (space ∷ [])) (now (out .entry)) (now (out .exit)) at r ⌝ }
+    ensures { λ r. ⌜ Written (wordOf code ++ (space ∷ [])) 3 (now (out .entry)) (now (out .exit)) at r ⌝ }
 {
-    match code {
-        1 => put_text(out, at, b"read "),
-        2 => put_text(out, at, b"write "),
-        3 => put_text(out, at, b"append "),
-        4 => put_text(out, at, b"exec "),
-        5 => put_text(out, at, b"fork "),
-        6 => put_text(out, at, b"file "),
-        7 => put_text(out, at, b"volatile "),
-        _ => put_text(out, at, b"other "),
+    put_eight(out, at, word(code));
+    let next = at + word_length(code);
+    out[next] = SPACE;
+    next + 1
+}
+
+// A step's number and the space behind it.
+fn put_step_number(out: &mut [u8], at: usize, n: u64) -> usize
+    requires { ⌜ at + decimalLimit < length (now out) ⌝ }
+    ensures { λ r. ⌜ Written (decimal n ++ (space ∷ [])) 2 (now (out .entry)) (now (out .exit)) at r ⌝ }
+{
+    let next = put_decimal(out, at, n);
+    out[next] = SPACE;
+    next + 1
+}
+
+// A container's number and the space behind it.
+fn put_container(out: &mut [u8], at: usize, n: u64) -> usize
+    requires { ⌜ at + decimalLimit < length (now out) ⌝ }
+    ensures { λ r. ⌜ Written (decimal n ++ (space ∷ [])) 2 (now (out .entry)) (now (out .exit)) at r ⌝ }
+{
+    if n < 1000 {
+        let next = put_short_number(out, at, n);
+        out[next] = SPACE;
+        return next + 1;
     }
+    put_number(out, at, n, SPACE)
 }
 
 // The fields of a step's line before the verdict.
 fn put_access(out: &mut [u8], at: usize, step: u64, code: u64, p: u64, o: u64) -> usize
     requires { ⌜ at + accessLimit ≤ length (now out) ⌝ }
-    ensures { λ r. ⌜ Appended (spaced (decimal step ∷ wordOf code ∷ decimal p ∷ decimal o ∷ [])) (now (out .entry)) (now (out .exit)) at r ⌝ }
+    ensures { λ r. ⌜ Written (spaced (decimal step ∷ wordOf code ∷ decimal p ∷ decimal o ∷ [])) 2 (now (out .entry)) (now (out .exit)) at r ⌝ }
 {
-    let op = put_number(out, at, step, SPACE);
+    let op = put_step_number(out, at, step);
     let subject = put_word(out, op, code);
-    let object = put_number(out, subject, p, SPACE);
-    put_number(out, object, o, SPACE)
+    let object = put_container(out, subject, p);
+    put_container(out, object, o)
 }
 
 // A verdict's word with the space behind it, the receiver and its tag.
-fn put_verdict(out: &mut [u8], at: usize, word: &[u8], receiver: u64, tag: u64) -> usize
-    requires { ⌜ at + length (now word) + decimalLimit + tagDigits + 1 < length (now out) ⌝ }
-    ensures { λ r. ⌜ Appended (now (word .entry) ++ line (decimal receiver) (hexadecimal tag ∷ [])) (now (out .entry)) (now (out .exit)) at r ⌝ }
+fn put_verdict(out: &mut [u8], at: usize, word: u64, receiver: u64, tag: u64) -> usize
+    requires { ⌜ at + outcomeLimit ≤ length (now out) ⌝ }
+    ensures { λ r. ⌜ Appended (take 6 (packed 8 word) ++ line (decimal receiver) (hexadecimal tag ∷ [])) (now (out .entry)) (now (out .exit)) at r ⌝ }
 {
-    let next = put_named(out, at, word, receiver, SPACE);
+    put_eight(out, at, word);
+    let next = put_container(out, at + 6, receiver);
     put_tag(out, next, tag)
 }
 
@@ -194,8 +318,8 @@ fn put_outcome(out: &mut [u8], at: usize, outcome: Outcome) -> usize
     ensures { λ r. ⌜ Appended (line (verdictOf outcome) (valuesOf outcome)) (now (out .entry)) (now (out .exit)) at r ⌝ }
 {
     match outcome {
-        Outcome::Quiet { receiver, tag } => put_verdict(out, at, b"quiet ", receiver, tag),
-        Outcome::Alert { receiver, tag } => put_verdict(out, at, b"alert ", receiver, tag),
+        Outcome::Quiet { receiver, tag } => put_verdict(out, at, QUIET, receiver, tag),
+        Outcome::Alert { receiver, tag } => put_verdict(out, at, ALERT, receiver, tag),
         Outcome::Refused(number) => put_named(out, at, b"refused ", number, NEWLINE),
     }
 }

@@ -1,74 +1,54 @@
+use Prim.Native.Nat.{ℕ, _≤_}
 use native.Mathlib.Omega.{arith}
-use mathlib.Core.Path.{_≡_}
-use Rattle.listing.specs.Text.{tagDigits, hexadecimal}
-use Rattle.listing.proofs.Spelling.{Spelling, spelling-start, spelling-next, spelling-end}
+use mathlib.Core.Path.{ap₂, _∙_}
+use mathlib.Core.List.{List, _++_}
+use lib.ListN.{length}
+use Rattle.listing.proofs.TextLaws.{packed-length, hexadecimal-halves}
+use Rattle.listing.proofs.BufferLaws.{appended-join, appended-as}
 use borrow.Author.Needs.{needs}
 use Rattle.listing.proofs.put_hexadecimal.Statement.{statement}
 use Rattle.listing.proofs.put_hexadecimal.Tie as tie
 use Rattle.listing.proofs.put_hexadecimal.Reads as reads
 use Rattle.listing.proofs.put_hexadecimal.Lts as lts
-use Rattle.listing.proofs.digit.Reads as digit-reads
+use Rattle.listing.proofs.eight_digits.Reads as eight-digits-reads
+use Rattle.listing.proofs.put_eight.Reads as put-eight-reads
 
-abbrev Inv-loop : tie.InvT-loop
-Inv-loop out₀ at tag rest₀ i₀ out rest i = Spelling 16 tagDigits tag at out₀ out i rest
+-- src/lib.rt:193:35
+eight-digits-requires : tie.Need-eight-digits-requires
+eight-digits-requires c κs = search needs
 
-abbrev μ-loop : tie.MeasureT-loop
-μ-loop out₀ at tag rest₀ i₀ out rest i = i
+-- src/lib.rt:193:9
+put-eight-requires : tie.Need-put-eight-requires
+put-eight-requires c κs = search needs
 
--- src/lib.rt:108:5
-loop-holds : tie.Need-loop-holds Inv-loop μ-loop
-loop-holds c = spelling-start _ _ _ _ _ (c .before .pre)
+-- src/lib.rt:194:26
+eight-digits-requires-2 : tie.Need-eight-digits-requires-2
+eight-digits-requires-2 c κs = search needs
 
--- src/lib.rt:109:9
-sub-i : tie.Need-sub-i Inv-loop μ-loop
-sub-i c = search needs
+-- src/lib.rt:194:5
+put-eight-requires-2 : tie.Need-put-eight-requires-2
+put-eight-requires-2 c κs = omega (arith, packed-length 8 (c .before .before .before .before .before .eight-digits .result))
 
--- src/lib.rt:110:23
-digit-requires : tie.Need-digit-requires Inv-loop μ-loop
-digit-requires c κs = search needs
+-- src/lib.rt:189:1
+same-length : tie.Need-same-length
+same-length c = search needs
 
--- src/lib.rt:110:13
-add-out : tie.Need-add-out Inv-loop μ-loop
-add-out c = search needs
-
--- src/lib.rt:110:9
-slice-write-out : tie.Need-slice-write-out Inv-loop μ-loop
-slice-write-out c = search needs
-
--- src/lib.rt:108:5
-loop-less : tie.Need-loop-less Inv-loop μ-loop
-loop-less c = search needs
-
--- src/lib.rt:108:5
-loop-again : tie.Need-loop-again Inv-loop μ-loop
-loop-again c = spelling-next (c .before .before .loop .inv) _ (c .before .loop-test .taken) (c .digit .ensures)
-
--- src/lib.rt:113:5
-add-result : tie.Need-add-result Inv-loop μ-loop
-add-result c = search needs
-
--- src/lib.rt:102:1
-same-length : tie.Need-same-length Inv-loop μ-loop
-same-length c = c .before .loop .inv .long
-
--- src/lib.rt:102:1
-returns : tie.Need-returns Inv-loop μ-loop
-unfolding hexadecimal
-returns c = let e : c .before .loop .i ≡ 0 = omega arith in spelling-end (c .before .loop .inv) e
+-- src/lib.rt:189:1
+returns : tie.Need-returns
+returns c =
+    let a = c .before .before .before .before .before .before .before .before .before .before .before .args in
+    let h : a .at ≤ length (a .out .now) = omega arith in
+    appended-as
+    (ap₂ (λ (x y : List ℕ). x ++ y) (c .before .before .before .before .before .before .before .before .eight-digits .ensures) (c .before .before .before .eight-digits2 .ensures) ∙ hexadecimal-halves (a .tag))
+    (appended-join h (c .before .before .before .before .before .before .before .put-eight .ensures) (c .before .before .put-eight2 .ensures))
 
 pub put-hexadecimal-spec : {M : Type 1} → statement M
 put-hexadecimal-spec =
     tie.close
     (tie.spec
-    Inv-loop
-    μ-loop
-    loop-holds
-    sub-i
-    digit-requires
-    add-out
-    slice-write-out
-    loop-less
-    loop-again
-    add-result
+    eight-digits-requires
+    put-eight-requires
+    eight-digits-requires-2
+    put-eight-requires-2
     same-length
     returns)

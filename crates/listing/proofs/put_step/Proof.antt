@@ -1,8 +1,8 @@
 use Prim.Native.Nat.{_≤_}
 use native.Mathlib.Omega.{arith}
 use lib.ListN.{length}
-use Rattle.listing.proofs.BufferLaws.{appended-join, appended-as}
-use Rattle.listing.proofs.LineLaws.{step-text, access-length}
+use Rattle.listing.proofs.BufferLaws.{appended-written, written-appended, written-join, written-as}
+use Rattle.listing.proofs.LineLaws.{step-text, access-length, outcome-lengths}
 use borrow.Author.Needs.{needs}
 use Rattle.listing.proofs.put_step.Statement.{statement}
 use Rattle.listing.proofs.put_step.Tie as tie
@@ -11,28 +11,30 @@ use Rattle.listing.proofs.put_step.Lts as lts
 use Rattle.listing.proofs.put_access.Reads as put-access-reads
 use Rattle.listing.proofs.put_outcome.Reads as put-outcome-reads
 
--- src/lib.rt:207:9
+-- src/lib.rt:345:9
 put-access-requires : tie.Need-put-access-requires
 put-access-requires c κs = search needs
 
--- src/lib.rt:208:5
+-- src/lib.rt:346:5
 put-outcome-requires : tie.Need-put-outcome-requires
 put-outcome-requires c κs =
     let a = c .before .before .before .before .before .before .args in
     omega (arith, access-length (a .step) (a .code) (a .p) (a .o))
 
--- src/lib.rt:203:1
+-- src/lib.rt:333:1
 same-length : tie.Need-same-length
 same-length c = search needs
 
--- src/lib.rt:203:1
+-- src/lib.rt:333:1
 returns : tie.Need-returns
 returns c =
     let a = c .before .before .before .before .before .before .before .before .before .args in
-    let h : a .at ≤ length (a .out .now) = omega arith in
-    appended-as
+    let p = c .before .before .before .before .before .before .put-access in
+    let h : p .result ≤ length (p .last .0) = omega (arith, access-length (a .step) (a .code) (a .p) (a .o)) in
+    written-appended
+    (written-as
     (step-text (a .step) (a .code) (a .p) (a .o) (a .outcome))
-    (appended-join h (c .before .before .before .before .before .before .put-access .ensures) (c .before .before .put-outcome .ensures))
+    (written-join 0 (omega (arith, outcome-lengths (a .outcome))) (p .ensures) (appended-written 0 h (c .before .before .put-outcome .ensures))))
 
 pub put-step-spec : {M : Type 1} → statement M
 put-step-spec = tie.close (tie.spec put-access-requires put-outcome-requires same-length returns)

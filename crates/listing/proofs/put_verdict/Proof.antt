@@ -1,41 +1,68 @@
-use Prim.Native.Nat.{_≤_}
+use Prim.Native.Nat.{ℕ, _+_, _≤_}
 use native.Mathlib.Omega.{arith}
-use lib.ListN.{length, length-append}
-use mathlib.Core.List.{[], _∷_, _++_}
-use Rattle.listing.specs.Text.{decimal, hexadecimal}
-use Rattle.listing.specs.Lines.{space}
-use Rattle.listing.proofs.BufferLaws.{appended-join, appended-as}
+use mathlib.Core.Path.{_≡_, ap}
+use mathlib.Core.List.{List, [], _∷_}
+use lib.ListN.{length, length-append, take}
+use lib.Seq.{length-take-le}
+use Rattle.listing.specs.Text.{packed, decimal, hexadecimal}
+use Rattle.listing.specs.Lines.{space, newline}
+use Rattle.listing.proofs.TextLaws.{packed-length, hexadecimal-length}
+use Rattle.listing.proofs.BufferLaws.{appended-written, written-appended, written-front, written-join, written-as}
 use Rattle.listing.proofs.LineLaws.{verdict-text, number-length}
 use borrow.Author.Needs.{needs}
 use Rattle.listing.proofs.put_verdict.Statement.{statement}
 use Rattle.listing.proofs.put_verdict.Tie as tie
 use Rattle.listing.proofs.put_verdict.Reads as reads
 use Rattle.listing.proofs.put_verdict.Lts as lts
-use Rattle.listing.proofs.put_named.Reads as put-named-reads
+use Rattle.listing.proofs.put_container.Reads as put-container-reads
+use Rattle.listing.proofs.put_eight.Reads as put-eight-reads
 use Rattle.listing.proofs.put_tag.Reads as put-tag-reads
 
--- src/lib.rt:178:9
-put-named-requires : tie.Need-put-named-requires
-put-named-requires c κs = search needs
+-- src/lib.rt:307:5
+put-eight-requires : tie.Need-put-eight-requires
+put-eight-requires c κs = search needs
 
--- src/lib.rt:179:5
+-- src/lib.rt:308:35
+add-put-container : tie.Need-add-put-container
+add-put-container c = search needs
+
+-- src/lib.rt:308:9
+put-container-requires : tie.Need-put-container-requires
+put-container-requires c κs = search needs
+
+-- src/lib.rt:309:5
 put-tag-requires : tie.Need-put-tag-requires
-put-tag-requires c κs =
-    let a = c .before .before .before .before .before .before .before .args in
-    omega (arith, number-length (a .receiver) space, length-append (a .word .now) (decimal (a .receiver) ++ (space ∷ [])))
+put-tag-requires c κs = omega (arith, number-length (c .before .before .before .before .before .before .before .before .before .before .args .receiver) space)
 
--- src/lib.rt:174:1
+-- src/lib.rt:303:1
 same-length : tie.Need-same-length
 same-length c = search needs
 
--- src/lib.rt:174:1
+-- src/lib.rt:303:1
 returns : tie.Need-returns
 returns c =
-    let a = c .before .before .before .before .before .before .before .before .before .before .args in
+    let a = c .before .before .before .before .before .before .before .before .before .before .before .before .before .args in
+    let p = c .before .before .before .before .before .before .before .before .before .before .put-eight in
+    let q = c .before .before .before .before .before .before .put-container in
+    let w : List ℕ = take 6 (packed 8 (a .word)) in
+    let s : 6 ≤ length (packed 8 (a .word)) = omega (arith, packed-length 8 (a .word)) in
+    let l : length w ≡ 6 = length-take-le 6 (packed 8 (a .word)) s in
     let h : a .at ≤ length (a .out .now) = omega arith in
-    appended-as
-    (verdict-text (a .word .now) (decimal (a .receiver)) (hexadecimal (a .tag)))
-    (appended-join h (c .before .before .before .before .before .before .put-named .ensures) (c .before .before .put-tag .ensures))
+    let e : take (length w) (packed 8 (a .word)) ≡ w = ap (λ (k : ℕ). take k (packed 8 (a .word))) l in
+    let m : q .result ≤ length (q .last .0) = omega (arith, number-length (a .receiver) space) in
+    let f = written-front w (packed 8 (a .word)) (a .out .now) (p .last .0) (a .at) (p .result) 2 (a .at + 6) h e (omega (arith, packed-length 8 (a .word))) (p .ensures) (omega arith) in
+    written-appended
+    (written-as
+    (verdict-text w (decimal (a .receiver)) (hexadecimal (a .tag)))
+    (written-join 0 (omega (arith, length-append (hexadecimal (a .tag)) (newline ∷ []), hexadecimal-length (a .tag))) (written-join 2 (omega arith) f (q .ensures)) (appended-written 0 m (c .before .before .put-tag .ensures))))
 
 pub put-verdict-spec : {M : Type 1} → statement M
-put-verdict-spec = tie.close (tie.spec put-named-requires put-tag-requires same-length returns)
+put-verdict-spec =
+    tie.close
+    (tie.spec
+    put-eight-requires
+    add-put-container
+    put-container-requires
+    put-tag-requires
+    same-length
+    returns)

@@ -1,0 +1,66 @@
+use Prim.Native.Nat.{_≤_, _<_}
+use native.Mathlib.Omega.{arith}
+use lib.ListN.{length}
+use Rattle.listing.specs.Lines.{space}
+use Rattle.listing.proofs.TextLaws.{decimal-length}
+use Rattle.listing.proofs.BufferLaws.{appended-byte, appended-written, written-join}
+use borrow.Author.Needs.{needs}
+use Rattle.listing.proofs.put_container.Statement.{statement}
+use Rattle.listing.proofs.put_container.Tie as tie
+use Rattle.listing.proofs.put_container.Reads as reads
+use Rattle.listing.proofs.put_container.Lts as lts
+use Rattle.listing.proofs.put_number.Reads as put-number-reads
+use Rattle.listing.proofs.put_short_number.Reads as put-short-number-reads
+
+-- src/lib.rt:284:13
+put-short-number-requires : tie.Need-put-short-number-requires
+put-short-number-requires c κs = search needs
+
+-- src/lib.rt:285:9
+slice-write-out : tie.Need-slice-write-out
+slice-write-out c = omega (arith, decimal-length (c .before .before .before .before .before .before .args .n))
+
+-- src/lib.rt:286:16
+add-result : tie.Need-add-result
+add-result c = omega (arith, decimal-length (c .before .before .before .before .before .before .args .n))
+
+-- src/lib.rt:286:9
+same-length : tie.Need-same-length
+same-length c = search needs
+
+-- src/lib.rt:286:9
+returns : tie.Need-returns
+returns c =
+    let a = c .before .before .before .before .before .before .args in
+    let p = c .before .before .put-short-number in
+    let h : p .result ≤ length (p .last .0) = omega (arith, decimal-length (a .n)) in
+    let l : p .result < length (p .last .0) = omega (arith, decimal-length (a .n)) in
+    written-join 2 (omega arith) (p .ensures) (appended-written 2 h (appended-byte space (p .result) (p .last .0) l))
+
+-- src/lib.rt:288:5
+put-number-requires : tie.Need-put-number-requires
+put-number-requires c κs = search needs
+
+-- src/lib.rt:279:1
+same-length-2 : tie.Need-same-length-2
+same-length-2 c = search needs
+
+-- src/lib.rt:279:1
+returns-2 : tie.Need-returns-2
+returns-2 c =
+    let a = c .before .before .before .before .before .before .args in
+    let h : a .at ≤ length (a .out .now) = omega arith in
+    appended-written 2 h (c .before .before .put-number .ensures)
+
+pub put-container-spec : {M : Type 1} → statement M
+put-container-spec =
+    tie.close
+    (tie.spec
+    put-short-number-requires
+    slice-write-out
+    add-result
+    same-length
+    returns
+    put-number-requires
+    same-length-2
+    returns-2)

@@ -1,0 +1,46 @@
+use Prim.Native.Nat.{ℕ, _+_, _≤_}
+use native.Mathlib.Omega.{arith}
+use mathlib.Core.Path.{_≡_, ap, _∙_}
+use lib.ListN.{length, take}
+use Rattle.listing.specs.Text.{digits, packed}
+use Rattle.listing.proofs.TextLaws.{digits-length, packed-length, packed-take, group-digits}
+use Rattle.listing.proofs.BufferLaws.{written-front}
+use borrow.Author.Needs.{needs}
+use Rattle.listing.proofs.put_group.Statement.{statement}
+use Rattle.listing.proofs.put_group.Tie as tie
+use Rattle.listing.proofs.put_group.Reads as reads
+use Rattle.listing.proofs.put_group.Lts as lts
+use Rattle.listing.proofs.put_four.Reads as put-four-reads
+use Rattle.listing.proofs.three_digits.Reads as three-digits-reads
+
+-- src/lib.rt:136:23
+three-digits-requires : tie.Need-three-digits-requires
+three-digits-requires c κs = search needs
+
+-- src/lib.rt:136:5
+put-four-requires : tie.Need-put-four-requires
+put-four-requires c κs = search needs
+
+-- src/lib.rt:137:5
+add-result : tie.Need-add-result
+add-result c = search needs
+
+-- src/lib.rt:132:1
+same-length : tie.Need-same-length
+same-length c = search needs
+
+-- src/lib.rt:132:1
+returns : tie.Need-returns
+returns c =
+    let a = c .before .before .before .before .before .before .args in
+    let p = c .before .before .put-four in
+    let r : ℕ = c .before .before .before .three-digits .result in
+    let h : a .at ≤ length (a .out .now) = omega arith in
+    let l : length (digits 10 3 (a .n)) ≡ 3 = digits-length 10 3 (a .n) in
+    let e : take (length (digits 10 3 (a .n))) (packed 4 r) ≡ digits 10 3 (a .n) =
+    ap (λ (k : ℕ). take k (packed 4 r)) l ∙ packed-take 3 1 r ∙ c .before .before .before .three-digits .ensures ∙ group-digits (a .n) in
+    written-front (digits 10 3 (a .n)) (packed 4 r) (a .out .now) (p .last .0) (a .at) (p .result) 1 (a .at + 3) h e (omega (arith, packed-length 4 r)) (p .ensures) (omega arith)
+
+pub put-group-spec : {M : Type 1} → statement M
+put-group-spec =
+    tie.close (tie.spec three-digits-requires put-four-requires add-result same-length returns)
