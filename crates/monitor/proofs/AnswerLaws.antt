@@ -8,7 +8,7 @@ use Rattle.rules.specs.Rules.{covers}
 use Rattle.rules.proofs.Bools.{clash}
 use Rattle.session.specs.Rows.{Row}
 use Rattle.chains.specs.History.{Step, receiver}
-use Rattle.chains.specs.Demand.{Answer, quiet, alert, refused, accepted, isAlert, judged}
+use Rattle.chains.specs.Demand.{Answer, quiet, alert, refused, accepted, isAlert, receiverOf, tagOf, judged}
 use Rattle.chains.specs.Table.{newFileRow, newVolatileRow, alerts, verdict}
 use Rattle.operations.specs.declared.Request.{Request}
 use Rattle.operations.specs.Codes.{isCode}
@@ -51,3 +51,7 @@ number-told s r e = number-accepted (stepAnswer s r) (answered s r e)
 
 pub number-refused : (s r : List ℕ) → refusalOf s r ≢ 0 → (numberOf (stepAnswer s r) ≡ refusalOf s r) × (refusalOf s r ≢ alertNumber)
 number-refused s r n = (ap numberOf (refused-answer s r n), never-alert s r)
+
+-- "A refusal returns its number, zeros elsewhere"
+pub refused-zeros : (s r : List ℕ) → refusalOf s r ≢ 0 → (isAlert (stepAnswer s r) ≡ false) × (receiverOf (stepAnswer s r) ≡ 0) × (tagOf (stepAnswer s r) ≡ 0)
+refused-zeros s r n = (ap isAlert (refused-answer s r n), ap receiverOf (refused-answer s r n), ap tagOf (refused-answer s r n))

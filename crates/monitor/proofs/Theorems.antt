@@ -247,6 +247,10 @@ number-accepted = number-told
 pub number-refused : (s r : List ℕ) → refusalOf s r ≢ 0 → (numberOf (stepAnswer s r) ≡ refusalOf s r) × (refusalOf s r ≢ 256)
 number-refused = answers.number-refused
 
+-- "zeros elsewhere"
+pub refused-zeros : (s r : List ℕ) → refusalOf s r ≢ 0 → (isAlert (stepAnswer s r) ≡ false) × (receiverOf (stepAnswer s r) ≡ 0) × (tagOf (stepAnswer s r) ≡ 0)
+refused-zeros = answers.refused-zeros
+
 -- ---- records (the paper, "Operations")
 
 -- 7 is not given exactly if the record has 8 bytes, a code from 1 to 7, the zero byte, a user up to 15 with codes 4 and 6 and
