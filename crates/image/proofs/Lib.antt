@@ -11,3 +11,6 @@ pub mod Scanning
 pub mod Places
 pub mod RuleReading
 pub mod WordLaws
+pub mod RuleTests
+pub mod Exchange
+pub mod SpanWords

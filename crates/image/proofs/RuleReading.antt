@@ -1,27 +1,29 @@
 -- A rule of the image, read mixture by mixture.
-use Prim.Native.Nat.{ℕ, zero, suc, _+_, _-_, _*_, _/_, _≤_, _<_}
+use Prim.Native.Nat.{ℕ, _+_, _-_, _*_, _/_, _≤_, _<_}
 use mathlib.Core.Path.{_≡_, refl, sym, ap, ap₂, _∙_}
-use mathlib.Core.List.{List, [], _∷_, _++_, map, append-nil}
+use mathlib.Core.List.{List, [], _∷_, _++_}
 use native.Mathlib.Omega.{arith}
 use native.Mathlib.Numerals.{add-one}
-use lib.ListN.{length, length-map, replicate, length-replicate, List·getD-eq-default, length-append, getD, take, drop, set, length-set, length-take, length-drop, drop-of-length-le}
+use lib.ListN.{length, getD, take, drop, set, length-set, length-take, length-drop}
 use lib.Seq.{paste, paste-zero, paste-suc, getD-take, getD-drop, take-all, take-at}
 use mathlib.Core.Bool.{true}
 use mathlib.Core.Logic.{⊎-elim}
-use lib.Dec.{ltb, leb}
-use borrow.Author.Tests.{ltb-true, eqb-true, ne-eqb, eq-eqb, le-leb, leb-true}
+use lib.Dec.{ltb}
+use borrow.Author.Tests.{ltb-true, eqb-true, ne-eqb}
 use Rattle.rules.proofs.Bools.{or-cases}
 use Rattle.rules.specs.declared.Bounded.{Bounded}
 use Rattle.rules.specs.Rules.{normal, unrestricted}
-use Rattle.rules.specs.Answers.{boundedOf, padded}
-use Rattle.image.specs.Bytes.{field, numberIn, records, every}
+use Rattle.rules.specs.Answers.{boundedOf}
+use Rattle.image.specs.Words.{wordsOf}
+use Rattle.image.proofs.WordLaws.{bounded-words}
+use Rattle.image.specs.Bytes.{field}
 use Rattle.image.specs.Policy.{unrestrictedRule, ruleAt, named}
-use Rattle.image.specs.Image.{mixturesIn, usersIn, spansIn, rulesIn, spansGood}
+use Rattle.image.specs.Image.{mixturesIn, spansIn, rulesIn, spansGood}
 use Rattle.image.specs.Normal.{normalAt}
 use Rattle.rules.proofs.RuleLaws.{normal-length}
 use native.Mathlib.Decide.{ℕ-discrete}
 use Rattle.image.proofs.Means.{normal-unrestricted}
-use Rattle.image.proofs.Places.{mixtures-count, rule-at, rule-fits, record-at, records-count, map-at}
+use Rattle.image.proofs.Places.{mixtures-count, rule-at, rule-fits}
 
 -- of the numbers of x, j are written
 pub record Gathered (x out₀ out : List ℕ) (j : ℕ) : Type 0 where
@@ -58,15 +60,19 @@ module _ (m : List ℕ) (first n : ℕ) (h : first + n ≤ length m / 8) where
 
 -- ---- a rule by its number
 
-pub own-rule : (r m words : List ℕ) (n first count : ℕ) → spansGood (length m / 8) 0 (spansIn r) ≡ true → n < length r / 4 → first ≡ field r (n * 4) 2 → count ≡ field r (n * 4 + 2) 2
-    → take count words ≡ take count (drop first (mixturesIn m)) → take (count - 0) words ≡ getD (rulesIn r m) n []
-own-rule r m words n first count h l e f g =
-    let z : count - 0 ≡ count = omega arith in
-    ap (λ (k : ℕ). take k words) z ∙ g ∙ ap₂ (λ (k a : ℕ). take k (drop a (mixturesIn m))) f e ∙ sym (rule-at r m h n l)
+pub own-rule : (r m : List ℕ) (n first count : ℕ) → spansGood (length m / 8) 0 (spansIn r) ≡ true → n < length r / 4 → first ≡ field r (n * 4) 2 → count ≡ field r (n * 4 + 2) 2 → take count (drop first (mixturesIn m)) ≡ getD (rulesIn r m) n []
+own-rule r m n first count h l e f = ap₂ (λ (k a : ℕ). take k (drop a (mixturesIn m))) f e ∙ sym (rule-at r m h n l)
 
-pub unrestricted-bounded : (rules : List (List ℕ)) (n : ℕ) → n ≡ 65535 → record { fits = true; count = 1; mixtures = 18446744073709551615 ∷ 0 ∷ 0 ∷ 0 ∷ 0 ∷ 0 ∷ 0 ∷ 0 ∷ [] } ≡ boundedOf (normalAt rules n)
+unrestricted-at : (rules : List (List ℕ)) (n : ℕ) → n ≡ 65535 → normalAt rules n ≡ unrestricted 64
 unfolding normalAt ruleAt
-unrestricted-bounded rules n e = rw (e, normal-unrestricted) (unfold boundedOf padded unrestrictedRule unrestricted in refl)
+unrestricted-at rules n e = rw (e, normal-unrestricted) (unfold unrestrictedRule in refl)
+
+unrestricted-one : length (unrestricted 64) ≤ 8
+unfolding unrestricted
+unrestricted-one = omega arith
+
+pub unrestricted-words : (rules : List (List ℕ)) (n : ℕ) (b : Bounded) (out : List ℕ) → n ≡ 65535 → b ≡ boundedOf (unrestricted 64) → out ≡ b .count ∷ b .mixtures → out ≡ wordsOf (normalAt rules n)
+unrestricted-words rules n b out e f h = h ∙ bounded-words (unrestricted 64) b f unrestricted-one ∙ ap wordsOf (sym (unrestricted-at rules n e))
 
 pub named-own : (k n : ℕ) → named k n ≡ true → (n ≡ 65535 → ⊥) → n < k
 unfolding named

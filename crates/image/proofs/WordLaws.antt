@@ -4,6 +4,7 @@ use mathlib.Core.Path.{_≡_, refl, sym, ap, ap₂, _∙_}
 use mathlib.Core.Bool.{Bool, true, false, cond, _||_}
 use mathlib.Core.List.{List, [], _∷_, _++_, map, append-nil}
 use native.Mathlib.Omega.{arith}
+use native.Mathlib.Nat.{add-sub-cancel}
 use native.Mathlib.Numerals.{add-one}
 use lib.ListN.{length, getD, take, drop, set, replicate, length-set, length-append, length-replicate, drop-of-length-le}
 use lib.Seq.{paste, paste-zero, paste-suc, take-all, take-suc, getD-set-same}
@@ -68,6 +69,10 @@ words-nine rule l = omega (arith, length-append rule (replicate (8 - length rule
 pub words-rule : (r : List ℕ) → ruleOf (wordsOf r) ≡ r
 unfolding ruleOf wordsOf
 words-rule r = padded-take r (length r) refl
+
+pub rule-part : (ws : List ℕ) → take (getD ws 0 0 + 1 - 1) (drop 1 ws) ≡ ruleOf ws
+unfolding ruleOf
+rule-part ws = simp add-sub-cancel
 
 pub words-same : (r s : List ℕ) → sameList (wordsOf r) (wordsOf s) ≡ sameList r s
 words-same r s =

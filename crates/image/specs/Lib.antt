@@ -5,3 +5,4 @@ pub mod Policy
 pub mod Image
 pub mod Normal
 pub mod Words
+pub mod RuleTest

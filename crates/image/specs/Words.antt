@@ -1,7 +1,9 @@
 -- A rule as 9 words: its count, and the 8 places for its mixtures.
 use Prim.Native.Nat.{ℕ}
+use mathlib.Core.Bool.{Bool}
 use mathlib.Core.List.{List, _∷_}
 use lib.ListN.{length, getD, take, drop}
+use Rattle.rules.specs.Rules.{normal, sameList}
 use Rattle.rules.specs.Answers.{padded}
 
 abbrev pub ruleWidth : ℕ
@@ -14,3 +16,7 @@ ruleOf ws = take (getD ws 0 0) (drop 1 ws)
 -- the words of a rule of at most 8 mixtures: unused ones are 0
 unfoldable pub wordsOf : List ℕ → List ℕ
 wordsOf r = length r ∷ padded r
+
+-- r is its own normal form
+unfoldable pub isNormal : List ℕ → Bool
+isNormal r = sameList (normal r) r

@@ -12,8 +12,8 @@ use Rattle.image.specs.Bytes.{numberIn, bytesOf, field}
 use Rattle.image.specs.Policy.{Container, Policy, unrestrictedRule, ruleAt}
 use Rattle.image.specs.Normal.{normalAt, placeOf, meaning}
 use Rattle.chains.proofs.KindLaws.{process-used}
-use Rattle.session.specs.Rows.{Row, allZero, isNormal, keptWell, rowWords, freeWords, permitWords, runWords, rowOf, usedKind, containerRowGood, userWords, isDeclared, userRuleWords, userRuleOf, userRowGood, containerRow, userRow, putRow}
-use Rattle.image.specs.Words.{ruleOf, wordsOf}
+use Rattle.session.specs.Rows.{Row, allZero, keptWell, rowWords, freeWords, permitWords, runWords, rowOf, usedKind, containerRowGood, userWords, isDeclared, userRuleWords, userRuleOf, userRowGood, containerRow, userRow, putRow}
+use Rattle.image.specs.Words.{ruleOf, wordsOf, isNormal}
 use Rattle.session.specs.Session.{startTag, startRow, placeWords, filled, sessionOf, startOf}
 use Rattle.chains.specs.Demand.{quiet, alert, refused}
 use Rattle.chains.specs.Table.{readRow, writeRow, appendRow, execRow, forkRow, fits, alerts, verdict}

@@ -23,10 +23,8 @@ use Rattle.image.proofs.Lists.{every-nil, every-cons, every-left, every-right, 
 use Rattle.image.proofs.Decode.{passes, sound}
 use Rattle.image.proofs.Encode.{encode-length, encode-short}
 use Rattle.image.proofs.Means.{meaning-encodable, policy-sound, normal-good, form-rule}
-use Rattle.image.proofs.WordLaws.{words-rule, words-nine, bounded-words}
+use Rattle.image.proofs.WordLaws.{words-rule, words-nine}
 use Rattle.image.proofs.Places.{map-at, records-count, rule-at, rule-fits}
-use Rattle.rules.specs.Answers.{boundedOf}
-use Rattle.rules.specs.declared.Bounded.{Bounded}
 use borrow.Rule.Slice.PartMut.{putMid}
 use Rattle.normaliser.specs.Tables.{formAt, formsIn, wordsGood, formGood, policyAt, policyFrom, Classified, classAt, classNamed, containerUses, placedAll, Ordered, numberAt, found, renumbered, containerBytesAt, userBytes, spanBytesAt, mixtureBytes, recordSize, Writable, Written, Tabled}
 use Rattle.normaliser.proofs.Laying.{wide, rows-length, records-rows, Laid, laid-start, laid-next, laid-end}
@@ -306,14 +304,14 @@ module _ (rules mixtures : List ℕ) where
   filling-start forms h e = record { count = refl; place = omega arith; laid = laid-start 9 wordRows forms (omega (arith, word-rows)) }
 
   module _ (forms₀ forms : List ℕ) (n k : ℕ) (g : Filling forms₀ forms n k) (h : spansGood (length mixtures / 8) 0 (spansIn rules) ≡ true) where
-    pub filling-next : k < n → (rule : Bounded) (ws : List ℕ) → rule ≡ boundedOf (normal (getD (rulesIn rules mixtures) k [])) → ws ≡ rule .count ∷ rule .mixtures → Filling forms₀ (putMid (k * 9) 9 forms ws) n (k + 1)
-    filling-next l rule ws e f =
+    pub filling-next : k < n → (ws : List ℕ) → ws ≡ wordsOf (normal (getD (rulesIn rules mixtures) k [])) → Filling forms₀ (putMid (k * 9) 9 forms ws) n (k + 1)
+    filling-next l ws e =
         let m : k < length rules / 4 = omega (arith, g .count) in
         record {
           count = g .count;
           place = omega arith;
           laid = laid-next 9 wordRows (words-wide h) forms₀ forms k (g .laid) (omega (arith, word-rows)) ws
-              (f ∙ bounded-words (normal (getD (rulesIn rules mixtures) k [])) rule e (short-at rules mixtures k h m) ∙ sym (row-at k m));
+              (e ∙ sym (row-at k m));
         }
 
     pub filling-end : n ≤ k → forms ≡ joined wordRows
@@ -326,10 +324,10 @@ module _ (containers users rules mixtures : List ℕ) (sound : Sound (policyFrom
   unfolding policyFrom
   rules-small = omega (arith, sound .fewRules, rules-count rules mixtures)
 
-  pub front-wide : (words : List ℕ) → length words ≡ 2304 → length (take (length rules / 4 * 9 - 0) words) ≡ length rules / 4 * 9
+  pub front-wide : (words : List ℕ) → length rules / 4 * 9 ≤ length words → length (take (length rules / 4 * 9 - 0) words) ≡ length rules / 4 * 9
   front-wide words e =
       let z : length rules / 4 * 9 - 0 ≡ length rules / 4 * 9 = omega arith in
-      omega (arith, length-take (length rules / 4 * 9 - 0) words, rules-small)
+      omega (arith, length-take (length rules / 4 * 9 - 0) words)
 
   module _ (words x : List ℕ) (e : x ≡ joined (map wordsOf (map normal (rulesIn rules mixtures)))) where
     front : take (length rules / 4 * 9 - 0) (putMid 0 (length rules / 4 * 9 - 0) words x) ≡ joined (map wordsOf (map normal (rulesIn rules mixtures)))
@@ -342,6 +340,10 @@ module _ (containers users rules mixtures : List ℕ) (sound : Sound (policyFrom
     front-long =
         let n : length x ≡ length rules / 4 * 9 = ap length e ∙ words-length containers users rules mixtures sound ∙ ap (λ (k : ℕ). k * 9) (rules-count rules mixtures) in
         omega (arith, length-append x (drop (length rules / 4 * 9 - 0) words))
+
+    pub front-few : (m : ℕ) → length rules / 4 ≤ m → length (take (length rules / 4 * 9 - 0) (putMid 0 (length rules / 4 * 9 - 0) words x)) / 9 ≤ m
+    front-few m l =
+        omega (arith, ap length front, words-length containers users rules mixtures sound, ap (λ (k : ℕ). k * 9) (rules-count rules mixtures))
 
     pub front-tabled : Tabled containers users (take (length rules / 4 * 9 - 0) (putMid 0 (length rules / 4 * 9 - 0) words x))
     front-tabled = rw front (words-tabled containers users rules mixtures sound)

@@ -4,6 +4,7 @@ pub mod Classes
 pub mod TableLaws
 pub mod Whole
 pub mod Seeking
+pub mod KeyLaws
 pub mod Reading
 pub mod Spans
 pub mod Assembly

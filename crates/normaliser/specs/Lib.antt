@@ -1,3 +1,4 @@
--- What a reader must believe of this crate: Normaliser. Tables names what the code keeps on its way there.
+-- What a reader must believe of this crate: Normaliser. Tables and Keys name what the code keeps on its way there.
 pub mod Normaliser
 pub mod Tables
+pub mod Keys

@@ -1,23 +1,27 @@
 // The normaliser: the normal image of a policy (the paper, "Policy image").
 ghost use mathlib.Core.Path.{_≡_};
-ghost use mathlib.Core.Bool.{true};
+ghost use mathlib.Core.Bool.{true, cond};
 ghost use mathlib.Core.List.{[], _++_, map};
 ghost use Prim.Native.Nat.{ℕ, _+_, _*_, _/_, _≤_, _<_};
 ghost use lib.ListN.{length, getD, take};
 ghost use Rattle.rules.specs.Rules.{normal, sameList};
-ghost use Rattle.image.specs.Limits.{containerSize, userSize, ruleSize, mixtureSize, headerSize, outputBound};
+ghost use Rattle.image.specs.Limits.{unrestrictedNumber, containerSize, userSize, ruleSize, mixtureSize, headerSize, outputBound};
 ghost use Rattle.image.specs.Bytes.{bytesOf, records, joined, every};
 ghost use Rattle.image.specs.Policy.{Container, unrestrictedRule, named, Sound};
 ghost use Rattle.image.specs.Image.{containersIn, usersIn, spansIn, rulesIn, spansGood};
 ghost use Rattle.image.specs.Normal.{position, containerBytes, spanBytes, framed, normalImage};
 ghost use Rattle.image.specs.Words.{ruleWidth, ruleOf, wordsOf};
 ghost use Rattle.normaliser.specs.Normaliser.{normalAnswer, normalEffect};
+ghost use Rattle.normaliser.specs.Keys.{mixed, keyLimit, keyOf, Keyed};
 ghost use Rattle.normaliser.specs.Tables.{wordsAt, formAt, formGood, classOf, Classified, classAt, classNamed, containerUses, placed, placedAll, Ordered, numberAt, found, policyAt, policyFrom, headerFields, Grown, containerBytesAt, userBytes, spanBytesAt, mixtureBytes, Writable, Written, Tabled};
 
 // The bytes that an output has at least, and the refusal of a shorter one.
 pub const OUTPUT_BOUND: usize = 18994;
 
 pub const OUTPUT_REFUSAL: u32 = 9;
+
+// The most rules for which small tables do.
+const FEW_RULES: usize = 16;
 
 // ---- records
 
@@ -102,26 +106,73 @@ fn first_same(forms: &[u64], k: usize) -> usize
     j
 }
 
-fn class_of(forms: &[u64], k: usize) -> usize
-    requires { ⌜ k < length (now forms) / ruleWidth ⌝ }
-    ensures { λ r. ⌜ r ≡ classOf (now (forms .entry)) k ⌝ }
+// The class of a rule, given the first rule with its words.
+fn class_by(words: &[u64], first: usize) -> usize
+    requires { ⌜ length (now words) ≡ ruleWidth ⌝ }
+    ensures { λ r. ⌜ r ≡ cond (sameList (ruleOf (now (words .entry))) unrestrictedRule) unrestrictedNumber first ⌝ }
 {
-    let a = k * image::RULE_WIDTH;
-    if is_unrestricted(&forms[a..a + image::RULE_WIDTH]) {
+    if is_unrestricted(words) {
         return image::UNRESTRICTED_NUMBER;
     }
-    first_same(forms, k)
+    first
+}
+
+// A number that depends on all of the words.
+fn mixed(words: &[u64]) -> u64
+    ensures { λ r. ⌜ r ≡ mixed 0 (now (words .entry)) ⌝ }
+{
+    let mut h: u64 = 0;
+    let mut i: usize = 0;
+    while i < words.len() {
+        h = (h << 5 | h >> 59) ^ words[i];
+        i += 1;
+    }
+    h
+}
+
+// The key of a rule in a table of n keys.
+fn key(words: &[u64], n: usize) -> usize
+    requires { ⌜ (0 < n) × (n ≤ keyLimit) ⌝ }
+    ensures { λ r. ⌜ (r ≡ keyOf n (now (words .entry))) × (r < n) ⌝ }
+{
+    let h = mixed(words);
+    let folded = (h / 4294967296 + h % 4294967296) % 4294967296;
+    let spread = folded * 2654435761 % 4294967296;
+    spread as usize * n / 4294967296
+}
+
+// The class of rule k, given those before it. A rule before it with its key is looked at first; without one it is the first of its class.
+fn class_of(forms: &[u64], classes: &[u64], keys: &mut [u64], k: usize) -> usize
+    requires { ⌜ (k < length (now forms) / ruleWidth) × Classified (now forms) (now classes) k × Keyed (now forms) (now keys) k ⌝ }
+    ensures { λ r. ⌜ (r ≡ classOf (now (forms .entry)) k) × Keyed (now (forms .entry)) (now (keys .exit)) (k + 1) ⌝ }
+{
+    let a = k * image::RULE_WIDTH;
+    let h = key(&forms[a..a + image::RULE_WIDTH], keys.len());
+    let j = keys[h] as usize;
+    if j == 0 {
+        keys[h] = (k + 1) as u64;
+        return class_by(&forms[a..a + image::RULE_WIDTH], k);
+    }
+    let b = (j - 1) * image::RULE_WIDTH;
+    if rules::same(
+        &forms[a..a + image::RULE_WIDTH],
+        &forms[b..b + image::RULE_WIDTH],
+    ) {
+        return classes[j - 1] as usize;
+    }
+    class_by(&forms[a..a + image::RULE_WIDTH], first_same(forms, k))
 }
 
 // The class of each rule.
-fn classify(forms: &[u64], classes: &mut [u64])
-    requires { ⌜ length (now forms) / ruleWidth ≤ length (now classes) ⌝ }
+fn classify(forms: &[u64], classes: &mut [u64], keys: &mut [u64])
+    requires { ⌜ (length (now forms) / ruleWidth ≤ length (now classes)) × Keyed (now forms) (now keys) 0 ⌝ }
     ensures { λ _. ⌜ Classified (now (forms .entry)) (now (classes .exit)) (length (now (forms .entry)) / ruleWidth) ⌝ }
 {
     let n = forms.len() / image::RULE_WIDTH;
     let mut k: usize = 0;
     while k < n {
-        classes[k] = class_of(forms, k) as u64;
+        let v = class_of(forms, classes, keys, k);
+        classes[k] = v as u64;
         k += 1;
     }
 }
@@ -384,9 +435,9 @@ fn write_image(
     end
 }
 
-// The normal image of a policy in tables, by way of tables for classes, order and places.
+// The normal image of a policy in tables, by way of tables for order and places.
 fn write_by(
-    classes: &mut [u64],
+    classes: &[u64],
     order: &mut [u64],
     places: &mut [u64],
     containers: &[u8],
@@ -394,25 +445,26 @@ fn write_by(
     forms: &[u64],
     out: &mut [u8],
 ) -> usize
-    requires { ⌜ Tabled (now containers) (now users) (now forms) × (length (now forms) / ruleWidth ≤ length (now classes)) × (length (now forms) / ruleWidth ≤ length (now order)) × (length (now forms) / ruleWidth ≤ length (now places)) × ((v : ℕ) → getD (now places) v 0 ≡ 0) × (outputBound ≤ length (now out)) ⌝ }
+    requires { ⌜ Tabled (now containers) (now users) (now forms) × Classified (now forms) (now classes) (length (now forms) / ruleWidth) × (length (now forms) / ruleWidth ≤ length (now order)) × (length (now forms) / ruleWidth ≤ length (now places)) × ((v : ℕ) → getD (now places) v 0 ≡ 0) × (outputBound ≤ length (now out)) ⌝ }
     ensures { λ r. ⌜ Written (normalImage (policyAt (now (containers .entry)) (now (users .entry)) (now (forms .entry)))) (now (out .entry)) (now (out .exit)) r ⌝ }
 {
-    classify(forms, classes);
     let first = place_containers(containers, classes, order, places);
     let m = place_users(users, classes, order, places, first);
     write_image(out, containers, users, forms, classes, places, &order[0..m])
 }
 
-// The normal image of a policy: containers and users as an image has them, rules in words and in normal form. Its length.
-pub fn write_policy(containers: &[u8], users: &[u8], forms: &[u64], out: &mut [u8]) -> usize
-    requires { ⌜ Tabled (now containers) (now users) (now forms) × (outputBound ≤ length (now out)) ⌝ }
+// The normal image of a policy of at most one rule, by way of tables that are quick to clear.
+fn write_one(containers: &[u8], users: &[u8], forms: &[u64], out: &mut [u8]) -> usize
+    requires { ⌜ Tabled (now containers) (now users) (now forms) × (length (now forms) / ruleWidth ≤ 1) × (outputBound ≤ length (now out)) ⌝ }
     ensures { λ r. ⌜ Written (normalImage (policyAt (now (containers .entry)) (now (users .entry)) (now (forms .entry)))) (now (out .entry)) (now (out .exit)) r ⌝ }
 {
-    let mut classes = [0u64; 256];
-    let mut order = [0u64; 256];
-    let mut places = [0u64; 256];
+    let mut classes = [0u64; 1];
+    let mut keys = [0u64; 1];
+    classify(forms, &mut classes, &mut keys);
+    let mut order = [0u64; 1];
+    let mut places = [0u64; 1];
     write_by(
-        &mut classes,
+        &classes,
         &mut order,
         &mut places,
         containers,
@@ -420,6 +472,60 @@ pub fn write_policy(containers: &[u8], users: &[u8], forms: &[u64], out: &mut [u
         forms,
         out,
     )
+}
+
+// The same of at most 16 rules.
+fn write_few(containers: &[u8], users: &[u8], forms: &[u64], out: &mut [u8]) -> usize
+    requires { ⌜ Tabled (now containers) (now users) (now forms) × (length (now forms) / ruleWidth ≤ 16) × (outputBound ≤ length (now out)) ⌝ }
+    ensures { λ r. ⌜ Written (normalImage (policyAt (now (containers .entry)) (now (users .entry)) (now (forms .entry)))) (now (out .entry)) (now (out .exit)) r ⌝ }
+{
+    let mut classes = [0u64; 16];
+    let mut keys = [0u64; 16];
+    classify(forms, &mut classes, &mut keys);
+    let mut order = [0u64; 16];
+    let mut places = [0u64; 16];
+    write_by(
+        &classes,
+        &mut order,
+        &mut places,
+        containers,
+        users,
+        forms,
+        out,
+    )
+}
+
+// The same of as many rules as there can be.
+fn write_many(containers: &[u8], users: &[u8], forms: &[u64], out: &mut [u8]) -> usize
+    requires { ⌜ Tabled (now containers) (now users) (now forms) × (outputBound ≤ length (now out)) ⌝ }
+    ensures { λ r. ⌜ Written (normalImage (policyAt (now (containers .entry)) (now (users .entry)) (now (forms .entry)))) (now (out .entry)) (now (out .exit)) r ⌝ }
+{
+    let mut classes = [0u64; 256];
+    let mut keys = [0u64; 1024];
+    classify(forms, &mut classes, &mut keys);
+    let mut order = [0u64; 256];
+    let mut places = [0u64; 256];
+    write_by(
+        &classes,
+        &mut order,
+        &mut places,
+        containers,
+        users,
+        forms,
+        out,
+    )
+}
+
+// The normal image of a policy: containers and users as an image has them, rules in words and in normal form. Its length.
+pub fn write_policy(containers: &[u8], users: &[u8], forms: &[u64], out: &mut [u8]) -> usize
+    requires { ⌜ Tabled (now containers) (now users) (now forms) × (outputBound ≤ length (now out)) ⌝ }
+    ensures { λ r. ⌜ Written (normalImage (policyAt (now (containers .entry)) (now (users .entry)) (now (forms .entry)))) (now (out .entry)) (now (out .exit)) r ⌝ }
+{
+    if forms.len() / image::RULE_WIDTH <= FEW_RULES {
+        write_few(containers, users, forms, out)
+    } else {
+        write_many(containers, users, forms, out)
+    }
 }
 
 // ---- the normaliser
@@ -433,10 +539,60 @@ fn fill_forms(forms: &mut [u64], rules: &[u8], mixtures: &[u8])
     let mut k: usize = 0;
     while k < n {
         let at = k * image::RULE_WIDTH;
-        let rule = image::own_rule(rules, mixtures, k);
-        image::put_rule(&mut forms[at..at + image::RULE_WIDTH], rule);
+        image::put_own_rule(&mut forms[at..at + image::RULE_WIDTH], rules, mixtures, k);
         k += 1;
     }
+}
+
+// The normal image of the policy of an image's sections, of at most one rule: its length.
+fn rewrite_one(
+    containers: &[u8],
+    users: &[u8],
+    rules: &[u8],
+    mixtures: &[u8],
+    out: &mut [u8],
+) -> usize
+    requires { ⌜ Sound (policyFrom (now containers) (now users) (now rules) (now mixtures)) × (spansGood (length (now mixtures) / mixtureSize) 0 (spansIn (now rules)) ≡ true) × (length (now rules) / ruleSize ≤ 1) × (outputBound ≤ length (now out)) ⌝ }
+    ensures { λ r. ⌜ Written (normalImage (policyFrom (now (containers .entry)) (now (users .entry)) (now (rules .entry)) (now (mixtures .entry)))) (now (out .entry)) (now (out .exit)) r ⌝ }
+{
+    let mut forms = [0u64; 9];
+    let n = rules.len() / image::RULE_SIZE * image::RULE_WIDTH;
+    fill_forms(&mut forms[0..n], rules, mixtures);
+    write_one(containers, users, &forms[0..n], out)
+}
+
+// The same of at most 16 rules.
+fn rewrite_few(
+    containers: &[u8],
+    users: &[u8],
+    rules: &[u8],
+    mixtures: &[u8],
+    out: &mut [u8],
+) -> usize
+    requires { ⌜ Sound (policyFrom (now containers) (now users) (now rules) (now mixtures)) × (spansGood (length (now mixtures) / mixtureSize) 0 (spansIn (now rules)) ≡ true) × (length (now rules) / ruleSize ≤ 16) × (outputBound ≤ length (now out)) ⌝ }
+    ensures { λ r. ⌜ Written (normalImage (policyFrom (now (containers .entry)) (now (users .entry)) (now (rules .entry)) (now (mixtures .entry)))) (now (out .entry)) (now (out .exit)) r ⌝ }
+{
+    let mut forms = [0u64; 144];
+    let n = rules.len() / image::RULE_SIZE * image::RULE_WIDTH;
+    fill_forms(&mut forms[0..n], rules, mixtures);
+    write_few(containers, users, &forms[0..n], out)
+}
+
+// The same of as many rules as there can be.
+fn rewrite_many(
+    containers: &[u8],
+    users: &[u8],
+    rules: &[u8],
+    mixtures: &[u8],
+    out: &mut [u8],
+) -> usize
+    requires { ⌜ Sound (policyFrom (now containers) (now users) (now rules) (now mixtures)) × (spansGood (length (now mixtures) / mixtureSize) 0 (spansIn (now rules)) ≡ true) × (outputBound ≤ length (now out)) ⌝ }
+    ensures { λ r. ⌜ Written (normalImage (policyFrom (now (containers .entry)) (now (users .entry)) (now (rules .entry)) (now (mixtures .entry)))) (now (out .entry)) (now (out .exit)) r ⌝ }
+{
+    let mut forms = [0u64; 2304];
+    let n = rules.len() / image::RULE_SIZE * image::RULE_WIDTH;
+    fill_forms(&mut forms[0..n], rules, mixtures);
+    write_many(containers, users, &forms[0..n], out)
 }
 
 // The normal image of the policy of an image's sections: its length.
@@ -444,10 +600,14 @@ fn rewrite(containers: &[u8], users: &[u8], rules: &[u8], mixtures: &[u8], out: 
     requires { ⌜ Sound (policyFrom (now containers) (now users) (now rules) (now mixtures)) × (spansGood (length (now mixtures) / mixtureSize) 0 (spansIn (now rules)) ≡ true) × (outputBound ≤ length (now out)) ⌝ }
     ensures { λ r. ⌜ Written (normalImage (policyFrom (now (containers .entry)) (now (users .entry)) (now (rules .entry)) (now (mixtures .entry)))) (now (out .entry)) (now (out .exit)) r ⌝ }
 {
-    let mut forms = [0u64; 2304];
-    let n = rules.len() / image::RULE_SIZE * image::RULE_WIDTH;
-    fill_forms(&mut forms[0..n], rules, mixtures);
-    write_policy(containers, users, &forms[0..n], out)
+    let n = rules.len() / image::RULE_SIZE;
+    if n <= 1 {
+        return rewrite_one(containers, users, rules, mixtures, out);
+    }
+    if n <= FEW_RULES {
+        return rewrite_few(containers, users, rules, mixtures, out);
+    }
+    rewrite_many(containers, users, rules, mixtures, out)
 }
 
 // The normal image of an image: its length, or the refusal.

@@ -1,5 +1,5 @@
 -- Rows of one width, those given and then rows that are all 0.
-use Prim.Native.Nat.{ℕ, zero, suc, _+_, _*_, _≤_, _<_}
+use Prim.Native.Nat.{ℕ, zero, suc, _+_, _-_, _*_, _≤_, _<_}
 use mathlib.Core.Path.{_≡_, refl, sym, ap, ap₂, _∙_}
 use mathlib.Core.Bool.{Bool, true, _&&_}
 use mathlib.Core.List.{List, [], _∷_, _++_, append-nil, append-assoc}
@@ -7,12 +7,13 @@ use native.Mathlib.Omega.{arith}
 use native.Mathlib.Nat.{suc-mul, add-mul, mul-le-mul-right}
 use native.Mathlib.Numerals.{add-one}
 use lib.Dec.{eqb, leb}
-use lib.ListN.{length, getD, take, drop, replicate, length-append, length-replicate, length-take, length-drop, drop-of-length-le}
+use lib.ListN.{length, getD, take, drop, replicate, length-append, length-replicate, length-take, length-drop, List·getD-eq-default}
 use lib.Seq.{take-at, drop-at, drop-drop, drop-append-add}
 use borrow.Author.Tests.{eqb-true, leb-true}
 use borrow.Rule.Slice.PartMut.{putMid, same-len-mid}
 use Rattle.rules.proofs.Bools.{and-0, and-1}
 use Rattle.image.specs.Bytes.{every}
+use Rattle.image.proofs.SpanWords.{drop-zeros}
 use Rattle.image.proofs.Lists.{every-0, every-1, every-imp, append-apart}
 use Rattle.session.specs.Session.{filled}
 
@@ -105,6 +106,37 @@ filled-more w zero (r ∷ rows) = append-nil r
 filled-more w (suc n) [] = ap (λ (x : List ℕ). replicate w 0 ++ x) (filled-more w n []) ∙ sym (append-assoc (replicate w 0) (filled w n []) (replicate w 0))
 filled-more w (suc n) (r ∷ rows) = ap (λ (x : List ℕ). r ++ x) (filled-more w n rows) ∙ sym (append-assoc r (filled w n rows) (getD rows n (replicate w 0)))
 
+-- rows that are not given
+filled-zeros : (w i k : ℕ) (rows : List (List ℕ)) → length rows ≤ i → filled w (i + k) rows ≡ filled w i rows ++ replicate (k * w) 0
+filled-zeros w i zero rows l =
+    let e : i + 0 ≡ i = omega arith in
+    let z : 0 * w ≡ 0 = omega arith in
+    ap (λ (j : ℕ). filled w j rows) e ∙ sym (append-nil (filled w i rows)) ∙ ap (λ (j : ℕ). filled w i rows ++ replicate j 0) (sym z)
+filled-zeros w i (suc k) rows l =
+    let e : i + suc k ≡ suc (i + k) = omega arith in
+    let d : getD rows (i + k) (replicate w 0) ≡ replicate w 0 = List·getD-eq-default rows (replicate w 0) {n = i + k} (omega arith) in
+    let s : k * w + w ≡ suc k * w = omega (arith, suc-mul k w) in
+    ap (λ (j : ℕ). filled w j rows) e
+    ∙ filled-more w (i + k) rows
+    ∙ ap₂ (λ (a b : List ℕ). a ++ b) (filled-zeros w i k rows l) d
+    ∙ append-assoc (filled w i rows) (replicate (k * w) 0) (replicate w 0)
+    ∙ ap (λ (x : List ℕ). filled w i rows ++ x) (replicate-add (k * w) w ∙ ap (λ (j : ℕ). replicate j 0) s)
+  where
+    replicate-add : (a b : ℕ) → _≡_ {A = List ℕ} (replicate a 0 ++ replicate b 0) (replicate (a + b) 0)
+    replicate-add zero b = let z : 0 + b ≡ b = omega arith in ap (λ (j : ℕ). replicate j 0) (sym z)
+    replicate-add (suc a) b = let z : suc a + b ≡ suc (a + b) = omega arith in ap (λ (x : List ℕ). 0 ∷ x) (replicate-add a b) ∙ ap (λ (j : ℕ). replicate j 0) (sym z)
+
+rest-zeros : (w n i : ℕ) → i ≤ n → _≡_ {A = List ℕ} (drop (i * w) (replicate (n * w) 0)) (replicate ((n - i) * w) 0)
+rest-zeros w n i h =
+    let q : i + (n - i) ≡ n = omega arith in
+    let k : n * w - i * w ≡ (n - i) * w = omega (arith, add-mul i (n - i) w, ap (λ (j : ℕ). j * w) q) in
+    drop-zeros (i * w) (n * w) ∙ ap (λ (j : ℕ). replicate j 0) k
+
+filled-rest : (w n i : ℕ) (rows : List (List ℕ)) → i ≤ n → length rows ≤ i → filled w i rows ++ drop (i * w) (replicate (n * w) 0) ≡ filled w n rows
+filled-rest w n i rows h l =
+    let q : i + (n - i) ≡ n = omega arith in
+    ap (λ (x : List ℕ). filled w i rows ++ x) (rest-zeros w n i h) ∙ sym (filled-zeros w i (n - i) rows l) ∙ ap (λ (j : ℕ). filled w j rows) q
+
 -- i of n rows are written
 pub record Rowed (w n : ℕ) (rows : List (List ℕ)) (out₀ out : List ℕ) (i : ℕ) : Type 0 where
   pub place : i ≤ n
@@ -143,8 +175,7 @@ module _ (w n : ℕ) (rows : List (List ℕ)) (all : every (wide w) rows ≡ tru
             ∙ ap (λ (a : List ℕ). a ++ drop ((i + 1) * w) out₀) (ap (λ (a : List ℕ). filled w i rows ++ a) f ∙ sym (filled-more w i rows) ∙ ap (λ (k : ℕ). filled w k rows) (sym (add-one i)));
       }
 
-  pub rowed-end : n ≤ i → out ≡ filled w n rows
-  rowed-end l =
-      let q : i ≡ n = omega (arith, g .place) in
-      let d : length out₀ ≤ n * w = omega (arith, g .long, g .same) in
-      g .is ∙ ap (λ (k : ℕ). filled w k rows ++ drop (k * w) out₀) q ∙ ap (λ (x : List ℕ). filled w n rows ++ x) (drop-of-length-le out₀ d) ∙ append-nil (filled w n rows)
+  -- over zeros, the rows that are not given are done
+  pub rowed-end : length rows ≤ i → out₀ ≡ replicate (n * w) 0 → out ≡ filled w n rows
+  rowed-end l e =
+      g .is ∙ ap (λ (x : List ℕ). filled w i rows ++ drop (i * w) x) e ∙ filled-rest w n i rows (g .place) l

@@ -6,11 +6,11 @@ use mathlib.Core.List.{List, [], _∷_, _++_, map}
 use native.Mathlib.Omega.{arith}
 use native.Mathlib.Nat.{add-sub-cancel-left}
 use lib.Dec.{eqb, ltb, leb}
-use lib.ListN.{length, getD, take, drop, replicate, length-map, List·getD-eq-default}
+use lib.ListN.{length, getD, take, drop, replicate, length-map}
 use borrow.Author.Tests.{eq-eqb, le-leb, leb-true}
 use borrow.Rule.Slice.PartMut.{putMid}
-use Rattle.rules.specs.declared.Bounded.{Bounded}
-use Rattle.rules.specs.Answers.{dataWidth, mixtureLimit, boundedOf}
+use Rattle.rules.specs.Answers.{dataWidth, mixtureLimit}
+use Rattle.image.specs.Words.{wordsOf}
 use Rattle.image.specs.Limits.{containerLimit, userLimit, noAtom, containerSize, userSize, ruleSize, mixtureSize}
 use Rattle.image.specs.Bytes.{field, numberIn, records, every}
 use Rattle.image.specs.Policy.{Container, named, containerGood}
@@ -23,10 +23,8 @@ use Rattle.image.proofs.RuleReading.{normal-short}
 use Rattle.session.specs.Limits.{rowWidth, userWidth}
 use Rattle.session.specs.Rows.{rowWords, userWords}
 use Rattle.session.specs.Session.{filled, startTag, startRow, placeWords}
-use Rattle.image.proofs.WordLaws.{bounded-words}
 use Rattle.session.proofs.RowLaws.{row-length, user-length}
 use Rattle.session.proofs.Filled.{wide, Rowed, rowed-next, rowed-end}
-use Rattle.session.proofs.WriteLaws.{clear-row}
 
 -- ---- users
 
@@ -60,24 +58,16 @@ module _ (users rules m : List ℕ) (good : every (named (length rules / ruleSiz
       ∙ ap userWords (map-at (normalAt (rulesIn rules m)) (usersIn users) i 0 [] k)
       ∙ ap (λ (n : ℕ). userWords (normalAt (rulesIn rules m) n)) (record-at numberIn userSize i users 0 l))
 
-  pub user-free : (i : ℕ) → length users / userSize ≤ i → replicate userWidth 0 ≡ getD (userRows users rules m) i (replicate userWidth 0)
-  user-free i l =
-      sym (List·getD-eq-default (userRows users rules m) (replicate userWidth 0) {n = i}
-      (omega (arith, users-count, length-map (usersIn users) (normalAt (rulesIn rules m)), length-map (map (normalAt (rulesIn rules m)) (usersIn users)) userWords)))
+  user-rows : length (userRows users rules m) ≡ length users / userSize
+  user-rows = omega (arith, users-count, length-map (usersIn users) (normalAt (rulesIn rules m)), length-map (map (normalAt (rulesIn rules m)) (usersIn users)) userWords)
 
   module _ (out₀ out : List ℕ) (i : ℕ) (g : Rowed userWidth userLimit (userRows users rules m) out₀ out i) where
     pub users-next : i < userLimit → i < length users / userSize → (row : List ℕ) → row ≡ userWords (normalAt (rulesIn rules m) (field users (i * userSize) userSize))
         → Rowed userWidth userLimit (userRows users rules m) out₀ (putMid (i * userWidth) (i * userWidth + userWidth - i * userWidth) out row) (i + 1)
     users-next h l row e = rw add-sub-cancel-left (rowed-next userWidth userLimit (userRows users rules m) users-wide out₀ out i g h row (e ∙ user-given i l))
 
-    pub users-clear : i < userLimit → length users / userSize ≤ i → (row : List ℕ) → row ≡ replicate (length (take (i * userWidth + userWidth - i * userWidth) (drop (i * userWidth) out))) 0
-        → Rowed userWidth userLimit (userRows users rules m) out₀ (putMid (i * userWidth) (i * userWidth + userWidth - i * userWidth) out row) (i + 1)
-    users-clear h l row e =
-        rw add-sub-cancel-left
-        (rowed-next userWidth userLimit (userRows users rules m) users-wide out₀ out i g h row (e ∙ clear-row out (i * userWidth) userWidth (omega (arith, g .long)) ∙ user-free i l))
-
-    pub users-end : userLimit ≤ i → out ≡ filled userWidth userLimit (userRows users rules m)
-    users-end h = rowed-end userWidth userLimit (userRows users rules m) users-wide out₀ out i g h
+    pub users-end : length users / userSize ≤ i → out₀ ≡ replicate (userLimit * userWidth) 0 → out ≡ filled userWidth userLimit (userRows users rules m)
+    users-end h e = rowed-end userWidth userLimit (userRows users rules m) users-wide out₀ out i g (omega (arith, user-rows)) e
 
 -- ---- one container
 
@@ -94,14 +84,11 @@ module _ (r rules m : List ℕ) (good : containerGood (length rules / ruleSize) 
   unfolding containerIn
   atom-good = container-atom (length rules / ruleSize) (containerIn r) good
 
-  pub container-row : (k t : ℕ) (p q : Bounded) → k ≡ field r 0 1 → t ≡ startTag (field r 1 1) → p ≡ boundedOf (normalAt (rulesIn rules m) (field r 2 2)) → q ≡ boundedOf (normalAt (rulesIn rules m) (field r 4 2))
-      → k ∷ t ∷ ((p .count ∷ p .mixtures) ++ (q .count ∷ q .mixtures)) ≡ placeWords (placeOf (rulesIn rules m) (containerIn r))
+  pub container-row : (k t : ℕ) (p q : List ℕ) → k ≡ field r 0 1 → t ≡ startTag (field r 1 1) → p ≡ wordsOf (normalAt (rulesIn rules m) (field r 2 2)) → q ≡ wordsOf (normalAt (rulesIn rules m) (field r 4 2))
+      → k ∷ t ∷ (p ++ q) ≡ placeWords (placeOf (rulesIn rules m) (containerIn r))
   unfolding placeWords rowWords startRow placeOf containerIn
   container-row k t p q e f g h =
-      ap₂ (λ (x y : ℕ). x ∷ y ∷ ((p .count ∷ p .mixtures) ++ (q .count ∷ q .mixtures))) e f
-      ∙ ap₂ (λ (x y : List ℕ). field r 0 1 ∷ startTag (field r 1 1) ∷ (x ++ y))
-      (bounded-words (normalAt (rulesIn rules m) (field r 2 2)) p g (normal-short rules m (field r 2 2) spans permit-named))
-      (bounded-words (normalAt (rulesIn rules m) (field r 4 2)) q h (normal-short rules m (field r 4 2) spans run-named))
+      ap₂ (λ (x y : ℕ). x ∷ y ∷ (p ++ q)) e f ∙ ap₂ (λ (x y : List ℕ). field r 0 1 ∷ startTag (field r 1 1) ∷ (x ++ y)) g h
 
 -- ---- containers
 
@@ -142,21 +129,13 @@ module _ (cs rules m : List ℕ) (good : every (containerGood (length rules / ru
       ∙ ap placeWords (map-at (placeOf (rulesIn rules m)) (containersIn cs) i z y k)
       ∙ ap (λ (c : Container). placeWords (placeOf (rulesIn rules m) c)) (record-at containerIn containerSize i cs z l))
 
-  pub container-free : (i : ℕ) → length cs / containerSize ≤ i → replicate rowWidth 0 ≡ getD (containerRows cs rules m) i (replicate rowWidth 0)
-  container-free i l =
-      sym (List·getD-eq-default (containerRows cs rules m) (replicate rowWidth 0) {n = i}
-      (omega (arith, containers-count, length-map (containersIn cs) (placeOf (rulesIn rules m)), length-map (map (placeOf (rulesIn rules m)) (containersIn cs)) placeWords)))
+  container-rows : length (containerRows cs rules m) ≡ length cs / containerSize
+  container-rows = omega (arith, containers-count, length-map (containersIn cs) (placeOf (rulesIn rules m)), length-map (map (placeOf (rulesIn rules m)) (containersIn cs)) placeWords)
 
   module _ (out₀ out : List ℕ) (i : ℕ) (g : Rowed rowWidth containerLimit (containerRows cs rules m) out₀ out i) where
     pub containers-next : i < containerLimit → i < length cs / containerSize → (row : List ℕ) → row ≡ placeWords (placeOf (rulesIn rules m) (containerIn (take containerSize (drop (i * containerSize) cs))))
         → Rowed rowWidth containerLimit (containerRows cs rules m) out₀ (putMid (i * rowWidth) (i * rowWidth + rowWidth - i * rowWidth) out row) (i + 1)
     containers-next h l row e = rw add-sub-cancel-left (rowed-next rowWidth containerLimit (containerRows cs rules m) containers-wide out₀ out i g h row (e ∙ container-given i l))
 
-    pub containers-clear : i < containerLimit → length cs / containerSize ≤ i → (row : List ℕ) → row ≡ replicate (length (take (i * rowWidth + rowWidth - i * rowWidth) (drop (i * rowWidth) out))) 0
-        → Rowed rowWidth containerLimit (containerRows cs rules m) out₀ (putMid (i * rowWidth) (i * rowWidth + rowWidth - i * rowWidth) out row) (i + 1)
-    containers-clear h l row e =
-        rw add-sub-cancel-left
-        (rowed-next rowWidth containerLimit (containerRows cs rules m) containers-wide out₀ out i g h row (e ∙ clear-row out (i * rowWidth) rowWidth (omega (arith, g .long)) ∙ container-free i l))
-
-    pub containers-end : containerLimit ≤ i → out ≡ filled rowWidth containerLimit (containerRows cs rules m)
-    containers-end h = rowed-end rowWidth containerLimit (containerRows cs rules m) containers-wide out₀ out i g h
+    pub containers-end : length cs / containerSize ≤ i → out₀ ≡ replicate (containerLimit * rowWidth) 0 → out ≡ filled rowWidth containerLimit (containerRows cs rules m)
+    containers-end h e = rowed-end rowWidth containerLimit (containerRows cs rules m) containers-wide out₀ out i g (omega (arith, container-rows)) e

@@ -10,15 +10,15 @@ use lib.ListN.{length, getD, take, drop, set, replicate, length-set, length-take
 use lib.Seq.{drop-cons, drop-drop, drop-at, length-take-le, paste, paste-zero, paste-suc, take-all, take-suc, getD-set-same}
 use borrow.Author.Tests.{eqb-true, leb-true, le-leb}
 use Rattle.rules.proofs.Bools.{and-in, and-0, and-1}
-use Rattle.rules.proofs.SameLaws.{same-refl, same-eq}
 use Rattle.rules.proofs.BoundedLaws.{padded-take, padded-length, bounded-some}
 use Rattle.rules.specs.declared.Bounded.{Bounded}
-use Rattle.rules.specs.Rules.{normal, sameList}
+use Rattle.rules.specs.Rules.{normal}
 use Rattle.rules.specs.Answers.{mixtureLimit, padded, boundedOf}
 use Rattle.image.proofs.WordLaws.{words-rule, words-nine, bounded-words}
 use Rattle.image.specs.Words.{ruleWidth}
-use Rattle.session.specs.Rows.{allZero, isNormal, keptWell}
-use Rattle.image.specs.Words.{ruleOf, wordsOf}
+use Rattle.session.specs.Rows.{allZero, keptWell}
+use Rattle.image.specs.Words.{ruleOf, wordsOf, isNormal}
+use Rattle.image.proofs.RuleTests.{normal-is, is-normal-of}
 
 -- ---- zeros
 
@@ -35,18 +35,7 @@ all-zero (x ∷ l) h = ap₂ _∷_ (eqb-true x 0 (and-0 (eqb x 0) (allZero l) h)
 pub zero-is : (l : List ℕ) (n : ℕ) → length l ≡ n → allZero l ≡ true → _≡_ {A = List ℕ} l (replicate n 0)
 zero-is l n e h = all-zero l h ∙ ap (λ (k : ℕ). replicate k 0) e
 
--- ---- a rule's words
-
 -- ---- words that are well kept
-
-module _ (r : List ℕ) where
-  pub normal-is : isNormal r ≡ true → normal r ≡ r
-  unfolding isNormal
-  normal-is h = same-eq (normal r) r h
-
-  pub is-normal-of : normal r ≡ r → isNormal r ≡ true
-  unfolding isNormal
-  is-normal-of e = ap (λ (s : List ℕ). sameList s r) e ∙ same-refl r
 
 module _ (ws : List ℕ) (h : keptWell ws ≡ true) where
   pub kept-count : getD ws 0 0 ≤ mixtureLimit

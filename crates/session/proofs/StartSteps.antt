@@ -1,21 +1,23 @@
 -- The start, step by step: the sections of an image that is not refused, the two parts of the session, the answers.
-use Prim.Native.Nat.{ℕ, _+_, _-_, _*_, _/_, _≤_}
+use Prim.Native.Nat.{ℕ, zero, suc, _+_, _-_, _*_, _/_, _≤_}
 use mathlib.Core.Path.{_≡_, refl, sym, ap, ap₂, _∙_}
 use mathlib.Core.Bool.{true}
-use mathlib.Core.List.{List, [], _++_, map, append-nil}
+use mathlib.Core.List.{List, [], _∷_, _++_, map, append-nil}
 use native.Mathlib.Omega.{arith}
 use lib.Dec.{leb}
-use lib.ListN.{length, take, drop, length-append, length-take, length-drop, drop-of-length-le}
+use lib.ListN.{length, take, drop, replicate, length-replicate, drop-of-length-le}
 use lib.Seq.{take-at, drop-at, drop-drop}
 use borrow.Author.Tests.{eq-eqb, ne-eqb, leb-true}
 use borrow.Rule.Slice.PartMut.{putMid}
-use Rattle.rules.proofs.Bools.{and-0}
-use Rattle.image.specs.Limits.{containerLimit, userLimit, ruleSize, mixtureSize, headerSize, imageLimit}
+use Rattle.rules.proofs.Bools.{and-0, and-1}
+use Rattle.image.specs.Limits.{containerLimit, userLimit, containerSize, userSize, ruleSize, mixtureSize, headerSize, imageLimit}
 use Rattle.image.specs.Bytes.{every}
 use Rattle.image.specs.Policy.{named, containerGood}
-use Rattle.image.specs.Image.{offset, size, part, containersIn, usersIn, spansIn, rulesIn, spansGood, policyIn, checkOf, lengthGood, rulesGood, containersGood, usersGood}
+use Rattle.image.specs.Image.{offset, size, part, containersIn, usersIn, spansIn, rulesIn, spansGood, policyIn, checkOf, lengthGood, wholeGood, sectionsGood, rulesGood, containersGood, usersGood}
 use Rattle.image.specs.Normal.{placeOf, normalAt, meaning}
-use Rattle.image.proofs.Decode.{Passes, passes}
+use Rattle.image.proofs.Decode.{Passes, passes, few}
+use Rattle.image.proofs.Places.{records-count}
+use Rattle.image.proofs.SpanWords.{drop-zeros}
 use Rattle.image.proofs.Scanning.{part-ends-0, part-ends-1, part-ends-2, part-ends-3}
 use Rattle.session.specs.Limits.{sessionLength, rowWidth, userWidth, usersAt}
 use Rattle.session.specs.Rows.{userWords}
@@ -57,6 +59,16 @@ module _ (i : List ℕ) (h : checkOf i ≡ 0) where
   unfolding usersGood
   good-users = tests .users
 
+  pub few-containers : length (part i 0) / containerSize ≤ containerLimit
+  unfolding sectionsGood
+  few-containers =
+      omega (arith, records-count containerSize (part i 0), few containerSize containerLimit (part i 0) (and-0 (wholeGood containerSize containerLimit (part i 0)) _ (tests .sections)))
+
+  pub few-users : length (part i 1) / userSize ≤ userLimit
+  unfolding sectionsGood
+  few-users =
+      omega (arith, records-count userSize (part i 1), few userSize userLimit (part i 1) (and-0 (wholeGood userSize userLimit (part i 1)) _ (and-1 (wholeGood containerSize containerLimit (part i 0)) (tests .sections))))
+
 -- ---- the container rows and the user rows of an image
 
 unfoldable pub rowsPart : List ℕ → List ℕ
@@ -83,12 +95,26 @@ module _ (i r m : List ℕ) (e : r ≡ part i 2) (f : m ≡ part i 3) where
 
 -- ---- two parts, put in place
 
-pub first-part : (s : List ℕ) → length s ≡ sessionLength → length (take usersAt s) ≡ containerLimit * rowWidth
-first-part s h = omega (arith, length-take usersAt s)
+take-zeros : (k n : ℕ) → k ≤ n → _≡_ {A = List ℕ} (take k (replicate n 0)) (replicate k 0)
+take-zeros zero n l = refl
+take-zeros (suc k) zero l = absurd (omega arith)
+take-zeros (suc k) (suc n) l = ap (λ (x : List ℕ). 0 ∷ x) (take-zeros k n (omega arith))
 
-pub second-part : (s a : List ℕ) → length s ≡ sessionLength → length a ≡ usersAt → length (take (sessionLength - usersAt) (drop usersAt (a ++ drop usersAt s))) ≡ userLimit * userWidth
-second-part s a h e =
-    omega (arith, length-take (sessionLength - usersAt) (drop usersAt (a ++ drop usersAt s)), length-drop usersAt (a ++ drop usersAt s), length-append a (drop usersAt s), length-drop usersAt s)
+-- z is the session when it is cleared
+module _ (s z : List ℕ) (h : length s ≡ sessionLength) (e : z ≡ replicate (length s) 0) where
+  zeros : z ≡ replicate sessionLength 0
+  zeros = e ∙ ap (λ (k : ℕ). replicate k 0) h
+
+  pub cleared-long : length z ≡ sessionLength
+  cleared-long = ap length e ∙ length-replicate {A = ℕ} (length s) 0 ∙ h
+
+  pub first-part : take usersAt z ≡ replicate (containerLimit * rowWidth) 0
+  first-part = ap (take usersAt) zeros ∙ take-zeros usersAt sessionLength (omega arith)
+
+  pub second-part : (a : List ℕ) → length a ≡ usersAt → take (sessionLength - usersAt) (drop usersAt (a ++ drop usersAt z)) ≡ replicate (userLimit * userWidth) 0
+  second-part a f =
+      ap (take (sessionLength - usersAt)) (drop-at a (drop usersAt z) usersAt f ∙ ap (drop usersAt) zeros ∙ drop-zeros usersAt sessionLength)
+      ∙ take-zeros (sessionLength - usersAt) (sessionLength - usersAt) (omega arith)
 
 two-parts : (s a b : List ℕ) → length s ≡ sessionLength → length a ≡ usersAt → putMid usersAt (sessionLength - usersAt) (putMid 0 usersAt s a) b ≡ a ++ b
 two-parts s a b h e =

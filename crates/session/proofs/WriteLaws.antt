@@ -7,7 +7,7 @@ use mathlib.Core.Logic.{⊎-elim}
 use native.Mathlib.Omega.{arith}
 use lib.Dec.{eqb, ltb}
 use lib.Pow.{pow-lt}
-use lib.ListN.{length, take, drop, set, replicate, length-append, length-take, length-drop, drop-of-length-le}
+use lib.ListN.{length, take, drop, set, length-append, length-set, length-take, length-drop, drop-of-length-le}
 use lib.Seq.{take-at, drop-at, drop-drop}
 use borrow.Author.Tests.{eqb-true, ltb-true, eq-eqb, ne-eqb}
 use borrow.Rule.Slice.PartMut.{putMid}
@@ -21,13 +21,11 @@ use Rattle.image.specs.Words.{wordsOf}
 use Rattle.session.specs.Session.{startTag}
 use Rattle.image.proofs.WordLaws.{words-nine}
 
--- a lent row that is cleared
-pub clear-row : (out : List ℕ) (at w : ℕ) → at + w ≤ length out → replicate {A = ℕ} (length (take (at + w - at) (drop at out))) 0 ≡ replicate w 0
-clear-row out at w h =
-    let e : length (take (at + w - at) (drop at out)) ≡ w = omega (arith, length-take (at + w - at) (drop at out), length-drop at out) in
-    ap (λ (k : ℕ). replicate k 0) e
-
 -- ---- a container row: kind, tag and two rules
+
+pub lent-permit : (row : List ℕ) (k t : ℕ) → length row ≡ rowWidth → length (take ruleWidth (drop permitAt (set (set row kindAt k) tagAt t))) ≡ ruleWidth
+lent-permit row k t h =
+    omega (arith, length-take ruleWidth (drop permitAt (set (set row kindAt k) tagAt t)), length-drop permitAt (set (set row kindAt k) tagAt t), length-set (set row kindAt k) tagAt t, length-set row kindAt k)
 
 module _ (row p : List ℕ) (k t : ℕ) (h : length row ≡ rowWidth) (e : length p ≡ ruleWidth) where
   pub row-mid : length (putMid permitAt ruleWidth (set (set row kindAt k) tagAt t) p) ≡ rowWidth
@@ -37,6 +35,10 @@ module _ (row p : List ℕ) (k t : ℕ) (h : length row ≡ rowWidth) (e : lengt
       by [] l = absurd (omega arith)
       by (a ∷ []) l = absurd (omega arith)
       by (a ∷ b ∷ row) l = omega (arith, length-append p (drop ruleWidth row), length-drop ruleWidth row)
+
+  pub lent-run : length (take ruleWidth (drop runAt (putMid permitAt ruleWidth (set (set row kindAt k) tagAt t) p))) ≡ ruleWidth
+  lent-run =
+      omega (arith, length-take ruleWidth (drop runAt (putMid permitAt ruleWidth (set (set row kindAt k) tagAt t) p)), length-drop runAt (putMid permitAt ruleWidth (set (set row kindAt k) tagAt t) p), row-mid)
 
   pub row-put : (q : List ℕ) → putMid runAt ruleWidth (putMid permitAt ruleWidth (set (set row kindAt k) tagAt t) p) q ≡ k ∷ t ∷ (p ++ q)
   row-put q = by row h

@@ -2,4 +2,3 @@
 pub mod Limits
 pub mod Rows
 pub mod Session
-pub mod RowTest

@@ -5,9 +5,9 @@ use mathlib.Core.Bool.{Bool, true, cond, _&&_, _||_}
 use mathlib.Core.List.{List, [], _∷_, _++_}
 use lib.Dec.{eqb, leb}
 use lib.ListN.{length, getD, take, drop, replicate}
-use Rattle.rules.specs.Rules.{normal, sameList}
+use Rattle.rules.specs.Rules.{normal}
 use Rattle.rules.specs.Answers.{mixtureLimit, padded}
-use Rattle.image.specs.Words.{ruleOf, wordsOf}
+use Rattle.image.specs.Words.{ruleOf, wordsOf, isNormal}
 use Rattle.image.specs.Limits.{isFree, isStore, isProcess}
 use Rattle.session.specs.Limits.{rowWidth, userWidth, usersAt, kindAt, tagAt, permitAt, runAt, declaredAt, userRuleAt, declared}
 use Rattle.image.specs.Words.{ruleWidth}
@@ -18,10 +18,6 @@ use Rattle.image.specs.Words.{ruleWidth}
 unfoldable pub allZero : List ℕ → Bool
 allZero [] = true
 allZero (x ∷ ws) = eqb x 0 && allZero ws
-
--- r is its own normal form
-unfoldable pub isNormal : List ℕ → Bool
-isNormal r = sameList (normal r) r
 
 -- the words are a rule as a session keeps it: at most 8 mixtures, "Unused words are 0, rules in normal form"
 unfoldable pub keptWell : List ℕ → Bool

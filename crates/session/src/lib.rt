@@ -6,17 +6,16 @@ ghost use lib.Dec.{eqb, ltb};
 ghost use Prim.Native.Nat.{ℕ, _*_, _/_, _≤_};
 ghost use lib.ListN.{length, getD, drop, replicate};
 ghost use Rattle.rules.specs.Answers.{dataWidth, mixtureLimit};
-ghost use Rattle.image.specs.Limits.{noAtom, containerLimit, userLimit, containerSize, ruleSize, mixtureSize};
+ghost use Rattle.image.specs.Limits.{noAtom, containerLimit, userLimit, containerSize, userSize, ruleSize, mixtureSize};
 ghost use Rattle.image.specs.Bytes.{every};
 ghost use Rattle.image.specs.Policy.{named, containerGood};
 ghost use Rattle.image.specs.Image.{containerIn, containersIn, usersIn, spansIn, rulesIn, spansGood};
 ghost use Rattle.image.specs.Normal.{normalAt, placeOf};
 ghost use Rattle.session.specs.Limits.{rowWidth, userWidth, usersAt};
 ghost use Rattle.image.specs.Words.{ruleWidth};
-ghost use Rattle.session.specs.Rows.{allZero, isNormal, keptWell, usedKind, containerRowGood, userWords, userRowGood};
+ghost use Rattle.session.specs.Rows.{allZero, keptWell, usedKind, containerRowGood, userWords, userRowGood};
 ghost use Rattle.image.specs.Words.{ruleOf};
 ghost use Rattle.session.specs.Session.{filled, startTag, placeWords, startAnswer, startEffect};
-ghost use Rattle.session.specs.RowTest.{holdsOne};
 use rules::Bounded;
 
 // ---- the numbers of the layout, in words
@@ -84,39 +83,6 @@ fn none_behind(ws: &[u64]) -> bool
     ws[2] | ws[3] | ws[4] | ws[5] | ws[6] | ws[7] | ws[8] == 0
 }
 
-// x holds one of the mixtures.
-fn holds_one(l: &[u64], x: u64) -> bool
-    ensures { λ r. ⌜ r ≡ holdsOne x (now (l .entry)) ⌝ }
-{
-    let mut i = 0;
-    while i < l.len() {
-        let m = l[i];
-        if x & m == m {
-            return true;
-        }
-        i += 1;
-    }
-    false
-}
-
-// The mixtures are in normal form: they ascend, and none is held by a later one.
-fn is_normal(r: &[u64]) -> bool
-    ensures { λ b. ⌜ b ≡ isNormal (now (r .entry)) ⌝ }
-{
-    let mut j = 1;
-    while j < r.len() {
-        let x = r[j];
-        if x <= r[j - 1] {
-            return false;
-        }
-        if holds_one(&r[0..j], x) {
-            return false;
-        }
-        j += 1;
-    }
-    true
-}
-
 // The words are a rule as a session keeps it. A rule of one mixture, the usual one, is a straight line.
 fn kept_well(ws: &[u64]) -> bool
     requires { ⌜ length (now ws) ≡ ruleWidth ⌝ }
@@ -133,7 +99,7 @@ fn kept_well(ws: &[u64]) -> bool
     if !all_zero(&ws[e..]) {
         return false;
     }
-    is_normal(&ws[1..e])
+    image::is_normal(&ws[1..e])
 }
 
 // A kind of the image.
@@ -184,51 +150,36 @@ pub fn user_row_good(row: &[u64]) -> bool
 
 // ---- the start
 
-// A row of zeros.
-fn clear(row: &mut [u64])
-    ensures { λ _. ⌜ now (row .exit) ≡ replicate (length (now (row .entry))) 0 ⌝ }
-{
-    let mut j: usize = 0;
-    while j < row.len() {
-        row[j] = 0;
-        j += 1;
-    }
-}
-
 // The row of a user whose rule has the number n.
 fn put_user(row: &mut [u64], rules: &[u8], m: &[u8], n: usize)
     requires { ⌜ (length (now row) ≡ userWidth) × (named (length (now rules) / ruleSize) n ≡ true) × (spansGood (length (now m) / mixtureSize) 0 (spansIn (now rules)) ≡ true) ⌝ }
     ensures { λ _. ⌜ now (row .exit) ≡ userWords (normalAt (rulesIn (now (rules .entry)) (now (m .entry))) n) ⌝ }
 {
-    let rule = image::rule_at(rules, m, n);
     row[DECLARED_AT] = DECLARED;
-    image::put_rule(
+    image::put_rule_at(
         &mut row[USER_RULE_AT..USER_RULE_AT + image::RULE_WIDTH],
-        rule,
+        rules,
+        m,
+        n,
     );
 }
 
-// The user rows.
+// The user rows: those of the users, over zeros.
 fn fill_users(out: &mut [u64], users: &[u8], rules: &[u8], m: &[u8])
-    requires { ⌜ (length (now out) ≡ userLimit * userWidth) × (every (named (length (now rules) / ruleSize)) (usersIn (now users)) ≡ true) × (spansGood (length (now m) / mixtureSize) 0 (spansIn (now rules)) ≡ true) ⌝ }
+    requires { ⌜ (now out ≡ replicate (userLimit * userWidth) 0) × (length (now users) / userSize ≤ userLimit) × (every (named (length (now rules) / ruleSize)) (usersIn (now users)) ≡ true) × (spansGood (length (now m) / mixtureSize) 0 (spansIn (now rules)) ≡ true) ⌝ }
     ensures { λ _. ⌜ now (out .exit) ≡ filled userWidth userLimit (map userWords (map (normalAt (rulesIn (now (rules .entry)) (now (m .entry)))) (usersIn (now (users .entry))))) ⌝ }
 {
     let n = users.len() / image::USER_SIZE;
     let mut i: usize = 0;
-    while i < image::USER_LIMIT {
+    while i < n {
         let at = i * USER_WIDTH;
-        if i < n {
-            put_user(
-                &mut out[at..at + USER_WIDTH],
-                rules,
-                m,
-                image::read16(users, i * image::USER_SIZE),
-            );
-            i += 1;
-        } else {
-            clear(&mut out[at..at + USER_WIDTH]);
-            i += 1;
-        }
+        put_user(
+            &mut out[at..at + USER_WIDTH],
+            rules,
+            m,
+            image::read16(users, i * image::USER_SIZE),
+        );
+        i += 1;
     }
 }
 
@@ -259,35 +210,39 @@ fn put_container(row: &mut [u64], r: &[u8], rules: &[u8], m: &[u8])
     requires { ⌜ (length (now row) ≡ rowWidth) × (length (now r) ≡ containerSize) × (containerGood (length (now rules) / ruleSize) (containerIn (now r)) ≡ true) × (spansGood (length (now m) / mixtureSize) 0 (spansIn (now rules)) ≡ true) ⌝ }
     ensures { λ _. ⌜ now (row .exit) ≡ placeWords (placeOf (rulesIn (now (rules .entry)) (now (m .entry))) (containerIn (now (r .entry)))) ⌝ }
 {
-    let kind = image::read8(r, 0) as u64;
-    let tag = tag_of(image::read8(r, 1));
-    let permit = image::rule_at(rules, m, image::read16(r, 2));
-    let run = image::rule_at(rules, m, image::read16(r, 4));
-    put_row(row, kind, tag, permit, run);
+    row[KIND_AT] = image::read8(r, 0) as u64;
+    row[TAG_AT] = tag_of(image::read8(r, 1));
+    image::put_rule_at(
+        &mut row[PERMIT_AT..PERMIT_AT + image::RULE_WIDTH],
+        rules,
+        m,
+        image::read16(r, 2),
+    );
+    image::put_rule_at(
+        &mut row[RUN_AT..RUN_AT + image::RULE_WIDTH],
+        rules,
+        m,
+        image::read16(r, 4),
+    );
 }
 
-// The container rows.
+// The container rows: those of the containers, over zeros.
 fn fill_containers(out: &mut [u64], cs: &[u8], rules: &[u8], m: &[u8])
-    requires { ⌜ (length (now out) ≡ containerLimit * rowWidth) × (every (containerGood (length (now rules) / ruleSize)) (containersIn (now cs)) ≡ true) × (spansGood (length (now m) / mixtureSize) 0 (spansIn (now rules)) ≡ true) ⌝ }
+    requires { ⌜ (now out ≡ replicate (containerLimit * rowWidth) 0) × (length (now cs) / containerSize ≤ containerLimit) × (every (containerGood (length (now rules) / ruleSize)) (containersIn (now cs)) ≡ true) × (spansGood (length (now m) / mixtureSize) 0 (spansIn (now rules)) ≡ true) ⌝ }
     ensures { λ _. ⌜ now (out .exit) ≡ filled rowWidth containerLimit (map placeWords (map (placeOf (rulesIn (now (rules .entry)) (now (m .entry)))) (containersIn (now (cs .entry))))) ⌝ }
 {
     let n = cs.len() / image::CONTAINER_SIZE;
     let mut i: usize = 0;
-    while i < image::CONTAINER_LIMIT {
+    while i < n {
         let at = i * ROW_WIDTH;
-        if i < n {
-            let r = i * image::CONTAINER_SIZE;
-            put_container(
-                &mut out[at..at + ROW_WIDTH],
-                &cs[r..r + image::CONTAINER_SIZE],
-                rules,
-                m,
-            );
-            i += 1;
-        } else {
-            clear(&mut out[at..at + ROW_WIDTH]);
-            i += 1;
-        }
+        let r = i * image::CONTAINER_SIZE;
+        put_container(
+            &mut out[at..at + ROW_WIDTH],
+            &cs[r..r + image::CONTAINER_SIZE],
+            rules,
+            m,
+        );
+        i += 1;
     }
 }
 
@@ -302,6 +257,7 @@ pub fn start(image: &[u8], session: &mut [u64]) -> u32
     if refusal != 0 {
         return refusal;
     }
+    image::clear(session);
     let rules = image::section(image, 2);
     let mixtures = image::section(image, 3);
     fill_containers(

@@ -1,16 +1,14 @@
 use borrow.Author.Needs.{needs}
-use Rattle.normaliser.specs.Tables.{containerBytesAt, userBytes, spanBytesAt, mixtureBytes, formAt}
-use mathlib.Core.Path.{_≡_, sym, ap, _∙_}
-use lib.ListN.{length, take}
-use Prim.Native.Nat.{ℕ, _+_, _-_, _*_, _/_}
+use Prim.Native.Nat.{_-_, _*_}
 use native.Mathlib.Omega.{arith}
-use Rattle.normaliser.proofs.Laying.{Laid, laid-next, laid-end, part-wide}
-use Rattle.normaliser.proofs.Finish.{Filling, filling-start, filling-next, filling-end}
 use native.Mathlib.Nat.{add-sub-cancel-left}
+use Rattle.normaliser.proofs.Finish.{Filling, filling-start, filling-next, filling-end}
+use Rattle.normaliser.proofs.Laying.{part-wide}
 use Rattle.normaliser.proofs.fill_forms.Statement.{statement}
 use Rattle.normaliser.proofs.fill_forms.Tie as tie
 use Rattle.normaliser.proofs.fill_forms.Reads as reads
 use Rattle.normaliser.proofs.fill_forms.Lts as lts
+use Rattle.image.proofs.put_own_rule.Reads as put-own-rule-reads
 
 abbrev Inv-loop : tie.InvT-loop
 Inv-loop forms₀ rules mixtures n k₀ forms k = Filling rules mixtures forms₀ forms n k
@@ -18,45 +16,55 @@ Inv-loop forms₀ rules mixtures n k₀ forms k = Filling rules mixtures forms�
 abbrev μ-loop : tie.MeasureT-loop
 μ-loop forms₀ rules mixtures n k₀ forms k = n - k
 
+-- src/lib.rt:540:5
 loop-holds : tie.Need-loop-holds Inv-loop μ-loop
 loop-holds c = filling-start (c .before .before .before .args .rules .now) (c .before .before .before .args .mixtures .now) (c .before .before .before .args .forms .now) (c .before .before .before .pre .1) (c .before .before .before .pre .0)
 
+-- src/lib.rt:541:18
 mul-at : tie.Need-mul-at Inv-loop μ-loop
 mul-at c = search needs
 
-own-rule-requires : tie.Need-own-rule-requires Inv-loop μ-loop
-own-rule-requires c κs = (omega (arith, c .before .loop .inv .count), c .before .before .before .before .before .pre .1)
+-- src/lib.rt:543:28
+add-put-own-rule : tie.Need-add-put-own-rule Inv-loop μ-loop
+add-put-own-rule c = search needs
 
-add-put-rule : tie.Need-add-put-rule Inv-loop μ-loop
-add-put-rule c = search needs
+-- src/lib.rt:543:13
+mul-put-own-rule : tie.Need-mul-put-own-rule Inv-loop μ-loop
+mul-put-own-rule c = search needs
 
-mul-put-rule : tie.Need-mul-put-rule Inv-loop μ-loop
-mul-put-rule c = search needs
+-- src/lib.rt:543:13
+sub-put-own-rule : tie.Need-sub-put-own-rule Inv-loop μ-loop
+sub-put-own-rule c = search needs
 
-sub-put-rule : tie.Need-sub-put-rule Inv-loop μ-loop
-sub-put-rule c = search needs
+-- src/lib.rt:543:13
+part-put-own-rule-start : tie.Need-part-put-own-rule-start Inv-loop μ-loop
+part-put-own-rule-start c = search needs
 
-part-put-rule-start : tie.Need-part-put-rule-start Inv-loop μ-loop
-part-put-rule-start c = search needs
+-- src/lib.rt:543:13
+part-put-own-rule-end : tie.Need-part-put-own-rule-end Inv-loop μ-loop
+part-put-own-rule-end c = omega (arith, c .before .loop .inv .laid .same, c .before .before .before .before .before .pre .0, c .before .loop .inv .count)
 
-part-put-rule-end : tie.Need-part-put-rule-end Inv-loop μ-loop
-part-put-rule-end c = omega (arith, c .before .before .loop .inv .laid .same, c .before .before .before .before .before .before .pre .0, c .before .before .loop .inv .count)
+-- src/lib.rt:542:9
+put-own-rule-requires : tie.Need-put-own-rule-requires Inv-loop μ-loop
+put-own-rule-requires c κs = (part-wide (c .before .before .loop .forms) (c .before .before .loop .k * 9) 9 (omega (arith, c .before .before .loop .inv .laid .same, c .before .before .before .before .before .before .pre .0, c .before .before .loop .inv .count)), omega (arith, c .before .before .loop .inv .count), c .before .before .before .before .before .before .pre .1)
 
-put-rule-requires : tie.Need-put-rule-requires Inv-loop μ-loop
-put-rule-requires c κs = part-wide (c .before .before .before .loop .forms) (c .before .before .before .loop .k * 9) 9 (omega (arith, c .before .before .before .loop .inv .laid .same, c .before .before .before .before .before .before .before .pre .0, c .before .before .before .loop .inv .count))
-
+-- src/lib.rt:548:9
 add-k : tie.Need-add-k Inv-loop μ-loop
 add-k c = search needs
 
+-- src/lib.rt:540:5
 loop-less : tie.Need-loop-less Inv-loop μ-loop
 loop-less c = search needs
 
+-- src/lib.rt:540:5
 loop-again : tie.Need-loop-again Inv-loop μ-loop
-loop-again c = rw add-sub-cancel-left (filling-next (c .before .before .before .before .before .before .before .before .before .before .args .rules .now) (c .before .before .before .before .before .before .before .before .before .before .args .mixtures .now) (c .before .before .before .before .before .before .before .before .before .before .args .forms .now) (c .before .before .before .before .before .before .loop .forms) _ (c .before .before .before .before .before .before .loop .k) (c .before .before .before .before .before .before .loop .inv) (c .before .before .before .before .before .before .before .before .before .before .pre .1) (c .before .before .before .before .before .loop-test .taken) _ _ (c .before .before .before .before .own-rule .ensures) (c .before .before .put-rule .ensures))
+loop-again c = rw add-sub-cancel-left (filling-next (c .before .before .before .before .before .before .before .before .before .args .rules .now) (c .before .before .before .before .before .before .before .before .before .args .mixtures .now) (c .before .before .before .before .before .before .before .before .before .args .forms .now) (c .before .before .before .before .before .loop .forms) _ (c .before .before .before .before .before .loop .k) (c .before .before .before .before .before .loop .inv) (c .before .before .before .before .before .before .before .before .before .pre .1) (c .before .before .before .before .loop-test .taken) _ (c .before .before .put-own-rule .ensures))
 
+-- src/lib.rt:534:1
 same-length : tie.Need-same-length Inv-loop μ-loop
 same-length c = c .before .loop .inv .laid .same
 
+-- src/lib.rt:534:1
 returns : tie.Need-returns Inv-loop μ-loop
 returns c = filling-end (c .before .before .before .before .before .args .rules .now) (c .before .before .before .before .before .args .mixtures .now) (c .before .before .before .before .before .args .forms .now) (c .before .loop .forms) _ (c .before .loop .k) (c .before .loop .inv) (c .before .before .before .before .before .pre .1) (c .loop-test .left)
 
@@ -68,13 +76,12 @@ fill-forms-spec =
     μ-loop
     loop-holds
     mul-at
-    own-rule-requires
-    add-put-rule
-    mul-put-rule
-    sub-put-rule
-    part-put-rule-start
-    part-put-rule-end
-    put-rule-requires
+    add-put-own-rule
+    mul-put-own-rule
+    sub-put-own-rule
+    part-put-own-rule-start
+    part-put-own-rule-end
+    put-own-rule-requires
     add-k
     loop-less
     loop-again

@@ -1,4 +1,4 @@
--- How a row is tested: the contract of a private function of this crate. No public contract cites this file.
+-- How a rule is tested: the contract of a private function of this crate. No public contract cites this file.
 use Prim.Native.Nat.{ℕ}
 use mathlib.Core.Bool.{Bool, false, _||_}
 use mathlib.Core.List.{List, [], _∷_}

@@ -1,0 +1,146 @@
+-- Keys of rules: which rule is the first of its class.
+use Prim.Native.Nat.{ℕ, zero, suc, _+_, _-_, _*_, _/_, _%_, _^_, _≤_, _<_}
+use mathlib.Core.Path.{_≡_, sym, ap, _∙_}
+use mathlib.Core.Bool.{true, false, cond}
+use mathlib.Core.List.{List, _∷_}
+use native.Mathlib.Omega.{arith}
+use native.Mathlib.Decide.{ℕ-discrete}
+use native.Mathlib.Nat.{suc-mul, mul-le-mul-right}
+use native.Mathlib.Numerals.{add-one}
+use lib.Bits.{bitOr, bitXor}
+use lib.ListN.{length, getD, drop, set, replicate, length-set, length-replicate, drop-of-length-le}
+use lib.Seq.{drop-cons, getD-set-same, getD-set-other}
+use Rattle.rules.proofs.Bools.{refuted}
+use Rattle.rules.proofs.SameLaws.{same-eq}
+use Rattle.rules.specs.Rules.{sameList}
+use Rattle.image.specs.Limits.{unrestrictedNumber}
+use Rattle.image.specs.Bytes.{records}
+use Rattle.image.specs.Policy.{unrestrictedRule}
+use Rattle.image.specs.Normal.{position}
+use Rattle.image.specs.Words.{ruleOf}
+use Rattle.normaliser.specs.Tables.{wordsAt, formAt, classOf, Classified}
+use Rattle.normaliser.specs.Keys.{mixed, spread, keyOf, Keyed}
+use Rattle.normaliser.proofs.Finish.{zeros-at}
+use Rattle.normaliser.proofs.Seeking.{Seeking, seek-start, seek-next, seek-end}
+
+-- ---- the words, one after the other
+
+module _ (ws : List ℕ) (h i : ℕ) (inv : mixed h (drop i ws) ≡ mixed 0 ws) where
+  pub mixed-next : i < length ws → mixed (bitXor (bitOr (h * 2 ^ 5 % 2 ^ 64) (h / 2 ^ 59)) (getD ws i 0)) (drop (i + 1) ws) ≡ mixed 0 ws
+  unfolding mixed
+  mixed-next l =
+      sym (ap (mixed h) (drop-cons ws i 0 l ∙ ap (λ (k : ℕ). getD ws i 0 ∷ drop k ws) (sym (add-one i)))) ∙ inv
+
+  pub mixed-end : length ws ≤ i → h ≡ mixed 0 ws
+  unfolding mixed
+  mixed-end l = sym (ap (mixed h) (drop-of-length-le ws l)) ∙ inv
+
+-- ---- a key is below n
+
+spread-small : (h : ℕ) → spread h < 2 ^ 32
+unfolding spread
+spread-small h = omega arith
+
+key-product : (x n : ℕ) → x < 2 ^ 32 → x * n + n ≤ 2 ^ 32 * n
+key-product x n l = let q : suc x * n ≤ 2 ^ 32 * n = mul-le-mul-right n l in omega (arith, suc-mul x n)
+
+module _ (h n : ℕ) where
+  pub key-fits : n ≤ 4096 → (h / 4294967296 + h % 4294967296) % 4294967296 * 2654435761 % 4294967296 * n < 2 ^ 64
+  unfolding spread
+  key-fits l = omega (arith, key-product (spread h) n (spread-small h))
+
+  pub key-is : (ws : List ℕ) → h ≡ mixed 0 ws → (h / 4294967296 + h % 4294967296) % 4294967296 * 2654435761 % 4294967296 * n / 4294967296 ≡ keyOf n ws
+  unfolding keyOf spread
+  key-is ws e = ap (λ (x : ℕ). (x / 2 ^ 32 + x % 2 ^ 32) % 2 ^ 32 * 2654435761 % 2 ^ 32 * n / 2 ^ 32) e
+
+  pub key-below : 0 < n → (h / 4294967296 + h % 4294967296) % 4294967296 * 2654435761 % 4294967296 * n / 4294967296 < n
+  unfolding spread
+  key-below l = omega (arith, key-product (spread h) n (spread-small h))
+
+-- ---- the table
+
+pub keyed-start : (forms : List ℕ) (n : ℕ) → 0 < n → n ≤ 4096 → Keyed forms (replicate n 0) 0
+keyed-start forms n s f =
+    record {
+      some = omega (arith, length-replicate {A = ℕ} n 0);
+      few = omega (arith, length-replicate {A = ℕ} n 0);
+      seen = λ j l. absurd (omega arith);
+      inside = λ h. omega (arith, zeros-at n h);
+    }
+
+module _ (forms keys : List ℕ) (k h : ℕ) (g : Keyed forms keys k) (e : h ≡ keyOf (length keys) (wordsAt forms k)) where
+  -- no rule has this key
+  module _ (l : h < length keys) (z : getD keys h 0 ≡ 0) where
+    put-long : length (set keys h (k + 1)) ≡ length keys
+    put-long = length-set keys h (k + 1)
+
+    put-seen : (x : ℕ) → 0 < getD keys x 0 → 0 < getD (set keys h (k + 1)) x 0
+    put-seen x p = by (ℕ-discrete x h)
+      where
+        by : Dec (x ≡ h) → 0 < getD (set keys h (k + 1)) x 0
+        by (yes q) = omega (arith, ap (λ (y : ℕ). getD (set keys h (k + 1)) y 0) q, getD-set-same keys h (k + 1) 0 l)
+        by (no d) = omega (arith, getD-set-other keys h x (k + 1) 0 d)
+
+    put-key : (j : ℕ) → j < k + 1 → 0 < getD (set keys h (k + 1)) (keyOf (length keys) (wordsAt forms j)) 0
+    put-key j m = by (ℕ-discrete j k)
+      where
+        by : Dec (j ≡ k) → 0 < getD (set keys h (k + 1)) (keyOf (length keys) (wordsAt forms j)) 0
+        by (yes q) =
+            let w : keyOf (length keys) (wordsAt forms j) ≡ h = ap (λ (x : ℕ). keyOf (length keys) (wordsAt forms x)) q ∙ sym e in
+            omega (arith, ap (λ (y : ℕ). getD (set keys h (k + 1)) y 0) w, getD-set-same keys h (k + 1) 0 l)
+        by (no d) = put-seen (keyOf (length keys) (wordsAt forms j)) (g .seen j (omega arith))
+
+    put-inside : (x : ℕ) → getD (set keys h (k + 1)) x 0 ≤ k + 1
+    put-inside x = by (ℕ-discrete x h)
+      where
+        by : Dec (x ≡ h) → getD (set keys h (k + 1)) x 0 ≤ k + 1
+        by (yes q) = omega (arith, ap (λ (y : ℕ). getD (set keys h (k + 1)) y 0) q, getD-set-same keys h (k + 1) 0 l)
+        by (no d) = omega (arith, getD-set-other keys h x (k + 1) 0 d, g .inside x)
+
+    pub keyed-new : Keyed forms (set keys h (k + 1)) (k + 1)
+    keyed-new =
+        record {
+          some = omega (arith, put-long, g .some);
+          few = omega (arith, put-long, g .few);
+          seen = λ j m. rw put-long (put-key j m);
+          inside = put-inside;
+        }
+
+    unlike : (j : ℕ) → j < k → false ≡ sameList (wordsAt forms k) (wordsAt forms j)
+    unlike j m =
+        sym (refuted (sameList (wordsAt forms k) (wordsAt forms j))
+        (λ s. let q : keyOf (length keys) (wordsAt forms j) ≡ h = ap (keyOf (length keys)) (sym (same-eq (wordsAt forms k) (wordsAt forms j) s)) ∙ sym e in
+        omega (arith, z, ap (λ (x : ℕ). getD keys x 0) q, g .seen j m)))
+
+    module _ (b : k < length forms / 9) where
+      seeks : (j : ℕ) → j ≤ k → Seeking forms k j
+      seeks zero m = seek-start forms k
+      seeks (suc j) m = rw (add-one j) at (seek-next forms k j b (seeks j (omega arith)) (omega arith) (unlike j (omega arith)))
+
+      -- it is the first with its words
+      pub class-new : (r : ℕ) → r ≡ cond (sameList (ruleOf (wordsAt forms k)) unrestrictedRule) unrestrictedNumber k → r ≡ classOf forms k
+      unfolding classOf formAt
+      class-new r f =
+          f ∙ ap (cond (sameList (ruleOf (wordsAt forms k)) unrestrictedRule) unrestrictedNumber) (seek-end forms k k b (seeks k (omega arith)) (omega arith))
+
+  -- a rule has this key
+  pub keyed-old : (getD keys h 0 ≡ 0 → ⊥) → Keyed forms keys (k + 1)
+  keyed-old d = record { some = g .some; few = g .few; seen = λ j m. by j m (ℕ-discrete j k); inside = λ x. omega (arith, g .inside x) }
+    where
+      by : (j : ℕ) → j < k + 1 → Dec (j ≡ k) → 0 < getD keys (keyOf (length keys) (wordsAt forms j)) 0
+      by j m (yes q) =
+          let w : keyOf (length keys) (wordsAt forms j) ≡ h = ap (λ (x : ℕ). keyOf (length keys) (wordsAt forms x)) q ∙ sym e in
+          omega (arith, d, ap (λ (y : ℕ). getD keys y 0) w)
+      by j m (no n) = g .seen j (omega arith)
+
+-- rules with the same words have the same class
+same-class : (forms : List ℕ) (j k : ℕ) → wordsAt forms k ≡ wordsAt forms j → classOf forms j ≡ classOf forms k
+unfolding classOf formAt
+same-class forms j k e = rw e
+
+pub class-old : (forms classes : List ℕ) (j k : ℕ) → Classified forms classes k → j < k → true ≡ sameList (wordsAt forms k) (wordsAt forms j) → getD classes j 0 ≡ classOf forms k
+class-old forms classes j k t l s = t .is j l ∙ same-class forms j k (same-eq (wordsAt forms k) (wordsAt forms j) (sym s))
+
+pub class-sought : (forms : List ℕ) (k r first : ℕ) → r ≡ cond (sameList (ruleOf (wordsAt forms k)) unrestrictedRule) unrestrictedNumber first → first ≡ position (wordsAt forms k) (records 9 forms) → r ≡ classOf forms k
+unfolding classOf formAt
+class-sought forms k r first e f = e ∙ ap (cond (sameList (ruleOf (wordsAt forms k)) unrestrictedRule) unrestrictedNumber) f

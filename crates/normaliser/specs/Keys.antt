@@ -1,0 +1,31 @@
+-- How equal rules are found: the contracts of this crate's private functions. No public contract cites this file.
+-- Rules with the same words have the same key; of each key the table has one rule.
+use Prim.Native.Nat.{ℕ, _+_, _*_, _/_, _%_, _^_, _≤_, _<_}
+use mathlib.Core.List.{List, [], _∷_}
+use lib.Bits.{bitOr, bitXor}
+use lib.ListN.{length, getD}
+use Rattle.normaliser.specs.Tables.{wordsAt}
+
+-- the words go into h one after the other: h is rotated, then takes the word's bits
+unfoldable pub mixed : ℕ → List ℕ → ℕ
+mixed h [] = h
+mixed h (w ∷ ws) = mixed (bitXor (bitOr (h * 2 ^ 5 % 2 ^ 64) (h / 2 ^ 59)) w) ws
+
+-- a number of 64 bits as one of 32, each bit of which depends on many
+unfoldable pub spread : ℕ → ℕ
+spread h = (h / 2 ^ 32 + h % 2 ^ 32) % 2 ^ 32 * 2654435761 % 2 ^ 32
+
+-- the most keys of a table
+abbrev pub keyLimit : ℕ
+keyLimit = 4096
+
+-- the key of the words among n
+unfoldable pub keyOf : ℕ → List ℕ → ℕ
+keyOf n ws = spread (mixed 0 ws) * n / 2 ^ 32
+
+-- each of the first k rules has a key that stands in the table, with the number from 1 of one of these rules
+pub record Keyed (forms keys : List ℕ) (k : ℕ) : Type 0 where
+  pub some : 0 < length keys
+  pub few : length keys ≤ keyLimit
+  pub seen : (j : ℕ) → j < k → 0 < getD keys (keyOf (length keys) (wordsAt forms j)) 0
+  pub inside : (h : ℕ) → getD keys h 0 ≤ k
