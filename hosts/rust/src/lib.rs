@@ -84,11 +84,13 @@ pub enum MatrixVerdict {
 }
 
 /// The refusal of a number that the library returned.
+#[inline]
 fn refusal(number: u32) -> Refusal {
     Refusal::from_number(number).expect("the library's contract gives no other number")
 }
 
 /// An image's length, or a refusal: every image has 18 bytes or more.
+#[inline]
 fn length(number: u32) -> Result<usize, Refusal> {
     if number < 18 {
         Err(refusal(number))
@@ -106,6 +108,7 @@ fn length(number: u32) -> Result<usize, Refusal> {
 /// assert_eq!(check(&empty[..17]), Err(Refusal::ImageLength));
 /// assert_eq!(check(&[]), Err(Refusal::ImageLength));
 /// ```
+#[inline]
 pub fn check(image: &[u8]) -> Result<(), Refusal> {
     // SAFETY: a slice is valid, aligned and not null for its length.
     match unsafe { ffi::yaslaurel_image_check(image.as_ptr(), image.len()) } {
@@ -138,12 +141,14 @@ pub fn normalise(image: &[u8]) -> Result<Vec<u8>, Refusal> {
 /// assert_eq!(normalise_into(&empty, &mut vec![0; 18_994]), Ok(18));
 /// assert_eq!(normalise_into(&empty, &mut vec![0; 18_993]), Err(Refusal::LentLength));
 /// ```
+#[inline]
 pub fn normalise_into(image: &[u8], out: &mut [u8]) -> Result<usize, Refusal> {
     // SAFETY: both slices are valid for their lengths, and Rust keeps `out` apart from `image`.
     length(unsafe { ffi::yaslaurel_image_normalise(image.as_ptr(), image.len(), out.as_mut_ptr(), out.len()) })
 }
 
 /// Fills a lent session of exactly [`SESSION_LENGTH`] numbers from a policy image, whatever stood there.
+#[inline]
 pub fn start_in(image: &[u8], session: &mut [u64]) -> Result<(), Refusal> {
     // SAFETY: both slices are valid and aligned for their lengths, and Rust keeps `session` apart from `image`.
     match unsafe { ffi::yaslaurel_session_start(image.as_ptr(), image.len(), session.as_mut_ptr(), session.len()) } {
@@ -153,6 +158,7 @@ pub fn start_in(image: &[u8], session: &mut [u64]) -> Result<(), Refusal> {
 }
 
 /// Judges one operation record on a lent session of exactly [`SESSION_LENGTH`] numbers.
+#[inline]
 pub fn step_in(session: &mut [u64], record: &[u8]) -> Result<Answer, Refusal> {
     let (mut receiver, mut tag) = (0, 0);
     // SAFETY: the slices are valid and aligned for their lengths, the two numbers are ours, and Rust keeps what is
@@ -203,6 +209,7 @@ impl Session {
     /// assert_eq!(session, before);
     /// # Ok::<(), Refusal>(())
     /// ```
+    #[inline]
     pub fn step(&mut self, record: &[u8]) -> Result<Answer, Refusal> {
         step_in(&mut self.words[..], record)
     }

@@ -28,6 +28,7 @@ pub enum Operation {
 
 impl Operation {
     /// The record of 8 bytes that [`Session::step`](crate::Session::step) takes.
+    #[inline]
     pub fn record(self) -> [u8; 8] {
         let (code, process, object, user) = match self {
             Operation::Read { process, object } => (1, process, object, None),

@@ -78,11 +78,13 @@ impl Refusal {
     /// assert_eq!(Refusal::from_number(0), None);
     /// assert_eq!(Refusal::from_number(16), None);
     /// ```
+    #[inline]
     pub fn from_number(number: u32) -> Option<Refusal> {
         Refusal::ALL.into_iter().find(|refusal| refusal.number() == number)
     }
 
     /// The paper's number.
+    #[inline]
     pub fn number(self) -> u32 {
         self as u32
     }
