@@ -18,7 +18,7 @@ use Rattle.rules.proofs.RefineLaws.{refines-meet}
 use Rattle.rules.proofs.MeetLaws.{meet-one}
 use Rattle.session.specs.Limits.{rowWidth, userWidth, usersAt, kindAt, tagAt, permitAt, runAt, userRuleAt}
 use Rattle.image.specs.Words.{ruleWidth}
-use Rattle.session.specs.Rows.{Row, InUse, rowOf, rowWords, permitWords, runWords, containerRow, userRow, userRuleWords, userRuleOf}
+use Rattle.session.specs.Rows.{InUse, rowOf, rowWords, permitWords, runWords, containerRow, userRow, userRuleWords, userRuleOf}
 use Rattle.image.specs.Words.{ruleOf, wordsOf}
 use Rattle.image.proofs.WordLaws.{bounded-words}
 use Rattle.session.proofs.RuleWords.{kept-count, kept-normal, kept-words, rule-length}

@@ -201,9 +201,6 @@ module _ (ws : List ℕ) (g : userRowGood ws ≡ true) where
     pub user-kept : keptWell (userRuleWords ws) ≡ true
     user-kept = and-1 (isDeclared ws) (good-cases false (ne-eqb (getD ws declaredAt 0) 0 (λ e. omega (arith, first-is))))
 
-    pub good-user-count : getD (userRuleWords ws) 0 0 ≤ mixtureLimit
-    good-user-count = kept-count (userRuleWords ws) user-kept
-
     pub good-declared : (length (userRuleOf ws) ≤ mixtureLimit) × (normal (userRuleOf ws) ≡ userRuleOf ws)
     unfolding userRuleOf
     good-declared = (kept-short (userRuleWords ws) user-kept, kept-normal (userRuleWords ws) user-kept)
