@@ -1,6 +1,6 @@
 -- The operations on rows, as the table of the paper's section "Operations" has them; the start; and what makes a monitor
 -- one that follows the table.
-use Prim.Native.Nat.{ℕ, _^_, _≤_}
+use Prim.Native.Nat.{ℕ, _≤_}
 use mathlib.Core.Path.{_≡_}
 use mathlib.Core.Bool.{Bool, true, false, not, cond, _&&_, _||_}
 use mathlib.Core.List.{List, []}
@@ -11,7 +11,7 @@ use lib.ListN.{length, getElem?}
 use Rattle.rules.specs.Sets.{dataOf, runningOf}
 use Rattle.rules.specs.Rules.{covers, meet, normal}
 use Rattle.rules.specs.Answers.{dataWidth, mixtureLimit}
-use Rattle.image.specs.Limits.{isFree, isFile, isProcess, isStore, freeKind, fileKind, volatileKind, noAtom}
+use Rattle.image.specs.Limits.{isFree, isFile, isProcess, isStore, freeKind, fileKind, volatileKind}
 use Rattle.image.specs.Policy.{Policy, unrestrictedRule}
 use Rattle.image.specs.Normal.{Place, meaning}
 use Rattle.session.specs.Rows.{Row}

@@ -10,7 +10,7 @@ use Rattle.rules.specs.Rules.{covers, elem, distinct, heldIn, unheldIn, insert,
 use Rattle.rules.specs.Answers.{dataWidth, boundedOf}
 use Rattle.image.specs.Image.{offset, size}
 use Rattle.monitor.proofs.Examples.{CheckedRuns, checked-runs}
-use Rattle.matrix.specs.Verdicts.{Values, verdictOf}
+use Rattle.matrix.specs.Verdicts.{verdictOf}
 use Rattle.matrix.specs.Derived.{permitOf, countFrom, derivedImage}
 use Rattle.matrix.proofs.Examples.{flows, permits, image-length, image-offsets, image-sizes}
 

@@ -1,23 +1,23 @@
 -- The bytes of a sound policy are accepted, and spell that policy.
-use Prim.Native.Nat.{ℕ, zero, suc, _+_, _*_, _/_, _%_, _^_, _≤_, _<_}
+use Prim.Native.Nat.{ℕ, suc, _+_, _*_, _/_, _%_, _^_, _≤_, _<_}
 use mathlib.Core.Path.{_≡_, refl, sym, ap, ap₂, _∙_}
 use mathlib.Core.Bool.{Bool, true, false, cond, _&&_, _||_}
-use mathlib.Core.List.{List, [], _∷_, _++_, map, append-assoc, append-nil}
-use mathlib.Core.Logic.{_⊎_, inl, inr, ⊎-elim}
+use mathlib.Core.List.{List, [], _∷_, _++_, map, append-assoc}
+use mathlib.Core.Logic.{_⊎_, ⊎-elim}
 use native.Mathlib.Omega.{arith}
 use native.Mathlib.Nat.{mul-mod-left, mul-div-cancel}
 use lib.Dec.{eqb, leb, ltb}
-use lib.ListN.{length, getD, take, drop, length-append, length-map}
-use lib.Seq.{take-at, drop-at, take-append-seam}
+use lib.ListN.{length, take, drop, length-append}
+use lib.Seq.{drop-at, take-append-seam}
 use borrow.Author.Tests.{eq-eqb, le-leb, lt-ltb, ltb-true, eqb-true, leb-true}
 use Rattle.rules.proofs.Bools.{and-in, and-0, and-1, or-cases}
 use Rattle.rules.specs.Answers.{dataWidth}
 use Rattle.image.specs.Limits.{isFile, isVolatile, isProcess, unrestrictedNumber, noAtom}
-use Rattle.image.specs.Bytes.{numberIn, bytesOf, field, records, every, joined, Bytes}
+use Rattle.image.specs.Bytes.{numberIn, bytesOf, field, every, joined, Bytes}
 use Rattle.image.specs.Policy.{Container, Policy, named, containerGood, ruleGood, Sound}
-use Rattle.image.specs.Image.{Span, containerIn, spanIn, ruleIn, containersIn, usersIn, spansIn, mixturesIn, rulesIn, policyIn, part, wholeGood, sectionsGood, spansGood, rulesGood, containersGood, usersGood, checkOf, Reading, accepted, judged, readImage, pairsGood, lengthGood}
+use Rattle.image.specs.Image.{Span, containerIn, spanIn, ruleIn, containersIn, usersIn, spansIn, mixturesIn, rulesIn, policyIn, part, wholeGood, sectionsGood, spansGood, rulesGood, containersGood, usersGood, checkOf, accepted, judged, readImage}
 use Rattle.image.specs.Normal.{containerBytes, spanBytes, spansOf, pair, header, framed, encode}
-use Rattle.image.proofs.Lists.{every-0, every-1, every-nil, every-cons, every-imp, every-append}
+use Rattle.image.proofs.Lists.{every-0, every-1, every-nil, every-cons, every-append}
 use Rattle.image.proofs.ByteLaws.{bytes-length, number-bytes, joined-length, section-back, byte, bytes-byte, joined-byte, every-bytes}
 use Rattle.image.proofs.Frame.{part-0, part-1, part-2, part-3, frame-length, frame-long, frame-pairs}
 

@@ -1,13 +1,13 @@
 -- What a sound policy means can be written down, and what is written means it again.
-use Prim.Native.Nat.{ℕ, zero, suc, _+_, _-_, _*_, _^_, _≤_, _<_}
-use mathlib.Core.Path.{_≡_, refl, sym, ap, ap₂, _∙_}
+use Prim.Native.Nat.{ℕ, zero, suc, _+_, _-_, _^_, _≤_, _<_}
+use mathlib.Core.Path.{_≡_, refl, sym, ap, _∙_}
 use mathlib.Core.Bool.{Bool, true, false, cond, _&&_, _||_, true≢false}
 use mathlib.Core.List.{List, [], _∷_, _++_, map}
-use mathlib.Core.Logic.{_⊎_, inl, inr, ⊎-elim}
+use mathlib.Core.Logic.{_⊎_, ⊎-elim}
 use native.Mathlib.Omega.{arith}
 use lib.Dec.{eqb, leb, ltb}
 use lib.ListN.{length, getD, length-map}
-use borrow.Author.Tests.{eq-eqb, ne-eqb, lt-ltb, ltb-true, leb-true, le-leb, eqb-true}
+use borrow.Author.Tests.{ltb-true, leb-true, le-leb}
 use Rattle.rules.proofs.Bools.{and-in, and-0, and-1, or-0, or-1, or-cases}
 use Rattle.rules.proofs.RuleLaws.{elem-here, elem-there, elem-cases, elem-none, normal-among, normal-length, normal-normal}
 use Rattle.rules.proofs.MeetAll.{normal-one}

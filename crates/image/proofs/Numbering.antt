@@ -1,21 +1,21 @@
 -- Rules numbered by first use.
-use Prim.Native.Nat.{ℕ, zero, suc, _+_, _*_, _≤_, _<_}
-use mathlib.Core.Path.{_≡_, refl, sym, ap, ap₂, _∙_}
-use mathlib.Core.Bool.{Bool, true, false, cond, _&&_, _||_}
-use mathlib.Core.List.{List, [], _∷_, _++_, map}
-use mathlib.Core.Logic.{_⊎_, inl, inr, ⊎-elim}
+use Prim.Native.Nat.{ℕ, suc, _+_, _≤_, _<_}
+use mathlib.Core.Path.{_≡_, refl, sym, ap, _∙_}
+use mathlib.Core.Bool.{Bool, true, false, cond, _||_}
+use mathlib.Core.List.{List, [], _∷_, _++_}
+use mathlib.Core.Logic.{_⊎_, ⊎-elim}
 use native.Mathlib.Omega.{arith}
-use lib.Dec.{eqb, leb, ltb}
+use lib.Dec.{eqb, ltb}
 use lib.ListN.{length, getD, length-append}
-use borrow.Author.Tests.{eq-eqb, ne-eqb, lt-ltb}
-use Rattle.rules.proofs.Bools.{and-in, and-0, and-1, or-0, or-1, or-cases, decide, clash, refuted}
+use borrow.Author.Tests.{ne-eqb, lt-ltb}
+use Rattle.rules.proofs.Bools.{or-0, or-1, or-cases, clash, refuted}
 use Rattle.rules.specs.Rules.{sameList}
 use Rattle.rules.proofs.SameLaws.{same-refl, same-eq}
 use Rattle.image.specs.Limits.{unrestrictedNumber}
 use Rattle.image.specs.Bytes.{every}
 use Rattle.image.specs.Policy.{unrestrictedRule, ruleAt, named}
 use Rattle.image.specs.Normal.{known, noted, numbered, position, numberOf}
-use Rattle.image.proofs.Lists.{every-0, every-1, every-nil, every-cons, every-imp, every-append}
+use Rattle.image.proofs.Lists.{every-0, every-1, every-nil, every-cons, every-append}
 
 -- r needs no number, or has one
 unfoldable pub settled : List (List ℕ) → List ℕ → Bool

@@ -1,18 +1,18 @@
 -- Fields that are read byte by byte, sections that are read record by record.
-use Prim.Native.Nat.{ℕ, zero, suc, _+_, _-_, _*_, _/_, _%_, _^_, _≤_, _<_}
-use mathlib.Core.Path.{_≡_, refl, sym, ap, ap₂, _∙_}
-use mathlib.Core.Bool.{Bool, true, false, not, cond, _&&_, _||_}
-use mathlib.Core.List.{List, [], _∷_, _++_, map}
+use Prim.Native.Nat.{ℕ, zero, suc, _+_, _-_, _*_, _/_, _≤_, _<_}
+use mathlib.Core.Path.{_≡_, refl, sym, ap, _∙_}
+use mathlib.Core.Bool.{Bool, true, false, not, _&&_}
+use mathlib.Core.List.{List, [], _∷_, map}
 use native.Mathlib.Omega.{arith}
 use native.Mathlib.Nat.{add-mul}
 use native.Mathlib.Numerals.{add-one}
-use lib.Dec.{eqb, leb, ltb}
+use lib.Dec.{eqb, leb}
 use lib.ListN.{length, getD, take, drop}
 use lib.Seq.{drop-cons, drop-drop, take-take}
 use borrow.Author.Tests.{lt-leb, le-leb, leb-true, not-true, not-false}
 use Rattle.rules.proofs.Bools.{and-in, and-0, and-1}
 use Rattle.image.specs.Bytes.{numberIn, field, cut, records, every}
-use Rattle.image.specs.Image.{Span, spanIn, spansIn, spansGood, offset, size, partGood, pairsGood, lengthGood}
+use Rattle.image.specs.Image.{spanIn, spansIn, spansGood, offset, size, partGood, pairsGood, lengthGood}
 
 -- ---- fields
 

@@ -1,13 +1,13 @@
 -- THE POLICY IMAGE: what is proved. Each statement is spelled out here and proved by a citation.
-use Prim.Native.Nat.{ℕ, zero, suc, _≤_}
-use mathlib.Core.Path.{_≡_, refl, sym, ap, _∙_}
+use Prim.Native.Nat.{ℕ, suc, _≤_}
+use mathlib.Core.Path.{_≡_, refl, ap}
 use mathlib.Core.Bool.{Bool, true, false, cond}
 use mathlib.Core.List.{List, [], _∷_}
 use lib.ListN.{length}
 use Rattle.image.specs.Limits.{outputBound}
 use Rattle.image.specs.Bytes.{Bytes}
 use Rattle.image.specs.Policy.{Policy, Sound}
-use Rattle.image.specs.Image.{Reading, accepted, readImage, policyIn, lengthGood, pairsGood, sectionsGood, rulesGood, containersGood, usersGood, checkOf}
+use Rattle.image.specs.Image.{accepted, readImage, lengthGood, pairsGood, sectionsGood, rulesGood, containersGood, usersGood, checkOf}
 use Rattle.image.specs.Normal.{Meaning, meaning, policyOf, normalPolicy, encode, normalImage}
 use Rattle.image.proofs.Encode.{read-encode, encode-short, encode-bytes}
 use Rattle.image.proofs.Decode.{read-sound}

@@ -1,7 +1,7 @@
 -- Rules as 9 words: written one word at a time, told apart by their words.
-use Prim.Native.Nat.{ℕ, zero, suc, _+_, _-_, _≤_, _<_}
+use Prim.Native.Nat.{ℕ, suc, _+_, _-_, _≤_, _<_}
 use mathlib.Core.Path.{_≡_, refl, sym, ap, ap₂, _∙_}
-use mathlib.Core.Bool.{Bool, true, false, cond, _||_}
+use mathlib.Core.Bool.{Bool, cond}
 use mathlib.Core.List.{List, [], _∷_, _++_, map, append-nil}
 use native.Mathlib.Omega.{arith}
 use native.Mathlib.Nat.{add-sub-cancel}
@@ -15,7 +15,7 @@ use Rattle.rules.proofs.BoundedLaws.{padded-take, bounded-some}
 use Rattle.rules.specs.Rules.{sameList}
 use Rattle.rules.specs.Answers.{padded, boundedOf}
 use Rattle.rules.specs.declared.Bounded.{Bounded}
-use Rattle.image.specs.Normal.{known, position}
+use Rattle.image.specs.Normal.{position}
 use Rattle.image.specs.Words.{ruleOf, wordsOf}
 
 -- ---- the words, written one at a time

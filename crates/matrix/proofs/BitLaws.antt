@@ -1,6 +1,6 @@
 -- Bits of rows as tests.
-use Prim.Native.Nat.{ℕ, zero, suc, _+_, _-_, _*_, _/_, _%_, _^_, _≤_, _<_, min, max}
-use mathlib.Core.Path.{_≡_, refl, sym, ap, ap₂, _∙_}
+use Prim.Native.Nat.{ℕ, zero, suc, _+_, _-_, _/_, _%_, _^_, _≤_, _<_}
+use mathlib.Core.Path.{_≡_, sym, ap, _∙_}
 use mathlib.Core.Bool.{Bool, true, false, not, _&&_, _||_}
 use mathlib.Core.Logic.{_⊎_, inl, inr}
 use native.Mathlib.Decide.{ℕ-discrete, decLt}
@@ -12,7 +12,7 @@ use lib.Dec.{eqb}
 use borrow.Author.Tests.{eqb-true, eq-eqb, eqb-false, ne-eqb}
 use Rattle.rules.specs.Sets.{atom}
 use Rattle.rules.proofs.SetLaws.{atom-le, atom-and, atom-or, atom-above, single-same, single-other, ext}
-use Rattle.rules.proofs.Bools.{same-test, decide, refuted, or-0, or-1, or-cases, and-in, and-0, and-1}
+use Rattle.rules.proofs.Bools.{decide}
 use Rattle.matrix.specs.Flows.{has}
 
 -- the test, as code makes it

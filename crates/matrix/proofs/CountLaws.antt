@@ -1,7 +1,7 @@
 -- Counting, and the least number that passes a test.
-use Prim.Native.Nat.{ℕ, zero, suc, _+_, _-_, _*_, _/_, _%_, _^_, _≤_, _<_}
+use Prim.Native.Nat.{ℕ, zero, suc, _+_, _-_, _/_, _%_, _^_, _≤_, _<_}
 use mathlib.Core.Path.{_≡_, refl, sym, ap, ap₂, _∙_}
-use mathlib.Core.Bool.{Bool, true, false, not, cond, _&&_, _||_}
+use mathlib.Core.Bool.{Bool, true, false, cond, _||_}
 use mathlib.Core.Logic.{_⊎_, inl, inr}
 use native.Mathlib.Decide.{ℕ-discrete}
 use native.Mathlib.Nat.{zero-add}
@@ -9,7 +9,7 @@ use native.Mathlib.Omega.{arith}
 use lib.Count.{ones, ones-step}
 use lib.Dec.{eqb}
 use borrow.Author.Tests.{eq-eqb, ne-eqb}
-use Rattle.rules.proofs.Bools.{decide, clash, or-0, or-1, or-cases, refuted}
+use Rattle.rules.proofs.Bools.{decide, clash, or-0, or-1}
 use Rattle.matrix.specs.Flows.{has}
 use Rattle.matrix.specs.Verdicts.{countBelow, sumBelow, someBelow, leastBelow}
 use Rattle.matrix.proofs.BitLaws.{has-first, has-next}

@@ -1,15 +1,15 @@
 -- The plain image is accepted as the derived policy, so that its normal image is the derived one.
 use Prim.Native.Nat.{ℕ, _-_, _≤_, _<_}
-use mathlib.Core.Path.{_≡_, refl, sym, ap, ap₂, _∙_}
-use mathlib.Core.Bool.{Bool, true, false, cond}
-use mathlib.Core.List.{List, _++_}
+use mathlib.Core.Path.{_≡_, ap, _∙_}
+use mathlib.Core.Bool.{true, false}
+use mathlib.Core.List.{List}
 use native.Mathlib.Omega.{arith}
 use lib.Dec.{leb, ltb}
 use lib.ListN.{length, take}
 use borrow.Author.Tests.{le-leb, lt-leb, le-ltb}
 use Rattle.image.specs.Image.{checkOf, policyIn}
 use Rattle.image.specs.Policy.{Sound}
-use Rattle.image.specs.Normal.{encode, normalImage}
+use Rattle.image.specs.Normal.{encode}
 use Rattle.image.proofs.Encode.{check-encode, policy-encode}
 use Rattle.matrix.specs.Flows.{matrixGood}
 use Rattle.normaliser.specs.Normaliser.{normalAnswer, normalEffect, written}

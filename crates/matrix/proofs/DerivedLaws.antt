@@ -1,30 +1,30 @@
 -- The derived policy is one that an image can spell.
-use Prim.Native.Nat.{ℕ, zero, suc, _+_, _-_, _*_, _^_, _≤_, _<_}
+use Prim.Native.Nat.{ℕ, zero, suc, _+_, _-_, _^_, _≤_, _<_}
 use mathlib.Core.Path.{_≡_, refl, sym, ap, ap₂, _∙_}
-use mathlib.Core.Bool.{Bool, true, false, not, cond, _&&_, _||_}
+use mathlib.Core.Bool.{Bool, true, false, cond}
 use mathlib.Core.List.{List, [], _∷_, _++_, map}
 use mathlib.Core.Logic.{⊎-elim}
 use native.Mathlib.Nat.{lt-of-lt-of-le, add-zero, zero-add}
 use native.Mathlib.Omega.{arith}
 use lib.Pow.{pow-lt, pow-mono}
 use lib.Bits.{bitOr, or-lt}
-use lib.Dec.{eqb, ltb, leb}
+use lib.Dec.{eqb, ltb}
 use lib.ListN.{length, getD, replicate, length-append, length-map, length-replicate}
 use borrow.Author.Tests.{le-leb, lt-ltb, ltb-true, ne-eqb}
-use Rattle.rules.proofs.Bools.{and-in, and-0, and-1, or-0, or-1}
+use Rattle.rules.proofs.Bools.{and-in, or-0, or-1}
 use Rattle.image.specs.Limits.{isFile, isVolatile, isProcess}
 use Rattle.image.specs.Bytes.{every}
 use Rattle.rules.specs.Rules.{elem, normal, unrestricted}
 use Rattle.rules.proofs.RuleLaws.{elem-here, elem-cases, elem-none, normal-among}
-use Rattle.image.specs.Policy.{Container, Policy, unrestrictedRule, ruleAt, named, containerGood, ruleGood, Sound}
+use Rattle.image.specs.Policy.{Container, unrestrictedRule, ruleAt, named, containerGood, ruleGood, Sound}
 use Rattle.image.specs.Image.{readImage, accepted}
 use Rattle.image.specs.Normal.{Place, Meaning, normalAt, placeOf, meaning, policyOf, normalPolicy, encode, normalImage}
 use Rattle.image.proofs.Encode.{read-encode, encode-short}
 use Rattle.image.proofs.Means.{Encodable, meaning-encodable, normal-unrestricted, policy-sound, policy-means}
 use Rattle.image.proofs.Lists.{every-0, every-1, every-nil, every-cons, every-imp, every-append}
-use Rattle.matrix.specs.Flows.{has, rowsGood, matrixGood}
+use Rattle.matrix.specs.Flows.{has, rowsGood}
 use Rattle.matrix.specs.Derived.{writerMixtures, orAlone, permitOf, countFrom, objectFile, subjectProcess, derivedPolicy, derivedImage}
-use Rattle.matrix.proofs.VerdictLaws.{Good, good-parts}
+use Rattle.matrix.proofs.VerdictLaws.{Good}
 
 -- ---- numbers from k on
 

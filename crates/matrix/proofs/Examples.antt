@@ -1,9 +1,7 @@
 -- The starred example of the matrix, by computation: document 000's matrix, read rows 5, 3, 2, write rows 1, 2, 10, 4 objects.
 use Prim.Native.Nat.{ℕ}
 use mathlib.Core.Path.{_≡_, refl}
-use mathlib.Core.Bool.{true}
 use mathlib.Core.List.{List, [], _∷_, map}
-use lib.Bits.{bitOr}
 use lib.ListN.{length}
 use Rattle.rules.specs.Sets.{atom, holds}
 use Rattle.rules.specs.Rules.{elem, distinct, heldIn, unheldIn, insert, sort, normal, unrestricted, sameList}
@@ -12,7 +10,7 @@ use Rattle.image.specs.Policy.{unrestrictedRule, ruleAt}
 use Rattle.image.specs.Image.{offset, size}
 use Rattle.image.specs.Normal.{normalAt, placeOf, meaning, placeUses, uses, known, noted, numbered, position, numberOf, containerOf, writtenBy, policyOf, normalPolicy, containerBytes, spanBytes, spansOf, pair, header, framed, encode, normalImage}
 use Rattle.matrix.specs.Flows.{rowsGood, counted, matrixGood, has, subjectCarries, granted, within, composed}
-use Rattle.matrix.specs.Verdicts.{Values, countBelow, sumBelow, someBelow, leastBelow, ungranted, ungrantedFrom, flowCount, firstSource, firstTarget, consistent, judgedBy, verdictOf}
+use Rattle.matrix.specs.Verdicts.{countBelow, sumBelow, someBelow, leastBelow, ungranted, ungrantedFrom, flowCount, firstSource, firstTarget, consistent, judgedBy, verdictOf}
 use Rattle.matrix.specs.Derived.{writerMixtures, orAlone, permitOf, countFrom, objectFile, subjectProcess, derivedPolicy, derivedImage}
 
 abbrev reads : List ℕ

@@ -1,26 +1,26 @@
 -- What the tests and numbers of a verdict say of paths.
-use Prim.Native.Nat.{ℕ, zero, suc, _+_, _-_, _*_, _/_, _%_, _^_, _≤_, _<_}
-use mathlib.Core.Path.{_≡_, refl, sym, ap, ap₂, _∙_}
-use mathlib.Core.Bool.{Bool, true, false, not, cond, _&&_, _||_}
+use Prim.Native.Nat.{ℕ, zero, suc, _+_, _-_, _*_, _/_, _^_, _≤_, _<_}
+use mathlib.Core.Path.{_≡_, sym, ap, _∙_}
+use mathlib.Core.Bool.{Bool, true, false, not}
 use mathlib.Core.List.{List, [], _∷_}
 use mathlib.Core.Logic.{_⊎_, inl, inr, _↔_}
 use native.Mathlib.Decide.{ℕ-discrete, decLt}
 use native.Mathlib.Nat.{div-lt-iff-lt-mul}
 use native.Mathlib.Omega.{arith}
-use lib.Pow.{shr-shr, pow-pos}
-use lib.Dec.{eqb, ltb, leb}
+use lib.Pow.{pow-pos}
+use lib.Dec.{ltb}
 use lib.ListN.{length, getD}
-use borrow.Author.Tests.{not-true, not-false, ltb-true, lt-ltb, eq-eqb, le-leb, leb-true}
+use borrow.Author.Tests.{not-true, not-false, ltb-true, lt-ltb}
 use Rattle.rules.proofs.Bools.{and-in, and-0, and-1, decide, clash, refuted, same-test}
 use Rattle.image.specs.Bytes.{every}
 use Rattle.image.proofs.Lists.{every-0, every-1, every-nil, every-cons}
-use Rattle.matrix.specs.Flows.{has, granted, Composed, within, composed, rowsGood, counted, matrixGood}
-use Rattle.matrix.specs.Verdicts.{countBelow, sumBelow, someBelow, leastBelow, ungranted, ungrantedFrom, flowCount, firstSource, firstTarget, consistent}
+use Rattle.matrix.specs.Flows.{has, granted, Composed, composed, rowsGood, matrixGood}
+use Rattle.matrix.specs.Verdicts.{countBelow, sumBelow, someBelow, ungranted, ungrantedFrom, flowCount, firstSource, firstTarget, consistent}
 use Rattle.matrix.specs.Rows.{bitAt, Closed}
 use Rattle.matrix.proofs.VerdictLaws.{good-parts, parts-good}
 use Rattle.matrix.proofs.BitLaws.{has-above, has-ext, has-at}
 use Rattle.matrix.proofs.PathLaws.{path-source, path-target, within-path, path-within}
-use Rattle.matrix.proofs.CountLaws.{Least, count-same, count-none, count-some, sum-same, sum-none, sum-some, some-at, none-at, least-some}
+use Rattle.matrix.proofs.CountLaws.{Least, count-same, count-none, count-some, sum-same, sum-none, sum-some, some-at, least-some}
 
 pub composed-path : (reads writes : List ℕ) (n a b : ℕ) → a < n → b < n → (composed reads writes n a b ≡ true) ↔ Composed reads writes n a b
 unfolding composed

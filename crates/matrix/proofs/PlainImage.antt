@@ -1,7 +1,7 @@
 -- The plain image of the derived policy, from its parts.
-use Prim.Native.Nat.{ℕ, zero, suc, _+_, _-_, _*_, _≤_, _<_}
+use Prim.Native.Nat.{ℕ, zero, suc, _+_, _-_, _*_, _≤_}
 use mathlib.Core.Path.{_≡_, refl, sym, ap, ap₂, _∙_}
-use mathlib.Core.List.{List, [], _∷_, _++_, map, append-nil, append-assoc}
+use mathlib.Core.List.{List, [], _∷_, _++_, map}
 use native.Mathlib.Nat.{zero-add}
 use native.Mathlib.Numerals.{add-one}
 use native.Mathlib.Omega.{arith}
@@ -12,9 +12,9 @@ use Rattle.image.specs.Policy.{Container}
 use Rattle.image.specs.Normal.{containerBytes, spanBytes, spansOf, pair, header, framed, encode}
 use Rattle.image.proofs.ByteLaws.{bytes-length, joined-length}
 use Rattle.matrix.specs.Derived.{permitOf, countFrom, objectFile, subjectProcess, derivedPolicy}
-use Rattle.matrix.specs.Spelling.{overwrite, Wrote, mixtureBytes}
+use Rattle.matrix.specs.Spelling.{Wrote, mixtureBytes}
 use Rattle.matrix.proofs.DerivedLaws.{count-length, map-append, few-mixtures}
-use Rattle.matrix.proofs.SpellingLaws.{overwrite-front, wrote-join, wrote-length, wrote-as}
+use Rattle.matrix.proofs.SpellingLaws.{overwrite-front, wrote-join, wrote-length}
 use Rattle.matrix.proofs.PolicyBytes.{container-length, pair-length, joined-append, joined-one, mixture-length, total, total-is, total-next, total-start}
 
 -- ---- the sections, and their lengths

@@ -3,24 +3,23 @@ use Prim.Native.Nat.{ℕ, zero, suc, _+_, _-_, _*_, _/_, _%_, _^_, _≤_, _<_}
 use mathlib.Core.Path.{_≡_, refl, sym, ap, ap₂, _∙_}
 use mathlib.Core.Bool.{Bool, true, false, cond}
 use mathlib.Core.List.{List, [], _∷_, _++_, map, append-assoc, append-nil}
-use mathlib.Core.Logic.{_⊎_, inl, inr}
 use native.Mathlib.Nat.{add-zero, zero-add, one-mul, mod-eq-of-lt}
 use native.Mathlib.Numerals.{add-one}
 use native.Mathlib.Omega.{arith}
 use lib.Pow.{pow-lt}
 use lib.Bits.{bitOr}
 use lib.ListN.{length, getD, take, replicate, length-append}
-use lib.Seq.{take-suc, take-all}
+use lib.Seq.{take-all}
 use Rattle.image.specs.Bytes.{bytesOf, joined}
 use Rattle.image.specs.Image.{Span}
 use Rattle.image.specs.Policy.{Container}
-use Rattle.image.specs.Normal.{containerBytes, spanBytes, spansOf, pair, header, framed, encode}
+use Rattle.image.specs.Normal.{containerBytes, spanBytes, spansOf, pair, header}
 use Rattle.image.proofs.ByteLaws.{bytes-length, joined-length}
 use Rattle.matrix.specs.Flows.{has}
-use Rattle.matrix.specs.Derived.{writerMixtures, orAlone, permitOf, countFrom, objectFile, subjectProcess, derivedPolicy}
-use Rattle.matrix.specs.Spelling.{overwrite, Wrote, mixtureBytes}
+use Rattle.matrix.specs.Derived.{writerMixtures, orAlone, permitOf, countFrom, objectFile, subjectProcess}
+use Rattle.matrix.specs.Spelling.{Wrote, mixtureBytes}
 use Rattle.matrix.proofs.BitLaws.{has-is, has-not}
-use Rattle.matrix.proofs.DerivedLaws.{count-length, map-append, few-mixtures}
+use Rattle.matrix.proofs.DerivedLaws.{map-append, few-mixtures}
 use Rattle.matrix.proofs.SpellingLaws.{wrote-join, wrote-nil, wrote-length, wrote-as, laid}
 
 -- ---- straight parts

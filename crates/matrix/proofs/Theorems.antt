@@ -1,7 +1,7 @@
 -- What is proved of an access matrix, stated in full. The proofs are in the files that are cited.
-use Prim.Native.Nat.{ℕ, _^_, _≤_, _<_}
-use mathlib.Core.Path.{_≡_, refl, sym, ap, _∙_}
-use mathlib.Core.Bool.{Bool, true, false, cond}
+use Prim.Native.Nat.{ℕ, _≤_, _<_}
+use mathlib.Core.Path.{_≡_, ap}
+use mathlib.Core.Bool.{Bool, true, false}
 use mathlib.Core.List.{List, [], _∷_, _++_, map}
 use mathlib.Core.Logic.{_⊎_, _↔_}
 use lib.ListN.{length, getD, replicate}
@@ -9,7 +9,7 @@ use Rattle.rules.specs.Rules.{normal}
 use Rattle.image.specs.Limits.{fileKind, processKind, noAtom}
 use Rattle.image.specs.Policy.{unrestrictedRule, Sound}
 use Rattle.image.specs.Image.{readImage, accepted}
-use Rattle.image.specs.Normal.{Place, meaning, normalPolicy, encode, normalImage}
+use Rattle.image.specs.Normal.{meaning, normalPolicy, encode, normalImage}
 use Rattle.matrix.specs.Flows.{has, granted, Composed, composed, matrixGood}
 use Rattle.matrix.specs.Verdicts.{countBelow, sumBelow, flowCount, firstSource, firstTarget, consistent, verdictOf}
 use Rattle.matrix.specs.Derived.{permitOf, countFrom, derivedPolicy, derivedImage}

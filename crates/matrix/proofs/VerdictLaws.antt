@@ -1,9 +1,8 @@
 -- The loops that judge, the tests of a matrix, and the verdict from its parts.
-use Prim.Native.Nat.{ℕ, zero, suc, _+_, _-_, _*_, _/_, _%_, _^_, _≤_, _<_}
+use Prim.Native.Nat.{ℕ, _+_, _-_, _*_, _/_, _%_, _^_, _≤_, _<_}
 use mathlib.Core.Path.{_≡_, refl, sym, ap, ap₂, _∙_}
-use mathlib.Core.Bool.{Bool, true, false, not, cond, _&&_, _||_}
+use mathlib.Core.Bool.{Bool, true, false, not, _&&_, _||_}
 use mathlib.Core.List.{List, [], _∷_}
-use mathlib.Core.Logic.{_⊎_, inl, inr}
 use native.Mathlib.Numerals.{add-one}
 use native.Mathlib.Omega.{arith}
 use lib.Bits.{bitAnd}
@@ -15,7 +14,7 @@ use borrow.Author.Count.{below-more}
 use Rattle.rules.proofs.Bools.{and-in, and-0, and-1}
 use Rattle.image.specs.Bytes.{every}
 use Rattle.matrix.specs.declared.Consistency.{Consistency}
-use Rattle.matrix.specs.declared.Consistency.the-variants.{Refused, Consistent, Inconsistent}
+use Rattle.matrix.specs.declared.Consistency.the-variants.{Consistent, Inconsistent}
 use Rattle.matrix.specs.Flows.{has, subjectCarries, granted, within, composed, rowsGood, counted, matrixGood}
 use Rattle.matrix.specs.Verdicts.{countBelow, sumBelow, leastBelow, ungranted, ungrantedFrom, flowCount, firstSource, firstTarget, consistent, judgedBy, valuesOf, verdictOf}
 use Rattle.matrix.specs.Rows.{bitAt, Spelt, Closed}

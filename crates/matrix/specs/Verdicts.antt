@@ -1,6 +1,6 @@
 -- The verdict on a matrix (the paper, "Matrix": "The verdict is consistent, or ..").
 use Prim.Native.Nat.{ℕ, zero, suc, _+_}
-use mathlib.Core.Bool.{Bool, true, false, not, cond, _&&_, _||_}
+use mathlib.Core.Bool.{Bool, false, not, cond, _&&_, _||_}
 use mathlib.Core.List.{List}
 use Rattle.matrix.specs.Limits.{matrixRefusal}
 use Rattle.matrix.specs.Flows.{matrixGood, granted, composed}

@@ -1,14 +1,14 @@
 -- The step's ladder: 9, 7, then 10 to 14, then what the operation itself does.
 use Prim.Native.Nat.{ℕ}
 use native.Mathlib.Omega.{arith}
-use mathlib.Core.Path.{_≡_, refl, sym, ap, _∙_}
+use mathlib.Core.Path.{_≡_, refl, sym, _∙_}
 use mathlib.Core.Bool.{Bool, true, false, cond}
 use mathlib.Core.List.{List}
 use lib.Dec.{eqb}
 use lib.ListN.{length}
 use borrow.Author.Tests.{eq-eqb, ne-eqb}
 use Rattle.session.specs.Limits.{sessionLength}
-use Rattle.chains.specs.Demand.{Answer, refused}
+use Rattle.chains.specs.Demand.{refused}
 use Rattle.operations.specs.declared.Request.{Request}
 use Rattle.operations.specs.Effects.{rowsGood, processGood, kindGood, freeGood, userGood, meetGood, sessionRefusal, acceptedAnswer, acceptedEffect}
 use Rattle.operations.specs.Parts.{earlyRefusal, lateAnswer, lateEffect}

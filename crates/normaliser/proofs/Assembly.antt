@@ -1,17 +1,16 @@
 -- The sections, one behind the other, and the header in front of them.
-use Prim.Native.Nat.{ℕ, zero, suc, _+_, _-_, _*_, _/_, _≤_, _<_}
+use Prim.Native.Nat.{ℕ, _+_, _-_, _*_, _/_, _≤_}
 use mathlib.Core.Path.{_≡_, refl, sym, ap, ap₂, _∙_}
-use mathlib.Core.Bool.{Bool, true}
-use mathlib.Core.List.{List, [], _∷_, _++_, map, append-nil, append-assoc}
+use mathlib.Core.List.{List, [], _++_, map, append-assoc}
 use native.Mathlib.Omega.{arith}
-use lib.ListN.{length, getD, take, drop, length-append, length-take, length-drop, length-map, take-append-drop}
-use lib.Seq.{take-at, drop-at, drop-drop, length-take-le, take-append-le}
+use lib.ListN.{length, take, drop, length-append, length-take, length-drop, take-append-drop}
+use lib.Seq.{take-at, drop-at, drop-drop, length-take-le}
 use borrow.Rule.Slice.PartMut.{putMid, same-len-mid}
-use Rattle.image.specs.Bytes.{bytesOf, joined, every}
+use Rattle.image.specs.Bytes.{bytesOf, joined}
 use Rattle.image.specs.Normal.{pair, header, framed}
 use Rattle.image.proofs.ByteLaws.{bytes-length, joined-length}
 use Rattle.normaliser.specs.Normaliser.{written}
-use Rattle.normaliser.specs.Tables.{formAt, formGood, headerFields, Grown, containerBytesAt, userBytes, spanBytesAt, mixtureBytes, recordSize, Writable, Written}
+use Rattle.normaliser.specs.Tables.{formAt, headerFields, Grown, containerBytesAt, userBytes, spanBytesAt, mixtureBytes, recordSize, Writable, Written}
 use Rattle.normaliser.proofs.Laying.{rows-length, part-wide}
 use Rattle.normaliser.proofs.Reading.{containerRows, container-rows, containers-wide, userRows, user-rows, users-wide}
 use Rattle.normaliser.proofs.Spans.{spans-count, spans-wide}

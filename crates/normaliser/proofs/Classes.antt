@@ -1,23 +1,22 @@
 -- The rules of a table: numbering their classes is numbering the rules.
-use Prim.Native.Nat.{ℕ, zero, suc, _+_, _-_, _*_, _/_, _≤_, _<_}
+use Prim.Native.Nat.{ℕ, zero, suc, _+_, _-_, _≤_, _<_}
 use mathlib.Core.Path.{_≡_, refl, sym, ap, ap₂, _∙_}
-use mathlib.Core.Bool.{Bool, true, false, not, cond, _&&_, _||_}
+use mathlib.Core.Bool.{Bool, true, false, not, cond, _||_}
 use mathlib.Core.List.{List, [], _∷_, _++_, map}
 use mathlib.Core.Logic.{⊎-elim}
 use native.Mathlib.Omega.{arith}
-use native.Mathlib.Decide.{ℕ-discrete}
 use lib.Dec.{eqb, ltb}
-use lib.ListN.{length, getD, take, drop, length-map}
-use borrow.Author.Tests.{eqb-true, eq-eqb, ne-eqb, ltb-true, lt-ltb}
-use Rattle.rules.proofs.Bools.{and-in, and-0, and-1, or-0, or-1, or-cases, decide, clash, refuted, same-test}
+use lib.ListN.{length, getD}
+use borrow.Author.Tests.{eqb-true, eq-eqb, ltb-true}
+use Rattle.rules.proofs.Bools.{or-0, or-1, or-cases, clash, same-test}
 use Rattle.rules.proofs.SameLaws.{same-refl, same-eq}
-use Rattle.rules.specs.Rules.{normal, elem, sameList}
+use Rattle.rules.specs.Rules.{elem, sameList}
 use Rattle.image.specs.Limits.{unrestrictedNumber}
 use Rattle.image.specs.Bytes.{every}
 use Rattle.image.specs.Policy.{unrestrictedRule, ruleAt, named}
 use Rattle.image.specs.Normal.{known, noted, numbered, position, numberOf}
-use Rattle.image.proofs.Lists.{every-0, every-1, every-nil, every-cons, every-append, every-map, every-getD}
-use Rattle.image.proofs.Numbering.{settled, all-settled, numbered-every, numbered-few, number-rule, number-named}
+use Rattle.image.proofs.Lists.{every-0, every-1, every-nil, every-cons, every-append}
+use Rattle.image.proofs.Numbering.{settled, number-rule}
 use Rattle.normaliser.specs.Tables.{placed, placedAll, indexOf, placeIn}
 
 known-at : (rules : List (List ℕ)) (n : ℕ) → n < length rules → known (getD rules n []) rules ≡ true

@@ -1,15 +1,15 @@
 -- A slice that is written row by row, each of one width.
-use Prim.Native.Nat.{ℕ, zero, suc, _+_, _-_, _*_, _/_, _%_, _≤_, _<_}
+use Prim.Native.Nat.{ℕ, _+_, _-_, _*_, _/_, _≤_, _<_}
 use mathlib.Core.Path.{_≡_, refl, sym, ap, ap₂, _∙_}
 use mathlib.Core.Bool.{Bool, true}
-use mathlib.Core.List.{List, [], _∷_, _++_, map, append-nil, append-assoc}
+use mathlib.Core.List.{List, [], _∷_, _++_, append-nil, append-assoc}
 use native.Mathlib.Omega.{arith}
-use native.Mathlib.Nat.{suc-mul, add-mul, mul-le-mul-right, mul-div-cancel, add-sub-cancel-left}
+use native.Mathlib.Nat.{suc-mul, add-mul, mul-le-mul-right, mul-div-cancel}
 use native.Mathlib.Numerals.{add-one}
 use lib.Dec.{eqb}
-use lib.ListN.{length, getD, take, drop, set, length-append, length-take, length-drop, length-map, drop-of-length-le, List·getD-map}
+use lib.ListN.{length, getD, take, drop, length-append, length-take, length-drop, drop-of-length-le}
 use lib.Seq.{take-at, drop-at, drop-drop, take-suc, take-all, length-take-le}
-use borrow.Author.Tests.{eqb-true, eq-eqb}
+use borrow.Author.Tests.{eqb-true}
 use borrow.Rule.Slice.PartMut.{putMid, same-len-mid}
 use Rattle.image.specs.Bytes.{joined, every, cut, records}
 use Rattle.image.proofs.Lists.{every-0, every-1, every-take, every-getD}

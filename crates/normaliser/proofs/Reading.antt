@@ -1,26 +1,26 @@
 -- The containers and users of a section, by their place.
-use Prim.Native.Nat.{ℕ, zero, suc, _+_, _-_, _*_, _/_, _≤_, _<_}
+use Prim.Native.Nat.{ℕ, _+_, _-_, _*_, _/_, _≤_, _<_}
 use mathlib.Core.Path.{_≡_, refl, sym, ap, ap₂, _∙_}
 use mathlib.Core.Bool.{Bool, true, _&&_}
-use mathlib.Core.List.{List, [], _∷_, _++_, map}
+use mathlib.Core.List.{List, [], _∷_, map}
 use native.Mathlib.Omega.{arith}
 use native.Mathlib.Numerals.{add-one}
 use lib.ListN.{length, getD, take, drop, set, length-map, length-set, drop-of-length-le}
 use lib.Seq.{drop-cons, getD-set-same, getD-set-other}
 use native.Mathlib.Decide.{ℕ-discrete}
 use Rattle.rules.proofs.Bools.{and-0, and-1}
-use Rattle.image.specs.Bytes.{field, numberIn, records, every, joined, bytesOf}
-use Rattle.image.specs.Policy.{Container, named}
+use Rattle.image.specs.Bytes.{field, numberIn, records, every, bytesOf}
+use Rattle.image.specs.Policy.{Container}
 use Rattle.image.specs.Image.{containerIn, containersIn, usersIn}
 use Rattle.image.specs.Normal.{containerBytes}
-use Rattle.image.proofs.Lists.{every-0, every-1, every-getD, every-drop, every-all, every-map}
+use Rattle.image.proofs.Lists.{every-getD, every-all, every-map}
 use Rattle.image.proofs.Scanning.{field-record}
 use Rattle.image.proofs.Places.{map-at, record-at, records-count}
 use Rattle.image.proofs.ByteLaws.{bytes-length}
 use borrow.Author.Tests.{eq-eqb}
-use Rattle.normaliser.specs.Tables.{classOf, Classified, classAt, containerUses, placed, placedAll, Ordered, numberAt, found, renumbered}
+use Rattle.normaliser.specs.Tables.{classOf, Classified, classAt, containerUses, placedAll, Ordered, numberAt, renumbered}
 use Rattle.normaliser.proofs.Laying.{wide}
-use Rattle.normaliser.proofs.Ordering.{Placing, placing-start, placing-room, placing-next, placing-end}
+use Rattle.normaliser.proofs.Ordering.{Placing, placing-start, placing-end}
 use Rattle.normaliser.proofs.Whole.{uses-both}
 
 none : Container

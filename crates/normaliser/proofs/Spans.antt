@@ -1,13 +1,12 @@
 -- The rule records and the mixtures, rule by rule.
 use Prim.Native.Nat.{ℕ, zero, suc, _+_, _-_, _*_, _/_, _≤_, _<_}
 use mathlib.Core.Path.{_≡_, refl, sym, ap, ap₂, _∙_}
-use mathlib.Core.Bool.{Bool, true, _&&_}
+use mathlib.Core.Bool.{true}
 use mathlib.Core.List.{List, [], _∷_, _++_, map, map-append, append-nil, append-assoc}
 use native.Mathlib.Omega.{arith}
-use native.Mathlib.Numerals.{add-one}
-use lib.Dec.{ltb, leb}
+use lib.Dec.{ltb}
 use lib.ListN.{length, getD, take, drop, length-append, length-take, length-drop, length-map, take-append-drop, drop-of-length-le}
-use lib.Seq.{take-at, drop-at, drop-drop, take-all, getD-take, getD-drop, length-take-le}
+use lib.Seq.{take-at, drop-at, drop-drop, take-all, getD-take, getD-drop}
 use borrow.Author.Tests.{ltb-true, leb-true}
 use borrow.Rule.Slice.PartMut.{putMid, same-len-mid}
 use Rattle.rules.proofs.Bools.{and-0, and-1}

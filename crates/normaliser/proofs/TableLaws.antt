@@ -1,31 +1,27 @@
 -- What the tables say of the rules.
-use Prim.Native.Nat.{ℕ, zero, suc, _+_, _-_, _*_, _/_, _≤_, _<_}
+use Prim.Native.Nat.{ℕ, _+_, _-_, _*_, _/_, _<_}
 use mathlib.Core.Path.{_≡_, refl, sym, ap, ap₂, _∙_}
-use mathlib.Core.Bool.{Bool, true, false, not, cond, _&&_, _||_}
-use mathlib.Core.List.{List, [], _∷_, _++_, map}
-use mathlib.Core.Logic.{⊎-elim}
+use mathlib.Core.Bool.{Bool, true, cond}
+use mathlib.Core.List.{List, [], _∷_, map}
 use native.Mathlib.Omega.{arith}
 use native.Mathlib.Decide.{ℕ-discrete}
-use lib.Dec.{eqb, ltb, leb}
+use lib.Dec.{eqb}
 use lib.ListN.{length, getD, take, drop, length-map}
 use lib.Seq.{getD-take, getD-drop}
-use borrow.Author.Tests.{eqb-true, eq-eqb, ne-eqb, ltb-true, lt-ltb, leb-true, le-leb, not-true}
-use Rattle.rules.proofs.Bools.{and-in, and-0, and-1, or-0, or-1, or-cases, clash}
+use borrow.Author.Tests.{eq-eqb, ne-eqb}
 use Rattle.rules.proofs.SameLaws.{same-refl, same-eq}
-use Rattle.rules.specs.Rules.{normal, sameList}
+use Rattle.rules.specs.Rules.{normal}
 use Rattle.image.specs.Limits.{unrestrictedNumber}
 use Rattle.image.specs.Bytes.{every, records}
-use Rattle.image.specs.Policy.{Container, Policy, unrestrictedRule, ruleAt, named, containerGood, ruleGood, Sound}
-use Rattle.image.specs.Normal.{normalAt, placeOf, Place, meaning, placeUses, uses, known, numbered, position, numberOf, containerOf}
+use Rattle.image.specs.Policy.{unrestrictedRule, ruleAt, named}
+use Rattle.image.specs.Normal.{normalAt, position, numberOf}
 use Rattle.image.specs.Words.{ruleOf, wordsOf}
-use Rattle.image.proofs.Lists.{every-0, every-1, every-nil, every-cons, every-both, every-getD, every-map, map-back}
-use Rattle.image.proofs.Numbering.{settled, number-named, number-rule}
-use Rattle.image.proofs.Means.{container-named, normal-unrestricted}
-use Rattle.image.proofs.Places.{map-at, record-at, records-count}
-use Rattle.image.proofs.WordLaws.{words-rule, words-same, position-words}
-use Rattle.normaliser.specs.Tables.{wordsAt, formAt, formsIn, wordsGood, formGood, classOf, Classified, classAt, containerUses, placedAll, placeIn, Ordered, numberAt, found, renumbered}
+use Rattle.image.proofs.Lists.{every-0, every-1, every-getD, map-back}
+use Rattle.image.proofs.Means.{normal-unrestricted}
+use Rattle.image.proofs.Places.{record-at, records-count}
+use Rattle.image.proofs.WordLaws.{words-rule, position-words}
+use Rattle.normaliser.specs.Tables.{wordsAt, formAt, formsIn, wordsGood, classOf, Classified, classAt}
 use Rattle.normaliser.proofs.Ordering.{class-none, class-some, named-some}
-use Rattle.normaliser.proofs.Classes.{settled-at, number-unrestricted, place-number, restricted}
 
 pub map-same : {A B : Type 0} (f : A → Bool) (a b : A → B) (xs : List A) → ((x : A) → f x ≡ true → a x ≡ b x) → every f xs ≡ true → map a xs ≡ map b xs
 map-same f a b [] i h = refl

@@ -1,28 +1,27 @@
 -- The new numbers are those of the normal policy.
-use Prim.Native.Nat.{ℕ, zero, suc, _+_, _-_, _*_, _/_, _≤_, _<_}
+use Prim.Native.Nat.{ℕ, suc, _+_, _-_, _/_, _≤_, _<_}
 use mathlib.Core.Path.{_≡_, refl, sym, ap, ap₂, _∙_}
 use mathlib.Core.Bool.{Bool, true, false, not, cond, _&&_, _||_}
 use mathlib.Core.List.{List, [], _∷_, _++_, map, map-append}
 use mathlib.Core.Logic.{⊎-elim}
 use native.Mathlib.Omega.{arith}
-use native.Mathlib.Decide.{ℕ-discrete}
 use lib.Dec.{eqb, ltb, leb}
-use lib.ListN.{length, getD, take, drop, length-map}
-use borrow.Author.Tests.{eqb-true, eq-eqb, ne-eqb, ltb-true, lt-ltb, leb-true, le-leb, not-true}
+use lib.ListN.{length, getD, take}
+use borrow.Author.Tests.{eq-eqb, ne-eqb, ltb-true, lt-ltb, not-true}
 use Rattle.rules.proofs.Bools.{and-in, and-0, and-1, or-0, or-1, or-cases, clash}
 use Rattle.rules.specs.Rules.{sameList}
 use Rattle.image.specs.Limits.{unrestrictedNumber}
 use Rattle.image.specs.Bytes.{every, records}
-use Rattle.image.specs.Policy.{Container, Policy, unrestrictedRule, ruleAt, named, containerGood, ruleGood, Sound}
+use Rattle.image.specs.Policy.{Container, unrestrictedRule, ruleAt, named, containerGood, ruleGood, Sound}
 use Rattle.image.specs.Image.{containersIn, usersIn}
-use Rattle.image.specs.Normal.{normalAt, placeOf, meaning, placeUses, uses, known, numbered, position, numberOf, containerOf, writtenBy, policyOf, normalPolicy}
+use Rattle.image.specs.Normal.{normalAt, placeOf, meaning, placeUses, uses, known, numbered, position, numberOf, containerOf}
 use Rattle.image.proofs.Lists.{every-0, every-1, every-nil, every-cons, every-imp, every-append, every-left, every-right, every-both, every-getD, every-map}
 use Rattle.image.proofs.Numbering.{settled, all-settled, numbered-every, numbered-few, number-named, number-rule}
 use Rattle.image.proofs.Means.{container-named}
 use Rattle.normaliser.specs.Tables.{formAt, formsIn, wordsGood, formGood, policyAt, Classified, classAt, classNamed, containerUses, placedAll, placeIn, Ordered, numberAt, found, renumbered}
 use Rattle.normaliser.proofs.Ordering.{named-some, all-append}
 use Rattle.normaliser.proofs.Classes.{settled-at, number-unrestricted, place-number, all-numbered, restricted, numbered-restricted}
-use Rattle.normaliser.proofs.TableLaws.{map-same, forms-count, form-at, count-form, class-at, normal-at}
+use Rattle.normaliser.proofs.TableLaws.{forms-count, form-at, count-form, class-at, normal-at}
 
 -- ---- the rule numbers in use
 

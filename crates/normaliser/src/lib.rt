@@ -7,7 +7,7 @@ ghost use lib.ListN.{length, getD, take};
 ghost use Rattle.rules.specs.Rules.{normal, sameList};
 ghost use Rattle.image.specs.Limits.{unrestrictedNumber, containerSize, userSize, ruleSize, mixtureSize, headerSize, outputBound};
 ghost use Rattle.image.specs.Bytes.{bytesOf, records, joined, every};
-ghost use Rattle.image.specs.Policy.{Container, unrestrictedRule, named, Sound};
+ghost use Rattle.image.specs.Policy.{unrestrictedRule, named, Sound};
 ghost use Rattle.image.specs.Image.{containersIn, usersIn, spansIn, rulesIn, spansGood};
 ghost use Rattle.image.specs.Normal.{position, containerBytes, spanBytes, framed, normalImage};
 ghost use Rattle.image.specs.Words.{ruleWidth, ruleOf, wordsOf};

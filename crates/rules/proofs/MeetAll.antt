@@ -1,14 +1,13 @@
 -- The meet of several rules: it goes by what they all cover, so neither their order nor a repeat matters.
 use Prim.Native.Nat.{ℕ, _-_, _^_}
 use mathlib.Core.Path.{_≡_, refl, sym, ap, ap₂, _∙_}
-use mathlib.Core.Bool.{Bool, true, false, _&&_, and-assoc, and-comm, and-self, and-false, or-false}
+use mathlib.Core.Bool.{Bool, true, false, _&&_, and-assoc, and-self, and-false, or-false}
 use mathlib.Core.List.{List, [], _∷_, _++_, List·Memᴰ, List·Memᴰ·head, List·Memᴰ·tail, List·Memᴰ·not-nil, List·Memᴰ·cases-cons}
 use mathlib.Core.Logic.{⊎-elim}
-use Rattle.rules.proofs.RuleLaws.{elem-cases, elem-none, is-normal, normal-unique, normal-normal, covers-meet, covers-normal}
-use Rattle.rules.specs.Order.{Ascending, Antichain}
+use Rattle.rules.proofs.RuleLaws.{elem-cases, elem-none, is-normal, normal-unique, normal-normal, covers-meet}
 use Rattle.rules.proofs.Bools.{and-in, and-0, and-1, same-test}
 use Rattle.rules.specs.Sets.{holds}
-use Rattle.rules.specs.Rules.{covers, elem, normal, intersections, meet, unrestricted, meetAll, allCover}
+use Rattle.rules.specs.Rules.{covers, normal, intersections, meet, unrestricted, meetAll, allCover}
 use native.Mathlib.Omega.{arith}
 
 -- a rule of one mixture is in normal form

@@ -1,7 +1,7 @@
 -- The laws of sets, for any width. Each goes through the atoms, on which `bitAnd` is `min` and `bitOr` is `max`.
 use Prim.Native.Nat.{ℕ, zero, suc, _+_, _*_, _/_, _%_, _^_, _-_, _≤_, _<_, min, max}
-use mathlib.Core.Path.{_≡_, refl, sym, ap, ap₂, _∙_, subst}
-use mathlib.Core.Bool.{Bool, true, false, _&&_}
+use mathlib.Core.Path.{_≡_, refl, sym, ap, _∙_}
+use mathlib.Core.Bool.{true, false, _&&_}
 use mathlib.Core.Logic.{_↔_, _⊎_, inl, inr}
 use native.Mathlib.Nat.{mod-lt, div-one, div-eq-of-lt, mul-mod-left, mul-assoc, one-mul, zero-div, lt-of-lt-of-le, mod-eq-of-lt, zero-lt-suc}
 use mathlib.Core.Logic.{⊎-elim}

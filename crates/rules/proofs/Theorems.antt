@@ -2,10 +2,10 @@
 -- `holds`, `covers`, `normal`, `meet` and the others are the definitions of specs/Sets.antt and specs/Rules.antt;
 -- `Ascending`, `Antichain` and `Within` those of specs/Order.antt.
 use Prim.Native.Nat.{ℕ, _+_, _-_, _^_, _≤_, _<_, min, max}
-use mathlib.Core.Path.{_≡_, refl, sym, ap, _∙_}
-use mathlib.Core.Logic.{_↔_, _⊎_}
-use mathlib.Core.Bool.{Bool, true, false, _&&_}
-use mathlib.Core.List.{List, [], _∷_, _++_, List·Memᴰ}
+use mathlib.Core.Path.{_≡_, sym, ap, _∙_}
+use mathlib.Core.Logic.{_↔_}
+use mathlib.Core.Bool.{true, _&&_}
+use mathlib.Core.List.{List, [], _++_, List·Memᴰ}
 use lib.Bits.{bitAnd, bitOr}
 use lib.ListN.{length}
 use Rattle.rules.specs.Sets.{atom, holds, dataOf, runningOf}

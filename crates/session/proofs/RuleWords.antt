@@ -1,20 +1,18 @@
 -- A rule as 9 words of a row.
-use Prim.Native.Nat.{ℕ, zero, suc, _+_, _-_, _≤_, _<_}
+use Prim.Native.Nat.{ℕ, zero, suc, _+_, _-_, _≤_}
 use mathlib.Core.Path.{_≡_, refl, sym, ap, ap₂, _∙_}
 use mathlib.Core.Bool.{true, _&&_}
-use mathlib.Core.List.{List, [], _∷_, _++_, append-nil}
+use mathlib.Core.List.{List, [], _∷_, _++_}
 use native.Mathlib.Omega.{arith}
 use native.Mathlib.Numerals.{add-one}
 use lib.Dec.{eqb, leb}
-use lib.ListN.{length, getD, take, drop, set, replicate, length-set, length-take, length-drop, take-append-drop, drop-of-length-le}
-use lib.Seq.{drop-cons, drop-drop, drop-at, length-take-le, paste, paste-zero, paste-suc, take-all, take-suc, getD-set-same}
+use lib.ListN.{length, getD, take, drop, replicate, length-take, length-drop, take-append-drop}
+use lib.Seq.{drop-cons, drop-drop, drop-at, length-take-le}
 use borrow.Author.Tests.{eqb-true, leb-true, le-leb}
 use Rattle.rules.proofs.Bools.{and-in, and-0, and-1}
-use Rattle.rules.proofs.BoundedLaws.{padded-take, padded-length, bounded-some}
-use Rattle.rules.specs.declared.Bounded.{Bounded}
 use Rattle.rules.specs.Rules.{normal}
-use Rattle.rules.specs.Answers.{mixtureLimit, padded, boundedOf}
-use Rattle.image.proofs.WordLaws.{words-rule, words-nine, bounded-words}
+use Rattle.rules.specs.Answers.{mixtureLimit, padded}
+use Rattle.image.proofs.WordLaws.{words-rule}
 use Rattle.image.specs.Words.{ruleWidth}
 use Rattle.session.specs.Rows.{allZero, keptWell}
 use Rattle.image.specs.Words.{ruleOf, wordsOf, isNormal}

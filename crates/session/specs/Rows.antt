@@ -6,7 +6,7 @@ use mathlib.Core.List.{List, [], _∷_, _++_}
 use lib.Dec.{eqb, leb}
 use lib.ListN.{length, getD, take, drop, replicate}
 use Rattle.rules.specs.Rules.{normal}
-use Rattle.rules.specs.Answers.{mixtureLimit, padded}
+use Rattle.rules.specs.Answers.{mixtureLimit}
 use Rattle.image.specs.Words.{ruleOf, wordsOf, isNormal}
 use Rattle.image.specs.Limits.{isFree, isStore, isProcess}
 use Rattle.session.specs.Limits.{rowWidth, userWidth, usersAt, kindAt, tagAt, permitAt, runAt, declaredAt, userRuleAt, declared}

@@ -3,35 +3,25 @@ use Rattle.matrix.specs.Verdicts.{valuesOf}
 use borrow.Author.Needs.{needs}
 use Rattle.capi.proofs.yaslaurel_matrix_verdict.Statement.{statement}
 use Rattle.capi.proofs.yaslaurel_matrix_verdict.Tie as tie
-use Rattle.capi.proofs.yaslaurel_matrix_verdict.Reads as reads
-use Rattle.capi.proofs.yaslaurel_matrix_verdict.Lts as lts
-use Rattle.matrix.proofs.verdict.Reads as verdict-reads
 
--- src/lib.rt:84:9
 verdict-requires : tie.Need-verdict-requires
 verdict-requires c κs = search needs
 
--- src/lib.rt:86:33
 enum-told : tie.Need-enum-told
 enum-told c = search needs
 
--- src/lib.rt:88:13
 enum-told-2 : tie.Need-enum-told-2
 enum-told-2 c = search needs
 
--- src/lib.rt:94:20
 enum-known-v : tie.Need-enum-known-v
 enum-known-v c = search needs
 
--- src/lib.rt:73:1
 returns : tie.Need-returns
 returns c = (rw (sym (c .before .before .verdict .ensures) ∙ ap valuesOf (c .enum-told .given .1)), rw (sym (c .before .before .verdict .ensures) ∙ ap valuesOf (c .enum-told .given .1)), rw (sym (c .before .before .verdict .ensures) ∙ ap valuesOf (c .enum-told .given .1)), rw (sym (c .before .before .verdict .ensures) ∙ ap valuesOf (c .enum-told .given .1)))
 
--- src/lib.rt:73:1
 returns-2 : tie.Need-returns-2
 returns-2 c = (rw (sym (c .before .before .verdict .ensures) ∙ ap valuesOf (c .enum-told2 .given .1)), rw (sym (c .before .before .verdict .ensures) ∙ ap valuesOf (c .enum-told2 .given .1)), rw (sym (c .before .before .verdict .ensures) ∙ ap valuesOf (c .enum-told2 .given .1)), rw (sym (c .before .before .verdict .ensures) ∙ ap valuesOf (c .enum-told2 .given .1)))
 
--- src/lib.rt:73:1
 returns-3 : tie.Need-returns-3
 returns-3 c = (rw (sym (c .before .before .before .verdict .ensures) ∙ ap valuesOf (c .before .v .given .1)), rw (sym (c .before .before .before .verdict .ensures) ∙ ap valuesOf (c .before .v .given .1)), rw (sym (c .before .before .before .verdict .ensures) ∙ ap valuesOf (c .before .v .given .1)), rw (sym (c .before .before .before .verdict .ensures) ∙ ap valuesOf (c .before .v .given .1)))
 

@@ -6,8 +6,6 @@ use Rattle.image.proofs.RuleReading.{Gathered, gathered-start, gathered
 use borrow.Author.Needs.{needs}
 use Rattle.image.proofs.clear.Statement.{statement}
 use Rattle.image.proofs.clear.Tie as tie
-use Rattle.image.proofs.clear.Reads as reads
-use Rattle.image.proofs.clear.Lts as lts
 
 abbrev Inv-loop : tie.InvT-loop
 Inv-loop words₀ j₀ words j = Gathered (replicate (length words₀) 0) words₀ words j
@@ -15,35 +13,27 @@ Inv-loop words₀ j₀ words j = Gathered (replicate (length words₀) 0) words�
 abbrev μ-loop : tie.MeasureT-loop
 μ-loop words₀ j₀ words j = length words₀ - j
 
--- src/lib.rt:207:5
 loop-holds : tie.Need-loop-holds Inv-loop μ-loop
 loop-holds c = gathered-start (replicate (length (c .args .words .now)) 0) (c .args .words .now) (omega (arith, length-replicate {A = ℕ} (length (c .args .words .now)) 0))
 
--- src/lib.rt:208:9
 mul-words : tie.Need-mul-words Inv-loop μ-loop
 mul-words c = search needs
 
--- src/lib.rt:208:9
 slice-write-words : tie.Need-slice-write-words Inv-loop μ-loop
 slice-write-words c = search needs
 
--- src/lib.rt:209:9
 add-j : tie.Need-add-j Inv-loop μ-loop
 add-j c = search needs
 
--- src/lib.rt:207:5
 loop-less : tie.Need-loop-less Inv-loop μ-loop
 loop-less c = search needs
 
--- src/lib.rt:207:5
 loop-again : tie.Need-loop-again Inv-loop μ-loop
 loop-again c = gathered-next (replicate (length (c .before .before .args .words .now)) 0) (c .before .before .args .words .now) (c .before .loop .words) (c .before .loop .j) (c .before .loop .inv) 0 (omega (arith, length-replicate {A = ℕ} (length (c .before .before .args .words .now)) 0, c .before .loop .inv .long)) (sym (getD-replicate (length (c .before .before .args .words .now)) (c .before .loop .j) 0 0 (omega (arith, c .before .loop .inv .long))))
 
--- src/lib.rt:203:1
 same-length : tie.Need-same-length Inv-loop μ-loop
 same-length c = search needs
 
--- src/lib.rt:203:1
 returns : tie.Need-returns Inv-loop μ-loop
 returns c = gathered-all (replicate (length (c .before .before .args .words .now)) 0) (c .before .before .args .words .now) (c .before .loop .words) (c .before .loop .j) (c .before .loop .inv) (length-replicate {A = ℕ} (length (c .before .before .args .words .now)) 0) (omega arith)
 

@@ -6,82 +6,58 @@ use mathlib.Core.Path.{sym, _∙_}
 use borrow.Author.Needs.{needs}
 use Rattle.image.proofs.container_good.Statement.{statement}
 use Rattle.image.proofs.container_good.Tie as tie
-use Rattle.image.proofs.container_good.Reads as reads
-use Rattle.image.proofs.container_good.Lts as lts
-use Rattle.image.proofs.is_atom.Reads as is-atom-reads
-use Rattle.image.proofs.is_file.Reads as is-file-reads
-use Rattle.image.proofs.is_named.Reads as is-named-reads
-use Rattle.image.proofs.is_volatile_or_process.Reads as is-volatile-or-process-reads
-use Rattle.image.proofs.read16.Reads as read16-reads
-use Rattle.image.proofs.read8.Reads as read8-reads
 
--- src/lib.rt:235:16
 read8-requires : tie.Need-read8-requires
 read8-requires c κs = search needs
 
--- src/lib.rt:236:9
 read8-requires-2 : tie.Need-read8-requires-2
 read8-requires-2 c κs = search needs
 
--- src/lib.rt:237:9
 read16-requires : tie.Need-read16-requires
 read16-requires c κs = search needs
 
--- src/lib.rt:238:9
 read16-requires-2 : tie.Need-read16-requires-2
 read16-requires-2 c κs = search needs
 
--- src/lib.rt:239:8
 is-file-requires : tie.Need-is-file-requires
 is-file-requires c κs = search needs
 
--- src/lib.rt:240:13
 is-atom-requires : tie.Need-is-atom-requires
 is-atom-requires c κs = search needs
 
--- src/lib.rt:241:13
 returns : tie.Need-returns
 unfolding containerGood containerIn
 returns c = simp (← c .before .before .before .before .before .before .before .read8 .ensures .0, ← c .before .before .before .before .before .before .read82 .ensures .0, ← c .before .before .before .before .before .read16 .ensures .0, ← c .before .before .before .before .read162 .ensures .0, sym (c .before .before .before .is-file .ensures) ∙ c .before .before .if1 .taken, fails-test (c .before .is-atom .ensures) (c .if2 .taken))
 
--- src/lib.rt:243:13
 is-named-requires : tie.Need-is-named-requires
 is-named-requires c κs = search needs
 
--- src/lib.rt:244:13
 returns-2 : tie.Need-returns-2
 unfolding containerGood containerIn
 returns-2 c = simp (← c .before .before .before .before .before .before .before .before .before .read8 .ensures .0, ← c .before .before .before .before .before .before .before .before .read82 .ensures .0, ← c .before .before .before .before .before .before .before .read16 .ensures .0, ← c .before .before .before .before .before .before .read162 .ensures .0, sym (c .before .before .before .before .before .is-file .ensures) ∙ c .before .before .before .before .if1 .taken, passes-test (c .before .before .before .is-atom .ensures) (c .before .before .if2 .left), fails-test (c .before .is-named .ensures) (c .if3 .taken))
 
--- src/lib.rt:246:9
 is-named-requires-2 : tie.Need-is-named-requires-2
 is-named-requires-2 c κs = search needs
 
--- src/lib.rt:246:9
 returns-3 : tie.Need-returns-3
 unfolding containerGood containerIn
 returns-3 c = simp (← c .before .before .before .before .before .before .before .before .before .before .read8 .ensures .0, ← c .before .before .before .before .before .before .before .before .before .read82 .ensures .0, ← c .before .before .before .before .before .before .before .before .read16 .ensures .0, ← c .before .before .before .before .before .before .before .read162 .ensures .0, sym (c .before .before .before .before .before .before .is-file .ensures) ∙ c .before .before .before .before .before .if1 .taken, passes-test (c .before .before .before .before .is-atom .ensures) (c .before .before .before .if2 .left), passes-test (c .before .before .is-named .ensures) (c .before .if3 .left)) (c .is-named2 .ensures)
 
--- src/lib.rt:248:9
 is-volatile-or-process-requires : tie.Need-is-volatile-or-process-requires
 is-volatile-or-process-requires c κs = search needs
 
--- src/lib.rt:249:9
 returns-4 : tie.Need-returns-4
 unfolding containerGood containerIn
 returns-4 c = simp (← c .before .before .before .before .before .before .before .read8 .ensures .0, ← c .before .before .before .before .before .before .read82 .ensures .0, ← c .before .before .before .before .before .read16 .ensures .0, ← c .before .before .before .before .read162 .ensures .0, sym (c .before .before .before .is-file .ensures) ∙ c .before .before .if1 .left, fails-test (c .before .is-volatile-or-process .ensures) (c .if4 .taken))
 
--- src/lib.rt:252:9
 returns-5 : tie.Need-returns-5
 unfolding containerGood containerIn
 returns-5 c = simp (← c .before .before .before .before .before .before .before .before .read8 .ensures .0, ← c .before .before .before .before .before .before .before .read82 .ensures .0, ← c .before .before .before .before .before .before .read16 .ensures .0, ← c .before .before .before .before .before .read162 .ensures .0, sym (c .before .before .before .before .is-file .ensures) ∙ c .before .before .before .if1 .left, passes-test (c .before .before .is-volatile-or-process .ensures) (c .before .if4 .left), ne-eqb _ _ (c .if5 .taken))
 
--- src/lib.rt:255:9
 returns-6 : tie.Need-returns-6
 unfolding containerGood containerIn
 returns-6 c = simp (← c .before .before .before .before .before .before .before .before .before .read8 .ensures .0, ← c .before .before .before .before .before .before .before .before .read82 .ensures .0, ← c .before .before .before .before .before .before .before .read16 .ensures .0, ← c .before .before .before .before .before .before .read162 .ensures .0, sym (c .before .before .before .before .before .is-file .ensures) ∙ c .before .before .before .before .if1 .left, passes-test (c .before .before .before .is-volatile-or-process .ensures) (c .before .before .if4 .left), eq-eqb _ _ (c .before .if5 .left), ne-eqb _ _ (c .if6 .taken))
 
--- src/lib.rt:231:1
 returns-7 : tie.Need-returns-7
 unfolding containerGood containerIn
 returns-7 c = simp (← c .before .before .before .before .before .before .before .before .before .read8 .ensures .0, ← c .before .before .before .before .before .before .before .before .read82 .ensures .0, ← c .before .before .before .before .before .before .before .read16 .ensures .0, ← c .before .before .before .before .before .before .read162 .ensures .0, sym (c .before .before .before .before .before .is-file .ensures) ∙ c .before .before .before .before .if1 .left, passes-test (c .before .before .before .is-volatile-or-process .ensures) (c .before .before .if4 .left), eq-eqb _ _ (c .before .if5 .left), eq-eqb _ _ (c .if6 .left))

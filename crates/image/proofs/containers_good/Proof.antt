@@ -9,9 +9,6 @@ use native.Mathlib.Omega.{arith}
 use borrow.Author.Needs.{needs}
 use Rattle.image.proofs.containers_good.Statement.{statement}
 use Rattle.image.proofs.containers_good.Tie as tie
-use Rattle.image.proofs.containers_good.Reads as reads
-use Rattle.image.proofs.containers_good.Lts as lts
-use Rattle.image.proofs.container_good.Reads as container-good-reads
 
 abbrev Inv-loop : tie.InvT-loop
 Inv-loop s n count i₀ i = Scanned (containerGood n) containerIn 6 s count i
@@ -19,52 +16,40 @@ Inv-loop s n count i₀ i = Scanned (containerGood n) containerIn 6 s count i
 abbrev μ-loop : tie.MeasureT-loop
 μ-loop s n count i₀ i = count - i
 
--- src/lib.rt:153:5
 loop-holds : tie.Need-loop-holds Inv-loop μ-loop
 loop-holds c = scan-start (containerGood (c .before .args .n)) containerIn 6 (c .before .args .s .now)
 
--- src/lib.rt:154:18
 mul-at : tie.Need-mul-at Inv-loop μ-loop
 mul-at c = search needs
 
--- src/lib.rt:155:35
 add-container-good : tie.Need-add-container-good Inv-loop μ-loop
 add-container-good c = search needs
 
--- src/lib.rt:155:28
 sub-container-good : tie.Need-sub-container-good Inv-loop μ-loop
 sub-container-good c = search needs
 
--- src/lib.rt:155:28
 part-container-good-start : tie.Need-part-container-good-start Inv-loop μ-loop
 part-container-good-start c = search needs
 
--- src/lib.rt:155:28
 part-container-good-end : tie.Need-part-container-good-end Inv-loop μ-loop
 part-container-good-end c = search needs
 
--- src/lib.rt:155:13
 container-good-requires : tie.Need-container-good-requires Inv-loop μ-loop
 container-good-requires c κs = simp (length-take, length-drop, add-sub-cancel-left) (omega arith)
 
--- src/lib.rt:156:13
 returns : tie.Need-returns Inv-loop μ-loop
 unfolding containersIn
 returns c = scan-stop (containerGood (c .before .before .before .before .before .before .args .n)) containerIn 6 (c .before .before .before .before .before .before .args .s .now) _ _ (c .before .before .before .before .loop .inv) (omega arith) (sym (fails-test (rw add-sub-cancel-left at (c .before .container-good .ensures)) (c .if1 .taken)))
 
--- src/lib.rt:158:9
 add-i : tie.Need-add-i Inv-loop μ-loop
 add-i c = search needs
 
--- src/lib.rt:153:5
 loop-less : tie.Need-loop-less Inv-loop μ-loop
 loop-less c = search needs
 
--- src/lib.rt:153:5
 loop-again : tie.Need-loop-again Inv-loop μ-loop
 loop-again c = scan-next (containerGood (c .before .before .before .before .before .before .args .n)) containerIn 6 (c .before .before .before .before .before .before .args .s .now) _ _ (c .before .before .before .before .loop .inv) (omega arith) (sym (passes-test (rw add-sub-cancel-left at (c .before .container-good .ensures)) (c .if1 .left)))
 
--- src/lib.rt:148:1
 returns-2 : tie.Need-returns-2 Inv-loop μ-loop
 unfolding containersIn
 returns-2 c = scan-end (containerGood (c .before .before .before .args .n)) containerIn 6 (c .before .before .before .args .s .now) _ _ (c .before .loop .inv) (omega arith)

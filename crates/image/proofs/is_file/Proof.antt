@@ -2,10 +2,7 @@ use mathlib.Core.Path.{refl}
 use Rattle.image.specs.Limits.{isFile}
 use Rattle.image.proofs.is_file.Statement.{statement}
 use Rattle.image.proofs.is_file.Tie as tie
-use Rattle.image.proofs.is_file.Reads as reads
-use Rattle.image.proofs.is_file.Lts as lts
 
--- src/lib.rt:77:1
 returns : tie.Need-returns
 unfolding isFile
 returns c = refl

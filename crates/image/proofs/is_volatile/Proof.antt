@@ -2,10 +2,7 @@ use mathlib.Core.Path.{refl}
 use Rattle.image.specs.Limits.{isVolatile}
 use Rattle.image.proofs.is_volatile.Statement.{statement}
 use Rattle.image.proofs.is_volatile.Tie as tie
-use Rattle.image.proofs.is_volatile.Reads as reads
-use Rattle.image.proofs.is_volatile.Lts as lts
 
--- src/lib.rt:83:1
 returns : tie.Need-returns
 unfolding isVolatile
 returns c = refl

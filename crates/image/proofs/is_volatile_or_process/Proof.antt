@@ -2,24 +2,16 @@ use mathlib.Core.Path.{sym, _∙_}
 use borrow.Author.Needs.{needs}
 use Rattle.image.proofs.is_volatile_or_process.Statement.{statement}
 use Rattle.image.proofs.is_volatile_or_process.Tie as tie
-use Rattle.image.proofs.is_volatile_or_process.Reads as reads
-use Rattle.image.proofs.is_volatile_or_process.Lts as lts
-use Rattle.image.proofs.is_process.Reads as is-process-reads
-use Rattle.image.proofs.is_volatile.Reads as is-volatile-reads
 
--- src/lib.rt:99:8
 is-volatile-requires : tie.Need-is-volatile-requires
 is-volatile-requires c κs = search needs
 
--- src/lib.rt:100:9
 returns : tie.Need-returns
 returns c = rw (sym (c .before .is-volatile .ensures) ∙ c .if1 .taken)
 
--- src/lib.rt:102:5
 is-process-requires : tie.Need-is-process-requires
 is-process-requires c κs = search needs
 
--- src/lib.rt:96:1
 returns-2 : tie.Need-returns-2
 returns-2 c = rw (sym (c .before .before .is-volatile .ensures) ∙ c .before .if1 .left) (c .is-process .ensures)
 

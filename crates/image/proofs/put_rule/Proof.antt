@@ -1,14 +1,9 @@
-use Prim.Native.Nat.{ℕ, _+_, _-_, _≤_, _<_}
-use mathlib.Core.Path.{_≡_, refl, sym, ap, _∙_}
-use mathlib.Core.List.{List, _∷_}
-use lib.ListN.{length, length-set}
+use Prim.Native.Nat.{_-_}
+use lib.ListN.{length-set}
 use Rattle.image.proofs.WordLaws.{Copied, copied-start, copied-next, copied-all}
 use borrow.Author.Needs.{needs}
-use native.Mathlib.Omega.{arith}
 use Rattle.image.proofs.put_rule.Statement.{statement}
 use Rattle.image.proofs.put_rule.Tie as tie
-use Rattle.image.proofs.put_rule.Reads as reads
-use Rattle.image.proofs.put_rule.Lts as lts
 
 abbrev Inv-loop : tie.InvT-loop
 Inv-loop ws₀ mixtures i₀ ws i = Copied ws₀ mixtures ws i
@@ -16,51 +11,39 @@ Inv-loop ws₀ mixtures i₀ ws i = Copied ws₀ mixtures ws i
 abbrev μ-loop : tie.MeasureT-loop
 μ-loop ws₀ mixtures i₀ ws i = 8 - i
 
--- src/lib.rt:60:5
 slice-write-words : tie.Need-slice-write-words Inv-loop μ-loop
 slice-write-words c = search needs
 
--- src/lib.rt:63:5
 loop-holds : tie.Need-loop-holds Inv-loop μ-loop
 loop-holds c = copied-start _ _ (simp length-set (c .before .pre)) (search needs)
 
--- src/lib.rt:64:21
 mul-words : tie.Need-mul-words Inv-loop μ-loop
 mul-words c = search needs
 
--- src/lib.rt:64:21
 array-read-words : tie.Need-array-read-words Inv-loop μ-loop
 array-read-words c = search needs
 
--- src/lib.rt:64:12
 add-words : tie.Need-add-words Inv-loop μ-loop
 add-words c = search needs
 
--- src/lib.rt:64:9
 mul-words-2 : tie.Need-mul-words-2 Inv-loop μ-loop
 mul-words-2 c = search needs
 
--- src/lib.rt:64:9
 slice-write-words-2 : tie.Need-slice-write-words-2 Inv-loop μ-loop
 slice-write-words-2 c = search needs
 
--- src/lib.rt:65:9
 add-i : tie.Need-add-i Inv-loop μ-loop
 add-i c = search needs
 
--- src/lib.rt:63:5
 loop-less : tie.Need-loop-less Inv-loop μ-loop
 loop-less c = search needs
 
--- src/lib.rt:63:5
 loop-again : tie.Need-loop-again Inv-loop μ-loop
 loop-again c = copied-next _ _ _ _ (c .before .loop .inv) (c .loop-test .taken)
 
--- src/lib.rt:56:1
 same-length : tie.Need-same-length Inv-loop μ-loop
 same-length c = search needs
 
--- src/lib.rt:56:1
 returns : tie.Need-returns Inv-loop μ-loop
 returns c = copied-all (c .before .before .before .args .words .now) _ _ _ _ (c .before .before .before .pre) (c .before .loop .inv) (c .loop-test .left)
 

@@ -4,37 +4,25 @@ use mathlib.Core.Path.{ap, _∙_}
 use borrow.Author.Needs.{needs}
 use Rattle.image.proofs.put_rule_at.Statement.{statement}
 use Rattle.image.proofs.put_rule_at.Tie as tie
-use Rattle.image.proofs.put_rule_at.Reads as reads
-use Rattle.image.proofs.put_rule_at.Lts as lts
-use Rattle.image.proofs.put_own_rule.Reads as put-own-rule-reads
-use Rattle.image.proofs.put_rule.Reads as put-rule-reads
-use Rattle.rules.proofs.unrestricted.Reads as unrestricted-reads
 
--- src/lib.rt:561:25
 unrestricted-requires : tie.Need-unrestricted-requires
 unrestricted-requires c κs = search needs
 
--- src/lib.rt:561:9
 put-rule-requires : tie.Need-put-rule-requires
 put-rule-requires c κs = search needs
 
--- src/lib.rt:563:9
 put-own-rule-requires : tie.Need-put-own-rule-requires
 put-own-rule-requires c κs = (c .before .before .before .before .before .pre .0, named-own _ (c .before .before .before .before .before .args .n) (c .before .before .before .before .before .pre .1) (c .before .if1 .left), c .before .before .before .before .before .pre .2)
 
--- src/lib.rt:556:1
 same-length : tie.Need-same-length
 same-length c = search needs
 
--- src/lib.rt:556:1
 returns : tie.Need-returns
 returns c = unrestricted-words _ (c .before .before .before .before .before .before .before .before .before .args .n) _ _ (c .before .before .before .before .before .if1 .taken) (c .before .before .before .unrestricted .ensures) (c .before .before .put-rule .ensures)
 
--- src/lib.rt:556:1
 same-length-2 : tie.Need-same-length-2
 same-length-2 c = search needs
 
--- src/lib.rt:556:1
 returns-2 : tie.Need-returns-2
 returns-2 c = c .before .before .put-own-rule .ensures ∙ ap wordsOf (own-normal _ (c .before .before .before .before .before .before .before .before .args .n) (c .before .before .before .before .if1 .left))
 

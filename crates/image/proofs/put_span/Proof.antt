@@ -6,56 +6,40 @@ use lib.ListN.{length-set}
 use borrow.Author.Needs.{needs}
 use Rattle.image.proofs.put_span.Statement.{statement}
 use Rattle.image.proofs.put_span.Tie as tie
-use Rattle.image.proofs.put_span.Reads as reads
-use Rattle.image.proofs.put_span.Lts as lts
-use Rattle.image.proofs.clear.Reads as clear-reads
-use Rattle.image.proofs.gather.Reads as gather-reads
 
--- src/lib.rt:539:5
 slice-write-words : tie.Need-slice-write-words
 slice-write-words c = search needs
 
--- src/lib.rt:540:11
 sub-clear : tie.Need-sub-clear
 sub-clear c = search needs
 
--- src/lib.rt:540:11
 part-clear-start : tie.Need-part-clear-start
 part-clear-start c = search needs
 
--- src/lib.rt:540:11
 part-clear-end : tie.Need-part-clear-end
 part-clear-end c = simp length-set (omega arith)
 
--- src/lib.rt:540:5
 clear-requires : tie.Need-clear-requires
 clear-requires c κs = search needs
 
--- src/lib.rt:541:26
 add-gather : tie.Need-add-gather
 add-gather c = search needs
 
--- src/lib.rt:541:12
 sub-gather : tie.Need-sub-gather
 sub-gather c = search needs
 
--- src/lib.rt:541:12
 part-gather-start : tie.Need-part-gather-start
 part-gather-start c = search needs
 
--- src/lib.rt:541:12
 part-gather-end : tie.Need-part-gather-end
 part-gather-end c = omega (arith, span-clear-length (c .before .before .before .before .before .before .args .words .now) (c .before .before .clear .last .0) (c .before .before .before .before .before .before .args .count) (c .before .before .before .before .before .before .pre .0) (c .before .before .clear .ensures), c .before .before .before .before .before .before .pre .1)
 
--- src/lib.rt:541:5
 gather-requires : tie.Need-gather-requires
 gather-requires c κs = omega (arith, span-lent-length (c .before .before .before .before .before .before .before .args .words .now) (c .before .before .before .clear .last .0) (c .before .before .before .before .before .before .before .args .count) (c .before .before .before .before .before .before .before .pre .0) (c .before .before .before .clear .ensures) (c .before .before .before .before .before .before .before .pre .1), c .before .before .before .before .before .before .before .pre .2)
 
--- src/lib.rt:535:1
 same-length : tie.Need-same-length
 same-length c = span-long (c .before .before .before .before .before .before .before .before .before .before .args .words .now) (c .before .before .before .before .before .before .clear .last .0) (c .before .before .gather .last .0) (mixturesIn (c .before .before .before .before .before .before .before .before .before .before .args .m .now)) (c .before .before .before .before .before .before .before .before .before .before .args .first) (c .before .before .before .before .before .before .before .before .before .before .args .count) (c .before .before .before .before .before .before .before .before .before .before .pre .0) (c .before .before .before .before .before .before .clear .ensures) (c .before .before .before .before .before .before .before .before .before .before .pre .1) (from-length (c .before .before .before .before .before .before .before .before .before .before .args .m .now) (c .before .before .before .before .before .before .before .before .before .before .args .first) (c .before .before .before .before .before .before .before .before .before .before .args .count) (c .before .before .before .before .before .before .before .before .before .before .pre .2)) (c .before .before .gather .ensures)
 
--- src/lib.rt:535:1
 returns : tie.Need-returns
 returns c = span-words (c .before .before .before .before .before .before .before .before .before .before .args .words .now) (c .before .before .before .before .before .before .clear .last .0) (c .before .before .gather .last .0) (mixturesIn (c .before .before .before .before .before .before .before .before .before .before .args .m .now)) (c .before .before .before .before .before .before .before .before .before .before .args .first) (c .before .before .before .before .before .before .before .before .before .before .args .count) (c .before .before .before .before .before .before .before .before .before .before .pre .0) (c .before .before .before .before .before .before .clear .ensures) (c .before .before .before .before .before .before .before .before .before .before .pre .1) (from-length (c .before .before .before .before .before .before .before .before .before .before .args .m .now) (c .before .before .before .before .before .before .before .before .before .before .args .first) (c .before .before .before .before .before .before .before .before .before .before .args .count) (c .before .before .before .before .before .before .before .before .before .before .pre .2)) (c .before .before .gather .ensures)
 

@@ -3,31 +3,22 @@ use native.Mathlib.Omega.{arith}
 use borrow.Author.Needs.{needs}
 use Rattle.image.proofs.read32.Statement.{statement}
 use Rattle.image.proofs.read32.Tie as tie
-use Rattle.image.proofs.read32.Reads as reads
-use Rattle.image.proofs.read32.Lts as lts
-use Rattle.image.proofs.read16.Reads as read16-reads
 
--- src/lib.rt:19:5
 read16-requires : tie.Need-read16-requires
 read16-requires c κs = search needs
 
--- src/lib.rt:19:53
 add-read16 : tie.Need-add-read16
 add-read16 c = search needs
 
--- src/lib.rt:19:36
 read16-requires-2 : tie.Need-read16-requires-2
 read16-requires-2 c κs = search needs
 
--- src/lib.rt:19:28
 mul-result : tie.Need-mul-result
 mul-result c = search needs
 
--- src/lib.rt:19:5
 add-result : tie.Need-add-result
 add-result c = search needs
 
--- src/lib.rt:15:1
 returns : tie.Need-returns
 returns c = (omega (arith, field-split (c .before .before .before .args .s .now) (c .before .before .before .args .at) 2 2 (omega arith), c .before .read16 .ensures, c .read162 .ensures), omega (arith, c .before .read16 .ensures, c .read162 .ensures))
 

@@ -3,31 +3,22 @@ use native.Mathlib.Omega.{arith}
 use borrow.Author.Needs.{needs}
 use Rattle.image.proofs.read64.Statement.{statement}
 use Rattle.image.proofs.read64.Tie as tie
-use Rattle.image.proofs.read64.Reads as reads
-use Rattle.image.proofs.read64.Lts as lts
-use Rattle.image.proofs.read32.Reads as read32-reads
 
--- src/lib.rt:26:6
 read32-requires : tie.Need-read32-requires
 read32-requires c κs = search needs
 
--- src/lib.rt:26:45
 add-read32 : tie.Need-add-read32
 add-read32 c = search needs
 
--- src/lib.rt:26:35
 read32-requires-2 : tie.Need-read32-requires-2
 read32-requires-2 c κs = search needs
 
--- src/lib.rt:26:22
 mul-result : tie.Need-mul-result
 mul-result c = search needs
 
--- src/lib.rt:26:6
 add-result : tie.Need-add-result
 add-result c = search needs
 
--- src/lib.rt:22:1
 returns : tie.Need-returns
 returns c = omega (arith, field-split (c .before .before .before .args .s .now) (c .before .before .before .args .at) 4 4 (omega arith), c .before .read32 .ensures, c .read322 .ensures)
 

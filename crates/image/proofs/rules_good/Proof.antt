@@ -4,9 +4,6 @@ use native.Mathlib.Omega.{arith}
 use borrow.Author.Needs.{needs}
 use Rattle.image.proofs.rules_good.Statement.{statement}
 use Rattle.image.proofs.rules_good.Tie as tie
-use Rattle.image.proofs.rules_good.Reads as reads
-use Rattle.image.proofs.rules_good.Lts as lts
-use Rattle.image.proofs.read16.Reads as read16-reads
 
 abbrev Inv-loop : tie.InvT-loop
 Inv-loop s m n i₀ from₀ i from = SpansScanned m s n from i
@@ -14,59 +11,45 @@ Inv-loop s m n i₀ from₀ i from = SpansScanned m s n from i
 abbrev μ-loop : tie.MeasureT-loop
 μ-loop s m n i₀ from₀ i from = n - i
 
--- src/lib.rt:87:5
 loop-holds : tie.Need-loop-holds Inv-loop μ-loop
 loop-holds c = spans-start (c .before .args .m) (c .before .args .s .now)
 
--- src/lib.rt:88:31
 mul-read16 : tie.Need-mul-read16 Inv-loop μ-loop
 mul-read16 c = search needs
 
--- src/lib.rt:88:13
 read16-requires : tie.Need-read16-requires Inv-loop μ-loop
 read16-requires c κs = search needs
 
--- src/lib.rt:89:31
 mul-read16-2 : tie.Need-mul-read16-2 Inv-loop μ-loop
 mul-read16-2 c = search needs
 
--- src/lib.rt:89:31
 add-read16 : tie.Need-add-read16 Inv-loop μ-loop
 add-read16 c = search needs
 
--- src/lib.rt:89:13
 read16-requires-2 : tie.Need-read16-requires-2 Inv-loop μ-loop
 read16-requires-2 c κs = search needs
 
--- src/lib.rt:90:9
 add-i : tie.Need-add-i Inv-loop μ-loop
 add-i c = search needs
 
--- src/lib.rt:92:13
 returns : tie.Need-returns Inv-loop μ-loop
 returns c = (spans-first (c .before .before .before .before .before .before .args .m) (c .before .before .before .before .before .before .args .s .now) _ _ _ (c .before .before .before .before .loop .inv) (omega arith) (rw ((c .before .before .read16 .ensures .0)) at (c .if1 .taken)))
 
--- src/lib.rt:95:13
 returns-2 : tie.Need-returns-2 Inv-loop μ-loop
 returns-2 c = (spans-count (c .before .before .before .before .before .before .before .args .m) (c .before .before .before .before .before .before .before .args .s .now) _ _ _ (c .before .before .before .before .before .loop .inv) (omega arith) (rw ((c .before .before .before .read16 .ensures .0)) at (c .before .if1 .left)) (rw ((c .before .before .read162 .ensures .0)) at (c .if2 .taken)))
 
--- src/lib.rt:97:16
 add-if3 : tie.Need-add-if3 Inv-loop μ-loop
 add-if3 c = search needs
 
--- src/lib.rt:98:13
 returns-3 : tie.Need-returns-3 Inv-loop μ-loop
 returns-3 c = (spans-over (c .before .before .before .before .before .before .before .before .args .m) (c .before .before .before .before .before .before .before .before .args .s .now) _ _ _ (c .before .before .before .before .before .before .loop .inv) (omega arith) (rw ((c .before .before .before .before .read16 .ensures .0)) at (c .before .before .if1 .left)) (rw ((c .before .before .before .read162 .ensures .0)) at (c .before .if2 .left)) (rw ((c .before .before .before .before .read16 .ensures .0), (c .before .before .before .read162 .ensures .0)) at (c .if3 .taken)))
 
--- src/lib.rt:87:5
 loop-less : tie.Need-loop-less Inv-loop μ-loop
 loop-less c = search needs
 
--- src/lib.rt:87:5
 loop-again : tie.Need-loop-again Inv-loop μ-loop
 loop-again c = rw (c .before .before .before .before .read16 .ensures .0) (spans-next (c .before .before .before .before .before .before .before .before .args .m) (c .before .before .before .before .before .before .before .before .args .s .now) _ _ _ (c .before .before .before .before .before .before .loop .inv) (omega arith) (rw ((c .before .before .before .before .read16 .ensures .0)) at (c .before .before .if1 .left)) (rw ((c .before .before .before .read162 .ensures .0)) at (c .before .if2 .left)) (rw ((c .before .before .before .before .read16 .ensures .0), (c .before .before .before .read162 .ensures .0)) at (c .if3 .left)))
 
--- src/lib.rt:81:1
 returns-4 : tie.Need-returns-4 Inv-loop μ-loop
 returns-4 c = spans-end (c .before .before .before .args .m) (c .before .before .before .args .s .now) _ _ _ (c .before .loop .inv) (omega arith)
 

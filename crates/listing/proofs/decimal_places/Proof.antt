@@ -7,8 +7,6 @@ use Rattle.listing.proofs.TextLaws.{decimal-below, decimal-length, deci
 use borrow.Author.Needs.{needs}
 use Rattle.listing.proofs.decimal_places.Statement.{statement}
 use Rattle.listing.proofs.decimal_places.Tie as tie
-use Rattle.listing.proofs.decimal_places.Reads as reads
-use Rattle.listing.proofs.decimal_places.Lts as lts
 
 abbrev Inv-loop : tie.InvT-loop
 Inv-loop n k₀ rest₀ k rest = (rest ≤ n) × (k + length (decimal rest) ≡ 1 + length (decimal n))
@@ -16,26 +14,21 @@ Inv-loop n k₀ rest₀ k rest = (rest ≤ n) × (k + length (decimal rest) ≡ 
 abbrev μ-loop : tie.MeasureT-loop
 μ-loop n k₀ rest₀ k rest = rest
 
--- src/lib.rt:48:5
 loop-holds : tie.Need-loop-holds Inv-loop μ-loop
 loop-holds c = (search needs, refl)
 
--- src/lib.rt:50:9
 add-k : tie.Need-add-k Inv-loop μ-loop
 add-k c = omega (arith, decimal-length (c .before .before .args .n))
 
--- src/lib.rt:48:5
 loop-less : tie.Need-loop-less Inv-loop μ-loop
 loop-less c = search needs
 
--- src/lib.rt:48:5
 loop-again : tie.Need-loop-again Inv-loop μ-loop
 loop-again c =
     let l = c .before .loop in
     let b : l .rest < 10 ^ decimalLimit = omega arith in
     (omega arith, omega (arith, decimal-longer (l .rest) (c .loop-test .taken) b))
 
--- src/lib.rt:43:1
 returns : tie.Need-returns Inv-loop μ-loop
 returns c = omega (arith, ap length (decimal-below (c .before .loop .rest) (c .loop-test .left)))
 

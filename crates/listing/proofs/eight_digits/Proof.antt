@@ -5,54 +5,41 @@ use Rattle.listing.proofs.Hexadecimal.{halves, quarters, eighths, eight
 use borrow.Author.Needs.{needs}
 use Rattle.listing.proofs.eight_digits.Statement.{statement}
 use Rattle.listing.proofs.eight_digits.Tie as tie
-use Rattle.listing.proofs.eight_digits.Reads as reads
-use Rattle.listing.proofs.eight_digits.Lts as lts
 
--- src/lib.rt:181:27
 mul-two : tie.Need-mul-two
 mul-two c = search needs
 
--- src/lib.rt:181:15
 add-two : tie.Need-add-two
 add-two c = search needs
 
--- src/lib.rt:182:51
 mul-four : tie.Need-mul-four
 mul-four c = omega (arith, and-le-r (halves (c .args .x)) 0x000000ff000000ff)
 
--- src/lib.rt:182:16
 add-four : tie.Need-add-four
 add-four c =
     omega (arith, and-le-r (halves (c .args .x) / 256) 0x000000ff000000ff, and-le-r (halves (c .args .x)) 0x000000ff000000ff)
 
--- src/lib.rt:183:52
 mul-eight : tie.Need-mul-eight
 mul-eight c = omega (arith, and-le-r (quarters (halves (c .args .x))) 0x000f000f000f000f)
 
--- src/lib.rt:183:17
 add-eight : tie.Need-add-eight
 add-eight c = omega (arith, eighths-most (quarters (halves (c .args .x))))
 
--- src/lib.rt:184:20
 add-letters : tie.Need-add-letters
 add-letters c = omega (arith, eighths-most (quarters (halves (c .args .x))))
 
--- src/lib.rt:185:5
 add-result : tie.Need-add-result
 add-result c = omega (arith, eighths-most (quarters (halves (c .args .x))))
 
--- src/lib.rt:185:34
 mul-result : tie.Need-mul-result
 mul-result c =
     omega (arith, and-le-r ((eighths (quarters (halves (c .args .x))) + 0x0606060606060606) / 16) 0x0101010101010101)
 
--- src/lib.rt:185:5
 add-result-2 : tie.Need-add-result-2
 add-result-2 c =
     let y : ℕ = eighths (quarters (halves (c .args .x))) in
     omega (arith, eighths-most (quarters (halves (c .args .x))), and-le-r ((y + 0x0606060606060606) / 16) 0x0101010101010101)
 
--- src/lib.rt:177:1
 returns : tie.Need-returns
 returns c = eight-digits (c .args .x) (c .pre)
 

@@ -8,37 +8,26 @@ use Rattle.listing.proofs.LineLaws.{access-text, number-length, word-le
 use borrow.Author.Needs.{needs}
 use Rattle.listing.proofs.put_access.Statement.{statement}
 use Rattle.listing.proofs.put_access.Tie as tie
-use Rattle.listing.proofs.put_access.Reads as reads
-use Rattle.listing.proofs.put_access.Lts as lts
-use Rattle.listing.proofs.put_container.Reads as put-container-reads
-use Rattle.listing.proofs.put_step_number.Reads as put-step-number-reads
-use Rattle.listing.proofs.put_word.Reads as put-word-reads
 
--- src/lib.rt:296:9
 put-step-number-requires : tie.Need-put-step-number-requires
 put-step-number-requires c κs = search needs
 
--- src/lib.rt:297:9
 put-word-requires : tie.Need-put-word-requires
 put-word-requires c κs = omega (arith, number-length (c .before .before .before .before .before .before .args .step) space)
 
--- src/lib.rt:298:9
 put-container-requires : tie.Need-put-container-requires
 put-container-requires c κs =
     let a = c .before .before .before .before .before .before .before .before .before .before .args in
     omega (arith, number-length (a .step) space, word-length (a .code))
 
--- src/lib.rt:299:5
 put-container-requires-2 : tie.Need-put-container-requires-2
 put-container-requires-2 c κs =
     let a = c .before .before .before .before .before .before .before .before .before .before .before .before .before .before .args in
     omega (arith, number-length (a .step) space, word-length (a .code), number-length (a .p) space)
 
--- src/lib.rt:292:1
 same-length : tie.Need-same-length
 same-length c = search needs
 
--- src/lib.rt:292:1
 returns : tie.Need-returns
 returns c =
     let a = c .before .before .before .before .before .before .before .before .before .before .before .before .before .before .before .before .before .args in

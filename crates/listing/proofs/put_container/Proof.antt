@@ -7,28 +7,19 @@ use Rattle.listing.proofs.BufferLaws.{appended-byte, appended-written, 
 use borrow.Author.Needs.{needs}
 use Rattle.listing.proofs.put_container.Statement.{statement}
 use Rattle.listing.proofs.put_container.Tie as tie
-use Rattle.listing.proofs.put_container.Reads as reads
-use Rattle.listing.proofs.put_container.Lts as lts
-use Rattle.listing.proofs.put_number.Reads as put-number-reads
-use Rattle.listing.proofs.put_short_number.Reads as put-short-number-reads
 
--- src/lib.rt:284:13
 put-short-number-requires : tie.Need-put-short-number-requires
 put-short-number-requires c κs = search needs
 
--- src/lib.rt:285:9
 slice-write-out : tie.Need-slice-write-out
 slice-write-out c = omega (arith, decimal-length (c .before .before .before .before .before .before .args .n))
 
--- src/lib.rt:286:16
 add-result : tie.Need-add-result
 add-result c = omega (arith, decimal-length (c .before .before .before .before .before .before .args .n))
 
--- src/lib.rt:286:9
 same-length : tie.Need-same-length
 same-length c = search needs
 
--- src/lib.rt:286:9
 returns : tie.Need-returns
 returns c =
     let a = c .before .before .before .before .before .before .args in
@@ -37,15 +28,12 @@ returns c =
     let l : p .result < length (p .last .0) = omega (arith, decimal-length (a .n)) in
     written-join 2 (omega arith) (p .ensures) (appended-written 2 h (appended-byte space (p .result) (p .last .0) l))
 
--- src/lib.rt:288:5
 put-number-requires : tie.Need-put-number-requires
 put-number-requires c κs = search needs
 
--- src/lib.rt:279:1
 same-length-2 : tie.Need-same-length-2
 same-length-2 c = search needs
 
--- src/lib.rt:279:1
 returns-2 : tie.Need-returns-2
 returns-2 c =
     let a = c .before .before .before .before .before .before .args in

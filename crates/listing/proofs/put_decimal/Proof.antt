@@ -5,58 +5,40 @@ use Rattle.listing.proofs.BufferLaws.{appended-written, written-more}
 use borrow.Author.Needs.{needs}
 use Rattle.listing.proofs.put_decimal.Statement.{statement}
 use Rattle.listing.proofs.put_decimal.Tie as tie
-use Rattle.listing.proofs.put_decimal.Reads as reads
-use Rattle.listing.proofs.put_decimal.Lts as lts
-use Rattle.listing.proofs.put_long.Reads as put-long-reads
-use Rattle.listing.proofs.put_millions.Reads as put-millions-reads
-use Rattle.listing.proofs.put_short_number.Reads as put-short-number-reads
-use Rattle.listing.proofs.put_thousands.Reads as put-thousands-reads
 
--- src/lib.rt:164:9
 put-short-number-requires : tie.Need-put-short-number-requires
 put-short-number-requires c κs = search needs
 
--- src/lib.rt:164:9
 same-length : tie.Need-same-length
 same-length c = search needs
 
--- src/lib.rt:164:9
 returns : tie.Need-returns
 returns c = search needs
 
--- src/lib.rt:167:9
 put-thousands-requires : tie.Need-put-thousands-requires
 put-thousands-requires c κs = search needs
 
--- src/lib.rt:167:9
 same-length-2 : tie.Need-same-length-2
 same-length-2 c = search needs
 
--- src/lib.rt:167:9
 returns-2 : tie.Need-returns-2
 returns-2 c = written-more 3 (omega arith) (c .before .before .put-thousands .ensures)
 
--- src/lib.rt:170:9
 put-millions-requires : tie.Need-put-millions-requires
 put-millions-requires c κs = search needs
 
--- src/lib.rt:170:9
 same-length-3 : tie.Need-same-length-3
 same-length-3 c = search needs
 
--- src/lib.rt:170:9
 returns-3 : tie.Need-returns-3
 returns-3 c = written-more 3 (omega arith) (c .before .before .put-millions .ensures)
 
--- src/lib.rt:172:5
 put-long-requires : tie.Need-put-long-requires
 put-long-requires c κs = search needs
 
--- src/lib.rt:159:1
 same-length-4 : tie.Need-same-length-4
 same-length-4 c = search needs
 
--- src/lib.rt:159:1
 returns-4 : tie.Need-returns-4
 returns-4 c =
     let a = c .before .before .before .before .before .before .before .before .args in

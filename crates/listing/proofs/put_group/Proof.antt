@@ -8,28 +8,19 @@ use Rattle.listing.proofs.BufferLaws.{written-front}
 use borrow.Author.Needs.{needs}
 use Rattle.listing.proofs.put_group.Statement.{statement}
 use Rattle.listing.proofs.put_group.Tie as tie
-use Rattle.listing.proofs.put_group.Reads as reads
-use Rattle.listing.proofs.put_group.Lts as lts
-use Rattle.listing.proofs.put_four.Reads as put-four-reads
-use Rattle.listing.proofs.three_digits.Reads as three-digits-reads
 
--- src/lib.rt:136:23
 three-digits-requires : tie.Need-three-digits-requires
 three-digits-requires c κs = search needs
 
--- src/lib.rt:136:5
 put-four-requires : tie.Need-put-four-requires
 put-four-requires c κs = search needs
 
--- src/lib.rt:137:5
 add-result : tie.Need-add-result
 add-result c = search needs
 
--- src/lib.rt:132:1
 same-length : tie.Need-same-length
 same-length c = search needs
 
--- src/lib.rt:132:1
 returns : tie.Need-returns
 returns c =
     let a = c .before .before .before .before .before .before .args in

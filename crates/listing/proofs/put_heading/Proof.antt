@@ -3,23 +3,16 @@ use Rattle.listing.specs.Lines.{line, heading}
 use borrow.Author.Needs.{needs}
 use Rattle.listing.proofs.put_heading.Statement.{statement}
 use Rattle.listing.proofs.put_heading.Tie as tie
-use Rattle.listing.proofs.put_heading.Reads as reads
-use Rattle.listing.proofs.put_heading.Lts as lts
-use Rattle.listing.proofs.put_text.Reads as put-text-reads
 
--- src/lib.rt:199:23
 slice-aggregate-put-text : tie.Need-slice-aggregate-put-text
 slice-aggregate-put-text c = search needs
 
--- src/lib.rt:199:5
 put-text-requires : tie.Need-put-text-requires
 put-text-requires c κs = search needs
 
--- src/lib.rt:195:1
 same-length : tie.Need-same-length
 same-length c = search needs
 
--- src/lib.rt:195:1
 returns : tie.Need-returns
 unfolding heading line ascii
 returns c = c .before .before .put-text .ensures

@@ -8,32 +8,22 @@ use Rattle.listing.proofs.BufferLaws.{appended-join, appended-as}
 use borrow.Author.Needs.{needs}
 use Rattle.listing.proofs.put_hexadecimal.Statement.{statement}
 use Rattle.listing.proofs.put_hexadecimal.Tie as tie
-use Rattle.listing.proofs.put_hexadecimal.Reads as reads
-use Rattle.listing.proofs.put_hexadecimal.Lts as lts
-use Rattle.listing.proofs.eight_digits.Reads as eight-digits-reads
-use Rattle.listing.proofs.put_eight.Reads as put-eight-reads
 
--- src/lib.rt:193:35
 eight-digits-requires : tie.Need-eight-digits-requires
 eight-digits-requires c κs = search needs
 
--- src/lib.rt:193:9
 put-eight-requires : tie.Need-put-eight-requires
 put-eight-requires c κs = search needs
 
--- src/lib.rt:194:26
 eight-digits-requires-2 : tie.Need-eight-digits-requires-2
 eight-digits-requires-2 c κs = search needs
 
--- src/lib.rt:194:5
 put-eight-requires-2 : tie.Need-put-eight-requires-2
 put-eight-requires-2 c κs = omega (arith, packed-length 8 (c .before .before .before .before .before .eight-digits .result))
 
--- src/lib.rt:189:1
 same-length : tie.Need-same-length
 same-length c = search needs
 
--- src/lib.rt:189:1
 returns : tie.Need-returns
 returns c =
     let a = c .before .before .before .before .before .before .before .before .before .before .before .args in

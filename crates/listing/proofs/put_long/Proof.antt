@@ -9,9 +9,6 @@ use Rattle.listing.proofs.Spelling.{Spelling, spelling-start, spelling-
 use borrow.Author.Needs.{needs}
 use Rattle.listing.proofs.put_long.Statement.{statement}
 use Rattle.listing.proofs.put_long.Tie as tie
-use Rattle.listing.proofs.put_long.Reads as reads
-use Rattle.listing.proofs.put_long.Lts as lts
-use Rattle.listing.proofs.decimal_places.Reads as decimal-places-reads
 
 abbrev Inv-loop : tie.InvT-loop
 Inv-loop out₀ at n k rest₀ i₀ out rest i = Spelling 10 k n at out₀ out i rest
@@ -19,57 +16,45 @@ Inv-loop out₀ at n k rest₀ i₀ out rest i = Spelling 10 k n at out₀ out i
 abbrev μ-loop : tie.MeasureT-loop
 μ-loop out₀ at n k rest₀ i₀ out rest i = i
 
--- src/lib.rt:60:9
 decimal-places-requires : tie.Need-decimal-places-requires Inv-loop μ-loop
 decimal-places-requires c κs = search needs
 
--- src/lib.rt:63:5
 loop-holds : tie.Need-loop-holds Inv-loop μ-loop
 loop-holds c =
     let a = c .before .before .args in
     let r : a .at + c .decimal-places .result ≤ length (a .out .now) = omega (arith, decimal-length (a .n)) in
     spelling-start _ _ _ _ _ r
 
--- src/lib.rt:64:9
 sub-i : tie.Need-sub-i Inv-loop μ-loop
 sub-i c = search needs
 
--- src/lib.rt:65:30
 cast-out : tie.Need-cast-out Inv-loop μ-loop
 cast-out c = search needs
 
--- src/lib.rt:65:23
 add-out : tie.Need-add-out Inv-loop μ-loop
 add-out c = search needs
 
--- src/lib.rt:65:13
 add-out-2 : tie.Need-add-out-2 Inv-loop μ-loop
 add-out-2 c = search needs
 
--- src/lib.rt:65:9
 slice-write-out : tie.Need-slice-write-out Inv-loop μ-loop
 slice-write-out c = search needs
 
--- src/lib.rt:63:5
 loop-less : tie.Need-loop-less Inv-loop μ-loop
 loop-less c = search needs
 
--- src/lib.rt:63:5
 loop-again : tie.Need-loop-again Inv-loop μ-loop
 loop-again c =
     let l = c .before .loop in
     let d : l .rest % 10 < 10 = omega arith in
     spelling-next (l .inv) _ (c .loop-test .taken) (sym (digit-low (l .rest % 10) d))
 
--- src/lib.rt:68:5
 add-result : tie.Need-add-result Inv-loop μ-loop
 add-result c = search needs
 
--- src/lib.rt:56:1
 same-length : tie.Need-same-length Inv-loop μ-loop
 same-length c = c .before .loop .inv .long
 
--- src/lib.rt:56:1
 returns : tie.Need-returns Inv-loop μ-loop
 returns c =
     let l = c .before .loop in

@@ -6,27 +6,19 @@ use Rattle.listing.proofs.BufferLaws.{written-join, written-as}
 use borrow.Author.Needs.{needs}
 use Rattle.listing.proofs.put_millions.Statement.{statement}
 use Rattle.listing.proofs.put_millions.Tie as tie
-use Rattle.listing.proofs.put_millions.Reads as reads
-use Rattle.listing.proofs.put_millions.Lts as lts
-use Rattle.listing.proofs.put_group.Reads as put-group-reads
-use Rattle.listing.proofs.put_thousands.Reads as put-thousands-reads
 
--- src/lib.rt:154:9
 put-thousands-requires : tie.Need-put-thousands-requires
 put-thousands-requires c κs = search needs
 
--- src/lib.rt:155:5
 put-group-requires : tie.Need-put-group-requires
 put-group-requires c κs =
     let a = c .before .before .before .before .before .before .args in
     let l : a .n / 1000 < 10 ^ 6 = omega arith in
     omega (arith, decimal-few 5 (a .n / 1000) l)
 
--- src/lib.rt:150:1
 same-length : tie.Need-same-length
 same-length c = search needs
 
--- src/lib.rt:150:1
 returns : tie.Need-returns
 returns c =
     let a = c .before .before .before .before .before .before .before .before .before .args in

@@ -5,24 +5,16 @@ use Rattle.listing.proofs.BufferLaws.{appended-join}
 use borrow.Author.Needs.{needs}
 use Rattle.listing.proofs.put_named.Statement.{statement}
 use Rattle.listing.proofs.put_named.Tie as tie
-use Rattle.listing.proofs.put_named.Reads as reads
-use Rattle.listing.proofs.put_named.Lts as lts
-use Rattle.listing.proofs.put_number.Reads as put-number-reads
-use Rattle.listing.proofs.put_text.Reads as put-text-reads
 
--- src/lib.rt:141:9
 put-text-requires : tie.Need-put-text-requires
 put-text-requires c κs = search needs
 
--- src/lib.rt:142:5
 put-number-requires : tie.Need-put-number-requires
 put-number-requires c κs = search needs
 
--- src/lib.rt:137:1
 same-length : tie.Need-same-length
 same-length c = search needs
 
--- src/lib.rt:137:1
 returns : tie.Need-returns
 returns c =
     let a = c .before .before .before .before .before .before .before .before .before .before .args in

@@ -6,44 +6,31 @@ use Rattle.listing.proofs.BufferLaws.{appended-as}
 use borrow.Author.Needs.{needs}
 use Rattle.listing.proofs.put_outcome.Statement.{statement}
 use Rattle.listing.proofs.put_outcome.Tie as tie
-use Rattle.listing.proofs.put_outcome.Reads as reads
-use Rattle.listing.proofs.put_outcome.Lts as lts
-use Rattle.listing.proofs.put_named.Reads as put-named-reads
-use Rattle.listing.proofs.put_verdict.Reads as put-verdict-reads
 
--- src/lib.rt:318:26
 enum-known-outcome : tie.Need-enum-known-outcome
 enum-known-outcome c = search needs
 
--- src/lib.rt:318:45
 put-verdict-requires : tie.Need-put-verdict-requires
 put-verdict-requires c κs = search needs
 
--- src/lib.rt:319:26
 enum-known-outcome-2 : tie.Need-enum-known-outcome-2
 enum-known-outcome-2 c = search needs
 
--- src/lib.rt:319:45
 put-verdict-requires-2 : tie.Need-put-verdict-requires-2
 put-verdict-requires-2 c κs = search needs
 
--- src/lib.rt:320:26
 enum-known-outcome-3 : tie.Need-enum-known-outcome-3
 enum-known-outcome-3 c = search needs
 
--- src/lib.rt:320:56
 slice-aggregate-put-named : tie.Need-slice-aggregate-put-named
 slice-aggregate-put-named c = search needs
 
--- src/lib.rt:320:37
 put-named-requires : tie.Need-put-named-requires
 put-named-requires c κs = search needs
 
--- src/lib.rt:313:1
 same-length : tie.Need-same-length
 same-length c = search needs
 
--- src/lib.rt:313:1
 returns : tie.Need-returns
 unfolding line verdictOf valuesOf ascii packed
 returns c =
@@ -51,11 +38,9 @@ returns c =
     (ap (λ (x : Outcome). line (verdictOf x) (valuesOf x)) (sym (c .before .before .before .before .before .outcome .given .1)))
     (c .before .before .put-verdict .ensures)
 
--- src/lib.rt:313:1
 same-length-2 : tie.Need-same-length-2
 same-length-2 c = search needs
 
--- src/lib.rt:313:1
 returns-2 : tie.Need-returns-2
 unfolding line verdictOf valuesOf ascii packed
 returns-2 c =
@@ -63,11 +48,9 @@ returns-2 c =
     (ap (λ (x : Outcome). line (verdictOf x) (valuesOf x)) (sym (c .before .before .before .before .before .outcome2 .given .1)))
     (c .before .before .put-verdict2 .ensures)
 
--- src/lib.rt:313:1
 same-length-3 : tie.Need-same-length-3
 same-length-3 c = search needs
 
--- src/lib.rt:313:1
 returns-3 : tie.Need-returns-3
 unfolding line verdictOf valuesOf ascii
 returns-3 c =

@@ -8,28 +8,19 @@ use Rattle.listing.proofs.LineLaws.{short-text, number-length}
 use borrow.Author.Needs.{needs}
 use Rattle.listing.proofs.put_short.Statement.{statement}
 use Rattle.listing.proofs.put_short.Tie as tie
-use Rattle.listing.proofs.put_short.Reads as reads
-use Rattle.listing.proofs.put_short.Lts as lts
-use Rattle.listing.proofs.put_number.Reads as put-number-reads
-use Rattle.listing.proofs.put_text.Reads as put-text-reads
 
--- src/lib.rt:216:9
 put-number-requires : tie.Need-put-number-requires
 put-number-requires c κs = search needs
 
--- src/lib.rt:217:25
 slice-aggregate-put-text : tie.Need-slice-aggregate-put-text
 slice-aggregate-put-text c = search needs
 
--- src/lib.rt:217:5
 put-text-requires : tie.Need-put-text-requires
 put-text-requires c κs = omega (arith, number-length (c .before .before .before .before .before .before .before .args .step) space)
 
--- src/lib.rt:212:1
 same-length : tie.Need-same-length
 same-length c = search needs
 
--- src/lib.rt:212:1
 returns : tie.Need-returns
 unfolding ascii
 returns c =

@@ -7,45 +7,31 @@ use Rattle.listing.proofs.BufferLaws.{written-front}
 use borrow.Author.Needs.{needs}
 use Rattle.listing.proofs.put_short_number.Statement.{statement}
 use Rattle.listing.proofs.put_short_number.Tie as tie
-use Rattle.listing.proofs.put_short_number.Reads as reads
-use Rattle.listing.proofs.put_short_number.Lts as lts
-use Rattle.listing.proofs.put_four.Reads as put-four-reads
-use Rattle.listing.proofs.three_digits.Reads as three-digits-reads
-use Rattle.listing.proofs.unused_digits.Reads as unused-digits-reads
 
--- src/lib.rt:126:9
 unused-digits-requires : tie.Need-unused-digits-requires
 unused-digits-requires c κs = search needs
 
--- src/lib.rt:127:23
 three-digits-requires : tie.Need-three-digits-requires
 three-digits-requires c κs = search needs
 
--- src/lib.rt:127:43
 mul-put-four : tie.Need-mul-put-four
 mul-put-four c = search needs
 
--- src/lib.rt:127:23
 shr-put-four : tie.Need-shr-put-four
 shr-put-four c = search needs
 
--- src/lib.rt:127:5
 put-four-requires : tie.Need-put-four-requires
 put-four-requires c κs = search needs
 
--- src/lib.rt:128:11
 sub-result : tie.Need-sub-result
 sub-result c = search needs
 
--- src/lib.rt:128:5
 add-result : tie.Need-add-result
 add-result c = search needs
 
--- src/lib.rt:122:1
 same-length : tie.Need-same-length
 same-length c = search needs
 
--- src/lib.rt:122:1
 returns : tie.Need-returns
 returns c =
     let a = c .before .before .before .before .before .before .before .args in

@@ -6,26 +6,18 @@ use Rattle.listing.proofs.LineLaws.{step-text, access-length, outcome-l
 use borrow.Author.Needs.{needs}
 use Rattle.listing.proofs.put_step.Statement.{statement}
 use Rattle.listing.proofs.put_step.Tie as tie
-use Rattle.listing.proofs.put_step.Reads as reads
-use Rattle.listing.proofs.put_step.Lts as lts
-use Rattle.listing.proofs.put_access.Reads as put-access-reads
-use Rattle.listing.proofs.put_outcome.Reads as put-outcome-reads
 
--- src/lib.rt:345:9
 put-access-requires : tie.Need-put-access-requires
 put-access-requires c κs = search needs
 
--- src/lib.rt:346:5
 put-outcome-requires : tie.Need-put-outcome-requires
 put-outcome-requires c κs =
     let a = c .before .before .before .before .before .before .args in
     omega (arith, access-length (a .step) (a .code) (a .p) (a .o))
 
--- src/lib.rt:333:1
 same-length : tie.Need-same-length
 same-length c = search needs
 
--- src/lib.rt:333:1
 returns : tie.Need-returns
 returns c =
     let a = c .before .before .before .before .before .before .before .before .before .args in

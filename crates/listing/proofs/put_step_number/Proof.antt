@@ -7,27 +7,19 @@ use Rattle.listing.proofs.BufferLaws.{appended-byte, appended-written, 
 use borrow.Author.Needs.{needs}
 use Rattle.listing.proofs.put_step_number.Statement.{statement}
 use Rattle.listing.proofs.put_step_number.Tie as tie
-use Rattle.listing.proofs.put_step_number.Reads as reads
-use Rattle.listing.proofs.put_step_number.Lts as lts
-use Rattle.listing.proofs.put_decimal.Reads as put-decimal-reads
 
--- src/lib.rt:273:9
 put-decimal-requires : tie.Need-put-decimal-requires
 put-decimal-requires c κs = search needs
 
--- src/lib.rt:274:5
 slice-write-out : tie.Need-slice-write-out
 slice-write-out c = omega (arith, decimal-length (c .before .before .before .before .before .args .n))
 
--- src/lib.rt:275:5
 add-result : tie.Need-add-result
 add-result c = omega (arith, decimal-length (c .before .before .before .before .before .args .n))
 
--- src/lib.rt:269:1
 same-length : tie.Need-same-length
 same-length c = search needs
 
--- src/lib.rt:269:1
 returns : tie.Need-returns
 returns c =
     let a = c .before .before .before .before .before .args in

@@ -6,27 +6,19 @@ use Rattle.listing.proofs.BufferLaws.{appended-join, appended-byte}
 use borrow.Author.Needs.{needs}
 use Rattle.listing.proofs.put_tag.Statement.{statement}
 use Rattle.listing.proofs.put_tag.Tie as tie
-use Rattle.listing.proofs.put_tag.Reads as reads
-use Rattle.listing.proofs.put_tag.Lts as lts
-use Rattle.listing.proofs.put_hexadecimal.Reads as put-hexadecimal-reads
 
--- src/lib.rt:131:9
 put-hexadecimal-requires : tie.Need-put-hexadecimal-requires
 put-hexadecimal-requires c κs = search needs
 
--- src/lib.rt:132:5
 slice-write-out : tie.Need-slice-write-out
 slice-write-out c = omega (arith, hexadecimal-length (c .before .before .before .before .before .args .tag))
 
--- src/lib.rt:133:5
 add-result : tie.Need-add-result
 add-result c = omega (arith, hexadecimal-length (c .before .before .before .before .before .args .tag))
 
--- src/lib.rt:127:1
 same-length : tie.Need-same-length
 same-length c = search needs
 
--- src/lib.rt:127:1
 returns : tie.Need-returns
 returns c =
     let a = c .before .before .before .before .before .args in

@@ -6,27 +6,19 @@ use Rattle.listing.proofs.BufferLaws.{written-join, written-as}
 use borrow.Author.Needs.{needs}
 use Rattle.listing.proofs.put_thousands.Statement.{statement}
 use Rattle.listing.proofs.put_thousands.Tie as tie
-use Rattle.listing.proofs.put_thousands.Reads as reads
-use Rattle.listing.proofs.put_thousands.Lts as lts
-use Rattle.listing.proofs.put_group.Reads as put-group-reads
-use Rattle.listing.proofs.put_short_number.Reads as put-short-number-reads
 
--- src/lib.rt:145:9
 put-short-number-requires : tie.Need-put-short-number-requires
 put-short-number-requires c κs = search needs
 
--- src/lib.rt:146:5
 put-group-requires : tie.Need-put-group-requires
 put-group-requires c κs =
     let a = c .before .before .before .before .before .before .args in
     let l : a .n / 1000 < 10 ^ 3 = omega arith in
     omega (arith, decimal-few 2 (a .n / 1000) l)
 
--- src/lib.rt:141:1
 same-length : tie.Need-same-length
 same-length c = search needs
 
--- src/lib.rt:141:1
 returns : tie.Need-returns
 returns c =
     let a = c .before .before .before .before .before .before .before .before .before .args in

@@ -8,41 +8,30 @@ use Rattle.listing.proofs.LineLaws.{total-text, number-length}
 use borrow.Author.Needs.{needs}
 use Rattle.listing.proofs.put_total.Statement.{statement}
 use Rattle.listing.proofs.put_total.Tie as tie
-use Rattle.listing.proofs.put_total.Reads as reads
-use Rattle.listing.proofs.put_total.Lts as lts
-use Rattle.listing.proofs.put_named.Reads as put-named-reads
 
--- src/lib.rt:225:37
 slice-aggregate-put-named : tie.Need-slice-aggregate-put-named
 slice-aggregate-put-named c = search needs
 
--- src/lib.rt:225:9
 put-named-requires : tie.Need-put-named-requires
 put-named-requires c κs = search needs
 
--- src/lib.rt:226:40
 slice-aggregate-put-named-2 : tie.Need-slice-aggregate-put-named-2
 slice-aggregate-put-named-2 c = search needs
 
--- src/lib.rt:226:9
 put-named-requires-2 : tie.Need-put-named-requires-2
 put-named-requires-2 c κs = omega (arith, number-length (c .before .before .before .before .before .before .before .before .args .records) space)
 
--- src/lib.rt:227:27
 slice-aggregate-put-named-3 : tie.Need-slice-aggregate-put-named-3
 slice-aggregate-put-named-3 c = search needs
 
--- src/lib.rt:227:5
 put-named-requires-3 : tie.Need-put-named-requires-3
 put-named-requires-3 c κs =
     let a = c .before .before .before .before .before .before .before .before .before .before .before .before .before .args in
     omega (arith, number-length (a .records) space, number-length (a .alerts) space)
 
--- src/lib.rt:221:1
 same-length : tie.Need-same-length
 same-length c = search needs
 
--- src/lib.rt:221:1
 returns : tie.Need-returns
 unfolding ascii
 returns c =

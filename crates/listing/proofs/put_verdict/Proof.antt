@@ -12,33 +12,22 @@ use Rattle.listing.proofs.LineLaws.{verdict-text, number-length}
 use borrow.Author.Needs.{needs}
 use Rattle.listing.proofs.put_verdict.Statement.{statement}
 use Rattle.listing.proofs.put_verdict.Tie as tie
-use Rattle.listing.proofs.put_verdict.Reads as reads
-use Rattle.listing.proofs.put_verdict.Lts as lts
-use Rattle.listing.proofs.put_container.Reads as put-container-reads
-use Rattle.listing.proofs.put_eight.Reads as put-eight-reads
-use Rattle.listing.proofs.put_tag.Reads as put-tag-reads
 
--- src/lib.rt:307:5
 put-eight-requires : tie.Need-put-eight-requires
 put-eight-requires c κs = search needs
 
--- src/lib.rt:308:35
 add-put-container : tie.Need-add-put-container
 add-put-container c = search needs
 
--- src/lib.rt:308:9
 put-container-requires : tie.Need-put-container-requires
 put-container-requires c κs = search needs
 
--- src/lib.rt:309:5
 put-tag-requires : tie.Need-put-tag-requires
 put-tag-requires c κs = omega (arith, number-length (c .before .before .before .before .before .before .before .before .before .before .args .receiver) space)
 
--- src/lib.rt:303:1
 same-length : tie.Need-same-length
 same-length c = search needs
 
--- src/lib.rt:303:1
 returns : tie.Need-returns
 returns c =
     let a = c .before .before .before .before .before .before .before .before .before .before .before .before .before .args in

@@ -9,41 +9,28 @@ use Rattle.listing.proofs.LineLaws.{word-lengths}
 use borrow.Author.Needs.{needs}
 use Rattle.listing.proofs.put_word.Statement.{statement}
 use Rattle.listing.proofs.put_word.Tie as tie
-use Rattle.listing.proofs.put_word.Reads as reads
-use Rattle.listing.proofs.put_word.Lts as lts
-use Rattle.listing.proofs.put_eight.Reads as put-eight-reads
-use Rattle.listing.proofs.word.Reads as word-reads
-use Rattle.listing.proofs.word_length.Reads as word-length-reads
 
--- src/lib.rt:262:24
 word-requires : tie.Need-word-requires
 word-requires c κs = search needs
 
--- src/lib.rt:262:5
 put-eight-requires : tie.Need-put-eight-requires
 put-eight-requires c κs = search needs
 
--- src/lib.rt:263:21
 word-length-requires : tie.Need-word-length-requires
 word-length-requires c κs = search needs
 
--- src/lib.rt:263:16
 add-next : tie.Need-add-next
 add-next c = omega (arith, word-lengths (c .before .before .before .before .before .before .before .args .code))
 
--- src/lib.rt:264:5
 slice-write-out : tie.Need-slice-write-out
 slice-write-out c = omega (arith, word-lengths (c .before .before .before .before .before .before .before .args .code))
 
--- src/lib.rt:265:5
 add-result : tie.Need-add-result
 add-result c = omega (arith, word-lengths (c .before .before .before .before .before .before .before .args .code))
 
--- src/lib.rt:258:1
 same-length : tie.Need-same-length
 same-length c = search needs
 
--- src/lib.rt:258:1
 returns : tie.Need-returns
 returns c =
     let a = c .before .before .before .before .before .before .before .args in

@@ -2,34 +2,25 @@ use Rattle.listing.proofs.TextLaws.{three-digits}
 use borrow.Author.Needs.{needs}
 use Rattle.listing.proofs.three_digits.Statement.{statement}
 use Rattle.listing.proofs.three_digits.Tie as tie
-use Rattle.listing.proofs.three_digits.Reads as reads
-use Rattle.listing.proofs.three_digits.Lts as lts
 
--- src/lib.rt:104:5
 mul-result : tie.Need-mul-result
 mul-result c = search needs
 
--- src/lib.rt:104:5
 add-result : tie.Need-add-result
 add-result c = search needs
 
--- src/lib.rt:104:28
 mul-result-2 : tie.Need-mul-result-2
 mul-result-2 c = search needs
 
--- src/lib.rt:104:5
 sub-result : tie.Need-sub-result
 sub-result c = search needs
 
--- src/lib.rt:104:46
 mul-result-3 : tie.Need-mul-result-3
 mul-result-3 c = search needs
 
--- src/lib.rt:104:5
 sub-result-2 : tie.Need-sub-result-2
 sub-result-2 c = search needs
 
--- src/lib.rt:100:1
 returns : tie.Need-returns
 returns c = three-digits (c .args .n) (c .pre)
 

@@ -2,18 +2,13 @@ use native.Mathlib.Omega.{arith}
 use Rattle.listing.proofs.TextLaws.{length-one, length-two, length-three}
 use Rattle.listing.proofs.unused_digits.Statement.{statement}
 use Rattle.listing.proofs.unused_digits.Tie as tie
-use Rattle.listing.proofs.unused_digits.Reads as reads
-use Rattle.listing.proofs.unused_digits.Lts as lts
 
--- src/lib.rt:113:9
 returns : tie.Need-returns
 returns c = omega (arith, length-one (c .before .args .n) (c .if1 .taken))
 
--- src/lib.rt:116:9
 returns-2 : tie.Need-returns-2
 returns-2 c = omega (arith, length-two (c .before .before .args .n) (c .before .if1 .left) (c .if2 .taken))
 
--- src/lib.rt:108:1
 returns-3 : tie.Need-returns-3
 returns-3 c = omega (arith, length-three (c .before .before .args .n) (c .if2 .left) (c .before .before .pre))
 

@@ -5,45 +5,35 @@ use Rattle.listing.specs.Lines.{wordOf}
 use Rattle.listing.proofs.LineLaws.{other-word}
 use Rattle.listing.proofs.word_length.Statement.{statement}
 use Rattle.listing.proofs.word_length.Tie as tie
-use Rattle.listing.proofs.word_length.Reads as reads
-use Rattle.listing.proofs.word_length.Lts as lts
 
--- src/lib.rt:242:1
 returns : tie.Need-returns
 unfolding wordOf ascii
 returns c = rw (c .match .keys1)
 
--- src/lib.rt:242:1
 returns-2 : tie.Need-returns-2
 unfolding wordOf ascii
 returns-2 c = rw (c .match .keys2)
 
--- src/lib.rt:242:1
 returns-3 : tie.Need-returns-3
 unfolding wordOf ascii
 returns-3 c = rw (c .match .keys3)
 
--- src/lib.rt:242:1
 returns-4 : tie.Need-returns-4
 unfolding wordOf ascii
 returns-4 c = rw (c .match .keys4)
 
--- src/lib.rt:242:1
 returns-5 : tie.Need-returns-5
 unfolding wordOf ascii
 returns-5 c = rw (c .match .keys5)
 
--- src/lib.rt:242:1
 returns-6 : tie.Need-returns-6
 unfolding wordOf ascii
 returns-6 c = rw (c .match .keys6)
 
--- src/lib.rt:242:1
 returns-7 : tie.Need-returns-7
 unfolding wordOf ascii
 returns-7 c = rw (c .match .keys7)
 
--- src/lib.rt:242:1
 returns-8 : tie.Need-returns-8
 unfolding ascii
 returns-8 c =

@@ -3,9 +3,6 @@ use Prim.Native.Nat.{_-_}
 use Rattle.matrix.proofs.RowLaws.{Closing, closing-start, closing-next, closing-end}
 use Rattle.matrix.proofs.close.Statement.{statement}
 use Rattle.matrix.proofs.close.Tie as tie
-use Rattle.matrix.proofs.close.Reads as reads
-use Rattle.matrix.proofs.close.Lts as lts
-use Rattle.matrix.proofs.pass_through.Reads as pass-through-reads
 
 abbrev Inv-loop : tie.InvT-loop
 Inv-loop rows₀ n k₀ rows k = Closing n rows₀ rows k
@@ -13,31 +10,24 @@ Inv-loop rows₀ n k₀ rows k = Closing n rows₀ rows k
 abbrev μ-loop : tie.MeasureT-loop
 μ-loop rows₀ n k₀ rows k = n - k
 
--- src/lib.rt:88:5
 loop-holds : tie.Need-loop-holds Inv-loop μ-loop
 loop-holds c = closing-start _ _ (c .before .pre .1)
 
--- src/lib.rt:89:9
 pass-through-requires : tie.Need-pass-through-requires Inv-loop μ-loop
 pass-through-requires c κs = search needs
 
--- src/lib.rt:90:9
 add-k : tie.Need-add-k Inv-loop μ-loop
 add-k c = search needs
 
--- src/lib.rt:88:5
 loop-less : tie.Need-loop-less Inv-loop μ-loop
 loop-less c = search needs
 
--- src/lib.rt:88:5
 loop-again : tie.Need-loop-again Inv-loop μ-loop
 loop-again c = let l = c .before .before .before .before in closing-next _ (l .before .before .before .args .rows .now) _ _ _ (l .before .loop .inv) (l .loop-test .taken) (c .before .before .pass-through .ensures)
 
--- src/lib.rt:83:1
 same-length : tie.Need-same-length Inv-loop μ-loop
 same-length c = c .before .loop .inv .long
 
--- src/lib.rt:83:1
 returns : tie.Need-returns Inv-loop μ-loop
 returns c = closing-end _ _ _ _ (c .before .loop .inv) (c .loop-test .left)
 

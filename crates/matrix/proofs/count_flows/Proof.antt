@@ -5,9 +5,6 @@ use lib.Count.{ones-le}
 use Rattle.matrix.proofs.VerdictLaws.{Counting, counting-start, counting-next, counting-end}
 use Rattle.matrix.proofs.count_flows.Statement.{statement}
 use Rattle.matrix.proofs.count_flows.Tie as tie
-use Rattle.matrix.proofs.count_flows.Reads as reads
-use Rattle.matrix.proofs.count_flows.Lts as lts
-use Rattle.matrix.proofs.ungranted_row.Reads as ungranted-row-reads
 
 abbrev Inv-loop : tie.InvT-loop
 Inv-loop reads writes closure n count₀ a₀ count a = Counting reads writes n count a
@@ -15,31 +12,24 @@ Inv-loop reads writes closure n count₀ a₀ count a = Counting reads writes n 
 abbrev μ-loop : tie.MeasureT-loop
 μ-loop reads writes closure n count₀ a₀ count a = n - a
 
--- src/lib.rt:109:5
 loop-holds : tie.Need-loop-holds Inv-loop μ-loop
 loop-holds c = counting-start _ _ _ _ (c .before .before .before .pre)
 
--- src/lib.rt:110:34
 ungranted-row-requires : tie.Need-ungranted-row-requires Inv-loop μ-loop
 ungranted-row-requires c κs = search needs
 
--- src/lib.rt:110:9
 add-count : tie.Need-add-count Inv-loop μ-loop
 add-count c = omega (arith, ones-le 32 (c .ungranted-row .result) (c .ungranted-row .ok))
 
--- src/lib.rt:111:9
 add-a : tie.Need-add-a Inv-loop μ-loop
 add-a c = search needs
 
--- src/lib.rt:109:5
 loop-less : tie.Need-loop-less Inv-loop μ-loop
 loop-less c = search needs
 
--- src/lib.rt:109:5
 loop-again : tie.Need-loop-again Inv-loop μ-loop
 loop-again c = let p = c .before .before .before .before .before .before in counting-next _ _ _ _ _ _ _ (p .pre) (c .before .before .loop .inv) (c .before .loop-test .taken) (c .ungranted-row .ok) (c .ungranted-row .ensures)
 
--- src/lib.rt:103:1
 returns : tie.Need-returns Inv-loop μ-loop
 returns c = counting-end _ _ _ _ _ (c .before .loop .inv) (c .loop-test .left)
 

@@ -1,17 +1,12 @@
-use borrow.Author.Needs.{needs}
 use Rattle.matrix.specs.Flows.{counted}
 use borrow.Author.Tests.{le-leb, lt-leb}
 use Rattle.matrix.proofs.counted.Statement.{statement}
 use Rattle.matrix.proofs.counted.Tie as tie
-use Rattle.matrix.proofs.counted.Reads as reads
-use Rattle.matrix.proofs.counted.Lts as lts
 
--- src/lib.rt:159:1
 returns : tie.Need-returns
 unfolding counted
 returns c = rw (le-leb 1 (c .before .args .n) (c .if1 .taken))
 
--- src/lib.rt:159:1
 returns-2 : tie.Need-returns-2
 unfolding counted
 returns-2 c = rw (lt-leb 1 (c .before .args .n) (c .if1 .left))

@@ -1,55 +1,39 @@
-use native.Mathlib.Omega.{arith}
 use Rattle.matrix.proofs.DeriveLaws.{derive-short, derive-refused, derive-done}
 use Rattle.matrix.proofs.VerdictLaws.{passes, fails, good-parts}
 use borrow.Author.Needs.{needs}
 use Rattle.matrix.proofs.derive.Statement.{statement}
 use Rattle.matrix.proofs.derive.Tie as tie
-use Rattle.matrix.proofs.derive.Reads as reads
-use Rattle.matrix.proofs.derive.Lts as lts
-use Rattle.matrix.proofs.matrix_good.Reads as matrix-good-reads
-use Rattle.matrix.proofs.spell.Reads as spell-reads
 
--- src/lib.rt:422:9
 returns : tie.Need-returns
 returns c = derive-short _ _ _ _ (c .if1 .taken)
 
--- src/lib.rt:424:9
 matrix-good-requires : tie.Need-matrix-good-requires
 matrix-good-requires c κs = search needs
 
--- src/lib.rt:425:9
 returns-2 : tie.Need-returns-2
 returns-2 c = derive-refused _ _ _ _ (c .before .before .if1 .left) (fails (c .before .matrix-good .ensures) (c .if2 .taken))
 
--- src/lib.rt:428:54
 slice-aggregate-spell : tie.Need-slice-aggregate-spell
 slice-aggregate-spell c = search needs
 
--- src/lib.rt:428:9
 spell-requires : tie.Need-spell-requires
 spell-requires c κs = let g = good-parts _ _ _ (passes (c .before .before .matrix-good .ensures) (c .before .if2 .left)) in (g .even, g .subjects, g .few, search needs)
 
--- src/lib.rt:429:15
 sub-normalise : tie.Need-sub-normalise
 sub-normalise c = search needs
 
--- src/lib.rt:429:15
 part-normalise-start : tie.Need-part-normalise-start
 part-normalise-start c = search needs
 
--- src/lib.rt:429:15
 part-normalise-end : tie.Need-part-normalise-end
 part-normalise-end c = search needs
 
--- src/lib.rt:429:5
 normalise-requires : tie.Need-normalise-requires
 normalise-requires c κs = search needs
 
--- src/lib.rt:418:1
 same-length : tie.Need-same-length
 same-length c = search needs
 
--- src/lib.rt:418:1
 returns-3 : tie.Need-returns-3
 returns-3 c = derive-done _ _ _ (c .before .before .before .before .before .before .before .spell .last .1 .1 .1 .0) _ _ (c .before .before .before .before .before .before .before .spell .result) _ (c .before .before .before .before .before .before .before .before .before .before .before .if1 .left) (passes (c .before .before .before .before .before .before .before .before .before .before .matrix-good .ensures) (c .before .before .before .before .before .before .before .before .before .if2 .left)) (c .before .before .before .before .before .before .before .spell .ensures .0) (c .before .before .normalise .ensures)
 

@@ -3,9 +3,6 @@ use Prim.Native.Nat.{_-_}
 use Rattle.matrix.proofs.RowLaws.{Stored, GrantedAt, stored-start, stored-next, granted-end}
 use Rattle.matrix.proofs.fill_granted.Statement.{statement}
 use Rattle.matrix.proofs.fill_granted.Tie as tie
-use Rattle.matrix.proofs.fill_granted.Reads as reads
-use Rattle.matrix.proofs.fill_granted.Lts as lts
-use Rattle.matrix.proofs.granted_row.Reads as granted-row-reads
 
 abbrev Inv-loop : tie.InvT-loop
 Inv-loop reads writes rows₀ n a₀ rows a = Stored (GrantedAt reads writes) n rows₀ rows a
@@ -13,39 +10,30 @@ Inv-loop reads writes rows₀ n a₀ rows a = Stored (GrantedAt reads writes) n 
 abbrev μ-loop : tie.MeasureT-loop
 μ-loop reads writes rows₀ n a₀ rows a = n - a
 
--- src/lib.rt:50:5
 loop-holds : tie.Need-loop-holds Inv-loop μ-loop
 loop-holds c = let p = c .before .before .before in stored-start (GrantedAt (p .args .reads .now) (p .args .writes .now)) _ _ (p .pre .2)
 
--- src/lib.rt:51:13
 granted-row-requires : tie.Need-granted-row-requires Inv-loop μ-loop
 granted-row-requires c κs = search needs
 
--- src/lib.rt:52:9
 mul-rows : tie.Need-mul-rows Inv-loop μ-loop
 mul-rows c = search needs
 
--- src/lib.rt:52:9
 slice-write-rows : tie.Need-slice-write-rows Inv-loop μ-loop
 slice-write-rows c = search needs
 
--- src/lib.rt:53:9
 add-a : tie.Need-add-a Inv-loop μ-loop
 add-a c = search needs
 
--- src/lib.rt:50:5
 loop-less : tie.Need-loop-less Inv-loop μ-loop
 loop-less c = search needs
 
--- src/lib.rt:50:5
 loop-again : tie.Need-loop-again Inv-loop μ-loop
 loop-again c = let l = c .before .before .loop in let p = c .before .before .before .before .before .before in stored-next (GrantedAt (p .args .reads .now) (p .args .writes .now)) _ _ _ _ _ (l .inv) (c .before .loop-test .taken) (c .granted-row .ensures)
 
--- src/lib.rt:45:1
 same-length : tie.Need-same-length Inv-loop μ-loop
 same-length c = search needs
 
--- src/lib.rt:45:1
 returns : tie.Need-returns Inv-loop μ-loop
 returns c = granted-end _ _ _ _ _ _ (c .before .loop .inv) (c .loop-test .left)
 

@@ -1,12 +1,8 @@
 use borrow.Author.Needs.{needs}
 use Prim.Native.Nat.{_-_}
-use native.Mathlib.Omega.{arith}
 use Rattle.matrix.proofs.VerdictLaws.{Searching, SearchingRow, searching-start, row-start, row-next, searching-next, searching-end, searching-found}
 use Rattle.matrix.proofs.first_flow.Statement.{statement}
 use Rattle.matrix.proofs.first_flow.Tie as tie
-use Rattle.matrix.proofs.first_flow.Reads as reads
-use Rattle.matrix.proofs.first_flow.Lts as lts
-use Rattle.matrix.proofs.ungranted_row.Reads as ungranted-row-reads
 
 abbrev Inv-loop : tie.InvT-loop
 Inv-loop reads writes closure n count found₀ a row b₀ found b = SearchingRow reads writes n a b found
@@ -20,63 +16,48 @@ Inv-sources reads writes closure n count found₀ a₀ found a = Searching reads
 abbrev μ-sources : tie.MeasureT-sources
 μ-sources reads writes closure n count found₀ a₀ found a = n - a
 
--- src/lib.rt:123:5
 sources-holds : tie.Need-sources-holds Inv-loop μ-loop Inv-sources μ-sources
 sources-holds c = searching-start _ _ _
 
--- src/lib.rt:124:13
 ungranted-row-requires : tie.Need-ungranted-row-requires Inv-loop μ-loop Inv-sources μ-sources
 ungranted-row-requires c κs = search needs
 
--- src/lib.rt:126:9
 loop-holds : tie.Need-loop-holds Inv-loop μ-loop Inv-sources μ-sources
 loop-holds c = row-start _ _ _ _ _ (c .before .before .sources .inv) (c .before .sources-test .taken)
 
--- src/lib.rt:127:24
 cast-if1 : tie.Need-cast-if1 Inv-loop μ-loop Inv-sources μ-sources
 cast-if1 c = search needs
 
--- src/lib.rt:127:17
 shr-if1 : tie.Need-shr-if1 Inv-loop μ-loop Inv-sources μ-sources
 shr-if1 c = search needs
 
--- src/lib.rt:130:29
 cast-t15 : tie.Need-cast-t15 Inv-loop μ-loop Inv-sources μ-sources
 cast-t15 c = search needs
 
--- src/lib.rt:131:29
 cast-t16 : tie.Need-cast-t16 Inv-loop μ-loop Inv-sources μ-sources
 cast-t16 c = search needs
 
--- src/lib.rt:135:13
 add-b : tie.Need-add-b Inv-loop μ-loop Inv-sources μ-sources
 add-b c = search needs
 
--- src/lib.rt:126:9
 loop-less : tie.Need-loop-less Inv-loop μ-loop Inv-sources μ-sources
 loop-less c = search needs
 
--- src/lib.rt:126:9
 loop-again : tie.Need-loop-again Inv-loop μ-loop Inv-sources μ-sources
 loop-again c = row-next _ _ _ _ _ _ _ (c .before .before .loop .inv) (c .before .loop-test .taken) (c .before .before .before .ungranted-row .ensures) (c .if1 .left)
 
--- src/lib.rt:137:9
 add-a : tie.Need-add-a Inv-loop μ-loop Inv-sources μ-sources
 add-a c = search needs
 
--- src/lib.rt:123:5
 sources-less : tie.Need-sources-less Inv-loop μ-loop Inv-sources μ-sources
 sources-less c = search needs
 
--- src/lib.rt:123:5
 sources-again : tie.Need-sources-again Inv-loop μ-loop Inv-sources μ-sources
 sources-again c = searching-next _ _ _ _ _ _ (c .before .loop .inv) (c .loop-test .left)
 
--- src/lib.rt:117:1
 returns : tie.Need-returns Inv-loop μ-loop Inv-sources μ-sources
 returns c = searching-end _ _ _ _ _ _ (c .before .sources .inv) (c .sources-test .left)
 
--- src/lib.rt:117:1
 returns-2 : tie.Need-returns-2 Inv-loop μ-loop Inv-sources μ-sources
 returns-2 c = searching-found _ _ _ _ _ _ _ _ (c .before .before .loop .inv) (c .before .loop-test .taken) (c .before .before .before .ungranted-row .ensures) (c .if1 .taken)
 

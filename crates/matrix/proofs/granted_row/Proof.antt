@@ -4,8 +4,6 @@ use lib.ListN.{length}
 use Rattle.matrix.proofs.RowLaws.{Granting, granting-start, granting-take, granting-skip, granting-end}
 use Rattle.matrix.proofs.granted_row.Statement.{statement}
 use Rattle.matrix.proofs.granted_row.Tie as tie
-use Rattle.matrix.proofs.granted_row.Reads as reads
-use Rattle.matrix.proofs.granted_row.Lts as lts
 
 abbrev Inv-loop : tie.InvT-loop
 Inv-loop reads writes a row₀ s₀ row s = Granting reads writes a row s
@@ -13,63 +11,48 @@ Inv-loop reads writes a row₀ s₀ row s = Granting reads writes a row s
 abbrev μ-loop : tie.MeasureT-loop
 μ-loop reads writes a row₀ s₀ row s = length reads - s
 
--- src/lib.rt:31:27
 cast-row : tie.Need-cast-row Inv-loop μ-loop
 cast-row c = search needs
 
--- src/lib.rt:31:19
 shl-row : tie.Need-shl-row Inv-loop μ-loop
 shl-row c = search needs
 
--- src/lib.rt:33:5
 loop-holds : tie.Need-loop-holds Inv-loop μ-loop
 loop-holds c = granting-start _ _ _ (c .pre .0) (c .pre .1)
 
--- src/lib.rt:34:17
 mul-r : tie.Need-mul-r Inv-loop μ-loop
 mul-r c = search needs
 
--- src/lib.rt:34:17
 shared-slice-read-r : tie.Need-shared-slice-read-r Inv-loop μ-loop
 shared-slice-read-r c = search needs
 
--- src/lib.rt:35:17
 mul-w : tie.Need-mul-w Inv-loop μ-loop
 mul-w c = search needs
 
--- src/lib.rt:35:17
 shared-slice-read-w : tie.Need-shared-slice-read-w Inv-loop μ-loop
 shared-slice-read-w c = search needs
 
--- src/lib.rt:36:9
 add-s : tie.Need-add-s Inv-loop μ-loop
 add-s c = search needs
 
--- src/lib.rt:37:18
 cast-if1 : tie.Need-cast-if1 Inv-loop μ-loop
 cast-if1 c = search needs
 
--- src/lib.rt:37:13
 shr-if1 : tie.Need-shr-if1 Inv-loop μ-loop
 shr-if1 c = search needs
 
--- src/lib.rt:33:5
 loop-less : tie.Need-loop-less Inv-loop μ-loop
 loop-less c = search needs
 
--- src/lib.rt:33:5
 loop-again : tie.Need-loop-again Inv-loop μ-loop
 loop-again c = let b = c .before .before .before in granting-take _ _ _ _ _ (b .before .loop .inv) (b .loop-test .taken) (c .if1 .taken)
 
--- src/lib.rt:33:5
 loop-less-2 : tie.Need-loop-less-2 Inv-loop μ-loop
 loop-less-2 c = search needs
 
--- src/lib.rt:33:5
 loop-again-2 : tie.Need-loop-again-2 Inv-loop μ-loop
 loop-again-2 c = let b = c .before .before .before in granting-skip _ _ _ _ _ (b .before .loop .inv) (b .loop-test .taken) (c .if1 .left)
 
--- src/lib.rt:27:1
 returns : tie.Need-returns Inv-loop μ-loop
 returns c = granting-end _ _ _ _ _ (c .before .loop .inv) (c .loop-test .left)
 

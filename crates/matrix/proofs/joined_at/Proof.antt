@@ -1,26 +1,19 @@
-use mathlib.Core.Path.{_≡_}
 use Rattle.matrix.specs.Rows.{joinedAt}
 use Rattle.matrix.proofs.BitLaws.{has-is, has-not}
 use borrow.Author.Needs.{needs}
 use Rattle.matrix.proofs.joined_at.Statement.{statement}
 use Rattle.matrix.proofs.joined_at.Tie as tie
-use Rattle.matrix.proofs.joined_at.Reads as reads
-use Rattle.matrix.proofs.joined_at.Lts as lts
 
--- src/lib.rt:62:16
 cast-if1 : tie.Need-cast-if1
 cast-if1 c = search needs
 
--- src/lib.rt:62:9
 shr-if1 : tie.Need-shr-if1
 shr-if1 c = search needs
 
--- src/lib.rt:63:9
 returns : tie.Need-returns
 unfolding joinedAt
 returns c = simp (has-is _ _ (c .if1 .taken))
 
--- src/lib.rt:58:1
 returns-2 : tie.Need-returns-2
 unfolding joinedAt
 returns-2 c = simp (has-not _ _ (c .if1 .left))

@@ -4,48 +4,35 @@ use Rattle.matrix.proofs.VerdictLaws.{passes, fails, counted-most}
 use borrow.Author.Needs.{needs}
 use Rattle.matrix.proofs.matrix_good.Statement.{statement}
 use Rattle.matrix.proofs.matrix_good.Tie as tie
-use Rattle.matrix.proofs.matrix_good.Reads as reads
-use Rattle.matrix.proofs.matrix_good.Lts as lts
-use Rattle.matrix.proofs.counted.Reads as counted-reads
-use Rattle.matrix.proofs.rows_good.Reads as rows-good-reads
 
--- src/lib.rt:170:9
 returns : tie.Need-returns
 unfolding matrixGood
 returns c = simp (ne-eqb _ _ (c .if1 .taken))
 
--- src/lib.rt:172:9
 counted-requires : tie.Need-counted-requires
 counted-requires c κs = search needs
 
--- src/lib.rt:173:9
 returns-2 : tie.Need-returns-2
 unfolding matrixGood
 returns-2 c = simp (eq-eqb _ _ (c .before .before .if1 .left), fails (c .before .counted .ensures) (c .if2 .taken))
 
--- src/lib.rt:175:9
 counted-requires-2 : tie.Need-counted-requires-2
 counted-requires-2 c κs = search needs
 
--- src/lib.rt:176:9
 returns-3 : tie.Need-returns-3
 unfolding matrixGood
 returns-3 c = let d = c .before .before in simp (eq-eqb _ _ (d .before .before .if1 .left), passes (d .before .counted .ensures) (d .if2 .left), fails (c .before .counted2 .ensures) (c .if3 .taken))
 
--- src/lib.rt:178:9
 rows-good-requires : tie.Need-rows-good-requires
 rows-good-requires c κs = counted-most _ _ (passes (c .before .counted2 .ensures) (c .if3 .left))
 
--- src/lib.rt:179:9
 returns-4 : tie.Need-returns-4
 unfolding matrixGood
 returns-4 c = let e = c .before .before in let d = e .before .before in simp (eq-eqb _ _ (d .before .before .if1 .left), passes (d .before .counted .ensures) (d .if2 .left), passes (e .before .counted2 .ensures) (e .if3 .left), fails (c .before .rows-good .ensures) (c .if4 .taken))
 
--- src/lib.rt:181:5
 rows-good-requires-2 : tie.Need-rows-good-requires-2
 rows-good-requires-2 c κs = let e = c .before .before in counted-most _ _ (passes (e .before .counted2 .ensures) (e .if3 .left))
 
--- src/lib.rt:166:1
 returns-5 : tie.Need-returns-5
 unfolding matrixGood
 returns-5 c = let f = c .before in let e = f .before .before in let d = e .before .before in simp (eq-eqb _ _ (d .before .before .if1 .left), passes (d .before .counted .ensures) (d .if2 .left), passes (e .before .counted2 .ensures) (e .if3 .left), passes (f .before .rows-good .ensures) (f .if4 .left)) (c .rows-good2 .ensures)

@@ -5,9 +5,6 @@ use Rattle.matrix.proofs.DerivedLaws.{few-mixtures}
 use Rattle.matrix.proofs.PolicyBytes.{Totalling, totalling-start, totalling-next, totalling-end}
 use Rattle.matrix.proofs.mixture_count.Statement.{statement}
 use Rattle.matrix.proofs.mixture_count.Tie as tie
-use Rattle.matrix.proofs.mixture_count.Reads as reads
-use Rattle.matrix.proofs.mixture_count.Lts as lts
-use Rattle.matrix.proofs.permit_count.Reads as permit-count-reads
 
 abbrev Inv-loop : tie.InvT-loop
 Inv-loop reads writes n count₀ b₀ count b = Totalling reads writes n count b
@@ -15,31 +12,24 @@ Inv-loop reads writes n count₀ b₀ count b = Totalling reads writes n count b
 abbrev μ-loop : tie.MeasureT-loop
 μ-loop reads writes n count₀ b₀ count b = n - b
 
--- src/lib.rt:308:5
 loop-holds : tie.Need-loop-holds Inv-loop μ-loop
 loop-holds c = totalling-start _ _ _ (c .before .before .pre .2) (c .before .before .pre .1)
 
--- src/lib.rt:309:18
 permit-count-requires : tie.Need-permit-count-requires Inv-loop μ-loop
 permit-count-requires c κs = search needs
 
--- src/lib.rt:309:9
 add-count : tie.Need-add-count Inv-loop μ-loop
 add-count c = omega (arith, c .permit-count .ensures, few-mixtures (c .before .before .before .before .before .args .reads .now) (c .before .before .before .before .before .args .writes .now) (c .before .before .loop .b) (c .before .before .before .before .before .pre .1))
 
--- src/lib.rt:310:9
 add-b : tie.Need-add-b Inv-loop μ-loop
 add-b c = search needs
 
--- src/lib.rt:308:5
 loop-less : tie.Need-loop-less Inv-loop μ-loop
 loop-less c = search needs
 
--- src/lib.rt:308:5
 loop-again : tie.Need-loop-again Inv-loop μ-loop
 loop-again c = totalling-next _ _ _ _ _ _ (c .before .before .loop .inv) (c .before .loop-test .taken) (c .permit-count .ensures)
 
--- src/lib.rt:302:1
 returns : tie.Need-returns Inv-loop μ-loop
 returns c = totalling-end _ _ _ _ _ (c .before .loop .inv) (c .loop-test .left)
 

@@ -3,9 +3,6 @@ use Prim.Native.Nat.{_-_}
 use Rattle.matrix.proofs.RowLaws.{Stored, JoinedAt, stored-start, joined-next, joined-end}
 use Rattle.matrix.proofs.pass_through.Statement.{statement}
 use Rattle.matrix.proofs.pass_through.Tie as tie
-use Rattle.matrix.proofs.pass_through.Reads as reads
-use Rattle.matrix.proofs.pass_through.Lts as lts
-use Rattle.matrix.proofs.joined_at.Reads as joined-at-reads
 
 abbrev Inv-loop : tie.InvT-loop
 Inv-loop rows₀ n k other a₀ rows a = Stored (JoinedAt rows₀ k) n rows₀ rows a
@@ -13,55 +10,42 @@ Inv-loop rows₀ n k other a₀ rows a = Stored (JoinedAt rows₀ k) n rows₀ r
 abbrev μ-loop : tie.MeasureT-loop
 μ-loop rows₀ n k other a₀ rows a = n - a
 
--- src/lib.rt:73:17
 mul-other : tie.Need-mul-other Inv-loop μ-loop
 mul-other c = search needs
 
--- src/lib.rt:73:17
 slice-read-other : tie.Need-slice-read-other Inv-loop μ-loop
 slice-read-other c = search needs
 
--- src/lib.rt:75:5
 loop-holds : tie.Need-loop-holds Inv-loop μ-loop
 loop-holds c = let p = c .before .before in stored-start (JoinedAt (p .args .rows .now) (p .args .k)) _ _ (p .pre .1)
 
--- src/lib.rt:76:39
 mul-joined-at : tie.Need-mul-joined-at Inv-loop μ-loop
 mul-joined-at c = search needs
 
--- src/lib.rt:76:39
 slice-read-joined-at : tie.Need-slice-read-joined-at Inv-loop μ-loop
 slice-read-joined-at c = search needs
 
--- src/lib.rt:76:13
 joined-at-requires : tie.Need-joined-at-requires Inv-loop μ-loop
 joined-at-requires c κs = search needs
 
--- src/lib.rt:77:9
 mul-rows : tie.Need-mul-rows Inv-loop μ-loop
 mul-rows c = search needs
 
--- src/lib.rt:77:9
 slice-write-rows : tie.Need-slice-write-rows Inv-loop μ-loop
 slice-write-rows c = search needs
 
--- src/lib.rt:78:9
 add-a : tie.Need-add-a Inv-loop μ-loop
 add-a c = search needs
 
--- src/lib.rt:75:5
 loop-less : tie.Need-loop-less Inv-loop μ-loop
 loop-less c = search needs
 
--- src/lib.rt:75:5
 loop-again : tie.Need-loop-again Inv-loop μ-loop
 loop-again c = let b = c .before .before in let l = b .before .loop in joined-next _ (b .before .before .before .before .args .rows .now) _ _ _ _ (l .inv) (b .loop-test .taken) (c .«joined-at» .ensures)
 
--- src/lib.rt:69:1
 same-length : tie.Need-same-length Inv-loop μ-loop
 same-length c = search needs
 
--- src/lib.rt:69:1
 returns : tie.Need-returns Inv-loop μ-loop
 returns c = joined-end _ _ _ _ _ (c .before .loop .inv) (c .loop-test .left)
 

@@ -1,12 +1,9 @@
 use borrow.Author.Needs.{needs}
-use native.Mathlib.Omega.{arith}
 use Prim.Native.Nat.{_-_}
 use lib.ListN.{length}
 use Rattle.matrix.proofs.PolicyBytes.{Writers, writers-0, writers-more, writers-same, writers-none, writers-some}
 use Rattle.matrix.proofs.permit_count.Statement.{statement}
 use Rattle.matrix.proofs.permit_count.Tie as tie
-use Rattle.matrix.proofs.permit_count.Reads as reads
-use Rattle.matrix.proofs.permit_count.Lts as lts
 
 abbrev Inv-loop : tie.InvT-loop
 Inv-loop reads writes b count₀ s₀ count s = Writers reads writes b count s
@@ -14,55 +11,42 @@ Inv-loop reads writes b count₀ s₀ count s = Writers reads writes b count s
 abbrev μ-loop : tie.MeasureT-loop
 μ-loop reads writes b count₀ s₀ count s = length reads - s
 
--- src/lib.rt:288:5
 loop-holds : tie.Need-loop-holds Inv-loop μ-loop
 loop-holds c = writers-0 _ _ _ (c .pre .0)
 
--- src/lib.rt:289:17
 mul-w : tie.Need-mul-w Inv-loop μ-loop
 mul-w c = search needs
 
--- src/lib.rt:289:17
 shared-slice-read-w : tie.Need-shared-slice-read-w Inv-loop μ-loop
 shared-slice-read-w c = search needs
 
--- src/lib.rt:290:9
 add-s : tie.Need-add-s Inv-loop μ-loop
 add-s c = search needs
 
--- src/lib.rt:291:18
 cast-if1 : tie.Need-cast-if1 Inv-loop μ-loop
 cast-if1 c = search needs
 
--- src/lib.rt:291:13
 shr-if1 : tie.Need-shr-if1 Inv-loop μ-loop
 shr-if1 c = search needs
 
--- src/lib.rt:292:13
 add-count : tie.Need-add-count Inv-loop μ-loop
 add-count c = search needs
 
--- src/lib.rt:288:5
 loop-less : tie.Need-loop-less Inv-loop μ-loop
 loop-less c = search needs
 
--- src/lib.rt:288:5
 loop-again : tie.Need-loop-again Inv-loop μ-loop
 loop-again c = writers-more _ _ _ _ _ (c .before .before .before .loop .inv) (c .before .before .loop-test .taken) (c .if1 .taken)
 
--- src/lib.rt:288:5
 loop-less-2 : tie.Need-loop-less-2 Inv-loop μ-loop
 loop-less-2 c = search needs
 
--- src/lib.rt:288:5
 loop-again-2 : tie.Need-loop-again-2 Inv-loop μ-loop
 loop-again-2 c = writers-same _ _ _ _ _ (c .before .before .before .loop .inv) (c .before .before .loop-test .taken) (c .if1 .left)
 
--- src/lib.rt:296:9
 returns : tie.Need-returns Inv-loop μ-loop
 returns c = writers-none _ _ _ _ _ (c .before .before .loop .inv) (c .before .loop-test .left) (c .if2 .taken)
 
--- src/lib.rt:282:1
 returns-2 : tie.Need-returns-2 Inv-loop μ-loop
 returns-2 c = writers-some _ _ _ _ _ (c .before .before .loop .inv) (c .before .loop-test .left) (c .if2 .left)
 

@@ -1,11 +1,8 @@
 use borrow.Author.Needs.{needs}
 use Prim.Native.Nat.{_-_}
-use native.Mathlib.Omega.{arith}
 use Rattle.matrix.proofs.SpellingLaws.{Putting, putting-start, putting-next, putting-end}
 use Rattle.matrix.proofs.put.Statement.{statement}
 use Rattle.matrix.proofs.put.Tie as tie
-use Rattle.matrix.proofs.put.Reads as reads
-use Rattle.matrix.proofs.put.Lts as lts
 
 abbrev Inv-loop : tie.InvT-loop
 Inv-loop out₀ at width value rest₀ i₀ out rest i = Putting out₀ at width value out rest i
@@ -13,43 +10,33 @@ Inv-loop out₀ at width value rest₀ i₀ out rest i = Putting out₀ at width
 abbrev μ-loop : tie.MeasureT-loop
 μ-loop out₀ at width value rest₀ i₀ out rest i = width - i
 
--- src/lib.rt:211:5
 loop-holds : tie.Need-loop-holds Inv-loop μ-loop
 loop-holds c = putting-start _ _ _ _ (c .pre)
 
--- src/lib.rt:212:23
 cast-out : tie.Need-cast-out Inv-loop μ-loop
 cast-out c = search needs
 
--- src/lib.rt:212:13
 add-out : tie.Need-add-out Inv-loop μ-loop
 add-out c = search needs
 
--- src/lib.rt:212:9
 slice-write-out : tie.Need-slice-write-out Inv-loop μ-loop
 slice-write-out c = search needs
 
--- src/lib.rt:214:9
 add-i : tie.Need-add-i Inv-loop μ-loop
 add-i c = search needs
 
--- src/lib.rt:211:5
 loop-less : tie.Need-loop-less Inv-loop μ-loop
 loop-less c = search needs
 
--- src/lib.rt:211:5
 loop-again : tie.Need-loop-again Inv-loop μ-loop
 loop-again c = putting-next _ _ _ _ _ _ _ (c .before .loop .inv) (c .loop-test .taken)
 
--- src/lib.rt:216:5
 add-result : tie.Need-add-result Inv-loop μ-loop
 add-result c = search needs
 
--- src/lib.rt:205:1
 same-length : tie.Need-same-length Inv-loop μ-loop
 same-length c = c .before .loop .inv .long
 
--- src/lib.rt:205:1
 returns : tie.Need-returns Inv-loop μ-loop
 returns c = putting-end _ _ _ _ _ _ _ (c .before .loop .inv) (c .loop-test .left)
 

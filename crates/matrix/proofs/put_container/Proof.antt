@@ -4,31 +4,22 @@ use Rattle.matrix.proofs.PolicyBytes.{container-wrote}
 use borrow.Author.Needs.{needs}
 use Rattle.matrix.proofs.put_container.Statement.{statement}
 use Rattle.matrix.proofs.put_container.Tie as tie
-use Rattle.matrix.proofs.put_container.Reads as reads
-use Rattle.matrix.proofs.put_container.Lts as lts
-use Rattle.matrix.proofs.put.Reads as put-reads
 
--- src/lib.rt:233:9
 put-requires : tie.Need-put-requires
 put-requires c κs = search needs
 
--- src/lib.rt:234:9
 put-requires-2 : tie.Need-put-requires-2
 put-requires-2 c κs = omega (arith, wrote-bytes 1 _ _ _ _ _ (c .before .before .before .put .ensures), wrote-length _ _ _ _ _ (c .before .before .before .put .ensures))
 
--- src/lib.rt:235:9
 put-requires-3 : tie.Need-put-requires-3
 put-requires-3 c κs = omega (arith, wrote-bytes 1 _ _ _ _ _ (c .before .before .before .before .before .before .before .put .ensures), wrote-length _ _ _ _ _ (c .before .before .before .before .before .before .before .put .ensures), wrote-bytes 1 _ _ _ _ _ (c .before .before .before .put2 .ensures), wrote-length _ _ _ _ _ (c .before .before .before .put2 .ensures))
 
--- src/lib.rt:236:5
 put-requires-4 : tie.Need-put-requires-4
 put-requires-4 c κs = omega (arith, wrote-bytes 1 _ _ _ _ _ (c .before .before .before .before .before .before .before .before .before .before .before .put .ensures), wrote-length _ _ _ _ _ (c .before .before .before .before .before .before .before .before .before .before .before .put .ensures), wrote-bytes 1 _ _ _ _ _ (c .before .before .before .before .before .before .before .put2 .ensures), wrote-length _ _ _ _ _ (c .before .before .before .before .before .before .before .put2 .ensures), wrote-bytes 2 _ _ _ _ _ (c .before .before .before .put3 .ensures), wrote-length _ _ _ _ _ (c .before .before .before .put3 .ensures))
 
--- src/lib.rt:229:1
 same-length : tie.Need-same-length
 same-length c = search needs
 
--- src/lib.rt:229:1
 returns : tie.Need-returns
 returns c = container-wrote _ _ _ _ _ _ _ _ _ _ _ _ _ _ (c .before .before .before .before .before .before .before .before .before .before .before .before .before .before .put .ensures) (c .before .before .before .before .before .before .before .before .before .before .put2 .ensures) (c .before .before .before .before .before .before .put3 .ensures) (c .before .before .put4 .ensures)
 

@@ -1,52 +1,37 @@
 use native.Mathlib.Omega.{arith}
-use mathlib.Core.Path.{_≡_}
 use Rattle.matrix.proofs.SpellingLaws.{wrote-length, wrote-bytes}
 use Rattle.matrix.proofs.PolicyBytes.{header-wrote, wrote-pair}
 use borrow.Author.Needs.{needs}
 use Rattle.matrix.proofs.put_header.Statement.{statement}
 use Rattle.matrix.proofs.put_header.Tie as tie
-use Rattle.matrix.proofs.put_header.Reads as reads
-use Rattle.matrix.proofs.put_header.Lts as lts
-use Rattle.matrix.proofs.put.Reads as put-reads
-use Rattle.matrix.proofs.put_pair.Reads as put-pair-reads
 
--- src/lib.rt:244:9
 put-requires : tie.Need-put-requires
 put-requires c κs = search needs
 
--- src/lib.rt:245:9
 put-pair-requires : tie.Need-put-pair-requires
 put-pair-requires c κs = omega (arith, wrote-bytes 2 _ _ _ _ _ (c .before .before .before .put .ensures), wrote-length _ _ _ _ _ (c .before .before .before .put .ensures))
 
--- src/lib.rt:246:23
 add-user-offset : tie.Need-add-user-offset
 add-user-offset c = search needs
 
--- src/lib.rt:247:9
 put-pair-requires-2 : tie.Need-put-pair-requires-2
 put-pair-requires-2 c κs = omega (arith, wrote-bytes 2 _ _ _ _ _ (c .before .before .before .before .before .before .before .put .ensures), wrote-length _ _ _ _ _ (c .before .before .before .before .before .before .before .put .ensures), wrote-pair _ _ _ _ _ _ (c .before .before .before .put-pair .ensures), wrote-length _ _ _ _ _ (c .before .before .before .put-pair .ensures))
 
--- src/lib.rt:248:23
 add-rule-offset : tie.Need-add-rule-offset
 add-rule-offset c = search needs
 
--- src/lib.rt:249:9
 put-pair-requires-3 : tie.Need-put-pair-requires-3
 put-pair-requires-3 c κs = omega (arith, wrote-bytes 2 _ _ _ _ _ (c .before .before .before .before .before .before .before .before .before .before .before .put .ensures), wrote-length _ _ _ _ _ (c .before .before .before .before .before .before .before .before .before .before .before .put .ensures), wrote-pair _ _ _ _ _ _ (c .before .before .before .before .before .before .before .put-pair .ensures), wrote-length _ _ _ _ _ (c .before .before .before .before .before .before .before .put-pair .ensures), wrote-pair _ _ _ _ _ _ (c .before .before .before .put-pair2 .ensures), wrote-length _ _ _ _ _ (c .before .before .before .put-pair2 .ensures))
 
--- src/lib.rt:250:22
 add-put-pair : tie.Need-add-put-pair
 add-put-pair c = search needs
 
--- src/lib.rt:250:5
 put-pair-requires-4 : tie.Need-put-pair-requires-4
 put-pair-requires-4 c κs = omega (arith, wrote-bytes 2 _ _ _ _ _ (c .before .before .before .before .before .before .before .before .before .before .before .before .before .before .before .put .ensures), wrote-length _ _ _ _ _ (c .before .before .before .before .before .before .before .before .before .before .before .before .before .before .before .put .ensures), wrote-pair _ _ _ _ _ _ (c .before .before .before .before .before .before .before .before .before .before .before .put-pair .ensures), wrote-length _ _ _ _ _ (c .before .before .before .before .before .before .before .before .before .before .before .put-pair .ensures), wrote-pair _ _ _ _ _ _ (c .before .before .before .before .before .before .before .put-pair2 .ensures), wrote-length _ _ _ _ _ (c .before .before .before .before .before .before .before .put-pair2 .ensures), wrote-pair _ _ _ _ _ _ (c .before .before .before .put-pair3 .ensures), wrote-length _ _ _ _ _ (c .before .before .before .put-pair3 .ensures))
 
--- src/lib.rt:240:1
 same-length : tie.Need-same-length
 same-length c = search needs
 
--- src/lib.rt:240:1
 returns : tie.Need-returns
 returns c = header-wrote _ _ _ _ _ _ _ _ _ _ _ _ _ _ _ (c .before .before .before .before .before .before .before .before .before .before .before .before .before .before .before .before .before .before .put .ensures) (c .before .before .before .before .before .before .before .before .before .before .before .before .before .before .put-pair .ensures) (c .before .before .before .before .before .before .before .before .before .before .put-pair2 .ensures) (c .before .before .before .before .before .before .put-pair3 .ensures) (c .before .before .put-pair4 .ensures)
 

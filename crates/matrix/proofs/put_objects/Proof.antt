@@ -1,16 +1,11 @@
 use borrow.Author.Needs.{needs}
-use native.Mathlib.Omega.{arith}
-use Prim.Native.Nat.{_-_, _≤_}
-use lib.ListN.{length}
+use Prim.Native.Nat.{_-_}
 use native.Mathlib.Nat.{le-of-eq}
 use Rattle.matrix.specs.Derived.{objectFile}
 use Rattle.matrix.proofs.SpellingLaws.{Laying, laying-start, laying-room, laying-next, laying-end}
 use Rattle.matrix.proofs.PolicyBytes.{objectBytes, laid-objects, container-length}
 use Rattle.matrix.proofs.put_objects.Statement.{statement}
 use Rattle.matrix.proofs.put_objects.Tie as tie
-use Rattle.matrix.proofs.put_objects.Reads as reads
-use Rattle.matrix.proofs.put_objects.Lts as lts
-use Rattle.matrix.proofs.put_container.Reads as put-container-reads
 
 abbrev Inv-loop : tie.InvT-loop
 Inv-loop out₀ start n at₀ b₀ out at b = Laying objectBytes 6 out₀ start n out b at
@@ -18,32 +13,25 @@ Inv-loop out₀ start n at₀ b₀ out at b = Laying objectBytes 6 out₀ start 
 abbrev μ-loop : tie.MeasureT-loop
 μ-loop out₀ start n at₀ b₀ out at b = n - b
 
--- src/lib.rt:260:5
 loop-holds : tie.Need-loop-holds Inv-loop μ-loop
 loop-holds c = laying-start objectBytes 6 _ _ _ (c .before .pre .1)
 
--- src/lib.rt:261:9
 put-container-requires : tie.Need-put-container-requires Inv-loop μ-loop
 put-container-requires c κs = laying-room objectBytes 6 _ _ _ _ _ _ (c .before .before .loop .inv) (c .before .loop-test .taken)
 
--- src/lib.rt:262:9
 add-b : tie.Need-add-b Inv-loop μ-loop
 add-b c = search needs
 
--- src/lib.rt:260:5
 loop-less : tie.Need-loop-less Inv-loop μ-loop
 loop-less c = search needs
 
--- src/lib.rt:260:5
 loop-again : tie.Need-loop-again Inv-loop μ-loop
 unfolding objectFile
 loop-again c = laying-next objectBytes 6 _ _ _ _ _ _ _ _ (c .before .before .before .before .before .loop .inv) (c .before .before .before .before .loop-test .taken) (le-of-eq (container-length _)) (c .before .before .put-container .ensures)
 
--- src/lib.rt:254:1
 same-length : tie.Need-same-length Inv-loop μ-loop
 same-length c = c .before .loop .inv .long
 
--- src/lib.rt:254:1
 returns : tie.Need-returns Inv-loop μ-loop
 returns c = laying-end objectBytes 6 _ _ _ _ _ _ _ (c .before .loop .inv) (c .loop-test .left) (laid-objects _)
 

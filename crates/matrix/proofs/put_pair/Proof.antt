@@ -3,23 +3,16 @@ use Rattle.matrix.proofs.SpellingLaws.{wrote-join, wrote-length, wrote-
 use borrow.Author.Needs.{needs}
 use Rattle.matrix.proofs.put_pair.Statement.{statement}
 use Rattle.matrix.proofs.put_pair.Tie as tie
-use Rattle.matrix.proofs.put_pair.Reads as reads
-use Rattle.matrix.proofs.put_pair.Lts as lts
-use Rattle.matrix.proofs.put.Reads as put-reads
 
--- src/lib.rt:224:9
 put-requires : tie.Need-put-requires
 put-requires c κs = search needs
 
--- src/lib.rt:225:5
 put-requires-2 : tie.Need-put-requires-2
 put-requires-2 c κs = omega (arith, wrote-bytes 2 _ _ _ _ _ (c .before .before .before .put .ensures), wrote-length _ _ _ _ _ (c .before .before .before .put .ensures))
 
--- src/lib.rt:220:1
 same-length : tie.Need-same-length
 same-length c = search needs
 
--- src/lib.rt:220:1
 returns : tie.Need-returns
 returns c = wrote-join _ _ _ _ _ _ _ _ (c .before .before .before .before .before .before .put .ensures) (c .before .before .put2 .ensures)
 

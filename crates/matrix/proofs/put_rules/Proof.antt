@@ -7,10 +7,6 @@ use Rattle.matrix.proofs.SpellingLaws.{Laying, laying-start, laying-roo
 use Rattle.matrix.proofs.PolicyBytes.{ruleBytes, laid-rules, pair-length, Totalling, totalling-start, totalling-next, rule-wrote}
 use Rattle.matrix.proofs.put_rules.Statement.{statement}
 use Rattle.matrix.proofs.put_rules.Tie as tie
-use Rattle.matrix.proofs.put_rules.Reads as reads
-use Rattle.matrix.proofs.put_rules.Lts as lts
-use Rattle.matrix.proofs.permit_count.Reads as permit-count-reads
-use Rattle.matrix.proofs.put_pair.Reads as put-pair-reads
 
 abbrev Inv-loop : tie.InvT-loop
 Inv-loop reads writes out₀ start n at₀ first₀ b₀ out at first b = Laying (ruleBytes reads writes) 4 out₀ start n out b at × Totalling reads writes n first b
@@ -18,39 +14,30 @@ Inv-loop reads writes out₀ start n at₀ first₀ b₀ out at first b = Laying
 abbrev μ-loop : tie.MeasureT-loop
 μ-loop reads writes out₀ start n at₀ first₀ b₀ out at first b = n - b
 
--- src/lib.rt:323:5
 loop-holds : tie.Need-loop-holds Inv-loop μ-loop
 loop-holds c = (laying-start (ruleBytes (c .before .before .before .args .reads .now) (c .before .before .before .args .writes .now)) 4 _ _ _ (c .before .before .before .pre .3), totalling-start _ _ _ (c .before .before .before .pre .2) (c .before .before .before .pre .1))
 
--- src/lib.rt:324:13
 permit-count-requires : tie.Need-permit-count-requires Inv-loop μ-loop
 permit-count-requires c κs = search needs
 
--- src/lib.rt:325:9
 put-pair-requires : tie.Need-put-pair-requires Inv-loop μ-loop
 put-pair-requires c κs = laying-room (ruleBytes (c .before .before .before .before .before .before .before .args .reads .now) (c .before .before .before .before .before .before .before .args .writes .now)) 4 _ _ _ _ _ _ (c .before .before .before .loop .inv .0) (c .before .before .loop-test .taken)
 
--- src/lib.rt:326:9
 add-first : tie.Need-add-first Inv-loop μ-loop
 add-first c = omega (arith, c .before .before .before .before .before .before .loop .inv .1, c .before .before .before .before .permit-count .ensures, few-mixtures (c .before .before .before .before .before .before .before .before .before .before .args .reads .now) (c .before .before .before .before .before .before .before .before .before .before .args .writes .now) (c .before .before .before .before .before .before .loop .b) (c .before .before .before .before .before .before .before .before .before .before .pre .1))
 
--- src/lib.rt:327:9
 add-b : tie.Need-add-b Inv-loop μ-loop
 add-b c = search needs
 
--- src/lib.rt:323:5
 loop-less : tie.Need-loop-less Inv-loop μ-loop
 loop-less c = search needs
 
--- src/lib.rt:323:5
 loop-again : tie.Need-loop-again Inv-loop μ-loop
 loop-again c = (laying-next (ruleBytes (c .before .before .before .before .before .before .before .before .before .before .args .reads .now) (c .before .before .before .before .before .before .before .before .before .before .args .writes .now)) 4 _ _ _ _ _ _ _ _ (c .before .before .before .before .before .before .loop .inv .0) (c .before .before .before .before .before .loop-test .taken) (le-of-eq (pair-length _ _)) (rule-wrote _ _ _ _ _ _ _ _ _ _ (c .before .before .before .before .before .before .loop .inv .1) (c .before .before .before .before .permit-count .ensures) (c .before .before .put-pair .ensures)), totalling-next _ _ _ _ _ _ (c .before .before .before .before .before .before .loop .inv .1) (c .before .before .before .before .before .loop-test .taken) (c .before .before .before .before .permit-count .ensures))
 
--- src/lib.rt:316:1
 same-length : tie.Need-same-length Inv-loop μ-loop
 same-length c = c .before .loop .inv .0 .long
 
--- src/lib.rt:316:1
 returns : tie.Need-returns Inv-loop μ-loop
 returns c = laying-end (ruleBytes (c .before .before .before .before .before .args .reads .now) (c .before .before .before .before .before .args .writes .now)) 4 _ _ _ _ _ _ _ (c .before .loop .inv .0) (c .loop-test .left) (laid-rules _ _ _)
 

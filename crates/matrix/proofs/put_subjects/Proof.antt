@@ -1,16 +1,11 @@
 use borrow.Author.Needs.{needs}
-use native.Mathlib.Omega.{arith}
-use Prim.Native.Nat.{_-_, _≤_}
-use lib.ListN.{length}
+use Prim.Native.Nat.{_-_}
 use native.Mathlib.Nat.{le-of-eq}
 use Rattle.matrix.specs.Derived.{subjectProcess}
 use Rattle.matrix.proofs.SpellingLaws.{Laying, laying-start, laying-room, laying-next, laying-end}
 use Rattle.matrix.proofs.PolicyBytes.{subjectBytes, laid-subjects, container-length}
 use Rattle.matrix.proofs.put_subjects.Statement.{statement}
 use Rattle.matrix.proofs.put_subjects.Tie as tie
-use Rattle.matrix.proofs.put_subjects.Reads as reads
-use Rattle.matrix.proofs.put_subjects.Lts as lts
-use Rattle.matrix.proofs.put_container.Reads as put-container-reads
 
 abbrev Inv-loop : tie.InvT-loop
 Inv-loop out₀ start n at₀ s₀ out at s = Laying subjectBytes 6 out₀ start n out s at
@@ -18,32 +13,25 @@ Inv-loop out₀ start n at₀ s₀ out at s = Laying subjectBytes 6 out₀ start
 abbrev μ-loop : tie.MeasureT-loop
 μ-loop out₀ start n at₀ s₀ out at s = n - s
 
--- src/lib.rt:274:5
 loop-holds : tie.Need-loop-holds Inv-loop μ-loop
 loop-holds c = laying-start subjectBytes 6 _ _ _ (c .before .pre .1)
 
--- src/lib.rt:275:9
 put-container-requires : tie.Need-put-container-requires Inv-loop μ-loop
 put-container-requires c κs = laying-room subjectBytes 6 _ _ _ _ _ _ (c .before .before .loop .inv) (c .before .loop-test .taken)
 
--- src/lib.rt:276:9
 add-s : tie.Need-add-s Inv-loop μ-loop
 add-s c = search needs
 
--- src/lib.rt:274:5
 loop-less : tie.Need-loop-less Inv-loop μ-loop
 loop-less c = search needs
 
--- src/lib.rt:274:5
 loop-again : tie.Need-loop-again Inv-loop μ-loop
 unfolding subjectProcess
 loop-again c = laying-next subjectBytes 6 _ _ _ _ _ _ _ _ (c .before .before .before .before .before .loop .inv) (c .before .before .before .before .loop-test .taken) (le-of-eq (container-length _)) (c .before .before .put-container .ensures)
 
--- src/lib.rt:268:1
 same-length : tie.Need-same-length Inv-loop μ-loop
 same-length c = c .before .loop .inv .long
 
--- src/lib.rt:268:1
 returns : tie.Need-returns Inv-loop μ-loop
 returns c = laying-end subjectBytes 6 _ _ _ _ _ _ _ (c .before .loop .inv) (c .loop-test .left) (laid-subjects _)
 

@@ -5,8 +5,6 @@ use native.Mathlib.Omega.{arith}
 use Rattle.matrix.proofs.RowLaws.{Checking, checking-start, checking-next, checking-bad, checking-end}
 use Rattle.matrix.proofs.rows_good.Statement.{statement}
 use Rattle.matrix.proofs.rows_good.Tie as tie
-use Rattle.matrix.proofs.rows_good.Reads as reads
-use Rattle.matrix.proofs.rows_good.Lts as lts
 
 abbrev Inv-loop : tie.InvT-loop
 Inv-loop objects rows bound s₀ s = Checking objects rows s
@@ -14,43 +12,33 @@ Inv-loop objects rows bound s₀ s = Checking objects rows s
 abbrev μ-loop : tie.MeasureT-loop
 μ-loop objects rows bound s₀ s = length rows - s
 
--- src/lib.rt:147:17
 shl-bound : tie.Need-shl-bound Inv-loop μ-loop
 shl-bound c = search needs
 
--- src/lib.rt:149:5
 loop-holds : tie.Need-loop-holds Inv-loop μ-loop
 loop-holds c = checking-start _ _
 
--- src/lib.rt:150:21
 mul-if1 : tie.Need-mul-if1 Inv-loop μ-loop
 mul-if1 c = search needs
 
--- src/lib.rt:150:21
 shared-slice-read-if1 : tie.Need-shared-slice-read-if1 Inv-loop μ-loop
 shared-slice-read-if1 c = search needs
 
--- src/lib.rt:150:21
 cast-if1 : tie.Need-cast-if1 Inv-loop μ-loop
 cast-if1 c = omega (arith, c .shared-slice-known .given (c .before .before .loop .s))
 
--- src/lib.rt:151:13
 returns : tie.Need-returns Inv-loop μ-loop
 returns c = let b = c .before .before in checking-bad _ _ _ (b .before .before .pre) (b .before .loop .inv) (b .loop-test .taken) (c .if1 .taken)
 
--- src/lib.rt:153:9
 add-s : tie.Need-add-s Inv-loop μ-loop
 add-s c = search needs
 
--- src/lib.rt:149:5
 loop-less : tie.Need-loop-less Inv-loop μ-loop
 loop-less c = search needs
 
--- src/lib.rt:149:5
 loop-again : tie.Need-loop-again Inv-loop μ-loop
 loop-again c = let b = c .before .before in checking-next _ _ _ (b .before .before .pre) (b .before .loop .inv) (b .loop-test .taken) (c .if1 .left)
 
--- src/lib.rt:143:1
 returns-2 : tie.Need-returns-2 Inv-loop μ-loop
 returns-2 c = checking-end _ _ _ (c .before .loop .inv) (c .loop-test .left)
 

@@ -4,65 +4,43 @@ use Rattle.matrix.proofs.PlainImage.{total-few, header-end, objects-end
 use borrow.Author.Needs.{needs}
 use Rattle.matrix.proofs.spell.Statement.{statement}
 use Rattle.matrix.proofs.spell.Tie as tie
-use Rattle.matrix.proofs.spell.Reads as reads
-use Rattle.matrix.proofs.spell.Lts as lts
-use Rattle.matrix.proofs.mixture_count.Reads as mixture-count-reads
-use Rattle.matrix.proofs.put.Reads as put-reads
-use Rattle.matrix.proofs.put_header.Reads as put-header-reads
-use Rattle.matrix.proofs.put_mixtures.Reads as put-mixtures-reads
-use Rattle.matrix.proofs.put_objects.Reads as put-objects-reads
-use Rattle.matrix.proofs.put_rules.Reads as put-rules-reads
-use Rattle.matrix.proofs.put_subjects.Reads as put-subjects-reads
 
--- src/lib.rt:374:23
 add-containers : tie.Need-add-containers
 add-containers c = search needs
 
--- src/lib.rt:374:22
 mul-containers : tie.Need-mul-containers
 mul-containers c = search needs
 
--- src/lib.rt:375:20
 mixture-count-requires : tie.Need-mixture-count-requires
 mixture-count-requires c κs = search needs
 
--- src/lib.rt:375:20
 mul-mixtures : tie.Need-mul-mixtures
 mul-mixtures c = omega (arith, c .mixture-count .ensures, total-few (c .before .before .before .before .args .reads .now) (c .before .before .before .before .args .writes .now) (c .before .before .before .before .args .n) (c .before .before .before .before .pre .1))
 
--- src/lib.rt:376:59
 mul-put-header : tie.Need-mul-put-header
 mul-put-header c = search needs
 
--- src/lib.rt:376:9
 put-header-requires : tie.Need-put-header-requires
 put-header-requires c κs = omega (arith, c .before .before .before .before .before .pre, c .before .mixture-count .ensures, total-few (c .before .before .before .before .before .args .reads .now) (c .before .before .before .before .before .args .writes .now) (c .before .before .before .before .before .args .n) (c .before .before .before .before .before .pre .1))
 
--- src/lib.rt:377:9
 put-objects-requires : tie.Need-put-objects-requires
 put-objects-requires c κs = omega (arith, c .before .before .before .before .before .before .before .before .before .pre, header-end (c .before .before .before .before .before .before .before .before .before .args .reads .now) (c .before .before .before .before .before .before .before .before .before .args .writes .now) (c .before .before .before .before .before .before .before .before .before .args .n) _ _ _ _ (c .before .before .before .before .before .mixture-count .ensures) (c .before .before .before .put-header .ensures))
 
--- src/lib.rt:378:9
 put-subjects-requires : tie.Need-put-subjects-requires
 put-subjects-requires c κs = omega (arith, c .before .before .before .before .before .before .before .before .before .before .before .before .before .pre, header-end (c .before .before .before .before .before .before .before .before .before .before .before .before .before .args .reads .now) (c .before .before .before .before .before .before .before .before .before .before .before .before .before .args .writes .now) (c .before .before .before .before .before .before .before .before .before .before .before .before .before .args .n) _ _ _ _ (c .before .before .before .before .before .before .before .before .before .mixture-count .ensures) (c .before .before .before .before .before .before .before .put-header .ensures), objects-end _ _ _ _ _ (c .before .before .before .put-objects .ensures))
 
--- src/lib.rt:379:9
 put-requires : tie.Need-put-requires
 put-requires c κs = omega (arith, c .before .before .before .before .before .before .before .before .before .before .before .before .before .before .before .before .before .pre, header-end (c .before .before .before .before .before .before .before .before .before .before .before .before .before .before .before .before .before .args .reads .now) (c .before .before .before .before .before .before .before .before .before .before .before .before .before .before .before .before .before .args .writes .now) (c .before .before .before .before .before .before .before .before .before .before .before .before .before .before .before .before .before .args .n) _ _ _ _ (c .before .before .before .before .before .before .before .before .before .before .before .before .before .mixture-count .ensures) (c .before .before .before .before .before .before .before .before .before .before .before .put-header .ensures), objects-end _ _ _ _ _ (c .before .before .before .before .before .before .before .put-objects .ensures), subjects-end (length (c .before .before .before .before .before .before .before .before .before .before .before .before .before .before .before .before .before .args .reads .now)) _ _ _ _ (c .before .before .before .put-subjects .ensures))
 
--- src/lib.rt:380:9
 put-rules-requires : tie.Need-put-rules-requires
 put-rules-requires c κs = omega (arith, c .before .before .before .before .before .before .before .before .before .before .before .before .before .before .before .before .before .before .before .before .before .pre, header-end (c .before .before .before .before .before .before .before .before .before .before .before .before .before .before .before .before .before .before .before .before .before .args .reads .now) (c .before .before .before .before .before .before .before .before .before .before .before .before .before .before .before .before .before .before .before .before .before .args .writes .now) (c .before .before .before .before .before .before .before .before .before .before .before .before .before .before .before .before .before .before .before .before .before .args .n) _ _ _ _ (c .before .before .before .before .before .before .before .before .before .before .before .before .before .before .before .before .before .mixture-count .ensures) (c .before .before .before .before .before .before .before .before .before .before .before .before .before .before .before .put-header .ensures), objects-end _ _ _ _ _ (c .before .before .before .before .before .before .before .before .before .before .before .put-objects .ensures), subjects-end (length (c .before .before .before .before .before .before .before .before .before .before .before .before .before .before .before .before .before .before .before .before .before .args .reads .now)) _ _ _ _ (c .before .before .before .before .before .before .before .put-subjects .ensures), number-end 2 _ _ _ _ _ (c .before .before .before .put .ensures))
 
--- src/lib.rt:381:5
 put-mixtures-requires : tie.Need-put-mixtures-requires
 put-mixtures-requires c κs = omega (arith, c .before .before .before .before .before .before .before .before .before .before .before .before .before .before .before .before .before .before .before .before .before .before .before .before .before .pre, header-end (c .before .before .before .before .before .before .before .before .before .before .before .before .before .before .before .before .before .before .before .before .before .before .before .before .before .args .reads .now) (c .before .before .before .before .before .before .before .before .before .before .before .before .before .before .before .before .before .before .before .before .before .before .before .before .before .args .writes .now) (c .before .before .before .before .before .before .before .before .before .before .before .before .before .before .before .before .before .before .before .before .before .before .before .before .before .args .n) _ _ _ _ (c .before .before .before .before .before .before .before .before .before .before .before .before .before .before .before .before .before .before .before .before .before .mixture-count .ensures) (c .before .before .before .before .before .before .before .before .before .before .before .before .before .before .before .before .before .before .before .put-header .ensures), objects-end _ _ _ _ _ (c .before .before .before .before .before .before .before .before .before .before .before .before .before .before .before .put-objects .ensures), subjects-end (length (c .before .before .before .before .before .before .before .before .before .before .before .before .before .before .before .before .before .before .before .before .before .before .before .before .before .args .reads .now)) _ _ _ _ (c .before .before .before .before .before .before .before .before .before .before .before .put-subjects .ensures), number-end 2 _ _ _ _ _ (c .before .before .before .before .before .before .before .put .ensures), rules-end _ _ _ _ _ _ _ (c .before .before .before .put-rules .ensures))
 
--- src/lib.rt:369:1
 same-length : tie.Need-same-length
 same-length c = search needs
 
--- src/lib.rt:369:1
 returns : tie.Need-returns
 returns c = spelt (c .before .before .before .before .before .before .before .before .before .before .before .before .before .before .before .before .before .before .before .before .before .before .before .before .before .before .before .before .args .reads .now) (c .before .before .before .before .before .before .before .before .before .before .before .before .before .before .before .before .before .before .before .before .before .before .before .before .before .before .before .before .args .writes .now) (c .before .before .before .before .before .before .before .before .before .before .before .before .before .before .before .before .before .before .before .before .before .before .before .before .before .before .before .before .args .n) _ _ _ _ _ _ _ _ _ _ _ _ _ _ (c .before .before .before .before .before .before .before .before .before .before .before .before .before .before .before .before .before .before .before .before .before .before .before .before .before .before .before .before .pre .1) (c .before .before .before .before .before .before .before .before .before .before .before .before .before .before .before .before .before .before .before .before .before .before .before .before .before .before .before .before .pre .2) (c .before .before .before .before .before .before .before .before .before .before .before .before .before .before .before .before .before .before .before .before .before .before .before .before .before .before .before .before .pre .3) (c .before .before .before .before .before .before .before .before .before .before .before .before .before .before .before .before .before .before .before .before .before .before .before .before .mixture-count .ensures) (c .before .before .before .before .before .before .before .before .before .before .before .before .before .before .before .before .before .before .before .before .before .before .put-header .ensures) (c .before .before .before .before .before .before .before .before .before .before .before .before .before .before .before .before .before .before .put-objects .ensures) (c .before .before .before .before .before .before .before .before .before .before .before .before .before .before .put-subjects .ensures) (c .before .before .before .before .before .before .before .before .before .before .put .ensures) (c .before .before .before .before .before .before .put-rules .ensures) (c .before .before .put-mixtures .ensures)
 

@@ -5,23 +5,16 @@ use Rattle.matrix.proofs.VerdictLaws.{row-without}
 use borrow.Author.Needs.{needs}
 use Rattle.matrix.proofs.ungranted_row.Statement.{statement}
 use Rattle.matrix.proofs.ungranted_row.Tie as tie
-use Rattle.matrix.proofs.ungranted_row.Reads as reads
-use Rattle.matrix.proofs.ungranted_row.Lts as lts
-use Rattle.matrix.proofs.granted_row.Reads as granted-row-reads
 
--- src/lib.rt:99:5
 mul-result : tie.Need-mul-result
 mul-result c = search needs
 
--- src/lib.rt:99:5
 shared-slice-read-result : tie.Need-shared-slice-read-result
 shared-slice-read-result c = search needs
 
--- src/lib.rt:99:19
 granted-row-requires : tie.Need-granted-row-requires
 granted-row-requires c κs = search needs
 
--- src/lib.rt:95:1
 returns : tie.Need-returns
 returns c = let p = c .before .before .before .before .before in let q : getD (p .args .closure .now) (p .args .a) 0 < 2 ^ 32 = omega (arith, c .before .shared-slice-known4 .given (p .args .a)) in row-without (p .args .reads .now) (p .args .writes .now) (p .args .closure .now) _ (p .args .a) _ (p .pre .0) (p .pre .1) q (c .granted-row .ok) (c .granted-row .ensures)
 

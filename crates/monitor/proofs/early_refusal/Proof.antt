@@ -4,102 +4,73 @@ use Rattle.monitor.proofs.Ladder.{early-10, early-11, early-12, early-1
 use borrow.Author.Needs.{needs}
 use Rattle.monitor.proofs.early_refusal.Statement.{statement}
 use Rattle.monitor.proofs.early_refusal.Tie as tie
-use Rattle.monitor.proofs.early_refusal.Reads as reads
-use Rattle.monitor.proofs.early_refusal.Lts as lts
-use Rattle.image.proofs.is_process.Reads as is-process-reads
-use Rattle.monitor.proofs.rows_good.Reads as rows-good-reads
-use Rattle.operations.proofs.code_at.Reads as code-at-reads
-use Rattle.operations.proofs.object_fits.Reads as object-fits-reads
 
--- src/lib.rt:97:9
 rows-good-requires : tie.Need-rows-good-requires
 rows-good-requires c κs = search needs
 
--- src/lib.rt:98:9
 returns : tie.Need-returns
 returns c = early-10 _ _ _ (c .before .rows-good .ensures) (c .if1 .taken)
 
--- src/lib.rt:100:13
 mul-a : tie.Need-mul-a
 mul-a c = search needs
 
--- src/lib.rt:101:29
 add-is-process : tie.Need-add-is-process
 add-is-process c = search needs
 
--- src/lib.rt:101:27
 mul-is-process : tie.Need-mul-is-process
 mul-is-process c = search needs
 
--- src/lib.rt:101:27
 shared-slice-read-is-process : tie.Need-shared-slice-read-is-process
 shared-slice-read-is-process c = search needs
 
--- src/lib.rt:101:9
 is-process-requires : tie.Need-is-process-requires
 is-process-requires c κs = search needs
 
--- src/lib.rt:102:9
 returns-2 : tie.Need-returns-2
 returns-2 c = early-11 _ _ _ (c .before .before .before .before .before .rows-good .ensures) (c .before .before .before .before .if1 .left) _ (c .before .is-process .ensures) (c .if2 .taken)
 
--- src/lib.rt:104:9
 code-at-requires : tie.Need-code-at-requires
 code-at-requires c κs = search needs
 
--- src/lib.rt:105:13
 mul-b : tie.Need-mul-b
 mul-b c = search needs
 
--- src/lib.rt:106:48
 add-object-fits : tie.Need-add-object-fits
 add-object-fits c = search needs
 
--- src/lib.rt:106:46
 mul-object-fits : tie.Need-mul-object-fits
 mul-object-fits c = search needs
 
--- src/lib.rt:106:46
 shared-slice-read-object-fits : tie.Need-shared-slice-read-object-fits
 shared-slice-read-object-fits c = search needs
 
--- src/lib.rt:106:9
 object-fits-requires : tie.Need-object-fits-requires
 object-fits-requires c κs = search needs
 
--- src/lib.rt:108:13
 returns-3 : tie.Need-returns-3
 returns-3 c = early-13 _ _ _ (c .before .before .before .before .before .before .before .before .before .before .before .before .rows-good .ensures) (c .before .before .before .before .before .before .before .before .before .before .before .if1 .left) _ (c .before .before .before .before .before .before .before .before .is-process .ensures) (c .before .before .before .before .before .before .before .if2 .left) _ (c .before .before .before .before .before .before .code-at .ensures) _ (c .before .before .before .object-fits .ensures) (c .before .before .if3 .taken) (c .if4 .taken)
 
--- src/lib.rt:110:9
 returns-4 : tie.Need-returns-4
 returns-4 c = early-12 _ _ _ (c .before .before .before .before .before .before .before .before .before .before .before .before .rows-good .ensures) (c .before .before .before .before .before .before .before .before .before .before .before .if1 .left) _ (c .before .before .before .before .before .before .before .before .is-process .ensures) (c .before .before .before .before .before .before .before .if2 .left) _ (c .before .before .before .before .before .before .code-at .ensures) _ (c .before .before .before .object-fits .ensures) (c .before .before .if3 .taken) (c .if4 .left)
 
--- src/lib.rt:113:9
 returns-5 : tie.Need-returns-5
 returns-5 c = early-none _ _ _ (c .before .before .before .before .before .before .before .before .before .before .before .before .rows-good .ensures) (c .before .before .before .before .before .before .before .before .before .before .before .if1 .left) _ (c .before .before .before .before .before .before .before .before .is-process .ensures) (c .before .before .before .before .before .before .before .if2 .left) _ (c .before .before .before .before .before .before .code-at .ensures) _ (c .before .before .before .object-fits .ensures) (c .before .before .if3 .left) (c .if5 .taken)
 
--- src/lib.rt:115:24
 mul-c : tie.Need-mul-c
 mul-c c = omega (arith, user-low _ _ _ (c .before .before .before .before .before .before .before .before .before .before .before .before .before .before .before .pre) (c .before .before .before .before .before .before .before .code-at .ensures) (c .before .if5 .left))
 
--- src/lib.rt:115:13
 add-c : tie.Need-add-c
 add-c c = omega (arith, user-low _ _ _ (c .before .before .before .before .before .before .before .before .before .before .before .before .before .before .before .pre) (c .before .before .before .before .before .before .before .code-at .ensures) (c .before .if5 .left))
 
--- src/lib.rt:116:8
 mul-if6 : tie.Need-mul-if6
 mul-if6 c = omega (arith, user-low _ _ _ (c .before .before .before .before .before .before .before .before .before .before .before .before .before .before .before .pre) (c .before .before .before .before .before .before .before .code-at .ensures) (c .before .if5 .left))
 
--- src/lib.rt:116:8
 shared-slice-read-if6 : tie.Need-shared-slice-read-if6
 shared-slice-read-if6 c = omega (arith, user-low _ _ _ (c .before .before .before .before .before .before .before .before .before .before .before .before .before .before .before .before .pre) (c .before .before .before .before .before .before .before .before .code-at .ensures) (c .before .before .if5 .left))
 
--- src/lib.rt:117:9
 returns-6 : tie.Need-returns-6
 returns-6 c = early-14 _ _ _ (c .before .before .before .before .before .before .before .before .before .before .before .before .before .before .before .rows-good .ensures) (c .before .before .before .before .before .before .before .before .before .before .before .before .before .before .if1 .left) _ (c .before .before .before .before .before .before .before .before .before .before .before .is-process .ensures) (c .before .before .before .before .before .before .before .before .before .before .if2 .left) _ (c .before .before .before .before .before .before .before .before .before .code-at .ensures) _ (c .before .before .before .before .before .before .object-fits .ensures) (c .before .before .before .before .before .if3 .left) (c .before .before .before .if5 .left) (c .if6 .taken)
 
--- src/lib.rt:93:1
 returns-7 : tie.Need-returns-7
 returns-7 c = early-passed _ _ _ (c .before .before .before .before .before .before .before .before .before .before .before .before .before .before .before .rows-good .ensures) (c .before .before .before .before .before .before .before .before .before .before .before .before .before .before .if1 .left) _ (c .before .before .before .before .before .before .before .before .before .before .before .is-process .ensures) (c .before .before .before .before .before .before .before .before .before .before .if2 .left) _ (c .before .before .before .before .before .before .before .before .before .code-at .ensures) _ (c .before .before .before .before .before .before .object-fits .ensures) (c .before .before .before .before .before .if3 .left) (c .before .before .before .if5 .left) (c .if6 .left)
 

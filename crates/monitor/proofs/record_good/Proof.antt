@@ -5,48 +5,34 @@ use Rattle.monitor.proofs.Reading.{not-eight, code-none, code-over, byt
 use borrow.Author.Needs.{needs}
 use Rattle.monitor.proofs.record_good.Statement.{statement}
 use Rattle.monitor.proofs.record_good.Tie as tie
-use Rattle.monitor.proofs.record_good.Reads as reads
-use Rattle.monitor.proofs.record_good.Lts as lts
-use Rattle.monitor.proofs.request.Reads as request-reads
-use Rattle.monitor.proofs.user_fits.Reads as user-fits-reads
 
--- src/lib.rt:45:9
 returns : tie.Need-returns
 returns c = not-eight _ (c .if1 .taken)
 
--- src/lib.rt:47:9
 request-requires : tie.Need-request-requires
 request-requires c κs = search needs
 
--- src/lib.rt:49:9
 returns-2 : tie.Need-returns-2
 returns-2 c = code-none _ _ (c .before .before .request .ensures) (c .before .before .before .if1 .left) (c .if2 .taken)
 
--- src/lib.rt:52:9
 returns-3 : tie.Need-returns-3
 returns-3 c = code-over _ _ (c .before .before .before .before .request .ensures) (c .before .before .before .before .before .if1 .left) (c .before .before .if2 .left) (c .if3 .taken)
 
--- src/lib.rt:54:8
 shared-slice-read-if4 : tie.Need-shared-slice-read-if4
 shared-slice-read-if4 c = search needs
 
--- src/lib.rt:55:9
 returns-4 : tie.Need-returns-4
 returns-4 c = byte-set _ _ (c .before .before .before .before .before .before .request .ensures) (c .before .before .before .before .before .before .before .if1 .left) (c .before .before .before .before .if2 .left) (c .before .before .if3 .left) (λ e. (c .if4 .taken) (field-one _ 1 (omega arith) ∙ e))
 
--- src/lib.rt:57:9
 user-fits-requires : tie.Need-user-fits-requires
 user-fits-requires c κs = search needs
 
--- src/lib.rt:58:9
 returns-5 : tie.Need-returns-5
 returns-5 c = user-wrong _ _ (c .before .before .before .before .before .before .before .before .request .ensures) (c .before .before .before .before .before .before .before .before .before .if1 .left) (c .before .before .before .before .before .before .if2 .left) (c .before .before .before .before .if3 .left) (sym (field-one _ 1 (omega arith)) ∙ (c .before .before .if4 .left)) (fails-test (c .before .user-fits .ensures) (c .if5 .taken))
 
--- src/lib.rt:61:9
 returns-6 : tie.Need-returns-6
 returns-6 c = process-over _ _ (c .before .before .before .before .before .before .before .before .before .before .request .ensures) (c .before .before .before .before .before .before .before .before .before .before .before .if1 .left) (c .before .before .before .before .before .before .before .before .if2 .left) (c .before .before .before .before .before .before .if3 .left) (sym (field-one _ 1 (omega arith)) ∙ (c .before .before .before .before .if4 .left)) (passes-test (c .before .before .before .user-fits .ensures) (c .before .before .if5 .left)) (c .if6 .taken)
 
--- src/lib.rt:41:1
 returns-7 : tie.Need-returns-7
 returns-7 c = by-object _ _ (c .before .before .before .before .before .before .before .before .before .before .before .request .ensures) (c .before .before .before .before .before .before .before .before .before .before .before .before .if1 .left) (c .before .before .before .before .before .before .before .before .before .if2 .left) (c .before .before .before .before .before .before .before .if3 .left) (sym (field-one _ 1 (omega arith)) ∙ (c .before .before .before .before .before .if4 .left)) (passes-test (c .before .before .before .before .user-fits .ensures) (c .before .before .before .if5 .left)) (c .before .if6 .left)
 

@@ -2,37 +2,25 @@ use Rattle.monitor.proofs.Replaying.{not-started, started}
 use borrow.Author.Needs.{needs}
 use Rattle.monitor.proofs.replay.Statement.{statement}
 use Rattle.monitor.proofs.replay.Tie as tie
-use Rattle.monitor.proofs.replay.Reads as reads
-use Rattle.monitor.proofs.replay.Lts as lts
-use Rattle.monitor.proofs.not_run.Reads as not-run-reads
-use Rattle.monitor.proofs.run.Reads as run-reads
-use Rattle.session.proofs.start.Reads as start-reads
 
--- src/lib.rt:230:9
 start-requires : tie.Need-start-requires
 start-requires c κs = search needs
 
--- src/lib.rt:232:9
 not-run-requires : tie.Need-not-run-requires
 not-run-requires c κs = search needs
 
--- src/lib.rt:232:9
 same-length : tie.Need-same-length
 same-length c = search needs
 
--- src/lib.rt:232:9
 returns : tie.Need-returns
 returns c = not-started _ _ _ _ _ ((c .before .before .before .before .start .ensures) .0) ((c .before .before .before .before .start .ensures) .1) (c .before .if1 .taken) _ (c .not-run .ensures)
 
--- src/lib.rt:234:5
 run-requires : tie.Need-run-requires
 run-requires c κs = search needs
 
--- src/lib.rt:227:1
 same-length-2 : tie.Need-same-length-2
 same-length-2 c = search needs
 
--- src/lib.rt:227:1
 returns-2 : tie.Need-returns-2
 returns-2 c = started _ _ _ _ _ ((c .before .before .before .before .before .before .before .start .ensures) .0) ((c .before .before .before .before .before .before .before .start .ensures) .1) (c .before .before .before .before .if1 .left) _ _ (c .before .before .run .ensures)
 

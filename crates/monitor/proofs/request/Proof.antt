@@ -2,28 +2,19 @@ use Rattle.monitor.proofs.Reading.{request-is}
 use borrow.Author.Needs.{needs}
 use Rattle.monitor.proofs.request.Statement.{statement}
 use Rattle.monitor.proofs.request.Tie as tie
-use Rattle.monitor.proofs.request.Reads as reads
-use Rattle.monitor.proofs.request.Lts as lts
-use Rattle.image.proofs.read16.Reads as read16-reads
-use Rattle.image.proofs.read8.Reads as read8-reads
 
--- src/lib.rt:21:15
 read8-requires : tie.Need-read8-requires
 read8-requires c κs = search needs
 
--- src/lib.rt:22:12
 read16-requires : tie.Need-read16-requires
 read16-requires c κs = search needs
 
--- src/lib.rt:23:12
 read16-requires-2 : tie.Need-read16-requires-2
 read16-requires-2 c κs = search needs
 
--- src/lib.rt:24:12
 read16-requires-3 : tie.Need-read16-requires-3
 read16-requires-3 c κs = search needs
 
--- src/lib.rt:16:1
 returns : tie.Need-returns
 returns c = request-is _ _ _ _ _ ((c .before .before .before .read8 .ensures) .0) ((c .before .before .read16 .ensures) .0) ((c .before .read162 .ensures) .0) ((c .read163 .ensures) .0)
 

@@ -4,117 +4,85 @@ use Rattle.monitor.proofs.Ladder.{process-row-bad, object-row-bad, no-u
 use borrow.Author.Needs.{needs}
 use Rattle.monitor.proofs.rows_good.Statement.{statement}
 use Rattle.monitor.proofs.rows_good.Tie as tie
-use Rattle.monitor.proofs.rows_good.Reads as reads
-use Rattle.monitor.proofs.rows_good.Lts as lts
-use Rattle.operations.proofs.code_at.Reads as code-at-reads
-use Rattle.session.proofs.container_row_good.Reads as container-row-good-reads
-use Rattle.session.proofs.user_row_good.Reads as user-row-good-reads
 
--- src/lib.rt:76:13
 mul-a : tie.Need-mul-a
 mul-a c = search needs
 
--- src/lib.rt:77:43
 add-container-row-good : tie.Need-add-container-row-good
 add-container-row-good c = search needs
 
--- src/lib.rt:77:37
 mul-container-row-good : tie.Need-mul-container-row-good
 mul-container-row-good c = search needs
 
--- src/lib.rt:77:37
 sub-container-row-good : tie.Need-sub-container-row-good
 sub-container-row-good c = search needs
 
--- src/lib.rt:77:37
 part-container-row-good-start : tie.Need-part-container-row-good-start
 part-container-row-good-start c = search needs
 
--- src/lib.rt:77:37
 part-container-row-good-end : tie.Need-part-container-row-good-end
 part-container-row-good-end c = search needs
 
--- src/lib.rt:77:9
 container-row-good-requires : tie.Need-container-row-good-requires
 container-row-good-requires c κs = search needs
 
--- src/lib.rt:78:9
 returns : tie.Need-returns
 returns c = process-row-bad _ _ _ (c .before .container-row-good .ensures) (c .if1 .taken)
 
--- src/lib.rt:80:13
 mul-b : tie.Need-mul-b
 mul-b c = search needs
 
--- src/lib.rt:81:43
 add-container-row-good-2 : tie.Need-add-container-row-good-2
 add-container-row-good-2 c = search needs
 
--- src/lib.rt:81:37
 mul-container-row-good-2 : tie.Need-mul-container-row-good-2
 mul-container-row-good-2 c = search needs
 
--- src/lib.rt:81:37
 sub-container-row-good-2 : tie.Need-sub-container-row-good-2
 sub-container-row-good-2 c = search needs
 
--- src/lib.rt:81:37
 part-container-row-good-start-2 : tie.Need-part-container-row-good-start-2
 part-container-row-good-start-2 c = search needs
 
--- src/lib.rt:81:37
 part-container-row-good-end-2 : tie.Need-part-container-row-good-end-2
 part-container-row-good-end-2 c = search needs
 
--- src/lib.rt:81:9
 container-row-good-requires-2 : tie.Need-container-row-good-requires-2
 container-row-good-requires-2 c κs = search needs
 
--- src/lib.rt:82:9
 returns-2 : tie.Need-returns-2
 returns-2 c = object-row-bad _ _ _ (c .before .before .before .before .before .container-row-good .ensures) (c .before .before .before .before .if1 .left) _ (c .before .container-row-good2 .ensures) (c .if2 .taken)
 
--- src/lib.rt:84:9
 code-at-requires : tie.Need-code-at-requires
 code-at-requires c κs = search needs
 
--- src/lib.rt:86:9
 returns-3 : tie.Need-returns-3
 returns-3 c = no-user-row _ _ _ (c .before .before .before .before .before .before .before .before .container-row-good .ensures) (c .before .before .before .before .before .before .before .if1 .left) _ (c .before .before .before .before .container-row-good2 .ensures) (c .before .before .before .if2 .left) _ (c .before .before .code-at .ensures) (c .if3 .taken)
 
--- src/lib.rt:88:24
 mul-c : tie.Need-mul-c
 mul-c c = omega (arith, user-low _ _ _ (c .before .before .before .before .before .before .before .before .before .before .before .before .before .pre) (c .before .before .before .code-at .ensures) (c .before .if3 .left))
 
--- src/lib.rt:88:13
 add-c : tie.Need-add-c
 add-c c = omega (arith, user-low _ _ _ (c .before .before .before .before .before .before .before .before .before .before .before .before .before .pre) (c .before .before .before .code-at .ensures) (c .before .if3 .left))
 
--- src/lib.rt:89:34
 add-user-row-good : tie.Need-add-user-row-good
 add-user-row-good c = omega (arith, user-low _ _ _ (c .before .before .before .before .before .before .before .before .before .before .before .before .before .pre) (c .before .before .before .code-at .ensures) (c .before .if3 .left))
 
--- src/lib.rt:89:28
 mul-user-row-good : tie.Need-mul-user-row-good
 mul-user-row-good c = omega (arith, user-low _ _ _ (c .before .before .before .before .before .before .before .before .before .before .before .before .before .pre) (c .before .before .before .code-at .ensures) (c .before .if3 .left))
 
--- src/lib.rt:89:28
 sub-user-row-good : tie.Need-sub-user-row-good
 sub-user-row-good c = search needs
 
--- src/lib.rt:89:28
 part-user-row-good-start : tie.Need-part-user-row-good-start
 part-user-row-good-start c = search needs
 
--- src/lib.rt:89:28
 part-user-row-good-end : tie.Need-part-user-row-good-end
 part-user-row-good-end c = omega (arith, user-low _ _ _ (c .before .before .before .before .before .before .before .before .before .before .before .before .before .pre) (c .before .before .before .code-at .ensures) (c .before .if3 .left))
 
--- src/lib.rt:89:5
 user-row-good-requires : tie.Need-user-row-good-requires
 user-row-good-requires c κs = search needs
 
--- src/lib.rt:72:1
 returns-4 : tie.Need-returns-4
 returns-4 c = by-user-row _ _ _ (c .before .before .before .before .before .before .before .before .before .before .before .container-row-good .ensures) (c .before .before .before .before .before .before .before .before .before .before .if1 .left) _ (c .before .before .before .before .before .before .before .container-row-good2 .ensures) (c .before .before .before .before .before .before .if2 .left) _ (c .before .before .before .before .before .code-at .ensures) (c .before .before .before .if3 .left) _ (c .user-row-good .ensures)
 

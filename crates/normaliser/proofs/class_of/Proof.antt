@@ -7,190 +7,139 @@ use Rattle.normaliser.proofs.KeyLaws.{keyed-new, keyed-old, class-new, 
 use borrow.Author.Needs.{needs}
 use Rattle.normaliser.proofs.class_of.Statement.{statement}
 use Rattle.normaliser.proofs.class_of.Tie as tie
-use Rattle.normaliser.proofs.class_of.Reads as reads
-use Rattle.normaliser.proofs.class_of.Lts as lts
-use Rattle.normaliser.proofs.class_by.Reads as class-by-reads
-use Rattle.normaliser.proofs.first_same.Reads as first-same-reads
-use Rattle.normaliser.proofs.key.Reads as key-reads
-use Rattle.rules.proofs.same.Reads as same-reads
 
--- src/lib.rt:149:13
 mul-a : tie.Need-mul-a
 mul-a c = search needs
 
--- src/lib.rt:150:27
 add-key : tie.Need-add-key
 add-key c = search needs
 
--- src/lib.rt:150:17
 mul-key : tie.Need-mul-key
 mul-key c = search needs
 
--- src/lib.rt:150:17
 sub-key : tie.Need-sub-key
 sub-key c = search needs
 
--- src/lib.rt:150:17
 part-key-start : tie.Need-part-key-start
 part-key-start c = search needs
 
--- src/lib.rt:150:17
 part-key-end : tie.Need-part-key-end
 part-key-end c = search needs
 
--- src/lib.rt:150:9
 key-requires : tie.Need-key-requires
 key-requires c κs = search needs
 
--- src/lib.rt:151:13
 mul-j : tie.Need-mul-j
 mul-j c = search needs
 
--- src/lib.rt:151:13
 slice-read-j : tie.Need-slice-read-j
 slice-read-j c = search needs
 
--- src/lib.rt:153:20
 add-keys : tie.Need-add-keys
 add-keys c = search needs
 
--- src/lib.rt:153:9
 mul-keys : tie.Need-mul-keys
 mul-keys c = search needs
 
--- src/lib.rt:153:9
 slice-write-keys : tie.Need-slice-write-keys
 slice-write-keys c = search needs
 
--- src/lib.rt:154:35
 add-class-by : tie.Need-add-class-by
 add-class-by c = search needs
 
--- src/lib.rt:154:25
 mul-class-by : tie.Need-mul-class-by
 mul-class-by c = search needs
 
--- src/lib.rt:154:25
 sub-class-by : tie.Need-sub-class-by
 sub-class-by c = search needs
 
--- src/lib.rt:154:25
 part-class-by-start : tie.Need-part-class-by-start
 part-class-by-start c = search needs
 
--- src/lib.rt:154:25
 part-class-by-end : tie.Need-part-class-by-end
 part-class-by-end c = search needs
 
--- src/lib.rt:154:9
 class-by-requires : tie.Need-class-by-requires
 class-by-requires c κs = search needs
 
--- src/lib.rt:154:9
 same-length : tie.Need-same-length
 same-length c = search needs
 
--- src/lib.rt:154:9
 returns : tie.Need-returns
 returns c = (class-new (c .before .before .before .before .before .before .before .before .before .args .forms .now) (c .before .before .before .before .before .before .before .before .before .args .keys .now) (c .before .before .before .before .before .before .before .before .before .args .k) (c .before .before .before .before .key .result) (c .before .before .before .before .before .before .before .before .before .pre .2) (rw (nine (c .before .before .before .before .before .before .before .before .before .args .forms .now) (c .before .before .before .before .before .before .before .before .before .args .k)) at (c .before .before .before .before .key .ensures .0)) (c .before .before .before .before .key .ensures .1) (c .before .before .if1 .taken) (c .before .before .before .before .before .before .before .before .before .pre .0) _ (rw (nine (c .before .before .before .before .before .before .before .before .before .args .forms .now) (c .before .before .before .before .before .before .before .before .before .args .k)) at (c .class-by .ensures)), keyed-new (c .before .before .before .before .before .before .before .before .before .args .forms .now) (c .before .before .before .before .before .before .before .before .before .args .keys .now) (c .before .before .before .before .before .before .before .before .before .args .k) (c .before .before .before .before .key .result) (c .before .before .before .before .before .before .before .before .before .pre .2) (rw (nine (c .before .before .before .before .before .before .before .before .before .args .forms .now) (c .before .before .before .before .before .before .before .before .before .args .k)) at (c .before .before .before .before .key .ensures .0)) (c .before .before .before .before .key .ensures .1) (c .before .before .if1 .taken))
 
--- src/lib.rt:156:14
 sub-b : tie.Need-sub-b
 sub-b c = search needs
 
--- src/lib.rt:156:13
 mul-b : tie.Need-mul-b
 mul-b c = omega (arith, c .before .before .before .before .before .before .before .pre .2 .inside (c .before .before .key .result), c .before .before .before .before .before .before .before .pre .0)
 
--- src/lib.rt:158:19
 add-same : tie.Need-add-same
 add-same c = search needs
 
--- src/lib.rt:158:9
 mul-same : tie.Need-mul-same
 mul-same c = search needs
 
--- src/lib.rt:158:9
 sub-same : tie.Need-sub-same
 sub-same c = search needs
 
--- src/lib.rt:158:9
 part-same-start : tie.Need-part-same-start
 part-same-start c = search needs
 
--- src/lib.rt:158:9
 part-same-end : tie.Need-part-same-end
 part-same-end c = search needs
 
--- src/lib.rt:159:19
 add-same-2 : tie.Need-add-same-2
 add-same-2 c = omega (arith, c .before .before .before .before .before .before .before .before .pre .2 .inside (c .before .before .before .key .result), c .before .before .before .before .before .before .before .before .pre .0)
 
--- src/lib.rt:159:9
 mul-same-2 : tie.Need-mul-same-2
 mul-same-2 c = omega (arith, c .before .before .before .before .before .before .before .before .pre .2 .inside (c .before .before .before .key .result), c .before .before .before .before .before .before .before .before .pre .0)
 
--- src/lib.rt:159:9
 sub-same-2 : tie.Need-sub-same-2
 sub-same-2 c = search needs
 
--- src/lib.rt:159:9
 part-same-start-2 : tie.Need-part-same-start-2
 part-same-start-2 c = search needs
 
--- src/lib.rt:159:9
 part-same-end-2 : tie.Need-part-same-end-2
 part-same-end-2 c = omega (arith, c .before .before .before .before .before .before .before .before .pre .2 .inside (c .before .before .before .key .result), c .before .before .before .before .before .before .before .before .pre .0)
 
--- src/lib.rt:157:8
 same-requires : tie.Need-same-requires
 same-requires c κs = search needs
 
--- src/lib.rt:161:24
 sub-result : tie.Need-sub-result
 sub-result c = search needs
 
--- src/lib.rt:161:16
 mul-result : tie.Need-mul-result
 mul-result c = omega (arith, c .before .before .before .before .before .before .before .before .before .before .before .pre .2 .inside (c .before .before .before .before .before .before .key .result), c .before .before .before .before .before .before .before .before .before .before .before .pre .0)
 
--- src/lib.rt:161:16
 shared-slice-read-result : tie.Need-shared-slice-read-result
 shared-slice-read-result c = omega (arith, c .before .before .before .before .before .before .before .before .before .before .before .before .pre .2 .inside (c .before .before .before .before .before .before .before .key .result), c .before .before .before .before .before .before .before .before .before .before .before .before .pre .0, c .before .before .before .before .before .before .before .before .before .before .before .before .pre .1 .room)
 
--- src/lib.rt:161:9
 returns-2 : tie.Need-returns-2
 returns-2 c = (class-old (c .before .before .before .before .before .before .before .before .before .before .before .before .args .forms .now) (c .before .before .before .before .before .before .before .before .before .before .before .before .args .classes .now) (getD (c .before .before .before .before .before .before .before .before .before .before .before .before .args .keys .now) (c .before .before .before .before .before .before .before .key .result) 0 - 1) (c .before .before .before .before .before .before .before .before .before .before .before .before .args .k) (c .before .before .before .before .before .before .before .before .before .before .before .before .pre .1) (omega (arith, c .before .before .before .before .before .before .before .before .before .before .before .before .pre .2 .inside (c .before .before .before .before .before .before .before .key .result), c .before .before .before .before .before .before .before .before .before .before .before .before .pre .0, c .before .before .before .before .before .if1 .left)) (sym (rw (nine (c .before .before .before .before .before .before .before .before .before .before .before .before .args .forms .now) (c .before .before .before .before .before .before .before .before .before .before .before .before .args .k), nine (c .before .before .before .before .before .before .before .before .before .before .before .before .args .forms .now) (getD (c .before .before .before .before .before .before .before .before .before .before .before .before .args .keys .now) (c .before .before .before .before .before .before .before .key .result) 0 - 1)) at (sym (c .before .before .same .ensures) ∙ c .before .if2 .taken))), keyed-old (c .before .before .before .before .before .before .before .before .before .before .before .before .args .forms .now) (c .before .before .before .before .before .before .before .before .before .before .before .before .args .keys .now) (c .before .before .before .before .before .before .before .before .before .before .before .before .args .k) (c .before .before .before .before .before .before .before .key .result) (c .before .before .before .before .before .before .before .before .before .before .before .before .pre .2) (rw (nine (c .before .before .before .before .before .before .before .before .before .before .before .before .args .forms .now) (c .before .before .before .before .before .before .before .before .before .before .before .before .args .k)) at (c .before .before .before .before .before .before .before .key .ensures .0)) (c .before .before .before .before .before .if1 .left))
 
--- src/lib.rt:163:24
 add-class-by-2 : tie.Need-add-class-by-2
 add-class-by-2 c = search needs
 
--- src/lib.rt:163:14
 mul-class-by-2 : tie.Need-mul-class-by-2
 mul-class-by-2 c = search needs
 
--- src/lib.rt:163:14
 sub-class-by-2 : tie.Need-sub-class-by-2
 sub-class-by-2 c = search needs
 
--- src/lib.rt:163:14
 part-class-by-start-2 : tie.Need-part-class-by-start-2
 part-class-by-start-2 c = search needs
 
--- src/lib.rt:163:14
 part-class-by-end-2 : tie.Need-part-class-by-end-2
 part-class-by-end-2 c = search needs
 
--- src/lib.rt:163:48
 first-same-requires : tie.Need-first-same-requires
 first-same-requires c κs = search needs
 
--- src/lib.rt:163:5
 class-by-requires-2 : tie.Need-class-by-requires-2
 class-by-requires-2 c κs = search needs
 
--- src/lib.rt:145:1
 returns-3 : tie.Need-returns-3
 returns-3 c = (class-sought (c .before .before .before .before .before .before .before .before .before .before .before .before .before .before .args .forms .now) (c .before .before .before .before .before .before .before .before .before .before .before .before .before .before .args .k) _ _ (rw (nine (c .before .before .before .before .before .before .before .before .before .before .before .before .before .before .args .forms .now) (c .before .before .before .before .before .before .before .before .before .before .before .before .before .before .args .k)) at (c .class-by2 .ensures)) (c .before .first-same .ensures), keyed-old (c .before .before .before .before .before .before .before .before .before .before .before .before .before .before .args .forms .now) (c .before .before .before .before .before .before .before .before .before .before .before .before .before .before .args .keys .now) (c .before .before .before .before .before .before .before .before .before .before .before .before .before .before .args .k) (c .before .before .before .before .before .before .before .before .before .key .result) (c .before .before .before .before .before .before .before .before .before .before .before .before .before .before .pre .2) (rw (nine (c .before .before .before .before .before .before .before .before .before .before .before .before .before .before .args .forms .now) (c .before .before .before .before .before .before .before .before .before .before .before .before .before .before .args .k)) at (c .before .before .before .before .before .before .before .before .before .key .ensures .0)) (c .before .before .before .before .before .before .before .if1 .left))
 

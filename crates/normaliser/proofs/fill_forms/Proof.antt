@@ -6,9 +6,6 @@ use Rattle.normaliser.proofs.Finish.{Filling, filling-start, filling-ne
 use Rattle.normaliser.proofs.Laying.{part-wide}
 use Rattle.normaliser.proofs.fill_forms.Statement.{statement}
 use Rattle.normaliser.proofs.fill_forms.Tie as tie
-use Rattle.normaliser.proofs.fill_forms.Reads as reads
-use Rattle.normaliser.proofs.fill_forms.Lts as lts
-use Rattle.image.proofs.put_own_rule.Reads as put-own-rule-reads
 
 abbrev Inv-loop : tie.InvT-loop
 Inv-loop forms₀ rules mixtures n k₀ forms k = Filling rules mixtures forms₀ forms n k
@@ -16,55 +13,42 @@ Inv-loop forms₀ rules mixtures n k₀ forms k = Filling rules mixtures forms�
 abbrev μ-loop : tie.MeasureT-loop
 μ-loop forms₀ rules mixtures n k₀ forms k = n - k
 
--- src/lib.rt:540:5
 loop-holds : tie.Need-loop-holds Inv-loop μ-loop
 loop-holds c = filling-start (c .before .before .before .args .rules .now) (c .before .before .before .args .mixtures .now) (c .before .before .before .args .forms .now) (c .before .before .before .pre .1) (c .before .before .before .pre .0)
 
--- src/lib.rt:541:18
 mul-at : tie.Need-mul-at Inv-loop μ-loop
 mul-at c = search needs
 
--- src/lib.rt:543:28
 add-put-own-rule : tie.Need-add-put-own-rule Inv-loop μ-loop
 add-put-own-rule c = search needs
 
--- src/lib.rt:543:13
 mul-put-own-rule : tie.Need-mul-put-own-rule Inv-loop μ-loop
 mul-put-own-rule c = search needs
 
--- src/lib.rt:543:13
 sub-put-own-rule : tie.Need-sub-put-own-rule Inv-loop μ-loop
 sub-put-own-rule c = search needs
 
--- src/lib.rt:543:13
 part-put-own-rule-start : tie.Need-part-put-own-rule-start Inv-loop μ-loop
 part-put-own-rule-start c = search needs
 
--- src/lib.rt:543:13
 part-put-own-rule-end : tie.Need-part-put-own-rule-end Inv-loop μ-loop
 part-put-own-rule-end c = omega (arith, c .before .loop .inv .laid .same, c .before .before .before .before .before .pre .0, c .before .loop .inv .count)
 
--- src/lib.rt:542:9
 put-own-rule-requires : tie.Need-put-own-rule-requires Inv-loop μ-loop
 put-own-rule-requires c κs = (part-wide (c .before .before .loop .forms) (c .before .before .loop .k * 9) 9 (omega (arith, c .before .before .loop .inv .laid .same, c .before .before .before .before .before .before .pre .0, c .before .before .loop .inv .count)), omega (arith, c .before .before .loop .inv .count), c .before .before .before .before .before .before .pre .1)
 
--- src/lib.rt:548:9
 add-k : tie.Need-add-k Inv-loop μ-loop
 add-k c = search needs
 
--- src/lib.rt:540:5
 loop-less : tie.Need-loop-less Inv-loop μ-loop
 loop-less c = search needs
 
--- src/lib.rt:540:5
 loop-again : tie.Need-loop-again Inv-loop μ-loop
 loop-again c = rw add-sub-cancel-left (filling-next (c .before .before .before .before .before .before .before .before .before .args .rules .now) (c .before .before .before .before .before .before .before .before .before .args .mixtures .now) (c .before .before .before .before .before .before .before .before .before .args .forms .now) (c .before .before .before .before .before .loop .forms) _ (c .before .before .before .before .before .loop .k) (c .before .before .before .before .before .loop .inv) (c .before .before .before .before .before .before .before .before .before .pre .1) (c .before .before .before .before .loop-test .taken) _ (c .before .before .put-own-rule .ensures))
 
--- src/lib.rt:534:1
 same-length : tie.Need-same-length Inv-loop μ-loop
 same-length c = c .before .loop .inv .laid .same
 
--- src/lib.rt:534:1
 returns : tie.Need-returns Inv-loop μ-loop
 returns c = filling-end (c .before .before .before .before .before .args .rules .now) (c .before .before .before .before .before .args .mixtures .now) (c .before .before .before .before .before .args .forms .now) (c .before .loop .forms) _ (c .before .loop .k) (c .before .loop .inv) (c .before .before .before .before .before .pre .1) (c .loop-test .left)
 

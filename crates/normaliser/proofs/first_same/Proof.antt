@@ -4,9 +4,6 @@ use mathlib.Core.Path.{sym, _∙_}
 use Prim.Native.Nat.{_-_}
 use Rattle.normaliser.proofs.first_same.Statement.{statement}
 use Rattle.normaliser.proofs.first_same.Tie as tie
-use Rattle.normaliser.proofs.first_same.Reads as reads
-use Rattle.normaliser.proofs.first_same.Lts as lts
-use Rattle.rules.proofs.same.Reads as same-reads
 
 abbrev Inv-loop : tie.InvT-loop
 Inv-loop forms k a j₀ j = Seeking forms k j
@@ -14,79 +11,60 @@ Inv-loop forms k a j₀ j = Seeking forms k j
 abbrev μ-loop : tie.MeasureT-loop
 μ-loop forms k a j₀ j = k - j
 
--- src/lib.rt:84:13
 mul-a : tie.Need-mul-a Inv-loop μ-loop
 mul-a c = search needs
 
--- src/lib.rt:86:5
 loop-holds : tie.Need-loop-holds Inv-loop μ-loop
 loop-holds c = seek-start (c .before .args .forms .now) (c .before .args .k)
 
--- src/lib.rt:87:17
 mul-b : tie.Need-mul-b Inv-loop μ-loop
 mul-b c = search needs
 
--- src/lib.rt:88:34
 add-same : tie.Need-add-same Inv-loop μ-loop
 add-same c = search needs
 
--- src/lib.rt:88:24
 mul-same : tie.Need-mul-same Inv-loop μ-loop
 mul-same c = search needs
 
--- src/lib.rt:88:24
 sub-same : tie.Need-sub-same Inv-loop μ-loop
 sub-same c = search needs
 
--- src/lib.rt:88:24
 part-same-start : tie.Need-part-same-start Inv-loop μ-loop
 part-same-start c = search needs
 
--- src/lib.rt:88:24
 part-same-end : tie.Need-part-same-end Inv-loop μ-loop
 part-same-end c = search needs
 
--- src/lib.rt:88:68
 add-same-2 : tie.Need-add-same-2 Inv-loop μ-loop
 add-same-2 c = search needs
 
--- src/lib.rt:88:58
 mul-same-2 : tie.Need-mul-same-2 Inv-loop μ-loop
 mul-same-2 c = search needs
 
--- src/lib.rt:88:58
 sub-same-2 : tie.Need-sub-same-2 Inv-loop μ-loop
 sub-same-2 c = search needs
 
--- src/lib.rt:88:58
 part-same-start-2 : tie.Need-part-same-start-2 Inv-loop μ-loop
 part-same-start-2 c = search needs
 
--- src/lib.rt:88:58
 part-same-end-2 : tie.Need-part-same-end-2 Inv-loop μ-loop
 part-same-end-2 c = search needs
 
--- src/lib.rt:88:12
 same-requires : tie.Need-same-requires Inv-loop μ-loop
 same-requires c κs = search needs
 
--- src/lib.rt:89:13
 returns : tie.Need-returns Inv-loop μ-loop
 returns c = seek-found (c .before .before .before .before .before .before .before .args .forms .now) (c .before .before .before .before .before .before .before .args .k) (c .before .before .before .before .before .loop .j) (c .before .before .before .before .before .before .before .pre) (c .before .before .before .before .before .loop .inv) (sym (c .if1 .taken) ∙ (rw (nine (c .before .before .before .before .before .before .before .args .forms .now) (c .before .before .before .before .before .before .before .args .k), nine (c .before .before .before .before .before .before .before .args .forms .now) (c .before .before .before .before .before .loop .j)) at (c .before .same .ensures)))
 
--- src/lib.rt:91:9
 add-j : tie.Need-add-j Inv-loop μ-loop
 add-j c = search needs
 
--- src/lib.rt:86:5
 loop-less : tie.Need-loop-less Inv-loop μ-loop
 loop-less c = search needs
 
--- src/lib.rt:86:5
 loop-again : tie.Need-loop-again Inv-loop μ-loop
 loop-again c = seek-next (c .before .before .before .before .before .before .before .args .forms .now) (c .before .before .before .before .before .before .before .args .k) (c .before .before .before .before .before .loop .j) (c .before .before .before .before .before .before .before .pre) (c .before .before .before .before .before .loop .inv) (c .before .before .before .before .loop-test .taken) (sym (c .if1 .left) ∙ (rw (nine (c .before .before .before .before .before .before .before .args .forms .now) (c .before .before .before .before .before .before .before .args .k), nine (c .before .before .before .before .before .before .before .args .forms .now) (c .before .before .before .before .before .loop .j)) at (c .before .same .ensures)))
 
--- src/lib.rt:80:1
 returns-2 : tie.Need-returns-2 Inv-loop μ-loop
 returns-2 c = seek-end (c .before .before .before .args .forms .now) (c .before .before .before .args .k) (c .before .loop .j) (c .before .before .before .pre) (c .before .loop .inv) (c .loop-test .left)
 

@@ -2,22 +2,16 @@ use Rattle.normaliser.proofs.Seeking.{other-count, one-count}
 use borrow.Author.Needs.{needs}
 use Rattle.normaliser.proofs.is_unrestricted.Statement.{statement}
 use Rattle.normaliser.proofs.is_unrestricted.Tie as tie
-use Rattle.normaliser.proofs.is_unrestricted.Reads as reads
-use Rattle.normaliser.proofs.is_unrestricted.Lts as lts
 
--- src/lib.rt:73:8
 shared-slice-read-if1 : tie.Need-shared-slice-read-if1
 shared-slice-read-if1 c = search needs
 
--- src/lib.rt:74:9
 returns : tie.Need-returns
 returns c = other-count (c .before .before .args .words .now) (c .before .before .pre) (c .if1 .taken)
 
--- src/lib.rt:76:5
 shared-slice-read-result : tie.Need-shared-slice-read-result
 shared-slice-read-result c = search needs
 
--- src/lib.rt:69:1
 returns-2 : tie.Need-returns-2
 returns-2 c = one-count (c .before .before .before .args .words .now) (c .before .before .before .pre) (c .before .if1 .left)
 

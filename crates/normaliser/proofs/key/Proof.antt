@@ -3,27 +3,19 @@ use Rattle.normaliser.proofs.KeyLaws.{key-fits, key-is, key-below}
 use borrow.Author.Needs.{needs}
 use Rattle.normaliser.proofs.key.Statement.{statement}
 use Rattle.normaliser.proofs.key.Tie as tie
-use Rattle.normaliser.proofs.key.Reads as reads
-use Rattle.normaliser.proofs.key.Lts as lts
-use Rattle.normaliser.proofs.mixed.Reads as mixed-reads
 
--- src/lib.rt:138:9
 mixed-requires : tie.Need-mixed-requires
 mixed-requires c κs = search needs
 
--- src/lib.rt:139:19
 add-folded : tie.Need-add-folded
 add-folded c = search needs
 
--- src/lib.rt:140:18
 mul-spread : tie.Need-mul-spread
 mul-spread c = search needs
 
--- src/lib.rt:141:5
 mul-result : tie.Need-mul-result
 mul-result c = omega (arith, key-fits (c .mixed .result) (c .before .before .args .n) (c .before .before .pre .1))
 
--- src/lib.rt:134:1
 returns : tie.Need-returns
 returns c = (key-is (c .mixed .result) (c .before .before .args .n) (c .before .before .args .words .now) (c .mixed .ensures), key-below (c .mixed .result) (c .before .before .args .n) (c .before .before .pre .0))
 

@@ -7,8 +7,6 @@ use Rattle.normaliser.proofs.KeyLaws.{mixed-next, mixed-end}
 use Rattle.normaliser.specs.Keys.{mixed}
 use Rattle.normaliser.proofs.mixed.Statement.{statement}
 use Rattle.normaliser.proofs.mixed.Tie as tie
-use Rattle.normaliser.proofs.mixed.Reads as reads
-use Rattle.normaliser.proofs.mixed.Lts as lts
 
 abbrev Inv-loop : tie.InvT-loop
 Inv-loop words h₀ i₀ h i = (i ≤ length words) × (mixed h (drop i words) ≡ mixed 0 words)
@@ -16,31 +14,24 @@ Inv-loop words h₀ i₀ h i = (i ≤ length words) × (mixed h (drop i words) �
 abbrev μ-loop : tie.MeasureT-loop
 μ-loop words h₀ i₀ h i = length words - i
 
--- src/lib.rt:126:5
 loop-holds : tie.Need-loop-holds Inv-loop μ-loop
 loop-holds c = (omega arith, refl)
 
--- src/lib.rt:127:34
 mul-h : tie.Need-mul-h Inv-loop μ-loop
 mul-h c = search needs
 
--- src/lib.rt:127:34
 shared-slice-read-h : tie.Need-shared-slice-read-h Inv-loop μ-loop
 shared-slice-read-h c = search needs
 
--- src/lib.rt:128:9
 add-i : tie.Need-add-i Inv-loop μ-loop
 add-i c = search needs
 
--- src/lib.rt:126:5
 loop-less : tie.Need-loop-less Inv-loop μ-loop
 loop-less c = search needs
 
--- src/lib.rt:126:5
 loop-again : tie.Need-loop-again Inv-loop μ-loop
 loop-again c = (search needs, mixed-next (c .before .before .before .args .words .now) _ _ (c .before .before .loop .inv .1) (c .before .loop-test .taken))
 
--- src/lib.rt:121:1
 returns : tie.Need-returns Inv-loop μ-loop
 returns c = mixed-end (c .before .before .args .words .now) _ _ (c .before .loop .inv .1) (c .loop-test .left)
 

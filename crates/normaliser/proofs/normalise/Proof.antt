@@ -5,8 +5,6 @@ use mathlib.Core.Path.{sym, _∙_}
 use native.Mathlib.Omega.{arith}
 use Rattle.normaliser.proofs.normalise.Statement.{statement}
 use Rattle.normaliser.proofs.normalise.Tie as tie
-use Rattle.normaliser.proofs.normalise.Reads as reads
-use Rattle.normaliser.proofs.normalise.Lts as lts
 
 returns : tie.Need-returns
 returns c = short-output (c .before .before .before .args .image .now) (c .before .before .before .args .out .now) (c .if1 .taken)

@@ -2,38 +2,28 @@ use Rattle.normaliser.proofs.Ordering.{number-none, number-known, numbe
 use native.Mathlib.Omega.{arith}
 use Rattle.normaliser.proofs.number.Statement.{statement}
 use Rattle.normaliser.proofs.number.Tie as tie
-use Rattle.normaliser.proofs.number.Reads as reads
-use Rattle.normaliser.proofs.number.Lts as lts
 
--- src/lib.rt:150:9
 returns : tie.Need-returns
 returns c = number-none (c .before .args .classes .now) (c .before .args .places .now) (c .before .args .k) (c .before .pre) (c .if1 .taken)
 
--- src/lib.rt:152:13
 mul-v : tie.Need-mul-v
 mul-v c = omega (arith, number-known (c .before .args .classes .now) (c .before .args .places .now) (c .before .args .k) (c .before .pre) (c .if1 .left))
 
--- src/lib.rt:152:13
 shared-slice-read-v : tie.Need-shared-slice-read-v
 shared-slice-read-v c = omega (arith, number-known (c .before .before .args .classes .now) (c .before .before .args .places .now) (c .before .before .args .k) (c .before .before .pre) (c .before .if1 .left))
 
--- src/lib.rt:154:9
 returns-2 : tie.Need-returns-2
 returns-2 c = number-unlimited (c .before .before .before .args .classes .now) (c .before .before .before .args .places .now) (c .before .before .before .args .k) (c .before .before .before .pre) (c .before .before .if1 .left) (c .if2 .taken)
 
--- src/lib.rt:156:6
 mul-result : tie.Need-mul-result
 mul-result c = omega (arith, number-small (c .before .before .before .args .classes .now) (c .before .before .before .args .places .now) (c .before .before .before .args .k) (c .before .before .before .pre) (c .before .before .if1 .left) (c .if2 .left))
 
--- src/lib.rt:156:6
 shared-slice-read-result : tie.Need-shared-slice-read-result
 shared-slice-read-result c = omega (arith, number-small (c .before .before .before .before .args .classes .now) (c .before .before .before .before .args .places .now) (c .before .before .before .before .args .k) (c .before .before .before .before .pre) (c .before .before .before .if1 .left) (c .before .if2 .left))
 
--- src/lib.rt:156:6
 sub-result : tie.Need-sub-result
 sub-result c = number-positive (c .before .before .before .before .args .classes .now) (c .before .before .before .before .args .places .now) (c .before .before .before .before .args .k) (c .before .before .before .before .pre) (c .before .before .before .if1 .left) (c .before .if2 .left)
 
--- src/lib.rt:145:1
 returns-3 : tie.Need-returns-3
 returns-3 c = number-some (c .before .before .before .before .args .classes .now) (c .before .before .before .before .args .places .now) (c .before .before .before .before .args .k) (c .before .before .before .before .pre) (c .before .before .before .if1 .left) (c .before .if2 .left)
 

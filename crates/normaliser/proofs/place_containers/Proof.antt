@@ -13,10 +13,6 @@ use Prim.Native.Nat.{_-_}
 use native.Mathlib.Omega.{arith}
 use Rattle.normaliser.proofs.place_containers.Statement.{statement}
 use Rattle.normaliser.proofs.place_containers.Tie as tie
-use Rattle.normaliser.proofs.place_containers.Reads as reads
-use Rattle.normaliser.proofs.place_containers.Lts as lts
-use Rattle.image.proofs.read16.Reads as read16-reads
-use Rattle.normaliser.proofs.place.Reads as place-reads
 
 abbrev Inv-loop : tie.InvT-loop
 Inv-loop containers classes order₀ places₀ n m₀ i₀ order places m i = Containing containers classes (placedAll [] (map (classAt classes) (containerUses (containersIn containers)))) order₀ places₀ order places n m i
@@ -24,59 +20,45 @@ Inv-loop containers classes order₀ places₀ n m₀ i₀ order places m i = Co
 abbrev μ-loop : tie.MeasureT-loop
 μ-loop containers classes order₀ places₀ n m₀ i₀ order places m i = n - i
 
--- src/lib.rt:150:5
 loop-holds : tie.Need-loop-holds Inv-loop μ-loop
 loop-holds c = containing-start (c .before .before .before .before .args .containers .now) (c .before .before .before .before .args .classes .now) (c .before .before .before .before .args .order .now) (c .before .before .before .before .args .places .now) (c .before .before .before .before .pre .2) (c .before .before .before .before .pre .1)
 
--- src/lib.rt:151:18
 mul-at : tie.Need-mul-at Inv-loop μ-loop
 mul-at c = search needs
 
--- src/lib.rt:152:48
 add-read16 : tie.Need-add-read16 Inv-loop μ-loop
 add-read16 c = search needs
 
--- src/lib.rt:152:13
 read16-requires : tie.Need-read16-requires Inv-loop μ-loop
 read16-requires c κs = search needs
 
--- src/lib.rt:153:45
 add-read16-2 : tie.Need-add-read16-2 Inv-loop μ-loop
 add-read16-2 c = search needs
 
--- src/lib.rt:153:13
 read16-requires-2 : tie.Need-read16-requires-2 Inv-loop μ-loop
 read16-requires-2 c κs = search needs
 
--- src/lib.rt:154:13
 place-requires : tie.Need-place-requires Inv-loop μ-loop
 place-requires c κs = rw (c .before .before .before .read16 .ensures .0) (placing-asks (c .before .before .before .before .before .before .before .before .before .before .args .classes .now) _ _ _ _ _ _ _ _ (both-at (classNamed (c .before .before .before .before .before .before .before .before .before .before .args .classes .now) (length (c .before .before .before .before .before .before .before .before .before .before .args .places .now))) (c .before .before .before .before .before .before .before .before .before .before .args .containers .now) (c .before .before .before .before .before .loop .i) (omega (arith, c .before .before .before .before .before .loop .inv .count)) (c .before .before .before .before .before .before .before .before .before .before .pre .0) .0) (containing-first (c .before .before .before .before .before .before .before .before .before .before .args .containers .now) (c .before .before .before .before .before .before .before .before .before .before .args .classes .now) _ (c .before .before .before .before .before .before .before .before .before .before .args .order .now) (c .before .before .before .before .before .before .before .before .before .before .args .places .now) _ _ _ _ _ (c .before .before .before .before .before .loop .inv) (c .before .before .before .before .loop-test .taken)))
 
--- src/lib.rt:155:9
 place-requires-2 : tie.Need-place-requires-2 Inv-loop μ-loop
 place-requires-2 c κs = rw (c .before .before .before .before .before .before .before .before .before .read162 .ensures .0) (placing-asks (c .before .before .before .before .before .before .before .before .before .before .before .before .before .before .before .before .before .args .classes .now) _ _ _ _ _ _ _ _ (both-at (classNamed (c .before .before .before .before .before .before .before .before .before .before .before .before .before .before .before .before .before .args .classes .now) (length (c .before .before .before .before .before .before .before .before .before .before .before .before .before .before .before .before .before .args .places .now))) (c .before .before .before .before .before .before .before .before .before .before .before .before .before .before .before .before .before .args .containers .now) (c .before .before .before .before .before .before .before .before .before .before .before .before .loop .i) (omega (arith, c .before .before .before .before .before .before .before .before .before .before .before .before .loop .inv .count)) (c .before .before .before .before .before .before .before .before .before .before .before .before .before .before .before .before .before .pre .0) .1) (placing-next (classAt (c .before .before .before .before .before .before .before .before .before .before .before .before .before .before .before .before .before .args .classes .now) (field (c .before .before .before .before .before .before .before .before .before .before .before .before .before .before .before .before .before .args .containers .now) (c .before .before .before .before .before .before .before .before .before .before .before .before .loop .i * 6 + 2) 2)) ((classAt (c .before .before .before .before .before .before .before .before .before .before .before .before .before .before .before .before .before .args .classes .now) (field (c .before .before .before .before .before .before .before .before .before .before .before .before .before .before .before .before .before .args .containers .now) (c .before .before .before .before .before .before .before .before .before .before .before .before .loop .i * 6 + 4) 2)) ∷ (map (classAt (c .before .before .before .before .before .before .before .before .before .before .before .before .before .before .before .before .before .args .classes .now)) (containerUses (drop (c .before .before .before .before .before .before .before .before .before .before .before .before .loop .i + 1) (containersIn (c .before .before .before .before .before .before .before .before .before .before .before .before .before .before .before .before .before .args .containers .now)))))) _ (c .before .before .before .before .before .before .before .before .before .before .before .before .before .before .before .before .before .args .order .now) (c .before .before .before .before .before .before .before .before .before .before .before .before .before .before .before .before .before .args .places .now) _ _ _ (containing-first (c .before .before .before .before .before .before .before .before .before .before .before .before .before .before .before .before .before .args .containers .now) (c .before .before .before .before .before .before .before .before .before .before .before .before .before .before .before .before .before .args .classes .now) _ (c .before .before .before .before .before .before .before .before .before .before .before .before .before .before .before .before .before .args .order .now) (c .before .before .before .before .before .before .before .before .before .before .before .before .before .before .before .before .before .args .places .now) _ _ _ _ _ (c .before .before .before .before .before .before .before .before .before .before .before .before .loop .inv) (c .before .before .before .before .before .before .before .before .before .before .before .loop-test .taken)) _ _ _ (c .before .before .before .before .before .before .place .ensures .1) (rw (c .before .before .before .before .before .before .before .before .before .before .read16 .ensures .0) at (c .before .before .before .before .before .before .place .ensures .0)) (c .before .before .before .before .before .order .given) (c .before .before .before .places .given)))
 
--- src/lib.rt:156:9
 add-i : tie.Need-add-i Inv-loop μ-loop
 add-i c = search needs
 
--- src/lib.rt:150:5
 loop-less : tie.Need-loop-less Inv-loop μ-loop
 loop-less c = search needs
 
--- src/lib.rt:150:5
 loop-again : tie.Need-loop-again Inv-loop μ-loop
 loop-again c = containing-next (c .before .before .before .before .before .before .before .before .before .before .before .before .before .before .before .before .before .before .before .before .before .before .args .containers .now) (c .before .before .before .before .before .before .before .before .before .before .before .before .before .before .before .before .before .before .before .before .before .before .args .classes .now) _ (c .before .before .before .before .before .before .before .before .before .before .before .before .before .before .before .before .before .before .before .before .before .before .args .order .now) (c .before .before .before .before .before .before .before .before .before .before .before .before .before .before .before .before .before .before .before .before .before .before .args .places .now) _ _ _ _ _ (c .before .before .before .before .before .before .before .before .before .before .before .before .before .before .before .before .before .loop .inv) (c .before .before .before .before .before .before .before .before .before .before .before .before .before .before .before .before .loop-test .taken) _ _ _ (placing-next (classAt (c .before .before .before .before .before .before .before .before .before .before .before .before .before .before .before .before .before .before .before .before .before .before .args .classes .now) (field (c .before .before .before .before .before .before .before .before .before .before .before .before .before .before .before .before .before .before .before .before .before .before .args .containers .now) (c .before .before .before .before .before .before .before .before .before .before .before .before .before .before .before .before .before .loop .i * 6 + 4) 2)) (map (classAt (c .before .before .before .before .before .before .before .before .before .before .before .before .before .before .before .before .before .before .before .before .before .before .args .classes .now)) (containerUses (drop (c .before .before .before .before .before .before .before .before .before .before .before .before .before .before .before .before .before .loop .i + 1) (containersIn (c .before .before .before .before .before .before .before .before .before .before .before .before .before .before .before .before .before .before .before .before .before .before .args .containers .now))))) _ (c .before .before .before .before .before .before .before .before .before .before .before .before .before .before .before .before .before .before .before .before .before .before .args .order .now) (c .before .before .before .before .before .before .before .before .before .before .before .before .before .before .before .before .before .before .before .before .before .before .args .places .now) _ _ _ (placing-next (classAt (c .before .before .before .before .before .before .before .before .before .before .before .before .before .before .before .before .before .before .before .before .before .before .args .classes .now) (field (c .before .before .before .before .before .before .before .before .before .before .before .before .before .before .before .before .before .before .before .before .before .before .args .containers .now) (c .before .before .before .before .before .before .before .before .before .before .before .before .before .before .before .before .before .loop .i * 6 + 2) 2)) ((classAt (c .before .before .before .before .before .before .before .before .before .before .before .before .before .before .before .before .before .before .before .before .before .before .args .classes .now) (field (c .before .before .before .before .before .before .before .before .before .before .before .before .before .before .before .before .before .before .before .before .before .before .args .containers .now) (c .before .before .before .before .before .before .before .before .before .before .before .before .before .before .before .before .before .loop .i * 6 + 4) 2)) ∷ (map (classAt (c .before .before .before .before .before .before .before .before .before .before .before .before .before .before .before .before .before .before .before .before .before .before .args .classes .now)) (containerUses (drop (c .before .before .before .before .before .before .before .before .before .before .before .before .before .before .before .before .before .loop .i + 1) (containersIn (c .before .before .before .before .before .before .before .before .before .before .before .before .before .before .before .before .before .before .before .before .before .before .args .containers .now)))))) _ (c .before .before .before .before .before .before .before .before .before .before .before .before .before .before .before .before .before .before .before .before .before .before .args .order .now) (c .before .before .before .before .before .before .before .before .before .before .before .before .before .before .before .before .before .before .before .before .before .before .args .places .now) _ _ _ (containing-first (c .before .before .before .before .before .before .before .before .before .before .before .before .before .before .before .before .before .before .before .before .before .before .args .containers .now) (c .before .before .before .before .before .before .before .before .before .before .before .before .before .before .before .before .before .before .before .before .before .before .args .classes .now) _ (c .before .before .before .before .before .before .before .before .before .before .before .before .before .before .before .before .before .before .before .before .before .before .args .order .now) (c .before .before .before .before .before .before .before .before .before .before .before .before .before .before .before .before .before .before .before .before .before .before .args .places .now) _ _ _ _ _ (c .before .before .before .before .before .before .before .before .before .before .before .before .before .before .before .before .before .loop .inv) (c .before .before .before .before .before .before .before .before .before .before .before .before .before .before .before .before .loop-test .taken)) _ _ _ (c .before .before .before .before .before .before .before .before .before .before .before .place .ensures .1) (rw (c .before .before .before .before .before .before .before .before .before .before .before .before .before .before .before .read16 .ensures .0) at (c .before .before .before .before .before .before .before .before .before .before .before .place .ensures .0)) (c .before .before .before .before .before .before .before .before .before .before .order .given) (c .before .before .before .before .before .before .before .before .places .given)) _ _ _ (c .before .before .before .before .place2 .ensures .1) (rw (c .before .before .before .before .before .before .before .before .before .before .before .before .before .before .read162 .ensures .0) at (c .before .before .before .before .place2 .ensures .0)) (c .before .before .before .order2 .given) (c .before .places2 .given))
 
--- src/lib.rt:143:1
 same-length : tie.Need-same-length Inv-loop μ-loop
 same-length c = c .before .loop .inv .placing .longOrder
 
--- src/lib.rt:143:1
 same-length-2 : tie.Need-same-length-2 Inv-loop μ-loop
 same-length-2 c = c .before .loop .inv .placing .longPlaces
 
--- src/lib.rt:143:1
 returns : tie.Need-returns Inv-loop μ-loop
 returns c = (containing-end (c .before .before .before .before .before .before .args .containers .now) (c .before .before .before .before .before .before .args .classes .now) _ _ _ _ _ _ _ _ (c .before .loop .inv) (c .loop-test .left), c .before .loop .inv .placing .ordered)
 

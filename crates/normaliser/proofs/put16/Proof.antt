@@ -3,30 +3,22 @@ use Rattle.image.specs.Bytes.{bytesOf}
 use borrow.Author.Needs.{needs}
 use Rattle.normaliser.proofs.put16.Statement.{statement}
 use Rattle.normaliser.proofs.put16.Tie as tie
-use Rattle.normaliser.proofs.put16.Reads as reads
-use Rattle.normaliser.proofs.put16.Lts as lts
 
--- src/lib.rt:23:14
 cast-out : tie.Need-cast-out
 cast-out c = search needs
 
--- src/lib.rt:23:5
 slice-write-out : tie.Need-slice-write-out
 slice-write-out c = search needs
 
--- src/lib.rt:24:14
 cast-out-2 : tie.Need-cast-out-2
 cast-out-2 c = search needs
 
--- src/lib.rt:24:5
 slice-write-out-2 : tie.Need-slice-write-out-2
 slice-write-out-2 c = search needs
 
--- src/lib.rt:19:1
 same-length : tie.Need-same-length
 same-length c = search needs
 
--- src/lib.rt:19:1
 returns : tie.Need-returns
 unfolding bytesOf
 returns c = all-sets (c .args .out .now) (bytesOf 2 (c .args .v)) (c .pre)

@@ -5,78 +5,58 @@ use native.Mathlib.Omega.{arith}
 use borrow.Author.Needs.{needs}
 use Rattle.normaliser.proofs.put64.Statement.{statement}
 use Rattle.normaliser.proofs.put64.Tie as tie
-use Rattle.normaliser.proofs.put64.Reads as reads
-use Rattle.normaliser.proofs.put64.Lts as lts
 
--- src/lib.rt:32:14
 cast-out : tie.Need-cast-out
 cast-out c = search needs
 
--- src/lib.rt:32:5
 slice-write-out : tie.Need-slice-write-out
 slice-write-out c = search needs
 
--- src/lib.rt:33:14
 cast-out-2 : tie.Need-cast-out-2
 cast-out-2 c = search needs
 
--- src/lib.rt:33:5
 slice-write-out-2 : tie.Need-slice-write-out-2
 slice-write-out-2 c = search needs
 
--- src/lib.rt:34:14
 cast-out-3 : tie.Need-cast-out-3
 cast-out-3 c = search needs
 
--- src/lib.rt:34:5
 slice-write-out-3 : tie.Need-slice-write-out-3
 slice-write-out-3 c = search needs
 
--- src/lib.rt:35:14
 cast-out-4 : tie.Need-cast-out-4
 cast-out-4 c = search needs
 
--- src/lib.rt:35:5
 slice-write-out-4 : tie.Need-slice-write-out-4
 slice-write-out-4 c = search needs
 
--- src/lib.rt:36:14
 cast-out-5 : tie.Need-cast-out-5
 cast-out-5 c = search needs
 
--- src/lib.rt:36:5
 slice-write-out-5 : tie.Need-slice-write-out-5
 slice-write-out-5 c = simp length-set (omega arith)
 
--- src/lib.rt:37:14
 cast-out-6 : tie.Need-cast-out-6
 cast-out-6 c = search needs
 
--- src/lib.rt:37:5
 slice-write-out-6 : tie.Need-slice-write-out-6
 slice-write-out-6 c = simp length-set (omega arith)
 
--- src/lib.rt:38:14
 cast-out-7 : tie.Need-cast-out-7
 cast-out-7 c = search needs
 
--- src/lib.rt:38:5
 slice-write-out-7 : tie.Need-slice-write-out-7
 slice-write-out-7 c = simp length-set (omega arith)
 
--- src/lib.rt:39:14
 cast-out-8 : tie.Need-cast-out-8
 cast-out-8 c = search needs
 
--- src/lib.rt:39:5
 slice-write-out-8 : tie.Need-slice-write-out-8
 slice-write-out-8 c = simp length-set (omega arith)
 
--- src/lib.rt:28:1
 same-length : tie.Need-same-length
 same-length c = simp length-set
 
--- src/lib.rt:28:1
 returns : tie.Need-returns
 unfolding bytesOf
 returns c = all-sets (c .args .out .now) (bytesOf 8 (c .args .v)) (c .pre)

@@ -6,62 +6,46 @@ use native.Mathlib.Omega.{arith}
 use borrow.Author.Needs.{needs}
 use Rattle.normaliser.proofs.put_container.Statement.{statement}
 use Rattle.normaliser.proofs.put_container.Tie as tie
-use Rattle.normaliser.proofs.put_container.Reads as reads
-use Rattle.normaliser.proofs.put_container.Lts as lts
 
--- src/lib.rt:58:14
 cast-out : tie.Need-cast-out
 cast-out c = search needs
 
--- src/lib.rt:58:5
 slice-write-out : tie.Need-slice-write-out
 slice-write-out c = search needs
 
--- src/lib.rt:59:14
 cast-out-2 : tie.Need-cast-out-2
 cast-out-2 c = search needs
 
--- src/lib.rt:59:5
 slice-write-out-2 : tie.Need-slice-write-out-2
 slice-write-out-2 c = search needs
 
--- src/lib.rt:60:14
 cast-out-3 : tie.Need-cast-out-3
 cast-out-3 c = search needs
 
--- src/lib.rt:60:5
 slice-write-out-3 : tie.Need-slice-write-out-3
 slice-write-out-3 c = search needs
 
--- src/lib.rt:61:14
 cast-out-4 : tie.Need-cast-out-4
 cast-out-4 c = search needs
 
--- src/lib.rt:61:5
 slice-write-out-4 : tie.Need-slice-write-out-4
 slice-write-out-4 c = search needs
 
--- src/lib.rt:62:14
 cast-out-5 : tie.Need-cast-out-5
 cast-out-5 c = search needs
 
--- src/lib.rt:62:5
 slice-write-out-5 : tie.Need-slice-write-out-5
 slice-write-out-5 c = simp length-set (omega arith)
 
--- src/lib.rt:63:14
 cast-out-6 : tie.Need-cast-out-6
 cast-out-6 c = search needs
 
--- src/lib.rt:63:5
 slice-write-out-6 : tie.Need-slice-write-out-6
 slice-write-out-6 c = simp length-set (omega arith)
 
--- src/lib.rt:54:1
 same-length : tie.Need-same-length
 same-length c = simp length-set
 
--- src/lib.rt:54:1
 returns : tie.Need-returns
 unfolding bytesOf containerBytes
 returns c = all-sets (c .args .out .now) (containerBytes (record { kind = c .args .kind; atom = c .args .atom; permit = c .args .permit; run = c .args .run })) (c .pre)

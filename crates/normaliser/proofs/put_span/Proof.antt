@@ -4,46 +4,34 @@ use Rattle.image.specs.Normal.{spanBytes}
 use borrow.Author.Needs.{needs}
 use Rattle.normaliser.proofs.put_span.Statement.{statement}
 use Rattle.normaliser.proofs.put_span.Tie as tie
-use Rattle.normaliser.proofs.put_span.Reads as reads
-use Rattle.normaliser.proofs.put_span.Lts as lts
 
--- src/lib.rt:47:14
 cast-out : tie.Need-cast-out
 cast-out c = search needs
 
--- src/lib.rt:47:5
 slice-write-out : tie.Need-slice-write-out
 slice-write-out c = search needs
 
--- src/lib.rt:48:14
 cast-out-2 : tie.Need-cast-out-2
 cast-out-2 c = search needs
 
--- src/lib.rt:48:5
 slice-write-out-2 : tie.Need-slice-write-out-2
 slice-write-out-2 c = search needs
 
--- src/lib.rt:49:14
 cast-out-3 : tie.Need-cast-out-3
 cast-out-3 c = search needs
 
--- src/lib.rt:49:5
 slice-write-out-3 : tie.Need-slice-write-out-3
 slice-write-out-3 c = search needs
 
--- src/lib.rt:50:14
 cast-out-4 : tie.Need-cast-out-4
 cast-out-4 c = search needs
 
--- src/lib.rt:50:5
 slice-write-out-4 : tie.Need-slice-write-out-4
 slice-write-out-4 c = search needs
 
--- src/lib.rt:43:1
 same-length : tie.Need-same-length
 same-length c = search needs
 
--- src/lib.rt:43:1
 returns : tie.Need-returns
 unfolding bytesOf spanBytes
 returns c = all-sets (c .args .out .now) (spanBytes (record { first = c .args .first; count = c .args .count })) (c .pre)

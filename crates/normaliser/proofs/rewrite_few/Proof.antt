@@ -4,52 +4,37 @@ use lib.ListN.{replicate, length-replicate}
 use Rattle.normaliser.proofs.Finish.{front-few, front-wide, front-long, front-tabled, front-written}
 use Rattle.normaliser.proofs.rewrite_few.Statement.{statement}
 use Rattle.normaliser.proofs.rewrite_few.Tie as tie
-use Rattle.normaliser.proofs.rewrite_few.Reads as reads
-use Rattle.normaliser.proofs.rewrite_few.Lts as lts
-use Rattle.normaliser.proofs.fill_forms.Reads as fill-forms-reads
-use Rattle.normaliser.proofs.write_few.Reads as write-few-reads
 
--- src/lib.rt:581:13
 mul-n : tie.Need-mul-n
 mul-n c = omega (arith, c .before .before .before .before .before .pre .2)
 
--- src/lib.rt:582:16
 sub-fill-forms : tie.Need-sub-fill-forms
 sub-fill-forms c = omega (arith, c .before .before .before .before .before .pre .2)
 
--- src/lib.rt:582:16
 part-forms-start : tie.Need-part-forms-start
 part-forms-start c = omega (arith, c .before .before .before .before .before .pre .2)
 
--- src/lib.rt:582:16
 part-forms-end : tie.Need-part-forms-end
 part-forms-end c = omega (arith, c .before .before .before .before .before .pre .2)
 
--- src/lib.rt:582:5
 fill-forms-requires : tie.Need-fill-forms-requires
 fill-forms-requires c κs = (front-wide (c .before .before .before .before .before .before .args .containers .now) (c .before .before .before .before .before .before .args .users .now) (c .before .before .before .before .before .before .args .rules .now) (c .before .before .before .before .before .before .args .mixtures .now) (c .before .before .before .before .before .before .pre .0) (replicate 144 0) (omega (arith, length-replicate {A = ℕ} 144 0, c .before .before .before .before .before .before .pre .2)), c .before .before .before .before .before .before .pre .1)
 
--- src/lib.rt:583:34
 sub-write-few : tie.Need-sub-write-few
 sub-write-few c = omega arith
 
--- src/lib.rt:583:34
 part-write-few-start : tie.Need-part-write-few-start
 part-write-few-start c = omega arith
 
--- src/lib.rt:583:34
 part-write-few-end : tie.Need-part-write-few-end
 part-write-few-end c = front-long (c .before .before .before .before .before .before .before .before .before .args .containers .now) (c .before .before .before .before .before .before .before .before .before .args .users .now) (c .before .before .before .before .before .before .before .before .before .args .rules .now) (c .before .before .before .before .before .before .before .before .before .args .mixtures .now) (c .before .before .before .before .before .before .before .before .before .pre .0) (replicate 144 0) _ (c .before .before .fill-forms .ensures)
 
--- src/lib.rt:583:5
 write-few-requires : tie.Need-write-few-requires
 write-few-requires c κs = (front-tabled (c .before .before .before .before .before .before .before .before .before .before .before .args .containers .now) (c .before .before .before .before .before .before .before .before .before .before .before .args .users .now) (c .before .before .before .before .before .before .before .before .before .before .before .args .rules .now) (c .before .before .before .before .before .before .before .before .before .before .before .args .mixtures .now) (c .before .before .before .before .before .before .before .before .before .before .before .pre .0) (replicate 144 0) _ (c .before .before .before .before .fill-forms .ensures), front-few (c .before .before .before .before .before .before .before .before .before .before .before .args .containers .now) (c .before .before .before .before .before .before .before .before .before .before .before .args .users .now) (c .before .before .before .before .before .before .before .before .before .before .before .args .rules .now) (c .before .before .before .before .before .before .before .before .before .before .before .args .mixtures .now) (c .before .before .before .before .before .before .before .before .before .before .before .pre .0) (replicate 144 0) _ (c .before .before .before .before .fill-forms .ensures) 16 (c .before .before .before .before .before .before .before .before .before .before .before .pre .2), c .before .before .before .before .before .before .before .before .before .before .before .pre .3)
 
--- src/lib.rt:570:1
 same-length : tie.Need-same-length
 same-length c = c .before .out .given
 
--- src/lib.rt:570:1
 returns : tie.Need-returns
 returns c = front-written (c .before .before .before .before .before .before .before .before .before .before .before .before .before .before .args .containers .now) (c .before .before .before .before .before .before .before .before .before .before .before .before .before .before .args .users .now) (c .before .before .before .before .before .before .before .before .before .before .before .before .before .before .args .rules .now) (c .before .before .before .before .before .before .before .before .before .before .before .before .before .before .args .mixtures .now) (c .before .before .before .before .before .before .before .before .before .before .before .before .before .before .pre .0) (replicate 144 0) _ (c .before .before .before .before .before .before .before .fill-forms .ensures) _ _ _ (c .before .before .write-few .ensures)
 

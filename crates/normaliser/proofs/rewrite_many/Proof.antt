@@ -4,52 +4,37 @@ use lib.ListN.{replicate, length-replicate}
 use Rattle.normaliser.proofs.Finish.{rules-small, front-wide, front-long, front-tabled, front-written}
 use Rattle.normaliser.proofs.rewrite_many.Statement.{statement}
 use Rattle.normaliser.proofs.rewrite_many.Tie as tie
-use Rattle.normaliser.proofs.rewrite_many.Reads as reads
-use Rattle.normaliser.proofs.rewrite_many.Lts as lts
-use Rattle.normaliser.proofs.fill_forms.Reads as fill-forms-reads
-use Rattle.normaliser.proofs.write_many.Reads as write-many-reads
 
--- src/lib.rt:598:13
 mul-n : tie.Need-mul-n
 mul-n c = omega (arith, rules-small (c .before .before .before .before .before .args .containers .now) (c .before .before .before .before .before .args .users .now) (c .before .before .before .before .before .args .rules .now) (c .before .before .before .before .before .args .mixtures .now) (c .before .before .before .before .before .pre .0))
 
--- src/lib.rt:599:16
 sub-fill-forms : tie.Need-sub-fill-forms
 sub-fill-forms c = omega (arith, rules-small (c .before .before .before .before .before .args .containers .now) (c .before .before .before .before .before .args .users .now) (c .before .before .before .before .before .args .rules .now) (c .before .before .before .before .before .args .mixtures .now) (c .before .before .before .before .before .pre .0))
 
--- src/lib.rt:599:16
 part-forms-start : tie.Need-part-forms-start
 part-forms-start c = omega (arith, rules-small (c .before .before .before .before .before .args .containers .now) (c .before .before .before .before .before .args .users .now) (c .before .before .before .before .before .args .rules .now) (c .before .before .before .before .before .args .mixtures .now) (c .before .before .before .before .before .pre .0))
 
--- src/lib.rt:599:16
 part-forms-end : tie.Need-part-forms-end
 part-forms-end c = omega (arith, rules-small (c .before .before .before .before .before .args .containers .now) (c .before .before .before .before .before .args .users .now) (c .before .before .before .before .before .args .rules .now) (c .before .before .before .before .before .args .mixtures .now) (c .before .before .before .before .before .pre .0))
 
--- src/lib.rt:599:5
 fill-forms-requires : tie.Need-fill-forms-requires
 fill-forms-requires c κs = (front-wide (c .before .before .before .before .before .before .args .containers .now) (c .before .before .before .before .before .before .args .users .now) (c .before .before .before .before .before .before .args .rules .now) (c .before .before .before .before .before .before .args .mixtures .now) (c .before .before .before .before .before .before .pre .0) (replicate 2304 0) (omega (arith, length-replicate {A = ℕ} 2304 0, rules-small (c .before .before .before .before .before .before .args .containers .now) (c .before .before .before .before .before .before .args .users .now) (c .before .before .before .before .before .before .args .rules .now) (c .before .before .before .before .before .before .args .mixtures .now) (c .before .before .before .before .before .before .pre .0))), c .before .before .before .before .before .before .pre .1)
 
--- src/lib.rt:600:35
 sub-write-many : tie.Need-sub-write-many
 sub-write-many c = omega arith
 
--- src/lib.rt:600:35
 part-write-many-start : tie.Need-part-write-many-start
 part-write-many-start c = omega arith
 
--- src/lib.rt:600:35
 part-write-many-end : tie.Need-part-write-many-end
 part-write-many-end c = front-long (c .before .before .before .before .before .before .before .before .before .args .containers .now) (c .before .before .before .before .before .before .before .before .before .args .users .now) (c .before .before .before .before .before .before .before .before .before .args .rules .now) (c .before .before .before .before .before .before .before .before .before .args .mixtures .now) (c .before .before .before .before .before .before .before .before .before .pre .0) (replicate 2304 0) _ (c .before .before .fill-forms .ensures)
 
--- src/lib.rt:600:5
 write-many-requires : tie.Need-write-many-requires
 write-many-requires c κs = (front-tabled (c .before .before .before .before .before .before .before .before .before .before .before .args .containers .now) (c .before .before .before .before .before .before .before .before .before .before .before .args .users .now) (c .before .before .before .before .before .before .before .before .before .before .before .args .rules .now) (c .before .before .before .before .before .before .before .before .before .before .before .args .mixtures .now) (c .before .before .before .before .before .before .before .before .before .before .before .pre .0) (replicate 2304 0) _ (c .before .before .before .before .fill-forms .ensures), c .before .before .before .before .before .before .before .before .before .before .before .pre .2)
 
--- src/lib.rt:587:1
 same-length : tie.Need-same-length
 same-length c = c .before .out .given
 
--- src/lib.rt:587:1
 returns : tie.Need-returns
 returns c = front-written (c .before .before .before .before .before .before .before .before .before .before .before .before .before .before .args .containers .now) (c .before .before .before .before .before .before .before .before .before .before .before .before .before .before .args .users .now) (c .before .before .before .before .before .before .before .before .before .before .before .before .before .before .args .rules .now) (c .before .before .before .before .before .before .before .before .before .before .before .before .before .before .args .mixtures .now) (c .before .before .before .before .before .before .before .before .before .before .before .before .before .before .pre .0) (replicate 2304 0) _ (c .before .before .before .before .before .before .before .fill-forms .ensures) _ _ _ (c .before .before .write-many .ensures)
 

@@ -4,52 +4,37 @@ use lib.ListN.{replicate, length-replicate}
 use Rattle.normaliser.proofs.Finish.{front-few, front-wide, front-long, front-tabled, front-written}
 use Rattle.normaliser.proofs.rewrite_one.Statement.{statement}
 use Rattle.normaliser.proofs.rewrite_one.Tie as tie
-use Rattle.normaliser.proofs.rewrite_one.Reads as reads
-use Rattle.normaliser.proofs.rewrite_one.Lts as lts
-use Rattle.normaliser.proofs.fill_forms.Reads as fill-forms-reads
-use Rattle.normaliser.proofs.write_one.Reads as write-one-reads
 
--- src/lib.rt:564:13
 mul-n : tie.Need-mul-n
 mul-n c = omega (arith, c .before .before .before .before .before .pre .2)
 
--- src/lib.rt:565:16
 sub-fill-forms : tie.Need-sub-fill-forms
 sub-fill-forms c = omega (arith, c .before .before .before .before .before .pre .2)
 
--- src/lib.rt:565:16
 part-forms-start : tie.Need-part-forms-start
 part-forms-start c = omega (arith, c .before .before .before .before .before .pre .2)
 
--- src/lib.rt:565:16
 part-forms-end : tie.Need-part-forms-end
 part-forms-end c = omega (arith, c .before .before .before .before .before .pre .2)
 
--- src/lib.rt:565:5
 fill-forms-requires : tie.Need-fill-forms-requires
 fill-forms-requires c κs = (front-wide (c .before .before .before .before .before .before .args .containers .now) (c .before .before .before .before .before .before .args .users .now) (c .before .before .before .before .before .before .args .rules .now) (c .before .before .before .before .before .before .args .mixtures .now) (c .before .before .before .before .before .before .pre .0) (replicate 9 0) (omega (arith, length-replicate {A = ℕ} 9 0, c .before .before .before .before .before .before .pre .2)), c .before .before .before .before .before .before .pre .1)
 
--- src/lib.rt:566:34
 sub-write-one : tie.Need-sub-write-one
 sub-write-one c = omega arith
 
--- src/lib.rt:566:34
 part-write-one-start : tie.Need-part-write-one-start
 part-write-one-start c = omega arith
 
--- src/lib.rt:566:34
 part-write-one-end : tie.Need-part-write-one-end
 part-write-one-end c = front-long (c .before .before .before .before .before .before .before .before .before .args .containers .now) (c .before .before .before .before .before .before .before .before .before .args .users .now) (c .before .before .before .before .before .before .before .before .before .args .rules .now) (c .before .before .before .before .before .before .before .before .before .args .mixtures .now) (c .before .before .before .before .before .before .before .before .before .pre .0) (replicate 9 0) _ (c .before .before .fill-forms .ensures)
 
--- src/lib.rt:566:5
 write-one-requires : tie.Need-write-one-requires
 write-one-requires c κs = (front-tabled (c .before .before .before .before .before .before .before .before .before .before .before .args .containers .now) (c .before .before .before .before .before .before .before .before .before .before .before .args .users .now) (c .before .before .before .before .before .before .before .before .before .before .before .args .rules .now) (c .before .before .before .before .before .before .before .before .before .before .before .args .mixtures .now) (c .before .before .before .before .before .before .before .before .before .before .before .pre .0) (replicate 9 0) _ (c .before .before .before .before .fill-forms .ensures), front-few (c .before .before .before .before .before .before .before .before .before .before .before .args .containers .now) (c .before .before .before .before .before .before .before .before .before .before .before .args .users .now) (c .before .before .before .before .before .before .before .before .before .before .before .args .rules .now) (c .before .before .before .before .before .before .before .before .before .before .before .args .mixtures .now) (c .before .before .before .before .before .before .before .before .before .before .before .pre .0) (replicate 9 0) _ (c .before .before .before .before .fill-forms .ensures) 1 (c .before .before .before .before .before .before .before .before .before .before .before .pre .2), c .before .before .before .before .before .before .before .before .before .before .before .pre .3)
 
--- src/lib.rt:553:1
 same-length : tie.Need-same-length
 same-length c = c .before .out .given
 
--- src/lib.rt:553:1
 returns : tie.Need-returns
 returns c = front-written (c .before .before .before .before .before .before .before .before .before .before .before .before .before .before .args .containers .now) (c .before .before .before .before .before .before .before .before .before .before .before .before .before .before .args .users .now) (c .before .before .before .before .before .before .before .before .before .before .before .before .before .before .args .rules .now) (c .before .before .before .before .before .before .before .before .before .before .before .before .before .before .args .mixtures .now) (c .before .before .before .before .before .before .before .before .before .before .before .before .before .before .pre .0) (replicate 9 0) _ (c .before .before .before .before .before .before .before .fill-forms .ensures) _ _ _ (c .before .before .write-one .ensures)
 

@@ -1,13 +1,11 @@
-use Rattle.normaliser.specs.Tables.{containerBytesAt, userBytes, spanBytesAt, mixtureBytes, formAt}
-use mathlib.Core.Path.{_≡_, sym, ap, _∙_}
-use lib.ListN.{length, take}
-use Prim.Native.Nat.{ℕ, _+_, _-_, _*_, _/_}
+use Rattle.normaliser.specs.Tables.{containerBytesAt, userBytes, spanBytesAt, mixtureBytes}
+use mathlib.Core.Path.{sym, _∙_}
+use lib.ListN.{length}
+use Prim.Native.Nat.{_-_, _*_, _/_}
 use native.Mathlib.Omega.{arith}
 use Rattle.normaliser.proofs.Assembly.{image-end, image-part, image-head, image-head-part, image-done, image-same, containers-size, users-size, spans-size, mixtures-size, records-room}
 use Rattle.normaliser.proofs.write_image.Statement.{statement}
 use Rattle.normaliser.proofs.write_image.Tie as tie
-use Rattle.normaliser.proofs.write_image.Reads as reads
-use Rattle.normaliser.proofs.write_image.Lts as lts
 
 write-records-requires : tie.Need-write-records-requires
 write-records-requires c κs = c .before .before .before .before .before .before .before .before .pre

@@ -6,13 +6,10 @@ use lib.ListN.{length, length-map}
 use mathlib.Core.List.{map}
 use mathlib.Core.Path.{ap, _∙_}
 use native.Mathlib.Nat.{add-sub-cancel-left}
-use Prim.Native.Nat.{ℕ, _-_, _*_}
+use Prim.Native.Nat.{_-_, _*_}
 use native.Mathlib.Omega.{arith}
 use Rattle.normaliser.proofs.write_numbers.Statement.{statement}
 use Rattle.normaliser.proofs.write_numbers.Tie as tie
-use Rattle.normaliser.proofs.write_numbers.Reads as reads
-use Rattle.normaliser.proofs.write_numbers.Lts as lts
-use Rattle.normaliser.proofs.put16.Reads as put16-reads
 
 abbrev Inv-loop : tie.InvT-loop
 Inv-loop out₀ numbers i₀ out i = Laid 2 (map (bytesOf 2) numbers) out₀ out i
@@ -20,59 +17,45 @@ Inv-loop out₀ numbers i₀ out i = Laid 2 (map (bytesOf 2) numbers) out₀ out
 abbrev μ-loop : tie.MeasureT-loop
 μ-loop out₀ numbers i₀ out i = length numbers - i
 
--- src/lib.rt:283:5
 loop-holds : tie.Need-loop-holds Inv-loop μ-loop
 loop-holds c = laid-start 2 (map (bytesOf 2) (c .before .before .args .numbers .now)) (c .before .before .args .out .now) (omega (arith, c .before .before .pre, length-map (c .before .before .args .numbers .now) (bytesOf 2)))
 
--- src/lib.rt:284:18
 mul-at : tie.Need-mul-at Inv-loop μ-loop
 mul-at c = search needs
 
--- src/lib.rt:285:28
 add-put16 : tie.Need-add-put16 Inv-loop μ-loop
 add-put16 c = search needs
 
--- src/lib.rt:285:15
 sub-put16 : tie.Need-sub-put16 Inv-loop μ-loop
 sub-put16 c = search needs
 
--- src/lib.rt:285:15
 part-put16-start : tie.Need-part-put16-start Inv-loop μ-loop
 part-put16-start c = search needs
 
--- src/lib.rt:285:15
 part-put16-end : tie.Need-part-put16-end Inv-loop μ-loop
 part-put16-end c = search needs
 
--- src/lib.rt:285:37
 mul-put16 : tie.Need-mul-put16 Inv-loop μ-loop
 mul-put16 c = search needs
 
--- src/lib.rt:285:37
 shared-slice-read-put16 : tie.Need-shared-slice-read-put16 Inv-loop μ-loop
 shared-slice-read-put16 c = search needs
 
--- src/lib.rt:285:9
 put16-requires : tie.Need-put16-requires Inv-loop μ-loop
 put16-requires c κs = part-wide (c .before .before .before .loop .out) (c .before .before .before .loop .i * 2) 2 (omega (arith, c .before .before .before .loop .inv .same, c .before .before .before .before .before .before .pre))
 
--- src/lib.rt:286:9
 add-i : tie.Need-add-i Inv-loop μ-loop
 add-i c = search needs
 
--- src/lib.rt:283:5
 loop-less : tie.Need-loop-less Inv-loop μ-loop
 loop-less c = search needs
 
--- src/lib.rt:283:5
 loop-again : tie.Need-loop-again Inv-loop μ-loop
 loop-again c = rw add-sub-cancel-left (laid-next 2 (map (bytesOf 2) (c .before .before .before .before .before .before .before .before .before .args .numbers .now)) (numbers-wide 2 (c .before .before .before .before .before .before .before .before .before .args .numbers .now)) (c .before .before .before .before .before .before .before .before .before .args .out .now) (c .before .before .before .before .before .before .loop .out) (c .before .before .before .before .before .before .loop .i) (c .before .before .before .before .before .before .loop .inv) (omega (arith, length-map (c .before .before .before .before .before .before .before .before .before .args .numbers .now) (bytesOf 2))) _ (c .before .before .put16 .ensures ∙ number-row 2 (c .before .before .before .before .before .before .before .before .before .args .numbers .now) (c .before .before .before .before .before .before .loop .i) (c .before .before .before .before .before .loop-test .taken)))
 
--- src/lib.rt:278:1
 same-length : tie.Need-same-length Inv-loop μ-loop
 same-length c = c .before .loop .inv .same
 
--- src/lib.rt:278:1
 returns : tie.Need-returns Inv-loop μ-loop
 returns c = laid-end 2 (map (bytesOf 2) (c .before .before .before .before .args .numbers .now)) (numbers-wide 2 (c .before .before .before .before .args .numbers .now)) (c .before .before .before .before .args .out .now) (c .before .loop .out) (c .before .loop .i) (c .before .loop .inv) (omega (arith, length-map (c .before .before .before .before .args .numbers .now) (bytesOf 2)))
 

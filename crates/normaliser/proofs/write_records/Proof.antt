@@ -1,13 +1,11 @@
-use Rattle.normaliser.specs.Tables.{containerBytesAt, userBytes, spanBytesAt, mixtureBytes, formAt}
-use mathlib.Core.Path.{_≡_, sym, ap, _∙_}
-use lib.ListN.{length, take}
-use Prim.Native.Nat.{ℕ, _+_, _-_, _*_, _/_}
+use Rattle.normaliser.specs.Tables.{containerBytesAt, userBytes, spanBytesAt}
+use mathlib.Core.Path.{sym}
+use lib.ListN.{length}
+use Prim.Native.Nat.{_-_, _*_, _/_}
 use native.Mathlib.Omega.{arith}
 use Rattle.normaliser.proofs.Assembly.{records-part, records-end, records-part-2, records-end-2, records-part-3, records-three, containers-size, users-size, spans-size, records-room}
 use Rattle.normaliser.proofs.write_records.Statement.{statement}
 use Rattle.normaliser.proofs.write_records.Tie as tie
-use Rattle.normaliser.proofs.write_records.Reads as reads
-use Rattle.normaliser.proofs.write_records.Lts as lts
 
 mul-b : tie.Need-mul-b
 mul-b c = omega (arith, records-room (c .before .before .before .before .before .before .before .args .containers .now) (c .before .before .before .before .before .before .before .args .users .now) (c .before .before .before .before .before .before .before .args .forms .now) (c .before .before .before .before .before .before .before .args .classes .now) (c .before .before .before .before .before .before .before .args .places .now) (c .before .before .before .before .before .before .before .args .order .now) (c .before .before .before .before .before .before .before .args .out .now) (c .before .before .before .before .before .before .before .pre))

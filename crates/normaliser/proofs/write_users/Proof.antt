@@ -3,23 +3,16 @@ use Rattle.normaliser.proofs.Reading.{userRows, user-rows, user-row, us
 use borrow.Author.Needs.{needs}
 use Rattle.normaliser.specs.Tables.{found}
 use Rattle.normaliser.proofs.Laying.{Laid, laid-start, laid-next, laid-end, part-wide}
-use Rattle.normaliser.proofs.Reading.{userRows, user-rows, user-row, numbers-wide, one-at}
-use mathlib.Core.Path.{ap, _∙_}
+use Rattle.normaliser.proofs.Reading.{userRows, user-rows, user-row, one-at}
+use mathlib.Core.Path.{_∙_}
 use native.Mathlib.Nat.{add-sub-cancel-left}
-use Prim.Native.Nat.{ℕ, _-_, _*_}
+use Prim.Native.Nat.{_-_, _*_}
 use native.Mathlib.Omega.{arith}
-use Rattle.image.specs.Bytes.{field}
-use Rattle.normaliser.specs.Tables.{numberAt}
 use Prim.Native.Nat.{_/_}
 use mathlib.Core.Path.{_≡_, refl}
 use lib.ListN.{length}
 use Rattle.normaliser.proofs.write_users.Statement.{statement}
 use Rattle.normaliser.proofs.write_users.Tie as tie
-use Rattle.normaliser.proofs.write_users.Reads as reads
-use Rattle.normaliser.proofs.write_users.Lts as lts
-use Rattle.image.proofs.read16.Reads as read16-reads
-use Rattle.normaliser.proofs.number.Reads as number-reads
-use Rattle.normaliser.proofs.put16.Reads as put16-reads
 
 abbrev Inv-loop : tie.InvT-loop
 Inv-loop out₀ users classes places n i₀ out i = (n ≡ length users / 2) × Laid 2 (userRows users classes places) out₀ out i
@@ -27,59 +20,45 @@ Inv-loop out₀ users classes places n i₀ out i = (n ≡ length users / 2) × 
 abbrev μ-loop : tie.MeasureT-loop
 μ-loop out₀ users classes places n i₀ out i = n - i
 
--- src/lib.rt:221:5
 loop-holds : tie.Need-loop-holds Inv-loop μ-loop
 loop-holds c = (refl, laid-start 2 (userRows (c .before .before .before .before .args .users .now) (c .before .before .before .before .args .classes .now) (c .before .before .before .before .args .places .now)) (c .before .before .before .before .args .out .now) (omega (arith, c .before .before .before .before .pre .0, user-rows (c .before .before .before .before .args .users .now) (c .before .before .before .before .args .classes .now) (c .before .before .before .before .args .places .now))))
 
--- src/lib.rt:222:18
 mul-at : tie.Need-mul-at Inv-loop μ-loop
 mul-at c = search needs
 
--- src/lib.rt:223:44
 read16-requires : tie.Need-read16-requires Inv-loop μ-loop
 read16-requires c κs = search needs
 
--- src/lib.rt:223:13
 number-requires : tie.Need-number-requires Inv-loop μ-loop
 number-requires c κs = rw (c .read16 .ensures .0) (one-at (found (c .before .before .before .before .before .before .before .args .classes .now) (c .before .before .before .before .before .before .before .args .places .now)) (c .before .before .before .before .before .before .before .args .users .now) (c .before .before .loop .i) (c .before .loop-test .taken) (c .before .before .before .before .before .before .before .pre .1))
 
--- src/lib.rt:224:28
 add-put16 : tie.Need-add-put16 Inv-loop μ-loop
 add-put16 c = search needs
 
--- src/lib.rt:224:15
 sub-put16 : tie.Need-sub-put16 Inv-loop μ-loop
 sub-put16 c = search needs
 
--- src/lib.rt:224:15
 part-put16-start : tie.Need-part-put16-start Inv-loop μ-loop
 part-put16-start c = search needs
 
--- src/lib.rt:224:15
 part-put16-end : tie.Need-part-put16-end Inv-loop μ-loop
 part-put16-end c = omega (arith, c .before .before .before .loop .inv .1 .same, c .before .before .before .before .before .before .before .before .pre .0)
 
--- src/lib.rt:224:9
 put16-requires : tie.Need-put16-requires Inv-loop μ-loop
 put16-requires c κs = part-wide (c .before .before .before .before .loop .out) (c .before .before .before .before .loop .i * 2) 2 (omega (arith, c .before .before .before .before .loop .inv .1 .same, c .before .before .before .before .before .before .before .before .before .pre .0))
 
--- src/lib.rt:225:9
 add-i : tie.Need-add-i Inv-loop μ-loop
 add-i c = search needs
 
--- src/lib.rt:221:5
 loop-less : tie.Need-loop-less Inv-loop μ-loop
 loop-less c = search needs
 
--- src/lib.rt:221:5
 loop-again : tie.Need-loop-again Inv-loop μ-loop
 loop-again c = (refl, rw add-sub-cancel-left (laid-next 2 (userRows (c .before .before .before .before .before .before .before .before .before .before .before .before .args .users .now) (c .before .before .before .before .before .before .before .before .before .before .before .before .args .classes .now) (c .before .before .before .before .before .before .before .before .before .before .before .before .args .places .now)) (users-wide (c .before .before .before .before .before .before .before .before .before .before .before .before .args .users .now) (c .before .before .before .before .before .before .before .before .before .before .before .before .args .classes .now) (c .before .before .before .before .before .before .before .before .before .before .before .before .args .places .now)) (c .before .before .before .before .before .before .before .before .before .before .before .before .args .out .now) (c .before .before .before .before .before .before .before .loop .out) (c .before .before .before .before .before .before .before .loop .i) (c .before .before .before .before .before .before .before .loop .inv .1) (omega (arith, user-rows (c .before .before .before .before .before .before .before .before .before .before .before .before .args .users .now) (c .before .before .before .before .before .before .before .before .before .before .before .before .args .classes .now) (c .before .before .before .before .before .before .before .before .before .before .before .before .args .places .now))) _ (c .before .before .put16 .ensures ∙ user-row (c .before .before .before .before .before .before .before .before .before .before .before .before .args .users .now) (c .before .before .before .before .before .before .before .before .before .before .before .before .args .classes .now) (c .before .before .before .before .before .before .before .before .before .before .before .before .args .places .now) (c .before .before .before .before .before .before .before .loop .i) (c .before .before .before .before .before .before .loop-test .taken) _ (rw (c .before .before .before .before .before .read16 .ensures .0) at (c .before .before .before .before .number .ensures)))))
 
--- src/lib.rt:215:1
 same-length : tie.Need-same-length Inv-loop μ-loop
 same-length c = c .before .loop .inv .1 .same
 
--- src/lib.rt:215:1
 returns : tie.Need-returns Inv-loop μ-loop
 unfolding userBytes
 returns c = laid-end 2 (userRows (c .before .before .before .before .before .before .args .users .now) (c .before .before .before .before .before .before .args .classes .now) (c .before .before .before .before .before .before .args .places .now)) (users-wide (c .before .before .before .before .before .before .args .users .now) (c .before .before .before .before .before .before .args .classes .now) (c .before .before .before .before .before .before .args .places .now)) (c .before .before .before .before .before .before .args .out .now) (c .before .loop .out) (c .before .loop .i) (c .before .loop .inv .1) (omega (arith, user-rows (c .before .before .before .before .before .before .args .users .now) (c .before .before .before .before .before .before .args .classes .now) (c .before .before .before .before .before .before .args .places .now)))

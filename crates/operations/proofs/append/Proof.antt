@@ -1,4 +1,3 @@
-use Prim.Native.Nat.{ℕ}
 use mathlib.Core.Path.{ap₂}
 use lib.Bits.{bitOr}
 use Rattle.operations.proofs.ReadyLaws.{ready-process, append-object}
@@ -6,28 +5,19 @@ use Rattle.operations.proofs.EffectLaws.{append-done}
 use borrow.Author.Needs.{needs}
 use Rattle.operations.proofs.append.Statement.{statement}
 use Rattle.operations.proofs.append.Tie as tie
-use Rattle.operations.proofs.append.Reads as reads
-use Rattle.operations.proofs.append.Lts as lts
-use Rattle.operations.proofs.absorb.Reads as absorb-reads
-use Rattle.operations.proofs.tag_of.Reads as tag-of-reads
 
--- src/lib.rt:332:15
 tag-of-requires : tie.Need-tag-of-requires
 tag-of-requires c κs = search needs
 
--- src/lib.rt:332:30
 tag-of-requires-2 : tie.Need-tag-of-requires-2
 tag-of-requires-2 c κs = search needs
 
--- src/lib.rt:333:5
 absorb-requires : tie.Need-absorb-requires
 absorb-requires c κs = (append-object (c .before .before .before .before .before .before .args .s .now) (c .before .before .before .before .before .before .args .q) (c .before .before .before .before .before .before .pre .0) (c .before .before .before .before .before .before .pre .1), ready-process (c .before .before .before .before .before .before .args .s .now) (c .before .before .before .before .before .before .args .q) (c .before .before .before .before .before .before .pre .0))
 
--- src/lib.rt:326:1
 same-length : tie.Need-same-length
 same-length c = search needs
 
--- src/lib.rt:326:1
 returns : tie.Need-returns
 returns c = append-done (c .before .before .before .before .before .before .before .before .before .args .s .now) (c .before .before .before .before .before .before .before .before .before .args .q) (c .before .before .before .before .before .before .before .before .before .pre .1) _ (ap₂ bitOr (c .before .before .before .before .before .before .tag-of .ensures) (c .before .before .before .before .tag-of2 .ensures)) _ _ (c .before .before .absorb .ensures)
 

@@ -8,13 +8,6 @@ use Rattle.operations.proofs.EffectLaws.{exec-over, exec-fit, exec-done
 use borrow.Author.Needs.{needs}
 use Rattle.operations.proofs.exec.Statement.{statement}
 use Rattle.operations.proofs.exec.Tie as tie
-use Rattle.operations.proofs.exec.Reads as reads
-use Rattle.operations.proofs.exec.Lts as lts
-use Rattle.operations.proofs.meet_user.Reads as meet-user-reads
-use Rattle.operations.proofs.run_copy.Reads as run-copy-reads
-use Rattle.operations.proofs.tag_of.Reads as tag-of-reads
-use Rattle.operations.proofs.replace.Reads as replace-reads
-use Rattle.rules.proofs.running_atoms.Reads as running-atoms-reads
 
 meet-user-requires : tie.Need-meet-user-requires
 meet-user-requires c κs = (exec-object (c .before .before .args .s .now) (c .before .before .args .q) (c .before .before .pre .0) (c .before .before .pre .1), exec-user (c .before .before .args .s .now) (c .before .before .args .q) (c .before .before .pre .0) (c .before .before .pre .1))

@@ -3,12 +3,6 @@ use Rattle.operations.proofs.EffectLaws.{fork-fit, fork-done}
 use borrow.Author.Needs.{needs}
 use Rattle.operations.proofs.fork.Statement.{statement}
 use Rattle.operations.proofs.fork.Tie as tie
-use Rattle.operations.proofs.fork.Reads as reads
-use Rattle.operations.proofs.fork.Lts as lts
-use Rattle.operations.proofs.permit_copy.Reads as permit-copy-reads
-use Rattle.operations.proofs.run_copy.Reads as run-copy-reads
-use Rattle.operations.proofs.tag_of.Reads as tag-of-reads
-use Rattle.operations.proofs.replace.Reads as replace-reads
 
 permit-copy-requires : tie.Need-permit-copy-requires
 permit-copy-requires c κs = ready-process (c .before .before .args .s .now) (c .before .before .args .q) (c .before .before .pre .0)

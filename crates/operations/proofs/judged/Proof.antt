@@ -3,46 +3,33 @@ use Rattle.operations.proofs.RowSteps.{row-readable, judged-quiet, judg
 use borrow.Author.Needs.{needs}
 use Rattle.operations.proofs.judged.Statement.{statement}
 use Rattle.operations.proofs.judged.Tie as tie
-use Rattle.operations.proofs.judged.Reads as reads
-use Rattle.operations.proofs.judged.Lts as lts
-use Rattle.rules.proofs.covers.Reads as covers-reads
-use Rattle.session.proofs.rule_of.Reads as rule-of-reads
 
--- src/lib.rt:188:15
 shared-slice-read-tag : tie.Need-shared-slice-read-tag
 shared-slice-read-tag c = search needs
 
--- src/lib.rt:189:55
 add-rule-of : tie.Need-add-rule-of
 add-rule-of c = search needs
 
--- src/lib.rt:189:39
 sub-rule-of : tie.Need-sub-rule-of
 sub-rule-of c = search needs
 
--- src/lib.rt:189:39
 part-rule-of-start : tie.Need-part-rule-of-start
 part-rule-of-start c = search needs
 
--- src/lib.rt:189:39
 part-rule-of-end : tie.Need-part-rule-of-end
 part-rule-of-end c = search needs
 
--- src/lib.rt:189:22
 rule-of-requires : tie.Need-rule-of-requires
 unfolding permitWords
 rule-of-requires c κs = row-readable (c .before .before .before .args .row .now) (c .before .before .before .pre .0) (c .before .before .before .pre .1)
 
--- src/lib.rt:189:8
 covers-requires : tie.Need-covers-requires
 covers-requires c κs = search needs
 
--- src/lib.rt:190:9
 returns : tie.Need-returns
 unfolding permitWords
 returns c = judged-quiet (c .before .before .before .before .before .before .args .row .now) _ (c .before .before .before .before .before .before .args .receiver) _ (c .before .before .rule-of .ensures) (c .before .covers .ensures) (c .if1 .taken)
 
--- src/lib.rt:184:1
 returns-2 : tie.Need-returns-2
 unfolding permitWords
 returns-2 c = judged-alert (c .before .before .before .before .before .before .args .row .now) _ (c .before .before .before .before .before .before .args .receiver) _ (c .before .before .rule-of .ensures) (c .before .covers .ensures) (c .if1 .left)

@@ -8,71 +8,52 @@ use Rattle.operations.proofs.RowSteps.{run-kept, run-part}
 use borrow.Author.Needs.{needs}
 use Rattle.operations.proofs.meet_runs.Statement.{statement}
 use Rattle.operations.proofs.meet_runs.Tie as tie
-use Rattle.operations.proofs.meet_runs.Reads as reads
-use Rattle.operations.proofs.meet_runs.Lts as lts
-use Rattle.operations.proofs.meet_kept.Reads as meet-kept-reads
 
--- src/lib.rt:215:13
 mul-x : tie.Need-mul-x
 mul-x c = search needs
 
--- src/lib.rt:215:13
 add-x : tie.Need-add-x
 add-x c = search needs
 
--- src/lib.rt:216:13
 mul-y : tie.Need-mul-y
 mul-y c = search needs
 
--- src/lib.rt:216:13
 add-y : tie.Need-add-y
 add-y c = search needs
 
--- src/lib.rt:217:21
 add-meet-kept : tie.Need-add-meet-kept
 add-meet-kept c = search needs
 
--- src/lib.rt:217:15
 mul-meet-kept : tie.Need-mul-meet-kept
 mul-meet-kept c = search needs
 
--- src/lib.rt:217:15
 sub-meet-kept : tie.Need-sub-meet-kept
 sub-meet-kept c = search needs
 
--- src/lib.rt:217:15
 part-meet-kept-start : tie.Need-part-meet-kept-start
 part-meet-kept-start c = search needs
 
--- src/lib.rt:217:15
 part-meet-kept-end : tie.Need-part-meet-kept-end
 part-meet-kept-end c = search needs
 
--- src/lib.rt:217:44
 add-meet-kept-2 : tie.Need-add-meet-kept-2
 add-meet-kept-2 c = search needs
 
--- src/lib.rt:217:38
 mul-meet-kept-2 : tie.Need-mul-meet-kept-2
 mul-meet-kept-2 c = search needs
 
--- src/lib.rt:217:38
 sub-meet-kept-2 : tie.Need-sub-meet-kept-2
 sub-meet-kept-2 c = search needs
 
--- src/lib.rt:217:38
 part-meet-kept-start-2 : tie.Need-part-meet-kept-start-2
 part-meet-kept-start-2 c = search needs
 
--- src/lib.rt:217:38
 part-meet-kept-end-2 : tie.Need-part-meet-kept-end-2
 part-meet-kept-end-2 c = search needs
 
--- src/lib.rt:217:5
 meet-kept-requires : tie.Need-meet-kept-requires
 meet-kept-requires c κs = (run-kept (c .before .before .before .args .s .now) (c .before .before .before .args .a) (c .before .before .before .pre .0), run-kept (c .before .before .before .args .s .now) (c .before .before .before .args .b) (c .before .before .before .pre .1))
 
--- src/lib.rt:211:1
 returns : tie.Need-returns
 unfolding sharedRun
 returns c = c .meet-kept .ensures ∙ ap₂ (λ (x y : List ℕ). boundedOf (meet x y)) (run-part (c .before .before .before .before .args .s .now) (c .before .before .before .before .args .a)) (run-part (c .before .before .before .before .args .s .now) (c .before .before .before .before .args .b))

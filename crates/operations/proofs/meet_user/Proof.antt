@@ -7,124 +7,91 @@ use Rattle.operations.proofs.RowSteps.{run-kept, rule-kept, run-part, r
 use borrow.Author.Needs.{needs}
 use Rattle.operations.proofs.meet_user.Statement.{statement}
 use Rattle.operations.proofs.meet_user.Tie as tie
-use Rattle.operations.proofs.meet_user.Reads as reads
-use Rattle.operations.proofs.meet_user.Lts as lts
-use Rattle.operations.proofs.meet_kept.Reads as meet-kept-reads
-use Rattle.rules.proofs.one.Reads as one-reads
 
--- src/lib.rt:225:13
 mul-x : tie.Need-mul-x
 mul-x c = search needs
 
--- src/lib.rt:225:13
 add-x : tie.Need-add-x
 add-x c = search needs
 
--- src/lib.rt:226:24
 mul-y : tie.Need-mul-y
 mul-y c = search needs
 
--- src/lib.rt:226:13
 add-y : tie.Need-add-y
 add-y c = search needs
 
--- src/lib.rt:226:13
 add-y-2 : tie.Need-add-y-2
 add-y-2 c = search needs
 
--- src/lib.rt:227:8
 mul-if1 : tie.Need-mul-if1
 mul-if1 c = search needs
 
--- src/lib.rt:227:8
 shared-slice-read-if1 : tie.Need-shared-slice-read-if1
 shared-slice-read-if1 c = search needs
 
--- src/lib.rt:228:12
 mul-if2 : tie.Need-mul-if2
 mul-if2 c = search needs
 
--- src/lib.rt:228:12
 shared-slice-read-if2 : tie.Need-shared-slice-read-if2
 shared-slice-read-if2 c = search needs
 
--- src/lib.rt:229:33
 add-one : tie.Need-add-one
 add-one c = search needs
 
--- src/lib.rt:229:31
 mul-one : tie.Need-mul-one
 mul-one c = search needs
 
--- src/lib.rt:229:31
 shared-slice-read-one : tie.Need-shared-slice-read-one
 shared-slice-read-one c = search needs
 
--- src/lib.rt:229:44
 add-one-2 : tie.Need-add-one-2
 add-one-2 c = search needs
 
--- src/lib.rt:229:42
 mul-one-2 : tie.Need-mul-one-2
 mul-one-2 c = search needs
 
--- src/lib.rt:229:42
 shared-slice-read-one-2 : tie.Need-shared-slice-read-one-2
 shared-slice-read-one-2 c = search needs
 
--- src/lib.rt:229:13
 one-requires : tie.Need-one-requires
 one-requires c κs = search needs
 
--- src/lib.rt:229:13
 returns : tie.Need-returns
 returns c = c .one .ensures ∙ ap boundedOf (meet-singles _ _ _ _ (single-run (c .before .before .before .before .before .before .before .before .args .s .now) (c .before .before .before .before .before .before .before .before .args .c) (c .before .before .before .before .before .before .before .before .pre .0) (c .before .before .before .before .before .if1 .taken)) (single-user (c .before .before .before .before .before .before .before .before .args .s .now) (c .before .before .before .before .before .before .before .before .args .u) (c .before .before .before .before .before .before .before .before .pre .1) (c .before .before .before .if2 .taken)))
 
--- src/lib.rt:232:21
 add-meet-kept : tie.Need-add-meet-kept
 add-meet-kept c = search needs
 
--- src/lib.rt:232:15
 mul-meet-kept : tie.Need-mul-meet-kept
 mul-meet-kept c = search needs
 
--- src/lib.rt:232:15
 sub-meet-kept : tie.Need-sub-meet-kept
 sub-meet-kept c = search needs
 
--- src/lib.rt:232:15
 part-meet-kept-start : tie.Need-part-meet-kept-start
 part-meet-kept-start c = search needs
 
--- src/lib.rt:232:15
 part-meet-kept-end : tie.Need-part-meet-kept-end
 part-meet-kept-end c = search needs
 
--- src/lib.rt:232:44
 add-meet-kept-2 : tie.Need-add-meet-kept-2
 add-meet-kept-2 c = search needs
 
--- src/lib.rt:232:38
 mul-meet-kept-2 : tie.Need-mul-meet-kept-2
 mul-meet-kept-2 c = search needs
 
--- src/lib.rt:232:38
 sub-meet-kept-2 : tie.Need-sub-meet-kept-2
 sub-meet-kept-2 c = search needs
 
--- src/lib.rt:232:38
 part-meet-kept-start-2 : tie.Need-part-meet-kept-start-2
 part-meet-kept-start-2 c = search needs
 
--- src/lib.rt:232:38
 part-meet-kept-end-2 : tie.Need-part-meet-kept-end-2
 part-meet-kept-end-2 c = search needs
 
--- src/lib.rt:232:5
 meet-kept-requires : tie.Need-meet-kept-requires
 meet-kept-requires c κs = (run-kept (c .before .before .before .before .before .args .s .now) (c .before .before .before .before .before .args .c) (c .before .before .before .before .before .pre .0), rule-kept (c .before .before .before .before .before .args .s .now) (c .before .before .before .before .before .args .u) (c .before .before .before .before .before .pre .1))
 
--- src/lib.rt:221:1
 returns-2 : tie.Need-returns-2
 returns-2 c = c .meet-kept .ensures ∙ ap₂ (λ (x y : List ℕ). boundedOf (meet x y)) (run-part (c .before .before .before .before .before .before .args .s .now) (c .before .before .before .before .before .before .args .c)) (rule-part (c .before .before .before .before .before .before .args .s .now) (c .before .before .before .before .before .before .args .u))
 

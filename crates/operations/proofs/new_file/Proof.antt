@@ -4,11 +4,6 @@ use Rattle.operations.proofs.EffectLaws.{lent-long, file-done}
 use borrow.Author.Needs.{needs}
 use Rattle.operations.proofs.new_file.Statement.{statement}
 use Rattle.operations.proofs.new_file.Tie as tie
-use Rattle.operations.proofs.new_file.Reads as reads
-use Rattle.operations.proofs.new_file.Lts as lts
-use Rattle.operations.proofs.user_copy.Reads as user-copy-reads
-use Rattle.rules.proofs.unrestricted.Reads as unrestricted-reads
-use Rattle.session.proofs.put_row.Reads as put-row-reads
 
 user-copy-requires : tie.Need-user-copy-requires
 user-copy-requires c κs = file-user (c .before .before .args .s .now) (c .before .before .args .q) (c .before .before .pre .0) (c .before .before .pre .1)

@@ -3,10 +3,6 @@ use Rattle.operations.proofs.EffectLaws.{lent-long, volatile-done}
 use borrow.Author.Needs.{needs}
 use Rattle.operations.proofs.new_volatile.Statement.{statement}
 use Rattle.operations.proofs.new_volatile.Tie as tie
-use Rattle.operations.proofs.new_volatile.Reads as reads
-use Rattle.operations.proofs.new_volatile.Lts as lts
-use Rattle.rules.proofs.unrestricted.Reads as unrestricted-reads
-use Rattle.session.proofs.put_row.Reads as put-row-reads
 
 unrestricted-requires : tie.Need-unrestricted-requires
 unrestricted-requires c κs = search needs

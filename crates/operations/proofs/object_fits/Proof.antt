@@ -4,35 +4,25 @@ use borrow.Author.Tests.{eq-eqb, ne-eqb}
 use borrow.Author.Needs.{needs}
 use Rattle.operations.proofs.object_fits.Statement.{statement}
 use Rattle.operations.proofs.object_fits.Tie as tie
-use Rattle.operations.proofs.object_fits.Reads as reads
-use Rattle.operations.proofs.object_fits.Lts as lts
-use Rattle.image.proofs.is_file.Reads as is-file-reads
-use Rattle.operations.proofs.is_store.Reads as is-store-reads
 
--- src/lib.rt:112:9
 is-store-requires : tie.Need-is-store-requires
 is-store-requires c κs = search needs
 
--- src/lib.rt:112:9
 returns : tie.Need-returns
 unfolding objectFits isFree
 returns c = rw (eq-eqb _ _ (c .before .if1 .taken)) (c .is-store .ensures)
 
--- src/lib.rt:115:9
 is-file-requires : tie.Need-is-file-requires
 is-file-requires c κs = search needs
 
--- src/lib.rt:115:9
 returns-2 : tie.Need-returns-2
 unfolding objectFits isFree
 returns-2 c = rw (ne-eqb _ _ (c .before .before .if1 .left), eq-eqb _ _ (c .before .if2 .taken)) (c .is-file .ensures)
 
--- src/lib.rt:118:9
 returns-3 : tie.Need-returns-3
 unfolding objectFits isFree
 returns-3 c = rw (ne-eqb _ _ (c .before .before .if1 .left), ne-eqb _ _ (c .before .if2 .left), eq-eqb _ _ (c .if3 .taken))
 
--- src/lib.rt:108:1
 returns-4 : tie.Need-returns-4
 unfolding objectFits isFree
 returns-4 c = rw (ne-eqb _ _ (c .before .before .if1 .left), ne-eqb _ _ (c .before .if2 .left), ne-eqb _ _ (c .if3 .left))

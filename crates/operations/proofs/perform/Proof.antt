@@ -2,15 +2,6 @@ use Rattle.operations.proofs.ReadyLaws.{last-code}
 use borrow.Author.Needs.{needs}
 use Rattle.operations.proofs.perform.Statement.{statement}
 use Rattle.operations.proofs.perform.Tie as tie
-use Rattle.operations.proofs.perform.Reads as reads
-use Rattle.operations.proofs.perform.Lts as lts
-use Rattle.operations.proofs.read.Reads as read-reads
-use Rattle.operations.proofs.write.Reads as write-reads
-use Rattle.operations.proofs.append.Reads as append-reads
-use Rattle.operations.proofs.exec.Reads as exec-reads
-use Rattle.operations.proofs.fork.Reads as fork-reads
-use Rattle.operations.proofs.new_file.Reads as new-file-reads
-use Rattle.operations.proofs.new_volatile.Reads as new-volatile-reads
 
 read-requires : tie.Need-read-requires
 read-requires c κs = (c .before .before .before .pre, c .before .if1 .taken)

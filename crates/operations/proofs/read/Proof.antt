@@ -8,33 +8,22 @@ use Rattle.operations.proofs.EffectLaws.{read-done}
 use borrow.Author.Needs.{needs}
 use Rattle.operations.proofs.read.Statement.{statement}
 use Rattle.operations.proofs.read.Tie as tie
-use Rattle.operations.proofs.read.Reads as reads
-use Rattle.operations.proofs.read.Lts as lts
-use Rattle.operations.proofs.absorb.Reads as absorb-reads
-use Rattle.operations.proofs.tag_of.Reads as tag-of-reads
-use Rattle.rules.proofs.add_data_atoms.Reads as add-data-atoms-reads
 
--- src/lib.rt:308:37
 tag-of-requires : tie.Need-tag-of-requires
 tag-of-requires c κs = search needs
 
--- src/lib.rt:308:51
 tag-of-requires-2 : tie.Need-tag-of-requires-2
 tag-of-requires-2 c κs = search needs
 
--- src/lib.rt:308:9
 add-data-atoms-requires : tie.Need-add-data-atoms-requires
 add-data-atoms-requires c κs = search needs
 
--- src/lib.rt:309:5
 absorb-requires : tie.Need-absorb-requires
 absorb-requires c κs = (ready-process (c .before .before .before .before .before .before .before .args .s .now) (c .before .before .before .before .before .before .before .args .q) (c .before .before .before .before .before .before .before .pre .0), read-object (c .before .before .before .before .before .before .before .args .s .now) (c .before .before .before .before .before .before .before .args .q) (c .before .before .before .before .before .before .before .pre .0) (c .before .before .before .before .before .before .before .pre .1))
 
--- src/lib.rt:302:1
 same-length : tie.Need-same-length
 same-length c = search needs
 
--- src/lib.rt:302:1
 returns : tie.Need-returns
 returns c = read-done (c .before .before .before .before .before .before .before .before .before .before .args .s .now) (c .before .before .before .before .before .before .before .before .before .before .args .q) (c .before .before .before .before .before .before .before .before .before .before .pre .1) _ (c .before .before .before .before .add-data-atoms .ensures ∙ ap₂ (λ (x y : ℕ). bitOr x (dataOf dataWidth y)) (c .before .before .before .before .before .before .before .tag-of .ensures) (c .before .before .before .before .before .tag-of2 .ensures)) _ _ (c .before .before .absorb .ensures)
 

@@ -4,25 +4,17 @@ use Rattle.operations.proofs.RowSteps.{new-judged, new-answer}
 use borrow.Author.Needs.{needs}
 use Rattle.operations.proofs.replace.Statement.{statement}
 use Rattle.operations.proofs.replace.Tie as tie
-use Rattle.operations.proofs.replace.Reads as reads
-use Rattle.operations.proofs.replace.Lts as lts
-use Rattle.operations.proofs.judged.Reads as judged-reads
-use Rattle.session.proofs.put_row.Reads as put-row-reads
 
--- src/lib.rt:233:5
 put-row-requires : tie.Need-put-row-requires
 put-row-requires c κs = search needs
 
--- src/lib.rt:234:5
 judged-requires : tie.Need-judged-requires
 unfolding newWords boundedWords
 judged-requires c κs = new-judged processKind (c .before .before .before .before .before .before .args .tag) (c .before .before .before .before .before .before .args .permit) (c .before .before .before .before .before .before .args .run) (search needs) _ (c .before .before .before .put-row .ensures) (search needs) (c .before .before .before .before .before .before .pre .1)
 
--- src/lib.rt:229:1
 same-length : tie.Need-same-length
 same-length c = search needs
 
--- src/lib.rt:229:1
 returns : tie.Need-returns
 unfolding newWords boundedWords
 returns c = (new-answer processKind (c .before .before .before .before .before .before .before .args .tag) (c .before .before .before .before .before .before .before .args .permit) (c .before .before .before .before .before .before .before .args .run) (search needs) _ (c .before .before .before .before .put-row .ensures) (c .before .before .before .before .before .before .before .args .receiver) _ (c .judged .ensures), c .before .before .before .before .put-row .ensures)

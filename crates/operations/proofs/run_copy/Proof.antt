@@ -2,43 +2,31 @@ use Rattle.operations.proofs.RowSteps.{run-kept, run-copied}
 use borrow.Author.Needs.{needs}
 use Rattle.operations.proofs.run_copy.Statement.{statement}
 use Rattle.operations.proofs.run_copy.Tie as tie
-use Rattle.operations.proofs.run_copy.Reads as reads
-use Rattle.operations.proofs.run_copy.Lts as lts
-use Rattle.operations.proofs.rule_copy.Reads as rule-copy-reads
 
--- src/lib.rt:181:14
 mul-at : tie.Need-mul-at
 mul-at c = search needs
 
--- src/lib.rt:181:14
 add-at : tie.Need-add-at
 add-at c = search needs
 
--- src/lib.rt:182:22
 add-rule-copy : tie.Need-add-rule-copy
 add-rule-copy c = search needs
 
--- src/lib.rt:182:15
 mul-rule-copy : tie.Need-mul-rule-copy
 mul-rule-copy c = search needs
 
--- src/lib.rt:182:15
 sub-rule-copy : tie.Need-sub-rule-copy
 sub-rule-copy c = search needs
 
--- src/lib.rt:182:15
 part-rule-copy-start : tie.Need-part-rule-copy-start
 part-rule-copy-start c = search needs
 
--- src/lib.rt:182:15
 part-rule-copy-end : tie.Need-part-rule-copy-end
 part-rule-copy-end c = search needs
 
--- src/lib.rt:182:5
 rule-copy-requires : tie.Need-rule-copy-requires
 rule-copy-requires c κs = run-kept (c .before .before .args .s .now) (c .before .before .args .c) (c .before .before .pre)
 
--- src/lib.rt:177:1
 returns : tie.Need-returns
 returns c = run-copied (c .before .before .before .args .s .now) (c .before .before .before .args .c) _ (c .rule-copy .ensures)
 

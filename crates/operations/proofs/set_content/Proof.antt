@@ -5,39 +5,28 @@ use Rattle.operations.proofs.RowSteps.{content-put, content-long}
 use borrow.Author.Needs.{needs}
 use Rattle.operations.proofs.set_content.Statement.{statement}
 use Rattle.operations.proofs.set_content.Tie as tie
-use Rattle.operations.proofs.set_content.Reads as reads
-use Rattle.operations.proofs.set_content.Lts as lts
-use Rattle.image.proofs.put_rule.Reads as put-rule-reads
 
--- src/lib.rt:179:5
 slice-write-row : tie.Need-slice-write-row
 slice-write-row c = search needs
 
--- src/lib.rt:180:40
 add-put-rule : tie.Need-add-put-rule
 add-put-rule c = search needs
 
--- src/lib.rt:180:23
 sub-put-rule : tie.Need-sub-put-rule
 sub-put-rule c = search needs
 
--- src/lib.rt:180:23
 part-put-rule-start : tie.Need-part-put-rule-start
 part-put-rule-start c = search needs
 
--- src/lib.rt:180:23
 part-put-rule-end : tie.Need-part-put-rule-end
 part-put-rule-end c = simp length-set (omega arith)
 
--- src/lib.rt:180:5
 put-rule-requires : tie.Need-put-rule-requires
 put-rule-requires c κs = search needs
 
--- src/lib.rt:175:1
 same-length : tie.Need-same-length
 same-length c = ap length (content-put (c .before .before .before .before .before .args .row .now) (c .before .before .before .before .before .args .tag) (c .before .before .before .before .before .pre) (c .before .before .put-rule .last .0) (c .before .before .before .before .before .args .run) (c .before .before .put-rule .ensures)) ∙ content-long (c .before .before .before .before .before .args .row .now) (c .before .before .before .before .before .args .tag) (c .before .before .before .before .before .pre) (c .before .before .before .before .before .args .run) _ refl (search needs)
 
--- src/lib.rt:175:1
 returns : tie.Need-returns
 returns c = content-put (c .before .before .before .before .before .args .row .now) (c .before .before .before .before .before .args .tag) (c .before .before .before .before .before .pre) (c .before .before .put-rule .last .0) (c .before .before .before .before .before .args .run) (c .before .before .put-rule .ensures)
 

@@ -2,26 +2,19 @@ use Rattle.operations.proofs.RowSteps.{tag-read}
 use borrow.Author.Needs.{needs}
 use Rattle.operations.proofs.tag_of.Statement.{statement}
 use Rattle.operations.proofs.tag_of.Tie as tie
-use Rattle.operations.proofs.tag_of.Reads as reads
-use Rattle.operations.proofs.tag_of.Lts as lts
 
--- src/lib.rt:134:7
 mul-result : tie.Need-mul-result
 mul-result c = search needs
 
--- src/lib.rt:134:7
 add-result : tie.Need-add-result
 add-result c = search needs
 
--- src/lib.rt:134:5
 mul-result-2 : tie.Need-mul-result-2
 mul-result-2 c = search needs
 
--- src/lib.rt:134:5
 shared-slice-read-result : tie.Need-shared-slice-read-result
 shared-slice-read-result c = search needs
 
--- src/lib.rt:130:1
 returns : tie.Need-returns
 returns c = tag-read (c .before .args .s .now) (c .before .args .c)
 

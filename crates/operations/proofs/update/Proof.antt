@@ -2,24 +2,16 @@ use Rattle.operations.proofs.RowSteps.{content-judged, content-answer}
 use borrow.Author.Needs.{needs}
 use Rattle.operations.proofs.update.Statement.{statement}
 use Rattle.operations.proofs.update.Tie as tie
-use Rattle.operations.proofs.update.Reads as reads
-use Rattle.operations.proofs.update.Lts as lts
-use Rattle.operations.proofs.judged.Reads as judged-reads
-use Rattle.operations.proofs.set_content.Reads as set-content-reads
 
--- src/lib.rt:200:5
 set-content-requires : tie.Need-set-content-requires
 set-content-requires c κs = search needs
 
--- src/lib.rt:201:5
 judged-requires : tie.Need-judged-requires
 judged-requires c κs = content-judged (c .before .before .before .before .before .before .args .row .now) (c .before .before .before .before .before .before .args .tag) (c .before .before .before .before .before .before .pre .0) (c .before .before .before .before .before .before .args .run) _ (c .before .before .before .set-content .ensures) (search needs) (c .before .before .before .before .before .before .pre .1)
 
--- src/lib.rt:196:1
 same-length : tie.Need-same-length
 same-length c = search needs
 
--- src/lib.rt:196:1
 returns : tie.Need-returns
 returns c = (content-answer (c .before .before .before .before .before .before .before .args .row .now) (c .before .before .before .before .before .before .before .args .tag) (c .before .before .before .before .before .before .before .pre .0) (c .before .before .before .before .before .before .before .args .run) _ (c .before .before .before .before .set-content .ensures) (c .before .before .before .before .before .before .before .args .receiver) _ (c .judged .ensures), c .before .before .before .before .set-content .ensures)
 

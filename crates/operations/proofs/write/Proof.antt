@@ -3,11 +3,6 @@ use Rattle.operations.proofs.EffectLaws.{lent-fit, write-done}
 use borrow.Author.Needs.{needs}
 use Rattle.operations.proofs.write.Statement.{statement}
 use Rattle.operations.proofs.write.Tie as tie
-use Rattle.operations.proofs.write.Reads as reads
-use Rattle.operations.proofs.write.Lts as lts
-use Rattle.operations.proofs.run_copy.Reads as run-copy-reads
-use Rattle.operations.proofs.tag_of.Reads as tag-of-reads
-use Rattle.operations.proofs.update.Reads as update-reads
 
 run-copy-requires : tie.Need-run-copy-requires
 run-copy-requires c κs = ready-process (c .before .before .args .s .now) (c .before .before .args .q) (c .before .before .pre .0)

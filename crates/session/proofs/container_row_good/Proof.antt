@@ -5,78 +5,56 @@ use Rattle.session.proofs.TestLaws.{free-row, other-kind, bad-permit, b
 use borrow.Author.Needs.{needs}
 use Rattle.session.proofs.container_row_good.Statement.{statement}
 use Rattle.session.proofs.container_row_good.Tie as tie
-use Rattle.session.proofs.container_row_good.Reads as reads
-use Rattle.session.proofs.container_row_good.Lts as lts
-use Rattle.session.proofs.all_zero.Reads as all-zero-reads
-use Rattle.session.proofs.kept_well.Reads as kept-well-reads
-use Rattle.session.proofs.used_kind.Reads as used-kind-reads
 
--- src/lib.rt:172:16
 shared-slice-read-kind : tie.Need-shared-slice-read-kind
 shared-slice-read-kind c = search needs
 
--- src/lib.rt:174:9
 all-zero-requires : tie.Need-all-zero-requires
 all-zero-requires c κs = search needs
 
--- src/lib.rt:174:9
 returns : tie.Need-returns
 returns c = c .all-zero .ensures ∙ free-row _ (c .before .if1 .taken)
 
--- src/lib.rt:176:9
 used-kind-requires : tie.Need-used-kind-requires
 used-kind-requires c κs = search needs
 
--- src/lib.rt:177:9
 returns-2 : tie.Need-returns-2
 returns-2 c = other-kind _ (c .before .before .if1 .left) (sym (c .before .used-kind .ensures) ∙ not-true _ (c .if2 .taken))
 
--- src/lib.rt:179:35
 add-kept-well : tie.Need-add-kept-well
 add-kept-well c = search needs
 
--- src/lib.rt:179:19
 sub-kept-well : tie.Need-sub-kept-well
 sub-kept-well c = search needs
 
--- src/lib.rt:179:19
 part-kept-well-start : tie.Need-part-kept-well-start
 part-kept-well-start c = search needs
 
--- src/lib.rt:179:19
 part-kept-well-end : tie.Need-part-kept-well-end
 part-kept-well-end c = search needs
 
--- src/lib.rt:179:9
 kept-well-requires : tie.Need-kept-well-requires
 kept-well-requires c κs = search needs
 
--- src/lib.rt:180:9
 returns-3 : tie.Need-returns-3
 unfolding permitWords
 returns-3 c = bad-permit _ (c .before .before .before .before .before .if1 .left) (sym (c .before .before .before .before .used-kind .ensures) ∙ not-false _ (c .before .before .before .if2 .left)) (sym (c .before .kept-well .ensures) ∙ not-true _ (c .if3 .taken))
 
--- src/lib.rt:182:28
 add-kept-well-2 : tie.Need-add-kept-well-2
 add-kept-well-2 c = search needs
 
--- src/lib.rt:182:15
 sub-kept-well-2 : tie.Need-sub-kept-well-2
 sub-kept-well-2 c = search needs
 
--- src/lib.rt:182:15
 part-kept-well-start-2 : tie.Need-part-kept-well-start-2
 part-kept-well-start-2 c = search needs
 
--- src/lib.rt:182:15
 part-kept-well-end-2 : tie.Need-part-kept-well-end-2
 part-kept-well-end-2 c = search needs
 
--- src/lib.rt:182:5
 kept-well-requires-2 : tie.Need-kept-well-requires-2
 kept-well-requires-2 c κs = search needs
 
--- src/lib.rt:168:1
 returns-4 : tie.Need-returns-4
 unfolding permitWords runWords
 returns-4 c = c .kept-well2 .ensures ∙ by-run _ (c .before .before .before .before .before .before .before .if1 .left) (sym (c .before .before .before .before .before .before .used-kind .ensures) ∙ not-false _ (c .before .before .before .before .before .if2 .left)) (sym (c .before .before .before .kept-well .ensures) ∙ not-false _ (c .before .before .if3 .left))

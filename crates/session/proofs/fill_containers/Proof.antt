@@ -10,9 +10,6 @@ use Rattle.session.specs.Limits.{rowWidth}
 use Rattle.session.proofs.RecordRows.{containerRows, container-good, containers-next, containers-end}
 use Rattle.session.proofs.fill_containers.Statement.{statement}
 use Rattle.session.proofs.fill_containers.Tie as tie
-use Rattle.session.proofs.fill_containers.Reads as reads
-use Rattle.session.proofs.fill_containers.Lts as lts
-use Rattle.session.proofs.put_container.Reads as put-container-reads
 
 abbrev Inv-loop : tie.InvT-loop
 Inv-loop out₀ cs rules m n i₀ out i = Rowed rowWidth containerLimit (containerRows cs rules m) out₀ out i
@@ -20,75 +17,57 @@ Inv-loop out₀ cs rules m n i₀ out i = Rowed rowWidth containerLimit (contain
 abbrev μ-loop : tie.MeasureT-loop
 μ-loop out₀ cs rules m n i₀ out i = n - i
 
--- src/lib.rt:238:5
 loop-holds : tie.Need-loop-holds Inv-loop μ-loop
 loop-holds c = rowed-start rowWidth containerLimit (containerRows (c .before .before .before .before .args .cs .now) (c .before .before .before .before .args .rules .now) (c .before .before .before .before .args .m .now)) (c .before .before .before .before .args .out .now) (ap length (c .before .before .before .before .pre .0) ∙ length-replicate {A = ℕ} (containerLimit * rowWidth) 0)
 
--- src/lib.rt:239:18
 mul-at : tie.Need-mul-at Inv-loop μ-loop
 mul-at c = search needs
 
--- src/lib.rt:240:17
 mul-r : tie.Need-mul-r Inv-loop μ-loop
 mul-r c = search needs
 
--- src/lib.rt:242:26
 add-put-container : tie.Need-add-put-container Inv-loop μ-loop
 add-put-container c = search needs
 
--- src/lib.rt:242:13
 mul-put-container : tie.Need-mul-put-container Inv-loop μ-loop
 mul-put-container c = search needs
 
--- src/lib.rt:242:13
 sub-put-container : tie.Need-sub-put-container Inv-loop μ-loop
 sub-put-container c = search needs
 
--- src/lib.rt:242:13
 part-put-container-start : tie.Need-part-put-container-start Inv-loop μ-loop
 part-put-container-start c = search needs
 
--- src/lib.rt:242:13
 part-put-container-end : tie.Need-part-put-container-end Inv-loop μ-loop
 part-put-container-end c = search needs
 
--- src/lib.rt:243:20
 add-put-container-2 : tie.Need-add-put-container-2 Inv-loop μ-loop
 add-put-container-2 c = search needs
 
--- src/lib.rt:243:13
 sub-put-container-2 : tie.Need-sub-put-container-2 Inv-loop μ-loop
 sub-put-container-2 c = search needs
 
--- src/lib.rt:243:13
 part-put-container-start-2 : tie.Need-part-put-container-start-2 Inv-loop μ-loop
 part-put-container-start-2 c = search needs
 
--- src/lib.rt:243:13
 part-put-container-end-2 : tie.Need-part-put-container-end-2 Inv-loop μ-loop
 part-put-container-end-2 c = search needs
 
--- src/lib.rt:241:9
 put-container-requires : tie.Need-put-container-requires Inv-loop μ-loop
 put-container-requires c κs = (simp (length-take, length-drop, add-sub-cancel-left) (omega (arith, c .before .before .before .loop .inv .long, c .before .before .before .before .before .before .before .before .pre .1)), simp (length-take, length-drop, add-sub-cancel-left) (omega arith), rw add-sub-cancel-left (container-good (c .before .before .before .before .before .before .before .before .args .cs .now) (c .before .before .before .before .before .before .before .before .args .rules .now) (c .before .before .before .before .before .before .before .before .args .m .now) (c .before .before .before .before .before .before .before .before .pre .2) (c .before .before .before .before .before .before .before .before .pre .3) (c .before .before .before .loop .i) (c .before .before .loop-test .taken)), c .before .before .before .before .before .before .before .before .pre .3)
 
--- src/lib.rt:247:9
 add-i : tie.Need-add-i Inv-loop μ-loop
 add-i c = search needs
 
--- src/lib.rt:238:5
 loop-less : tie.Need-loop-less Inv-loop μ-loop
 loop-less c = search needs
 
--- src/lib.rt:238:5
 loop-again : tie.Need-loop-again Inv-loop μ-loop
 loop-again c = containers-next (c .before .before .before .before .before .before .before .before .before .before .before .args .cs .now) (c .before .before .before .before .before .before .before .before .before .before .before .args .rules .now) (c .before .before .before .before .before .before .before .before .before .before .before .args .m .now) (c .before .before .before .before .before .before .before .before .before .before .before .pre .2) (c .before .before .before .before .before .before .before .before .before .before .before .pre .3) (c .before .before .before .before .before .before .before .before .before .before .before .args .out .now) (c .before .before .before .before .before .before .loop .out) (c .before .before .before .before .before .before .loop .i) (c .before .before .before .before .before .before .loop .inv) (omega (arith, c .before .before .before .before .before .loop-test .taken, c .before .before .before .before .before .before .before .before .before .before .before .pre .1)) (c .before .before .before .before .before .loop-test .taken) _ (rw add-sub-cancel-left at (c .before .before .put-container .ensures))
 
--- src/lib.rt:231:1
 same-length : tie.Need-same-length Inv-loop μ-loop
 same-length c = c .before .loop .inv .same
 
--- src/lib.rt:231:1
 returns : tie.Need-returns Inv-loop μ-loop
 returns c = containers-end (c .before .before .before .before .before .before .args .cs .now) (c .before .before .before .before .before .before .args .rules .now) (c .before .before .before .before .before .before .args .m .now) (c .before .before .before .before .before .before .pre .2) (c .before .before .before .before .before .before .pre .3) (c .before .before .before .before .before .before .args .out .now) (c .before .loop .out) (c .before .loop .i) (c .before .loop .inv) (c .loop-test .left) (c .before .before .before .before .before .before .pre .0)
 

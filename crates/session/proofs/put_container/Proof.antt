@@ -7,86 +7,61 @@ use Rattle.session.specs.Session.{startTag}
 use borrow.Author.Needs.{needs}
 use Rattle.session.proofs.put_container.Statement.{statement}
 use Rattle.session.proofs.put_container.Tie as tie
-use Rattle.session.proofs.put_container.Reads as reads
-use Rattle.session.proofs.put_container.Lts as lts
-use Rattle.image.proofs.put_rule_at.Reads as put-rule-at-reads
-use Rattle.image.proofs.read16.Reads as read16-reads
-use Rattle.image.proofs.read8.Reads as read8-reads
-use Rattle.session.proofs.tag_of.Reads as tag-of-reads
 
--- src/lib.rt:214:20
 read8-requires : tie.Need-read8-requires
 read8-requires c κs = search needs
 
--- src/lib.rt:214:5
 slice-write-row : tie.Need-slice-write-row
 slice-write-row c = search needs
 
--- src/lib.rt:215:26
 read8-requires-2 : tie.Need-read8-requires-2
 read8-requires-2 c κs = search needs
 
--- src/lib.rt:215:19
 tag-of-requires : tie.Need-tag-of-requires
 tag-of-requires c κs = rw (c .read82 .ensures .0) (atom-good (c .before .before .before .before .before .before .args .r .now) (c .before .before .before .before .before .before .args .rules .now) (c .before .before .before .before .before .before .args .m .now) (c .before .before .before .before .before .before .pre .2) (c .before .before .before .before .before .before .pre .3))
 
--- src/lib.rt:215:5
 slice-write-row-2 : tie.Need-slice-write-row-2
 slice-write-row-2 c = search needs
 
--- src/lib.rt:217:29
 add-put-rule-at : tie.Need-add-put-rule-at
 add-put-rule-at c = search needs
 
--- src/lib.rt:217:9
 sub-put-rule-at : tie.Need-sub-put-rule-at
 sub-put-rule-at c = search needs
 
--- src/lib.rt:217:9
 part-put-rule-at-start : tie.Need-part-put-rule-at-start
 part-put-rule-at-start c = search needs
 
--- src/lib.rt:217:9
 part-put-rule-at-end : tie.Need-part-put-rule-at-end
 part-put-rule-at-end c = simp length-set (omega arith)
 
--- src/lib.rt:220:9
 read16-requires : tie.Need-read16-requires
 read16-requires c κs = search needs
 
--- src/lib.rt:216:5
 put-rule-at-requires : tie.Need-put-rule-at-requires
 put-rule-at-requires c κs = (lent-permit (c .before .before .before .before .before .before .before .before .before .args .row .now) (c .before .before .before .before .read8 .result) (c .before .before .tag-of .result) (c .before .before .before .before .before .before .before .before .before .pre .0), rw (c .read16 .ensures .0) (permit-named (c .before .before .before .before .before .before .before .before .before .args .r .now) (c .before .before .before .before .before .before .before .before .before .args .rules .now) (c .before .before .before .before .before .before .before .before .before .args .m .now) (c .before .before .before .before .before .before .before .before .before .pre .2) (c .before .before .before .before .before .before .before .before .before .pre .3)), c .before .before .before .before .before .before .before .before .before .pre .3)
 
--- src/lib.rt:223:26
 add-put-rule-at-2 : tie.Need-add-put-rule-at-2
 add-put-rule-at-2 c = search needs
 
--- src/lib.rt:223:9
 sub-put-rule-at-2 : tie.Need-sub-put-rule-at-2
 sub-put-rule-at-2 c = search needs
 
--- src/lib.rt:223:9
 part-put-rule-at-start-2 : tie.Need-part-put-rule-at-start-2
 part-put-rule-at-start-2 c = search needs
 
--- src/lib.rt:223:9
 part-put-rule-at-end-2 : tie.Need-part-put-rule-at-end-2
 part-put-rule-at-end-2 c = omega (arith, row-mid (c .before .before .before .before .before .before .before .before .before .before .before .before .args .row .now) (c .before .before .put-rule-at .last .0) (c .before .before .before .before .before .before .before .read8 .result) (c .before .before .before .before .before .tag-of .result) (c .before .before .before .before .before .before .before .before .before .before .before .before .pre .0) (c .before .row .given .0 ∙ lent-permit (c .before .before .before .before .before .before .before .before .before .before .before .before .args .row .now) (c .before .before .before .before .before .before .before .read8 .result) (c .before .before .before .before .before .tag-of .result) (c .before .before .before .before .before .before .before .before .before .before .before .before .pre .0)))
 
--- src/lib.rt:226:9
 read16-requires-2 : tie.Need-read16-requires-2
 read16-requires-2 c κs = search needs
 
--- src/lib.rt:222:5
 put-rule-at-requires-2 : tie.Need-put-rule-at-requires-2
 put-rule-at-requires-2 c κs = (lent-run (c .before .before .before .before .before .before .before .before .before .before .before .before .before .before .args .row .now) (c .before .before .before .before .put-rule-at .last .0) (c .before .before .before .before .before .before .before .before .before .read8 .result) (c .before .before .before .before .before .before .before .tag-of .result) (c .before .before .before .before .before .before .before .before .before .before .before .before .before .before .pre .0) (c .before .before .before .row .given .0 ∙ lent-permit (c .before .before .before .before .before .before .before .before .before .before .before .before .before .before .args .row .now) (c .before .before .before .before .before .before .before .before .before .read8 .result) (c .before .before .before .before .before .before .before .tag-of .result) (c .before .before .before .before .before .before .before .before .before .before .before .before .before .before .pre .0)), rw (c .read162 .ensures .0) (run-named (c .before .before .before .before .before .before .before .before .before .before .before .before .before .before .args .r .now) (c .before .before .before .before .before .before .before .before .before .before .before .before .before .before .args .rules .now) (c .before .before .before .before .before .before .before .before .before .before .before .before .before .before .args .m .now) (c .before .before .before .before .before .before .before .before .before .before .before .before .before .before .pre .2) (c .before .before .before .before .before .before .before .before .before .before .before .before .before .before .pre .3)), c .before .before .before .before .before .before .before .before .before .before .before .before .before .before .pre .3)
 
--- src/lib.rt:210:1
 same-length : tie.Need-same-length
 same-length c = row-long (c .before .before .before .before .before .before .before .before .before .before .before .before .before .before .before .before .before .args .row .now) (c .before .before .before .before .before .before .before .put-rule-at .last .0) (c .before .before .before .before .before .before .before .before .before .before .before .before .read8 .result) (c .before .before .before .before .before .before .before .before .before .before .tag-of .result) (c .before .before .before .before .before .before .before .before .before .before .before .before .before .before .before .before .before .pre .0) (c .before .before .before .before .before .before .row .given .0 ∙ lent-permit (c .before .before .before .before .before .before .before .before .before .before .before .before .before .before .before .before .before .args .row .now) (c .before .before .before .before .before .before .before .before .before .before .before .before .read8 .result) (c .before .before .before .before .before .before .before .before .before .before .tag-of .result) (c .before .before .before .before .before .before .before .before .before .before .before .before .before .before .before .before .before .pre .0)) (c .before .before .put-rule-at2 .last .0) (c .before .row2 .given .0 ∙ lent-run (c .before .before .before .before .before .before .before .before .before .before .before .before .before .before .before .before .before .args .row .now) (c .before .before .before .before .before .before .before .put-rule-at .last .0) (c .before .before .before .before .before .before .before .before .before .before .before .before .read8 .result) (c .before .before .before .before .before .before .before .before .before .before .tag-of .result) (c .before .before .before .before .before .before .before .before .before .before .before .before .before .before .before .before .before .pre .0) (c .before .before .before .before .before .before .row .given .0 ∙ lent-permit (c .before .before .before .before .before .before .before .before .before .before .before .before .before .before .before .before .before .args .row .now) (c .before .before .before .before .before .before .before .before .before .before .before .before .read8 .result) (c .before .before .before .before .before .before .before .before .before .before .tag-of .result) (c .before .before .before .before .before .before .before .before .before .before .before .before .before .before .before .before .before .pre .0)))
 
--- src/lib.rt:210:1
 returns : tie.Need-returns
 returns c = row-put (c .before .before .before .before .before .before .before .before .before .before .before .before .before .before .before .before .before .args .row .now) (c .before .before .before .before .before .before .before .put-rule-at .last .0) (c .before .before .before .before .before .before .before .before .before .before .before .before .read8 .result) (c .before .before .before .before .before .before .before .before .before .before .tag-of .result) (c .before .before .before .before .before .before .before .before .before .before .before .before .before .before .before .before .before .pre .0) (c .before .before .before .before .before .before .row .given .0 ∙ lent-permit (c .before .before .before .before .before .before .before .before .before .before .before .before .before .before .before .before .before .args .row .now) (c .before .before .before .before .before .before .before .before .before .before .before .before .read8 .result) (c .before .before .before .before .before .before .before .before .before .before .tag-of .result) (c .before .before .before .before .before .before .before .before .before .before .before .before .before .before .before .before .before .pre .0)) (c .before .before .put-rule-at2 .last .0) ∙ container-row (c .before .before .before .before .before .before .before .before .before .before .before .before .before .before .before .before .before .args .r .now) (c .before .before .before .before .before .before .before .before .before .before .before .before .before .before .before .before .before .args .rules .now) (c .before .before .before .before .before .before .before .before .before .before .before .before .before .before .before .before .before .args .m .now) (c .before .before .before .before .before .before .before .before .before .before .before .before .before .before .before .before .before .pre .2) (c .before .before .before .before .before .before .before .before .before .before .before .before .before .before .before .before .before .pre .3) _ _ _ _ (c .before .before .before .before .before .before .before .before .before .before .before .before .read8 .ensures .0) (c .before .before .before .before .before .before .before .before .before .before .tag-of .ensures ∙ ap startTag (c .before .before .before .before .before .before .before .before .before .before .before .read82 .ensures .0)) (rw (c .before .before .before .before .before .before .before .before .read16 .ensures .0) at (c .before .before .before .before .before .before .before .put-rule-at .ensures)) (rw (c .before .before .before .read162 .ensures .0) at (c .before .before .put-rule-at2 .ensures))
 

@@ -7,63 +7,46 @@ use Rattle.session.proofs.WriteLaws.{row-mid, row-put, row-long}
 use borrow.Author.Needs.{needs}
 use Rattle.session.proofs.put_row.Statement.{statement}
 use Rattle.session.proofs.put_row.Tie as tie
-use Rattle.session.proofs.put_row.Reads as reads
-use Rattle.session.proofs.put_row.Lts as lts
-use Rattle.image.proofs.put_rule.Reads as put-rule-reads
 
--- src/lib.rt:258:5
 slice-write-row : tie.Need-slice-write-row
 slice-write-row c = search needs
 
--- src/lib.rt:259:5
 slice-write-row-2 : tie.Need-slice-write-row-2
 slice-write-row-2 c = search needs
 
--- src/lib.rt:260:34
 add-put-rule : tie.Need-add-put-rule
 add-put-rule c = search needs
 
--- src/lib.rt:260:14
 sub-put-rule : tie.Need-sub-put-rule
 sub-put-rule c = search needs
 
--- src/lib.rt:260:14
 part-put-rule-start : tie.Need-part-put-rule-start
 part-put-rule-start c = search needs
 
--- src/lib.rt:260:14
 part-put-rule-end : tie.Need-part-put-rule-end
 part-put-rule-end c = simp length-set (omega arith)
 
--- src/lib.rt:260:5
 put-rule-requires : tie.Need-put-rule-requires
 put-rule-requires c κs = search needs
 
--- src/lib.rt:261:31
 add-put-rule-2 : tie.Need-add-put-rule-2
 add-put-rule-2 c = search needs
 
--- src/lib.rt:261:14
 sub-put-rule-2 : tie.Need-sub-put-rule-2
 sub-put-rule-2 c = search needs
 
--- src/lib.rt:261:14
 part-put-rule-start-2 : tie.Need-part-put-rule-start-2
 part-put-rule-start-2 c = search needs
 
--- src/lib.rt:261:14
 part-put-rule-end-2 : tie.Need-part-put-rule-end-2
 part-put-rule-end-2 c = omega (arith, row-mid (c .before .before .before .before .before .args .row .now) (c .before .before .put-rule .last .0) (c .before .before .before .before .before .args .kind) (c .before .before .before .before .before .args .tag) (c .before .before .before .before .before .pre) (ap length (c .before .before .put-rule .ensures) ∙ ap suc (search needs)))
 
--- src/lib.rt:261:5
 put-rule-requires-2 : tie.Need-put-rule-requires-2
 put-rule-requires-2 c κs = search needs
 
--- src/lib.rt:254:1
 same-length : tie.Need-same-length
 same-length c = row-long (c .before .before .before .before .before .before .before .before .before .args .row .now) (c .before .before .before .before .before .before .put-rule .last .0) (c .before .before .before .before .before .before .before .before .before .args .kind) (c .before .before .before .before .before .before .before .before .before .args .tag) (c .before .before .before .before .before .before .before .before .before .pre) (ap length (c .before .before .before .before .before .before .put-rule .ensures) ∙ ap suc (search needs)) (c .before .before .put-rule2 .last .0) (ap length (c .before .before .put-rule2 .ensures) ∙ ap suc (search needs))
 
--- src/lib.rt:254:1
 returns : tie.Need-returns
 returns c = row-put (c .before .before .before .before .before .before .before .before .before .args .row .now) (c .before .before .before .before .before .before .put-rule .last .0) (c .before .before .before .before .before .before .before .before .before .args .kind) (c .before .before .before .before .before .before .before .before .before .args .tag) (c .before .before .before .before .before .before .before .before .before .pre) (ap length (c .before .before .before .before .before .before .put-rule .ensures) ∙ ap suc (search needs)) _ ∙ ap₂ (λ (x y : List ℕ). (c .before .before .before .before .before .before .before .before .before .args .kind) ∷ (c .before .before .before .before .before .before .before .before .before .args .tag) ∷ (x ++ y)) (c .before .before .before .before .before .before .put-rule .ensures) (c .before .before .put-rule2 .ensures)
 

@@ -5,39 +5,28 @@ use Rattle.session.proofs.WriteLaws.{user-put, user-long}
 use borrow.Author.Needs.{needs}
 use Rattle.session.proofs.put_user.Statement.{statement}
 use Rattle.session.proofs.put_user.Tie as tie
-use Rattle.session.proofs.put_user.Reads as reads
-use Rattle.session.proofs.put_user.Lts as lts
-use Rattle.image.proofs.put_rule_at.Reads as put-rule-at-reads
 
--- src/lib.rt:158:5
 slice-write-row : tie.Need-slice-write-row
 slice-write-row c = search needs
 
--- src/lib.rt:160:32
 add-put-rule-at : tie.Need-add-put-rule-at
 add-put-rule-at c = search needs
 
--- src/lib.rt:160:9
 sub-put-rule-at : tie.Need-sub-put-rule-at
 sub-put-rule-at c = search needs
 
--- src/lib.rt:160:9
 part-put-rule-at-start : tie.Need-part-put-rule-at-start
 part-put-rule-at-start c = search needs
 
--- src/lib.rt:160:9
 part-put-rule-at-end : tie.Need-part-put-rule-at-end
 part-put-rule-at-end c = simp length-set (omega arith)
 
--- src/lib.rt:159:5
 put-rule-at-requires : tie.Need-put-rule-at-requires
 put-rule-at-requires c κs = search needs
 
--- src/lib.rt:154:1
 same-length : tie.Need-same-length
 same-length c = user-long (c .before .before .before .before .before .before .before .args .row .now) _ _ (c .before .before .before .before .before .before .before .pre .0) (c .before .before .put-rule-at .ensures) (normal-short (c .before .before .before .before .before .before .before .args .rules .now) (c .before .before .before .before .before .before .before .args .m .now) (c .before .before .before .before .before .before .before .args .n) (c .before .before .before .before .before .before .before .pre .2) (c .before .before .before .before .before .before .before .pre .1))
 
--- src/lib.rt:154:1
 returns : tie.Need-returns
 returns c = user-put (c .before .before .before .before .before .before .before .args .row .now) _ _ (c .before .before .before .before .before .before .before .pre .0) (c .before .before .put-rule-at .ensures)
 

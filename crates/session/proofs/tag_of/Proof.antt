@@ -2,18 +2,13 @@ use native.Mathlib.Omega.{arith}
 use Rattle.session.proofs.WriteLaws.{tag-none, atom-small, tag-some}
 use Rattle.session.proofs.tag_of.Statement.{statement}
 use Rattle.session.proofs.tag_of.Tie as tie
-use Rattle.session.proofs.tag_of.Reads as reads
-use Rattle.session.proofs.tag_of.Lts as lts
 
--- src/lib.rt:248:9
 returns : tie.Need-returns
 returns c = tag-none _ (c .if1 .taken)
 
--- src/lib.rt:250:5
 shl-result : tie.Need-shl-result
 shl-result c = omega (arith, atom-small _ (c .before .pre) (c .if1 .left))
 
--- src/lib.rt:243:1
 returns-2 : tie.Need-returns-2
 returns-2 c = tag-some _ (atom-small _ (c .before .pre) (c .if1 .left)) (c .if1 .left)
 

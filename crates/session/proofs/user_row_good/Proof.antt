@@ -4,48 +4,34 @@ use Rattle.session.proofs.TestLaws.{undeclared-row, other-first, by-use
 use borrow.Author.Needs.{needs}
 use Rattle.session.proofs.user_row_good.Statement.{statement}
 use Rattle.session.proofs.user_row_good.Tie as tie
-use Rattle.session.proofs.user_row_good.Reads as reads
-use Rattle.session.proofs.user_row_good.Lts as lts
-use Rattle.session.proofs.all_zero.Reads as all-zero-reads
-use Rattle.session.proofs.kept_well.Reads as kept-well-reads
 
--- src/lib.rt:190:17
 shared-slice-read-first : tie.Need-shared-slice-read-first
 shared-slice-read-first c = search needs
 
--- src/lib.rt:192:9
 all-zero-requires : tie.Need-all-zero-requires
 all-zero-requires c κs = search needs
 
--- src/lib.rt:192:9
 returns : tie.Need-returns
 returns c = c .all-zero .ensures ∙ undeclared-row _ (c .before .if1 .taken)
 
--- src/lib.rt:195:9
 returns-2 : tie.Need-returns-2
 returns-2 c = other-first _ (c .before .if1 .left) (c .if2 .taken)
 
--- src/lib.rt:197:34
 add-kept-well : tie.Need-add-kept-well
 add-kept-well c = search needs
 
--- src/lib.rt:197:15
 sub-kept-well : tie.Need-sub-kept-well
 sub-kept-well c = search needs
 
--- src/lib.rt:197:15
 part-kept-well-start : tie.Need-part-kept-well-start
 part-kept-well-start c = search needs
 
--- src/lib.rt:197:15
 part-kept-well-end : tie.Need-part-kept-well-end
 part-kept-well-end c = search needs
 
--- src/lib.rt:197:5
 kept-well-requires : tie.Need-kept-well-requires
 kept-well-requires c κs = search needs
 
--- src/lib.rt:186:1
 returns-3 : tie.Need-returns-3
 unfolding userRuleWords
 returns-3 c = c .kept-well .ensures ∙ by-user-rule _ (c .before .before .before .if1 .left) (c .before .before .if2 .left)

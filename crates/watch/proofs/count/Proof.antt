@@ -2,45 +2,33 @@ use Rattle.watch.specs.Steps.{counted}
 use borrow.Author.Needs.{needs}
 use Rattle.watch.proofs.count.Statement.{statement}
 use Rattle.watch.proofs.count.Tie as tie
-use Rattle.watch.proofs.count.Reads as reads
-use Rattle.watch.proofs.count.Lts as lts
-use Rattle.watch.proofs.more.Reads as more-reads
 
--- src/main.rt:88:9
 more-requires : tie.Need-more-requires
 more-requires c κs = search needs
 
--- src/main.rt:90:32
 enum-told : tie.Need-enum-told
 enum-told c = search needs
 
--- src/main.rt:98:21
 enum-told-2 : tie.Need-enum-told-2
 enum-told-2 c = search needs
 
--- src/main.rt:98:21
 more-requires-2 : tie.Need-more-requires-2
 more-requires-2 c κs = search needs
 
--- src/main.rt:105:22
 enum-told-3 : tie.Need-enum-told-3
 enum-told-3 c = search needs
 
--- src/main.rt:105:22
 more-requires-3 : tie.Need-more-requires-3
 more-requires-3 c κs = search needs
 
--- src/main.rt:85:1
 returns : tie.Need-returns
 unfolding counted
 returns c = rw (c .enum-told .given .1, c .before .before .more .ensures)
 
--- src/main.rt:85:1
 returns-2 : tie.Need-returns-2
 unfolding counted
 returns-2 c = rw (c .before .enum-told2 .given .1, c .before .before .before .more .ensures, c .more2 .ensures)
 
--- src/main.rt:85:1
 returns-3 : tie.Need-returns-3
 unfolding counted
 returns-3 c = rw (c .before .enum-told3 .given .1, c .before .before .before .more .ensures, c .more3 .ensures)

@@ -1,34 +1,25 @@
 use borrow.Author.Needs.{needs}
 use Rattle.watch.proofs.outcome.Statement.{statement}
 use Rattle.watch.proofs.outcome.Tie as tie
-use Rattle.watch.proofs.outcome.Reads as reads
-use Rattle.watch.proofs.outcome.Lts as lts
 
--- src/main.rt:53:23
 enum-known-answer : tie.Need-enum-known-answer
 enum-known-answer c = search needs
 
--- src/main.rt:57:23
 enum-known-answer-2 : tie.Need-enum-known-answer-2
 enum-known-answer-2 c = search needs
 
--- src/main.rt:61:25
 enum-known-answer-3 : tie.Need-enum-known-answer-3
 enum-known-answer-3 c = search needs
 
--- src/main.rt:61:53
 cast-t10 : tie.Need-cast-t10
 cast-t10 c = search needs
 
--- src/main.rt:49:1
 returns : tie.Need-returns
 returns c = rw (c .before .answer .given .1)
 
--- src/main.rt:49:1
 returns-2 : tie.Need-returns-2
 returns-2 c = rw (c .before .answer2 .given .1)
 
--- src/main.rt:49:1
 returns-3 : tie.Need-returns-3
 returns-3 c = rw (c .before .answer3 .given .1)
 
