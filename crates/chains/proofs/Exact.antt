@@ -11,9 +11,10 @@ use lib.Bits.{bitOr}
 use lib.Pow.{pow-lt}
 use native.Mathlib.Nat.{zero-div}
 use Rattle.rules.specs.Sets.{atom, holds, dataOf, runningOf}
-use Rattle.rules.specs.Rules.{covers, elem, normal, meet, unrestricted}
+use Rattle.rules.specs.Rules.{covers, normal, meet, unrestricted}
+use Rattle.lists.specs.Lists.{elem}
 use Rattle.rules.specs.Answers.{dataWidth, tagWidth}
-use Rattle.rules.proofs.Bools.{and-in, and-0, and-1, or-0, clash, decide}
+use Rattle.lists.proofs.Bools.{and-in, and-0, and-1, or-0, clash, decide}
 use Rattle.rules.proofs.SetLaws.{atom-le, atoms-holds, holds-all, holds-has, single-same, single-other, or-has, data-has, running-has}
 use Rattle.rules.proofs.RuleLaws.{covers-normal, covers-meet, covers-by, Largest, largest}
 use Rattle.image.specs.Policy.{unrestrictedRule}

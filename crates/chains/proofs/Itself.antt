@@ -2,7 +2,7 @@
 use mathlib.Core.Path.{_≡_, refl}
 use mathlib.Core.Bool.{false}
 use mathlib.Core.Option.{some}
-use Rattle.rules.proofs.Bools.{clash}
+use Rattle.lists.proofs.Bools.{clash}
 use Rattle.image.specs.Policy.{Policy, Sound}
 use Rattle.chains.specs.History.{Step}
 use Rattle.chains.specs.Demand.{accepted, Demand3, TagTold}

@@ -9,7 +9,7 @@ use lib.Dec.{eqb, ltb}
 use lib.ListN.{length, getElem?}
 use borrow.Author.Tests.{eqb-true, ne-eqb, ltb-true}
 use Rattle.rules.specs.Answers.{dataWidth}
-use Rattle.rules.proofs.Bools.{and-0, and-1, or-0, or-1, or-cases, clash, refuted}
+use Rattle.lists.proofs.Bools.{and-0, and-1, or-0, or-1, or-cases, clash, refuted}
 use Rattle.image.specs.Limits.{
   isFree,
   isFile,
@@ -24,7 +24,7 @@ use Rattle.image.specs.Limits.{
   unrestrictedNumber,
 }
 use Rattle.image.specs.Policy.{Container, Policy, named, containerGood, Sound}
-use Rattle.chains.proofs.Lists.{every-at}
+use Rattle.lists.proofs.Places.{every-at}
 
 pub process-used : (k : ℕ) → isProcess k ≡ true → isFree k ≡ false
 unfolding isProcess isFree

@@ -8,9 +8,9 @@ use mathlib.Core.List.{List, [], _∷_}
 use mathlib.Core.Option.{some}
 use lib.ListN.{getElem?, take}
 use Rattle.rules.specs.Sets.{atom, holds, dataOf}
-use Rattle.rules.specs.Rules.{covers, elem, distinct, heldIn, unheldIn, insert, sort, normal, intersections, meet, unrestricted}
+use Rattle.rules.specs.Rules.{covers, distinct, heldIn, unheldIn, insert, sort, normal, intersections, meet, unrestricted}
+use Rattle.lists.specs.Lists.{elem, every}
 use Rattle.image.specs.Limits.{isFree, isFile, isVolatile, isProcess, isStore, fileKind, processKind, noAtom, unrestrictedNumber}
-use Rattle.image.specs.Bytes.{every}
 use Rattle.image.specs.Policy.{Container, Policy, unrestrictedRule, ruleAt, named, containerGood, ruleGood, Sound}
 use Rattle.image.specs.Normal.{normalAt, placeOf, meaning}
 use Rattle.chains.specs.History.{Step, read, write, append, History, start, _▸_}

@@ -8,7 +8,7 @@ use mathlib.Core.Option.{Option, none, some}
 use lib.Dec.{eqb}
 use lib.ListN.{getD, getElem?}
 use borrow.Author.Tests.{eqb-true, eqb-false, eq-eqb}
-use Rattle.rules.proofs.Bools.{clash}
+use Rattle.lists.proofs.Bools.{clash}
 use Rattle.image.specs.Limits.{isFree, isFile, isStore, noAtom, unrestrictedNumber}
 use Rattle.image.specs.Policy.{Container, Policy, unrestrictedRule, ruleAt, Sound}
 use Rattle.image.specs.Normal.{normalAt, placeOf, meaning}
@@ -19,7 +19,7 @@ use Rattle.session.specs.Session.{startTag, startRow}
 use Rattle.chains.proofs.ChainLaws.{chain-none, chain-here}
 use Rattle.chains.proofs.Exact.{Exact, exact-unrestricted, exact-normal, exact-one, Tagged, tagged-none, tagged-one}
 use Rattle.chains.proofs.Rows.{Good, RowOk}
-use Rattle.chains.proofs.Lists.{some-inj, none-some, mapped, map-at}
+use Rattle.lists.proofs.Places.{some-inj, none-some, mapped, mapped-at}
 use Rattle.chains.proofs.KindLaws.{not-file, Accepted, sound-at}
 
 -- the state stands for the chains of the history and the rules governing after it
@@ -111,6 +111,6 @@ module _ (P : Policy) where
     pub begin-ok : Inv P start (begin P)
     unfolding begin meaning
     begin-ok = record {
-      rows = λ c. subst (λ m. RowOk P start c (startRowOf m)) (sym (map-at (placeOf (P .rules)) (P .containers) c)) (row-start c (getElem? (P .containers) c) refl);
-      users = λ u v e. user-start u (getElem? (P .users) u) refl v (sym (map-at (normalAt (P .rules)) (P .users) u) ∙ e);
+      rows = λ c. subst (λ m. RowOk P start c (startRowOf m)) (sym (mapped-at (placeOf (P .rules)) (P .containers) c)) (row-start c (getElem? (P .containers) c) refl);
+      users = λ u v e. user-start u (getElem? (P .users) u) refl v (sym (mapped-at (normalAt (P .rules)) (P .users) u) ∙ e);
     }

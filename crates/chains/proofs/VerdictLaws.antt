@@ -2,7 +2,7 @@
 use mathlib.Core.Path.{_≡_, ap}
 use mathlib.Core.Logic.{⊎-elim}
 use mathlib.Core.Bool.{true, false}
-use Rattle.rules.proofs.Bools.{decide}
+use Rattle.lists.proofs.Bools.{decide}
 use Rattle.chains.specs.History.{Step, receiver}
 use Rattle.chains.specs.Demand.{quiet, alert, accepted}
 use Rattle.chains.specs.Table.{alerts, verdict}

@@ -10,11 +10,11 @@ use lib.ListN.{length, getD, getElem?}
 use borrow.Author.Tests.{leb-true}
 use Rattle.rules.specs.Rules.{distinct, unheldIn, sort, normal, meet, intersections, unrestricted}
 use Rattle.rules.specs.Answers.{mixtureLimit}
-use Rattle.rules.proofs.Bools.{and-0, and-1, or-1, clash}
+use Rattle.lists.proofs.Bools.{and-0, and-1, or-1, clash}
 use Rattle.rules.proofs.RuleLaws.{normal-length, normal-normal}
 use Rattle.rules.proofs.MeetAll.{normal-one}
 use Rattle.image.specs.Limits.{isFree, isFile, isVolatile, isStore, unrestrictedNumber}
-use Rattle.image.specs.Bytes.{every}
+use Rattle.lists.specs.Lists.{every}
 use Rattle.image.specs.Policy.{Container, Policy, unrestrictedRule, ruleAt, ruleGood, Sound}
 use Rattle.image.specs.Normal.{normalAt, placeOf, meaning}
 use Rattle.chains.specs.History.{Step, read, write, append, exec, fork, newFile, newVolatile}
@@ -22,7 +22,7 @@ use Rattle.chains.specs.Demand.{Answer, accepted, after}
 use Rattle.chains.specs.Table.{State, freeRow, readRow, writeRow, appendRow, execRow, forkRow, newFileRow, newVolatileRow, Change, refuse, put, fits, change, placed, applied, operate, startRowOf, begin, RuleFormed, RowFormed, Formed, Faithful}
 use Rattle.session.specs.Session.{startRow}
 use Rattle.session.specs.Rows.{Row}
-use Rattle.chains.proofs.Lists.{some-inj, none-some, mapped, map-at}
+use Rattle.lists.proofs.Places.{some-inj, none-some, mapped, mapped-at}
 use Rattle.chains.proofs.TableLaws.{IfPut, Puts, change-puts}
 use Rattle.chains.proofs.KindLaws.{process-used, store-used, Accepted, sound-at}
 
@@ -83,8 +83,8 @@ module _ (P : Policy) (ok : Sound P) where
   pub begin-formed : Formed (begin P)
   unfolding begin meaning
   begin-formed = record {
-    rows = λ c. subst (λ m. RowFormed (startRowOf m)) (sym (map-at (placeOf (P .rules)) (P .containers) c)) (row c (getElem? (P .containers) c) refl);
-    users = λ u v e. user (getElem? (P .users) u) v (sym (map-at (normalAt (P .rules)) (P .users) u) ∙ e);
+    rows = λ c. subst (λ m. RowFormed (startRowOf m)) (sym (mapped-at (placeOf (P .rules)) (P .containers) c)) (row c (getElem? (P .containers) c) refl);
+    users = λ u v e. user (getElem? (P .users) u) v (sym (mapped-at (normalAt (P .rules)) (P .users) u) ∙ e);
   }
     where
       row : (c : ℕ) (m : Option Container) → getElem? (P .containers) c ≡ m → RowFormed (startRowOf (mapped (placeOf (P .rules)) m))

@@ -11,9 +11,10 @@ use lib.Dec.{eqb}
 use lib.ListN.{take}
 use borrow.Author.Tests.{eqb-true, eqb-false, not-true, not-false}
 use Rattle.rules.specs.Sets.{atom}
-use Rattle.rules.specs.Rules.{covers, elem}
+use Rattle.rules.specs.Rules.{covers}
+use Rattle.lists.specs.Lists.{elem}
 use Rattle.rules.specs.Answers.{dataWidth}
-use Rattle.rules.proofs.Bools.{and-1, clash, decide}
+use Rattle.lists.proofs.Bools.{and-1, clash, decide}
 use Rattle.image.specs.Limits.{isFree}
 use Rattle.image.specs.Policy.{Policy}
 use Rattle.chains.specs.History.{Step, read, write, append, exec, fork, newFile, newVolatile, History, _▸_, receiver}
@@ -23,7 +24,7 @@ use Rattle.chains.specs.Table.{State, readRow, writeRow, appendRow, exec
 use Rattle.session.specs.Rows.{Row}
 use Rattle.chains.proofs.Exact.{Exact, covers-in, covers-out, Tagged}
 use Rattle.chains.proofs.Rows.{Good, RowOk, other, read-good, write-good, append-good, exec-good, fork-good, new-file-good, new-volatile-good}
-use Rattle.chains.proofs.Lists.{some-inj, none-some}
+use Rattle.lists.proofs.Places.{some-inj, none-some}
 use Rattle.chains.proofs.KindLaws.{process-used, file-used, store-used}
 use Rattle.chains.proofs.TableLaws.{IfPut, Puts, change-puts}
 use Rattle.chains.proofs.VerdictLaws.{verdict-alert, verdict-quiet}

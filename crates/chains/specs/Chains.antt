@@ -8,7 +8,7 @@ use mathlib.Core.List.{List, [], _∷_}
 use mathlib.Core.Option.{some}
 use lib.ListN.{getElem?}
 use Rattle.rules.specs.Sets.{atom}
-use Rattle.rules.specs.Rules.{elem}
+use Rattle.lists.specs.Lists.{elem}
 use Rattle.rules.specs.Answers.{dataWidth}
 use Rattle.image.specs.Limits.{isFile, isStore, noAtom}
 use Rattle.image.specs.Policy.{Container, Policy, ruleAt}

@@ -6,7 +6,8 @@ use mathlib.Core.List.{List, [], _∷_, map}
 use lib.Bits.{bitOr, or-zero-r}
 use lib.ListN.{length}
 use Rattle.rules.specs.Sets.{holds, dataOf, runningOf}
-use Rattle.rules.specs.Rules.{covers, elem, distinct, heldIn, unheldIn, insert, sort, normal, intersections, meet}
+use Rattle.rules.specs.Rules.{covers, distinct, heldIn, unheldIn, insert, sort, normal, intersections, meet}
+use Rattle.lists.specs.Lists.{elem}
 use Rattle.rules.specs.Answers.{dataWidth, boundedOf}
 use Rattle.image.specs.Image.{offset, size}
 use Rattle.monitor.proofs.Examples.{CheckedRuns, checked-runs}

@@ -10,15 +10,16 @@ use lib.Dec.{eqb, leb, ltb}
 use lib.ListN.{length, take, drop, length-append}
 use lib.Seq.{drop-at, take-append-seam}
 use borrow.Author.Tests.{eq-eqb, le-leb, lt-ltb, ltb-true, eqb-true, leb-true}
-use Rattle.rules.proofs.Bools.{and-in, and-0, and-1, or-cases}
+use Rattle.lists.proofs.Bools.{and-in, and-0, and-1, or-cases}
 use Rattle.rules.specs.Answers.{dataWidth}
 use Rattle.image.specs.Limits.{isFile, isVolatile, isProcess, unrestrictedNumber, noAtom}
-use Rattle.image.specs.Bytes.{numberIn, bytesOf, field, every, joined, Bytes}
+use Rattle.fields.specs.Bytes.{numberIn, bytesOf, field, Bytes}
+use Rattle.lists.specs.Lists.{every, joined}
 use Rattle.image.specs.Policy.{Container, Policy, named, containerGood, ruleGood, Sound}
 use Rattle.image.specs.Image.{Span, containerIn, spanIn, ruleIn, containersIn, usersIn, spansIn, mixturesIn, rulesIn, policyIn, part, wholeGood, sectionsGood, spansGood, rulesGood, containersGood, usersGood, checkOf, accepted, judged, readImage}
 use Rattle.image.specs.Normal.{containerBytes, spanBytes, spansOf, pair, header, framed, encode}
-use Rattle.image.proofs.Lists.{every-0, every-1, every-nil, every-cons, every-append}
-use Rattle.image.proofs.ByteLaws.{bytes-length, number-bytes, joined-length, section-back, byte, bytes-byte, joined-byte, every-bytes}
+use Rattle.lists.proofs.Every.{every-0, every-1, every-nil, every-cons, every-append}
+use Rattle.fields.proofs.ByteLaws.{bytes-length, number-bytes, joined-length, section-back, byte, bytes-byte, joined-byte, every-bytes}
 use Rattle.image.proofs.Frame.{part-0, part-1, part-2, part-3, frame-length, frame-long, frame-pairs}
 
 -- ---- one record

@@ -1,7 +1,5 @@
 -- Theorems is the file to read: the laws of this crate, stated and cited. The others prove them.
 pub mod Theorems
-pub mod Lists
-pub mod ByteLaws
 pub mod Frame
 pub mod Encode
 pub mod Decode

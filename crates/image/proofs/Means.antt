@@ -8,17 +8,18 @@ use native.Mathlib.Omega.{arith}
 use lib.Dec.{eqb, leb, ltb}
 use lib.ListN.{length, getD, length-map}
 use borrow.Author.Tests.{ltb-true, leb-true, le-leb}
-use Rattle.rules.proofs.Bools.{and-in, and-0, and-1, or-0, or-1, or-cases}
-use Rattle.rules.proofs.RuleLaws.{elem-here, elem-there, elem-cases, elem-none, normal-among, normal-length, normal-normal}
+use Rattle.lists.proofs.Bools.{and-in, and-0, and-1, or-0, or-1, or-cases}
+use Rattle.lists.proofs.Elem.{elem-here, elem-there, elem-cases, elem-none}
+use Rattle.rules.proofs.RuleLaws.{normal-among, normal-length, normal-normal}
 use Rattle.rules.proofs.MeetAll.{normal-one}
-use Rattle.rules.specs.Rules.{elem, normal, unrestricted, sameList}
-use Rattle.rules.proofs.SameLaws.{same-refl, same-eq}
+use Rattle.lists.specs.Lists.{elem, sameList, every}
+use Rattle.rules.specs.Rules.{normal, unrestricted}
+use Rattle.lists.proofs.Same.{same-refl, same-eq}
 use Rattle.rules.specs.Answers.{dataWidth}
 use Rattle.image.specs.Limits.{isFile, isVolatile, isProcess, unrestrictedNumber, noAtom}
-use Rattle.image.specs.Bytes.{every}
 use Rattle.image.specs.Policy.{Container, Policy, unrestrictedRule, ruleAt, named, containerGood, ruleGood, Sound}
 use Rattle.image.specs.Normal.{Place, Meaning, normalAt, placeOf, meaning, placeUses, uses, known, numbered, numberOf, containerOf, writtenBy, policyOf}
-use Rattle.image.proofs.Lists.{every-0, every-1, every-nil, every-cons, every-imp, every-append, every-left, every-right, every-both, every-map, every-getD, map-back}
+use Rattle.lists.proofs.Every.{every-0, every-1, every-nil, every-cons, every-imp, every-append, every-left, every-right, every-both, every-map, every-getD, map-back}
 use Rattle.image.proofs.Numbering.{settled, all-settled, numbered-every, numbered-few, number-rule, number-named}
 
 -- a rule of at most 8 mixtures of 64 bits in normal form

@@ -8,14 +8,13 @@ use native.Mathlib.Omega.{arith}
 use lib.Dec.{eqb, ltb}
 use lib.ListN.{length, getD, length-append}
 use borrow.Author.Tests.{ne-eqb, lt-ltb}
-use Rattle.rules.proofs.Bools.{or-0, or-1, or-cases, clash, refuted}
-use Rattle.rules.specs.Rules.{sameList}
-use Rattle.rules.proofs.SameLaws.{same-refl, same-eq}
+use Rattle.lists.proofs.Bools.{or-0, or-1, or-cases, clash, refuted}
+use Rattle.lists.specs.Lists.{sameList, every}
+use Rattle.lists.proofs.Same.{same-refl, same-eq}
 use Rattle.image.specs.Limits.{unrestrictedNumber}
-use Rattle.image.specs.Bytes.{every}
 use Rattle.image.specs.Policy.{unrestrictedRule, ruleAt, named}
 use Rattle.image.specs.Normal.{known, noted, numbered, position, numberOf}
-use Rattle.image.proofs.Lists.{every-0, every-1, every-nil, every-cons, every-append}
+use Rattle.lists.proofs.Every.{every-0, every-1, every-nil, every-cons, every-append}
 
 -- r needs no number, or has one
 unfoldable pub settled : List (List ℕ) → List ℕ → Bool

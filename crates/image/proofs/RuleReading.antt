@@ -10,13 +10,13 @@ use mathlib.Core.Bool.{true}
 use mathlib.Core.Logic.{⊎-elim}
 use lib.Dec.{ltb}
 use borrow.Author.Tests.{ltb-true, eqb-true, ne-eqb}
-use Rattle.rules.proofs.Bools.{or-cases}
+use Rattle.lists.proofs.Bools.{or-cases}
 use Rattle.rules.specs.declared.Bounded.{Bounded}
 use Rattle.rules.specs.Rules.{normal, unrestricted}
 use Rattle.rules.specs.Answers.{boundedOf}
 use Rattle.image.specs.Words.{wordsOf}
 use Rattle.image.proofs.WordLaws.{bounded-words}
-use Rattle.image.specs.Bytes.{field}
+use Rattle.fields.specs.Bytes.{field}
 use Rattle.image.specs.Policy.{unrestrictedRule, ruleAt, named}
 use Rattle.image.specs.Image.{mixturesIn, spansIn, rulesIn, spansGood}
 use Rattle.image.specs.Normal.{normalAt}

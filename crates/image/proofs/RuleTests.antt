@@ -9,13 +9,15 @@ use native.Mathlib.Numerals.{add-one}
 use lib.Bits.{bitAnd}
 use lib.ListN.{length, getD, take, drop, drop-of-length-le}
 use lib.Seq.{take-suc, take-all, drop-cons}
-use Rattle.rules.proofs.Bools.{or-0, or-1, or-cases, clash, refuted}
+use Rattle.lists.proofs.Bools.{or-0, or-1, or-cases, clash, refuted}
 use Rattle.rules.proofs.SetLaws.{holds-is, holds-not, holds-le}
-use Rattle.rules.proofs.SameLaws.{same-refl, same-eq}
-use Rattle.rules.proofs.RuleLaws.{elem-here, elem-there, elem-cases, elem-none, is-normal, normal-ascends, normal-antichain}
+use Rattle.lists.proofs.Same.{same-refl, same-eq}
+use Rattle.lists.proofs.Elem.{elem-here, elem-there, elem-cases, elem-none}
+use Rattle.rules.proofs.RuleLaws.{is-normal, normal-ascends, normal-antichain}
 use Rattle.rules.specs.Order.{Ascending, Antichain}
 use Rattle.rules.specs.Sets.{holds}
-use Rattle.rules.specs.Rules.{elem, normal, sameList}
+use Rattle.lists.specs.Lists.{elem, sameList}
+use Rattle.rules.specs.Rules.{normal}
 use Rattle.image.specs.Words.{isNormal}
 use Rattle.image.specs.RuleTest.{holdsOne}
 

@@ -1,79 +1,20 @@
--- Fields that are read byte by byte, sections that are read record by record.
-use Prim.Native.Nat.{ℕ, zero, suc, _+_, _-_, _*_, _/_, _≤_, _<_}
+-- Sections that are read record by record: the rule records, the pairs, the length.
+use Prim.Native.Nat.{ℕ, suc, _+_, _-_, _*_, _/_, _≤_, _<_}
 use mathlib.Core.Path.{_≡_, refl, sym, ap, _∙_}
-use mathlib.Core.Bool.{Bool, true, false, not, _&&_}
-use mathlib.Core.List.{List, [], _∷_, map}
+use mathlib.Core.Bool.{true, false, _&&_}
+use mathlib.Core.List.{List, map}
 use native.Mathlib.Omega.{arith}
-use native.Mathlib.Nat.{add-mul}
-use native.Mathlib.Numerals.{add-one}
 use lib.Dec.{eqb, leb}
-use lib.ListN.{length, getD, take, drop}
-use lib.Seq.{drop-cons, drop-drop, take-take}
-use borrow.Author.Tests.{lt-leb, le-leb, leb-true, not-true, not-false}
-use Rattle.rules.proofs.Bools.{and-in, and-0, and-1}
-use Rattle.image.specs.Bytes.{numberIn, field, cut, records, every}
+use lib.ListN.{length, take, drop}
+use lib.Seq.{drop-drop}
+use borrow.Author.Tests.{lt-leb, le-leb, leb-true}
+use Rattle.lists.proofs.Bools.{and-in, and-0, and-1}
+use Rattle.fields.specs.Bytes.{field, cut, records}
+use Rattle.fields.proofs.FieldLaws.{field-record}
 use Rattle.image.specs.Image.{spanIn, spansIn, spansGood, offset, size, partGood, pairsGood, lengthGood}
 
--- ---- fields
+-- ---- rules, where a record is held against the one before
 
-pub field-one : (s : List ℕ) (at : ℕ) → at + 1 ≤ length s → getD s at 0 ≡ field s at 1
-unfolding field numberIn
-field-one s at h = let l : at < length s = omega arith in rw (drop-cons s at 0 l) (omega arith)
-
-pub field-two : (s : List ℕ) (at : ℕ) → at + 2 ≤ length s → getD s at 0 + 256 * getD s (at + 1) 0 ≡ field s at 2
-unfolding field numberIn
-field-two s at h =
-    let l : at < length s = omega arith in
-    let k : suc at < length s = omega arith in
-    rw (add-one, drop-cons s at 0 l, drop-cons s (suc at) 0 k) (omega arith)
-
--- a field of a record is a field of the section
-pub take-mid : (l : List ℕ) (w k v : ℕ) → k + v ≤ w → take v (drop k (take w l)) ≡ take v (drop k l)
-take-mid l w zero v h = take-take v w l (omega arith)
-take-mid [] zero (suc k) v h = refl
-take-mid [] (suc w) (suc k) v h = refl
-take-mid (x ∷ l) zero (suc k) v h = absurd (omega arith)
-take-mid (x ∷ l) (suc w) (suc k) v h = take-mid l w k v (omega arith)
-
-pub field-record : (s : List ℕ) (at w k v : ℕ) → k + v ≤ w → field (take w (drop at s)) k v ≡ field s (at + k) v
-unfolding field
-field-record s at w k v h = ap numberIn (take-mid (drop at s) w k v h ∙ ap (take v) (drop-drop k at s))
-
--- ---- one record after the other
-
--- of the n records of w bytes of s, i are read, and all passed
-pub record Scanned {A : Type 0} (f : A → Bool) (d : List ℕ → A) (w : ℕ) (s : List ℕ) (n i : ℕ) : Type 0 where
-  pub count : n ≡ length s / w
-  pub place : i ≤ n
-  pub rest : every f (map d (cut w (n - i) (drop (i * w) s))) ≡ every f (map d (records w s))
-
-module _ {A : Type 0} (f : A → Bool) (d : List ℕ → A) (w : ℕ) (s : List ℕ) where
-  pub scan-start : Scanned f d w s (length s / w) 0
-  unfolding records
-  scan-start =
-      let e : length s / w - 0 ≡ length s / w = omega arith in
-      let z : 0 * w ≡ 0 = omega arith in
-      record { count = refl; place = omega arith; rest = rw (e, z) }
-
-  module _ (n i : ℕ) (g : Scanned f d w s n i) where
-    step : i < n → every f (map d (cut w (n - i) (drop (i * w) s))) ≡ (f (d (take w (drop (i * w) s))) && every f (map d (cut w (n - (i + 1)) (drop ((i + 1) * w) s))))
-    unfolding cut every
-    step l =
-        let e : n - i ≡ suc (n - (i + 1)) = omega arith in
-        let k : (i + 1) * w ≡ i * w + w = omega (arith, add-mul i 1 w) in
-        rw (e, k, ← drop-drop)
-
-    pub scan-next : i < n → true ≡ f (d (take w (drop (i * w) s))) → Scanned f d w s n (i + 1)
-    scan-next l h = record { count = g .count; place = omega arith; rest = sym (rw (← h) at (step l)) ∙ g .rest }
-
-    pub scan-stop : i < n → false ≡ f (d (take w (drop (i * w) s))) → false ≡ every f (map d (records w s))
-    scan-stop l h = sym (rw (← h) at (step l)) ∙ g .rest
-
-    pub scan-end : n ≤ i → true ≡ every f (map d (records w s))
-    unfolding cut every
-    scan-end l = let e : n - i ≡ 0 = omega arith in rw e at (g .rest)
-
--- the same for rules, where a record is held against the one before
 pub record SpansScanned (m : ℕ) (s : List ℕ) (n from i : ℕ) : Type 0 where
   pub count : n ≡ length s / 4
   pub place : i ≤ n
@@ -116,14 +57,6 @@ module _ (m : ℕ) (s : List ℕ) (n from i : ℕ) (g : SpansScanned m s n from 
   pub spans-end : n ≤ i → true ≡ spansGood m 0 (spansIn s)
   unfolding cut spansGood
   spans-end l = let e : n - i ≡ 0 = omega arith in rw e at (g .rest)
-
--- ---- tests that a function answers
-
-pub passes-test : {r x : Bool} → r ≡ x → not r ≡ false → x ≡ true
-passes-test {r} {x} e h = sym e ∙ not-false r h
-
-pub fails-test : {r x : Bool} → r ≡ x → not r ≡ true → x ≡ false
-fails-test {r} {x} e h = sym e ∙ not-true r h
 
 -- ---- good pairs: each section ends within the image
 

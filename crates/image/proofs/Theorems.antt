@@ -5,7 +5,7 @@ use mathlib.Core.Bool.{Bool, true, false, cond}
 use mathlib.Core.List.{List, [], _∷_}
 use lib.ListN.{length}
 use Rattle.image.specs.Limits.{outputBound}
-use Rattle.image.specs.Bytes.{Bytes}
+use Rattle.fields.specs.Bytes.{Bytes}
 use Rattle.image.specs.Policy.{Policy, Sound}
 use Rattle.image.specs.Image.{accepted, readImage, lengthGood, pairsGood, sectionsGood, rulesGood, containersGood, usersGood, checkOf}
 use Rattle.image.specs.Normal.{Meaning, meaning, policyOf, normalPolicy, encode, normalImage}

@@ -9,10 +9,10 @@ use native.Mathlib.Numerals.{add-one}
 use lib.ListN.{length, getD, take, drop, set, replicate, length-set, length-append, length-replicate, drop-of-length-le}
 use lib.Seq.{paste, paste-zero, paste-suc, take-all, take-suc, getD-set-same}
 use borrow.Author.Tests.{le-leb}
-use Rattle.rules.proofs.Bools.{same-test}
-use Rattle.rules.proofs.SameLaws.{same-refl, same-eq}
+use Rattle.lists.proofs.Bools.{same-test}
+use Rattle.lists.proofs.Same.{same-refl, same-eq}
 use Rattle.rules.proofs.BoundedLaws.{padded-take, bounded-some}
-use Rattle.rules.specs.Rules.{sameList}
+use Rattle.lists.specs.Lists.{sameList}
 use Rattle.rules.specs.Answers.{padded, boundedOf}
 use Rattle.rules.specs.declared.Bounded.{Bounded}
 use Rattle.image.specs.Normal.{position}

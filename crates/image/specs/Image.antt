@@ -4,7 +4,8 @@ use mathlib.Core.Bool.{Bool, true, cond, _&&_}
 use mathlib.Core.List.{List, [], _∷_, map}
 use lib.Dec.{eqb, leb}
 use lib.ListN.{length, take, drop}
-use Rattle.image.specs.Bytes.{numberIn, field, records, every}
+use Rattle.fields.specs.Bytes.{numberIn, field, records}
+use Rattle.lists.specs.Lists.{every}
 use Rattle.rules.specs.Answers.{mixtureLimit}
 use Rattle.image.specs.Limits.{
   containerLimit,

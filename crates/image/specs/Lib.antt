@@ -1,6 +1,5 @@
 -- What a reader must believe of this crate, in the order of the paper, "Policy image".
 pub mod Limits
-pub mod Bytes
 pub mod Policy
 pub mod Image
 pub mod Normal

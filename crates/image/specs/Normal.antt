@@ -3,9 +3,10 @@ use Prim.Native.Nat.{ℕ, suc, _+_}
 use mathlib.Core.Bool.{Bool, false, cond, _||_}
 use mathlib.Core.List.{List, [], _∷_, _++_, map}
 use lib.ListN.{length}
-use Rattle.rules.specs.Rules.{normal, sameList}
+use Rattle.rules.specs.Rules.{normal}
+use Rattle.lists.specs.Lists.{sameList, joined}
 use Rattle.image.specs.Limits.{unrestrictedNumber, leadingNumber, headerSize}
-use Rattle.image.specs.Bytes.{bytesOf, joined}
+use Rattle.fields.specs.Bytes.{bytesOf}
 use Rattle.image.specs.Policy.{Container, Policy, unrestrictedRule, ruleAt}
 use Rattle.image.specs.Image.{Span}
 

@@ -8,7 +8,7 @@ use lib.ListN.{length, getD}
 use Rattle.rules.specs.Rules.{unrestricted}
 use Rattle.rules.specs.Answers.{dataWidth, tagWidth, mixtureLimit}
 use Rattle.image.specs.Limits.{isFile, isVolatile, isProcess, noAtom, unrestrictedNumber, containerLimit, userLimit, ruleLimit}
-use Rattle.image.specs.Bytes.{every}
+use Rattle.lists.specs.Lists.{every}
 
 -- a container record: kind, atom, and the numbers of its permit rule and run rule
 pub record Container : Type 0 where

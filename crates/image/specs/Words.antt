@@ -3,7 +3,8 @@ use Prim.Native.Nat.{ℕ}
 use mathlib.Core.Bool.{Bool}
 use mathlib.Core.List.{List, _∷_}
 use lib.ListN.{length, getD, take, drop}
-use Rattle.rules.specs.Rules.{normal, sameList}
+use Rattle.rules.specs.Rules.{normal}
+use Rattle.lists.specs.Lists.{sameList}
 use Rattle.rules.specs.Answers.{padded}
 
 abbrev pub ruleWidth : ℕ

@@ -12,7 +12,7 @@ use lib.Dec.{eqb}
 use borrow.Author.Tests.{eqb-true, eq-eqb, eqb-false, ne-eqb}
 use Rattle.rules.specs.Sets.{atom}
 use Rattle.rules.proofs.SetLaws.{atom-le, atom-and, atom-or, atom-above, single-same, single-other, ext}
-use Rattle.rules.proofs.Bools.{decide}
+use Rattle.lists.proofs.Bools.{decide}
 use Rattle.matrix.specs.Flows.{has}
 
 -- the test, as code makes it

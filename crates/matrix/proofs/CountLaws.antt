@@ -9,7 +9,7 @@ use native.Mathlib.Omega.{arith}
 use lib.Count.{ones, ones-step}
 use lib.Dec.{eqb}
 use borrow.Author.Tests.{eq-eqb, ne-eqb}
-use Rattle.rules.proofs.Bools.{decide, clash, or-0, or-1}
+use Rattle.lists.proofs.Bools.{decide, clash, or-0, or-1}
 use Rattle.matrix.specs.Flows.{has}
 use Rattle.matrix.specs.Verdicts.{countBelow, sumBelow, someBelow, leastBelow}
 use Rattle.matrix.proofs.BitLaws.{has-first, has-next}

@@ -11,17 +11,18 @@ use lib.Bits.{bitOr, or-lt}
 use lib.Dec.{eqb, ltb}
 use lib.ListN.{length, getD, replicate, length-append, length-map, length-replicate}
 use borrow.Author.Tests.{le-leb, lt-ltb, ltb-true, ne-eqb}
-use Rattle.rules.proofs.Bools.{and-in, or-0, or-1}
+use Rattle.lists.proofs.Bools.{and-in, or-0, or-1}
 use Rattle.image.specs.Limits.{isFile, isVolatile, isProcess}
-use Rattle.image.specs.Bytes.{every}
-use Rattle.rules.specs.Rules.{elem, normal, unrestricted}
-use Rattle.rules.proofs.RuleLaws.{elem-here, elem-cases, elem-none, normal-among}
+use Rattle.lists.specs.Lists.{every, elem}
+use Rattle.rules.specs.Rules.{normal, unrestricted}
+use Rattle.lists.proofs.Elem.{elem-here, elem-cases, elem-none}
+use Rattle.rules.proofs.RuleLaws.{normal-among}
 use Rattle.image.specs.Policy.{Container, unrestrictedRule, ruleAt, named, containerGood, ruleGood, Sound}
 use Rattle.image.specs.Image.{readImage, accepted}
 use Rattle.image.specs.Normal.{Place, Meaning, normalAt, placeOf, meaning, policyOf, normalPolicy, encode, normalImage}
 use Rattle.image.proofs.Encode.{read-encode, encode-short}
 use Rattle.image.proofs.Means.{Encodable, meaning-encodable, normal-unrestricted, policy-sound, policy-means}
-use Rattle.image.proofs.Lists.{every-0, every-1, every-nil, every-cons, every-imp, every-append}
+use Rattle.lists.proofs.Every.{every-0, every-1, every-nil, every-cons, every-imp, every-append}
 use Rattle.matrix.specs.Flows.{has, rowsGood}
 use Rattle.matrix.specs.Derived.{writerMixtures, orAlone, permitOf, countFrom, objectFile, subjectProcess, derivedPolicy, derivedImage}
 use Rattle.matrix.proofs.VerdictLaws.{Good}

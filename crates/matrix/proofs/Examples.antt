@@ -4,8 +4,9 @@ use mathlib.Core.Path.{_≡_, refl}
 use mathlib.Core.List.{List, [], _∷_, map}
 use lib.ListN.{length}
 use Rattle.rules.specs.Sets.{atom, holds}
-use Rattle.rules.specs.Rules.{elem, distinct, heldIn, unheldIn, insert, sort, normal, unrestricted, sameList}
-use Rattle.image.specs.Bytes.{bytesOf, joined, every, numberIn, field}
+use Rattle.lists.specs.Lists.{elem, sameList, joined, every}
+use Rattle.rules.specs.Rules.{distinct, heldIn, unheldIn, insert, sort, normal, unrestricted}
+use Rattle.fields.specs.Bytes.{bytesOf, numberIn, field}
 use Rattle.image.specs.Policy.{unrestrictedRule, ruleAt}
 use Rattle.image.specs.Image.{offset, size}
 use Rattle.image.specs.Normal.{normalAt, placeOf, meaning, placeUses, uses, known, noted, numbered, position, numberOf, containerOf, writtenBy, policyOf, normalPolicy, containerBytes, spanBytes, spansOf, pair, header, framed, encode, normalImage}

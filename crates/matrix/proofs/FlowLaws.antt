@@ -11,9 +11,9 @@ use lib.Pow.{pow-pos}
 use lib.Dec.{ltb}
 use lib.ListN.{length, getD}
 use borrow.Author.Tests.{not-true, not-false, ltb-true, lt-ltb}
-use Rattle.rules.proofs.Bools.{and-in, and-0, and-1, decide, clash, refuted, same-test}
-use Rattle.image.specs.Bytes.{every}
-use Rattle.image.proofs.Lists.{every-0, every-1, every-nil, every-cons}
+use Rattle.lists.proofs.Bools.{and-in, and-0, and-1, decide, clash, refuted, same-test}
+use Rattle.lists.specs.Lists.{every}
+use Rattle.lists.proofs.Every.{every-0, every-1, every-nil, every-cons}
 use Rattle.matrix.specs.Flows.{has, granted, Composed, composed, rowsGood, matrixGood}
 use Rattle.matrix.specs.Verdicts.{countBelow, sumBelow, someBelow, ungranted, ungrantedFrom, flowCount, firstSource, firstTarget, consistent}
 use Rattle.matrix.specs.Rows.{bitAt, Closed}

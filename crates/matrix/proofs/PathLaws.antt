@@ -5,7 +5,7 @@ use mathlib.Core.Bool.{Bool, true, false, _&&_, _||_}
 use mathlib.Core.Logic.{_⊎_, inl, inr}
 use native.Mathlib.Decide.{ℕ-discrete}
 use native.Mathlib.Omega.{arith}
-use Rattle.rules.proofs.Bools.{and-in, and-0, and-1, or-0, or-1, or-cases}
+use Rattle.lists.proofs.Bools.{and-in, and-0, and-1, or-0, or-1, or-cases}
 use Rattle.matrix.specs.Flows.{Path, step, onward, within}
 
 -- ---- paths

@@ -6,11 +6,12 @@ use native.Mathlib.Nat.{zero-add}
 use native.Mathlib.Numerals.{add-one}
 use native.Mathlib.Omega.{arith}
 use lib.ListN.{length, take, replicate, length-append, length-map, length-replicate}
-use Rattle.image.specs.Bytes.{bytesOf, joined}
+use Rattle.fields.specs.Bytes.{bytesOf}
+use Rattle.lists.specs.Lists.{joined}
 use Rattle.image.specs.Image.{Span}
 use Rattle.image.specs.Policy.{Container}
 use Rattle.image.specs.Normal.{containerBytes, spanBytes, spansOf, pair, header, framed, encode}
-use Rattle.image.proofs.ByteLaws.{bytes-length, joined-length}
+use Rattle.fields.proofs.ByteLaws.{bytes-length, joined-length}
 use Rattle.matrix.specs.Derived.{permitOf, countFrom, objectFile, subjectProcess, derivedPolicy}
 use Rattle.matrix.specs.Spelling.{Wrote, mixtureBytes}
 use Rattle.matrix.proofs.DerivedLaws.{count-length, map-append, few-mixtures}

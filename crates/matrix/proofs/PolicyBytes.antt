@@ -10,11 +10,12 @@ use lib.Pow.{pow-lt}
 use lib.Bits.{bitOr}
 use lib.ListN.{length, getD, take, replicate, length-append}
 use lib.Seq.{take-all}
-use Rattle.image.specs.Bytes.{bytesOf, joined}
+use Rattle.fields.specs.Bytes.{bytesOf}
+use Rattle.lists.specs.Lists.{joined}
 use Rattle.image.specs.Image.{Span}
 use Rattle.image.specs.Policy.{Container}
 use Rattle.image.specs.Normal.{containerBytes, spanBytes, spansOf, pair, header}
-use Rattle.image.proofs.ByteLaws.{bytes-length, joined-length}
+use Rattle.fields.proofs.ByteLaws.{bytes-length, joined-length}
 use Rattle.matrix.specs.Flows.{has}
 use Rattle.matrix.specs.Derived.{writerMixtures, orAlone, permitOf, countFrom, objectFile, subjectProcess}
 use Rattle.matrix.specs.Spelling.{Wrote, mixtureBytes}

@@ -13,7 +13,7 @@ use lib.Dec.{ltb}
 use lib.ListN.{length, getD, drop, set, length-set, drop-of-length-le}
 use lib.Seq.{drop-cons, getD-set-same, getD-set-other}
 use borrow.Author.Tests.{lt-ltb, le-ltb}
-use Rattle.image.specs.Bytes.{every}
+use Rattle.lists.specs.Lists.{every}
 use Rattle.matrix.specs.Flows.{has, subjectCarries, granted, within, rowsGood}
 use Rattle.matrix.specs.Rows.{bitAt, Spelt, joinedAt, Passed}
 use Rattle.matrix.proofs.BitLaws.{has-is, has-not, has-or, has-single}

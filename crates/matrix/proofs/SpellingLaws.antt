@@ -7,8 +7,8 @@ use native.Mathlib.Numerals.{add-one}
 use native.Mathlib.Omega.{arith}
 use lib.ListN.{length, take, drop, set, length-append, length-set}
 use lib.Seq.{sets, sets-eq, take-at}
-use Rattle.image.specs.Bytes.{bytesOf}
-use Rattle.image.proofs.ByteLaws.{bytes-length}
+use Rattle.fields.specs.Bytes.{bytesOf}
+use Rattle.fields.proofs.ByteLaws.{bytes-length}
 use Rattle.matrix.specs.Spelling.{overwrite, Wrote}
 
 -- ---- overwriting

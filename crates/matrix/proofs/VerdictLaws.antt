@@ -11,8 +11,8 @@ use lib.Dec.{eqb, ltb, leb}
 use lib.ListN.{length, getD}
 use borrow.Author.Tests.{eq-eqb, ne-eqb, le-leb, eqb-true, ltb-true, leb-true, not-true, not-false}
 use borrow.Author.Count.{below-more}
-use Rattle.rules.proofs.Bools.{and-in, and-0, and-1}
-use Rattle.image.specs.Bytes.{every}
+use Rattle.lists.proofs.Bools.{and-in, and-0, and-1}
+use Rattle.lists.specs.Lists.{every}
 use Rattle.matrix.specs.declared.Consistency.{Consistency}
 use Rattle.matrix.specs.declared.Consistency.the-variants.{Consistent, Inconsistent}
 use Rattle.matrix.specs.Flows.{has, subjectCarries, granted, within, composed, rowsGood, counted, matrixGood}

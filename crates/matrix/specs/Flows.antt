@@ -7,7 +7,7 @@ use mathlib.Core.List.{List, [], _∷_}
 use lib.Dec.{eqb, ltb, leb}
 use lib.ListN.{length}
 use Rattle.rules.specs.Sets.{atom}
-use Rattle.image.specs.Bytes.{every}
+use Rattle.lists.specs.Lists.{every}
 use Rattle.matrix.specs.Limits.{subjectLimit, objectLimit}
 
 -- ---- which numbers are a matrix

@@ -3,7 +3,8 @@ use Prim.Native.Nat.{ℕ, suc, _+_}
 use mathlib.Core.Path.{_≡_}
 use mathlib.Core.List.{List, [], _∷_, map}
 use lib.ListN.{length, set}
-use Rattle.image.specs.Bytes.{bytesOf, joined}
+use Rattle.fields.specs.Bytes.{bytesOf}
+use Rattle.lists.specs.Lists.{joined}
 use Rattle.image.specs.Limits.{mixtureSize}
 
 -- s, with p written over it from a place on

@@ -5,7 +5,7 @@ use mathlib.Core.Logic.{_≢_}
 use mathlib.Core.Bool.{Bool, true, false, not, cond}
 use mathlib.Core.List.{List}
 use Rattle.rules.specs.Rules.{covers}
-use Rattle.rules.proofs.Bools.{clash}
+use Rattle.lists.proofs.Bools.{clash}
 use Rattle.session.specs.Rows.{Row}
 use Rattle.chains.specs.History.{Step, receiver}
 use Rattle.chains.specs.Demand.{Answer, quiet, alert, refused, accepted, isAlert, receiverOf, tagOf, judged}

@@ -5,7 +5,7 @@ use mathlib.Core.Path.{_≡_}
 use mathlib.Core.Bool.{true}
 use lib.Dec.{ltb}
 use borrow.Author.Tests.{ltb-true}
-use Rattle.rules.proofs.Bools.{and-0, and-1}
+use Rattle.lists.proofs.Bools.{and-0, and-1}
 use Rattle.operations.specs.declared.Request.{Request}
 use Rattle.operations.specs.Codes.{readCode, writeCode, appendCode, execCode, forkCode, newFileCode, newVolatileCode, isCode}
 

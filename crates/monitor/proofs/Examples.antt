@@ -5,10 +5,11 @@ use mathlib.Core.Bool.{true}
 use mathlib.Core.List.{List, [], _∷_, _++_}
 use lib.Bits.{or-zero-r}
 use Rattle.rules.specs.Sets.{holds, dataOf, runningOf}
-use Rattle.rules.specs.Rules.{covers, elem, distinct, heldIn, unheldIn, insert, sort, normal, intersections, meet, unrestricted, sameList}
+use Rattle.rules.specs.Rules.{covers, distinct, heldIn, unheldIn, insert, sort, normal, intersections, meet, unrestricted}
+use Rattle.lists.specs.Lists.{elem, sameList}
 use Rattle.rules.specs.Answers.{padded}
 use Rattle.image.specs.Limits.{isFree, isFile, isVolatile, isProcess, isStore, fileKind, processKind, noAtom, unrestrictedNumber}
-use Rattle.image.specs.Bytes.{numberIn, bytesOf, field}
+use Rattle.fields.specs.Bytes.{numberIn, bytesOf, field}
 use Rattle.image.specs.Policy.{Container, Policy, unrestrictedRule, ruleAt}
 use Rattle.image.specs.Normal.{normalAt, placeOf, meaning}
 use Rattle.chains.proofs.KindLaws.{process-used}

@@ -8,7 +8,7 @@ use lib.ListN.{length}
 use borrow.Author.Tests.{leb-true}
 use Rattle.rules.specs.Rules.{normal, meet, intersections, unrestricted}
 use Rattle.rules.specs.Answers.{mixtureLimit}
-use Rattle.rules.proofs.Bools.{and-0, and-1}
+use Rattle.lists.proofs.Bools.{and-0, and-1}
 use Rattle.rules.proofs.RuleLaws.{normal-normal}
 use Rattle.rules.proofs.MeetAll.{normal-one}
 use Rattle.image.specs.Limits.{isFree, isFile, isVolatile, isStore}

@@ -8,9 +8,8 @@ use lib.Dec.{eqb}
 use lib.ListN.{getD, take, drop}
 use lib.Seq.{getD-drop, getD-take}
 use borrow.Author.Tests.{eq-eqb, ne-eqb, not-true, not-false}
-use Rattle.rules.proofs.Bools.{or-1}
+use Rattle.lists.proofs.Bools.{or-1, passes-test, fails-test}
 use Rattle.image.specs.Limits.{isProcess}
-use Rattle.image.proofs.Scanning.{passes-test, fails-test}
 use Rattle.session.specs.Limits.{rowWidth, userWidth, usersAt, kindAt, declaredAt, declared}
 use Rattle.session.specs.Rows.{containerRow, userRow, rowOf, isDeclared, containerRowGood, userRowGood}
 use Rattle.session.proofs.PutLaws.{row-lent, user-lent}

@@ -5,7 +5,8 @@ use mathlib.Core.Path.{_≡_, refl, ap, _∙_}
 use mathlib.Core.List.{List, [], _∷_, _++_}
 use lib.ListN.{length, replicate}
 use Rattle.image.specs.Limits.{isFile, isVolatile, isProcess}
-use Rattle.image.specs.Bytes.{numberIn, field, cut, records, every}
+use Rattle.fields.specs.Bytes.{numberIn, field, cut, records}
+use Rattle.lists.specs.Lists.{every}
 use Rattle.image.specs.Policy.{named, containerGood}
 use Rattle.image.specs.Image.{containerIn, spanIn, ruleIn, containersIn, usersIn, spansIn, mixturesIn, rulesIn, policyIn, offset, size, part, lengthGood, partGood, pairsGood, wholeGood, sectionsGood, spansGood, rulesGood, containersGood, usersGood, checkOf}
 use Rattle.session.specs.Limits.{sessionLength}

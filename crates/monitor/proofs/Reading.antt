@@ -7,9 +7,9 @@ use mathlib.Core.List.{List}
 use lib.Dec.{eqb, ltb}
 use lib.ListN.{length}
 use borrow.Author.Tests.{eq-eqb, ne-eqb, lt-ltb, le-ltb, ltb-true, not-false}
-use Rattle.rules.proofs.Bools.{and-0, and-1}
+use Rattle.lists.proofs.Bools.{and-0, and-1}
 use Rattle.image.specs.Limits.{containerLimit, userLimit}
-use Rattle.image.specs.Bytes.{field}
+use Rattle.fields.specs.Bytes.{field}
 use Rattle.operations.specs.declared.Code.{Code}
 use Rattle.operations.specs.declared.Request.{Request}
 use Rattle.operations.specs.Codes.{isCode, codeAt}

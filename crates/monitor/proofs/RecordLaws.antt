@@ -10,9 +10,9 @@ use mathlib.Core.Option.{some}
 use lib.Dec.{eqb, ltb}
 use lib.ListN.{length}
 use borrow.Author.Tests.{ltb-true, eqb-true, eq-eqb, lt-ltb}
-use Rattle.rules.proofs.Bools.{and-in, and-0, and-1}
+use Rattle.lists.proofs.Bools.{and-in, and-0, and-1}
 use Rattle.image.specs.Limits.{containerLimit, userLimit}
-use Rattle.image.specs.Bytes.{numberIn, field}
+use Rattle.fields.specs.Bytes.{numberIn, field}
 use Rattle.chains.specs.History.{receiver}
 use Rattle.operations.specs.declared.Request.{Request}
 use Rattle.operations.specs.Codes.{readCode, writeCode, appendCode, execCode, forkCode, newFileCode, newVolatileCode, codes, codeAt, isCode}

@@ -5,7 +5,7 @@ use mathlib.Core.Path.{_≡_, refl}
 use mathlib.Core.Logic.{_↔_, _≢_}
 use mathlib.Core.Bool.{Bool, true, false, cond}
 use mathlib.Core.List.{List}
-use Rattle.rules.proofs.Bools.{clash}
+use Rattle.lists.proofs.Bools.{clash}
 use Rattle.operations.specs.declared.Request.{Request}
 use Rattle.operations.specs.Effects.{rowsGood, processGood, kindGood, freeGood, userGood, meetGood, sessionRefusal}
 

@@ -10,7 +10,7 @@ use lib.Dec.{eqb}
 use lib.ListN.{length, take, drop, length-take, length-drop, drop-of-length-le}
 use lib.Seq.{take-all, drop-drop}
 use borrow.Author.Tests.{eq-eqb, ne-eqb}
-use Rattle.image.specs.Bytes.{cut}
+use Rattle.fields.specs.Bytes.{cut}
 use Rattle.image.specs.Image.{policyIn}
 use Rattle.session.specs.Session.{startOf, startAnswer, startEffect}
 use Rattle.chains.specs.Demand.{Answer, refused, isAlert}

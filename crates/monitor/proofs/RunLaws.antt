@@ -8,7 +8,7 @@ use mathlib.Core.Bool.{Bool, true, false, not, _||_}
 use mathlib.Core.List.{List, [], _∷_, _++_}
 use mathlib.Core.Option.{some}
 use lib.ListN.{length, take, getElem?}
-use Rattle.rules.proofs.Bools.{and-in, clash}
+use Rattle.lists.proofs.Bools.{and-in, clash}
 use Rattle.session.specs.Rows.{userRowGood, userRow}
 use Rattle.chains.specs.History.{History, start}
 use Rattle.chains.specs.Demand.{accepted, extend, answers, historyFrom, historyOf}

@@ -17,7 +17,7 @@ use Rattle.session.specs.Session.{startOf}
 use Rattle.session.proofs.RowLaws.{user-words, user-declared, undeclared-not}
 use Rattle.session.proofs.StartLaws.{start-length, start-said, start-free, start-user, start-user-short, start-undeclared, start-rows-good, start-users-good}
 use Rattle.chains.specs.Table.{freeRow, startRowOf, begin}
-use Rattle.chains.proofs.Lists.{mapped, map-at}
+use Rattle.lists.proofs.Places.{mapped, mapped-at}
 use Rattle.chains.proofs.TableLaws.{same-state}
 use Rattle.monitor.proofs.View.{view, Valid}
 use Rattle.monitor.proofs.TableLaws.{view-row, view-user, view-no-row, view-no-user}
@@ -47,7 +47,7 @@ module _ (P : Policy) (ok : Sound P) where
 
   place-at : (c : ℕ) → begin P .row c ≡ startRowOf (mapped (placeOf (P .rules)) (getElem? (P .containers) c))
   unfolding begin meaning
-  place-at c = ap startRowOf (map-at (placeOf (P .rules)) (P .containers) c)
+  place-at c = ap startRowOf (mapped-at (placeOf (P .rules)) (P .containers) c)
 
   place-past : (c : ℕ) → length (P .containers) ≤ c → begin P .row c ≡ freeRow
   place-past c h = place-at c ∙ ap (λ m. startRowOf (mapped (placeOf (P .rules)) m)) (at-past (P .containers) c h)
@@ -70,7 +70,7 @@ module _ (P : Policy) (ok : Sound P) where
 
   rule-at : (u : ℕ) → begin P .user u ≡ mapped (normalAt (P .rules)) (getElem? (P .users) u)
   unfolding begin meaning
-  rule-at u = map-at (normalAt (P .rules)) (P .users) u
+  rule-at u = mapped-at (normalAt (P .rules)) (P .users) u
 
   rule-past : (u : ℕ) → length (P .users) ≤ u → begin P .user u ≡ none
   rule-past u h = rule-at u ∙ ap (mapped (normalAt (P .rules))) (at-past (P .users) u h)

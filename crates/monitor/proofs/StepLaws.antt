@@ -8,7 +8,7 @@ use mathlib.Core.List.{List}
 use mathlib.Core.Option.{some}
 use lib.ListN.{length}
 use borrow.Author.Tests.{eqb-true, ne-eqb}
-use Rattle.rules.proofs.Bools.{clash}
+use Rattle.lists.proofs.Bools.{clash}
 use Rattle.image.specs.Limits.{containerLimit}
 use Rattle.session.specs.Limits.{sessionLength}
 use Rattle.session.specs.Rows.{InUse, rowWords, putRow}

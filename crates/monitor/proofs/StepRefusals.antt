@@ -5,7 +5,7 @@ use mathlib.Core.Path.{_≡_, refl}
 use mathlib.Core.Logic.{_↔_, _≢_}
 use mathlib.Core.Bool.{Bool, true, false, cond}
 use mathlib.Core.List.{List, [], _∷_}
-use Rattle.rules.specs.Rules.{elem}
+use Rattle.lists.specs.Lists.{elem}
 use Rattle.operations.specs.Effects.{rowsGood, processGood, kindGood, freeGood, userGood, meetGood, sessionRefusal}
 use Rattle.operations.specs.Answers.{alertNumber}
 use Rattle.monitor.specs.Records.{requestIn, recordGood}

@@ -11,10 +11,11 @@ use mathlib.Core.Option.{none, some}
 use lib.ListN.{length, take, getElem?}
 use borrow.Author.Tests.{eqb-true, eq-eqb}
 use Rattle.rules.specs.Sets.{atom}
-use Rattle.rules.specs.Rules.{covers, meet, elem}
-use Rattle.rules.proofs.Bools.{clash}
+use Rattle.rules.specs.Rules.{covers, meet}
+use Rattle.lists.specs.Lists.{elem}
+use Rattle.lists.proofs.Bools.{clash}
 use Rattle.image.specs.Limits.{isFree, isFile, isStore, isProcess, containerLimit, userLimit}
-use Rattle.image.specs.Bytes.{field, Bytes}
+use Rattle.fields.specs.Bytes.{field, Bytes}
 use Rattle.image.specs.Image.{checkOf, policyIn}
 use Rattle.session.specs.Limits.{sessionLength}
 use Rattle.session.specs.Rows.{Row, rowOf, rowWords, containerRowGood, InUse, isDeclared, userRuleOf, userRowGood, containerRow, userRow}

@@ -6,7 +6,7 @@ use mathlib.Core.Option.{Option, none, some}
 use lib.Dec.{eqb, ltb}
 use lib.ListN.{length}
 use Rattle.image.specs.Limits.{containerLimit, userLimit}
-use Rattle.image.specs.Bytes.{field}
+use Rattle.fields.specs.Bytes.{field}
 use Rattle.chains.specs.History.{Step}
 use Rattle.operations.specs.declared.Request.{Request}
 use Rattle.operations.specs.Codes.{isCode, codeAt}

@@ -5,7 +5,7 @@ use mathlib.Core.Bool.{Bool, not, cond}
 use mathlib.Core.List.{List, [], _∷_}
 use lib.Dec.{eqb}
 use lib.ListN.{length}
-use Rattle.image.specs.Bytes.{cut}
+use Rattle.fields.specs.Bytes.{cut}
 use Rattle.image.specs.Image.{policyIn}
 use Rattle.session.specs.Session.{startOf, startAnswer}
 use Rattle.chains.specs.Demand as demand

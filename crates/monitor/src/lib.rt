@@ -35,10 +35,10 @@ fn request(bytes: &[u8]) -> Request
     ensures { λ r. ⌜ r ≡ requestIn (now (bytes .entry)) ⌝ }
 {
     Request {
-        code: image::read8(bytes, 0),
-        p: image::read16(bytes, 2),
-        o: image::read16(bytes, 4),
-        u: image::read16(bytes, 6),
+        code: fields::read8(bytes, 0),
+        p: fields::read16(bytes, 2),
+        o: fields::read16(bytes, 4),
+        u: fields::read16(bytes, 6),
     }
 }
 

@@ -6,9 +6,10 @@ use native.Mathlib.Omega.{arith}
 use lib.ListN.{length, take, drop, length-append, length-take, length-drop, take-append-drop}
 use lib.Seq.{take-at, drop-at, drop-drop, length-take-le}
 use borrow.Rule.Slice.PartMut.{putMid, same-len-mid}
-use Rattle.image.specs.Bytes.{bytesOf, joined}
+use Rattle.fields.specs.Bytes.{bytesOf}
+use Rattle.lists.specs.Lists.{joined}
 use Rattle.image.specs.Normal.{pair, header, framed}
-use Rattle.image.proofs.ByteLaws.{bytes-length, joined-length}
+use Rattle.fields.proofs.ByteLaws.{bytes-length, joined-length}
 use Rattle.normaliser.specs.Normaliser.{written}
 use Rattle.normaliser.specs.Tables.{formAt, headerFields, Grown, containerBytesAt, userBytes, spanBytesAt, mixtureBytes, recordSize, Writable, Written}
 use Rattle.normaliser.proofs.Laying.{rows-length, part-wide}

@@ -8,14 +8,13 @@ use native.Mathlib.Omega.{arith}
 use lib.Dec.{eqb, ltb}
 use lib.ListN.{length, getD}
 use borrow.Author.Tests.{eqb-true, eq-eqb, ltb-true}
-use Rattle.rules.proofs.Bools.{or-0, or-1, or-cases, clash, same-test}
-use Rattle.rules.proofs.SameLaws.{same-refl, same-eq}
-use Rattle.rules.specs.Rules.{elem, sameList}
+use Rattle.lists.proofs.Bools.{or-0, or-1, or-cases, clash, same-test}
+use Rattle.lists.proofs.Same.{same-refl, same-eq}
+use Rattle.lists.specs.Lists.{elem, sameList, every}
 use Rattle.image.specs.Limits.{unrestrictedNumber}
-use Rattle.image.specs.Bytes.{every}
 use Rattle.image.specs.Policy.{unrestrictedRule, ruleAt, named}
 use Rattle.image.specs.Normal.{known, noted, numbered, position, numberOf}
-use Rattle.image.proofs.Lists.{every-0, every-1, every-nil, every-cons, every-append}
+use Rattle.lists.proofs.Every.{every-0, every-1, every-nil, every-cons, every-append}
 use Rattle.image.proofs.Numbering.{settled, number-rule}
 use Rattle.normaliser.specs.Tables.{placed, placedAll, indexOf, placeIn}
 

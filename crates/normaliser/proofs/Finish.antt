@@ -6,25 +6,28 @@ use mathlib.Core.List.{List, [], _∷_, _++_, map}
 use native.Mathlib.Omega.{arith}
 use lib.ListN.{length, getD, take, drop, replicate, length-map, length-take, length-append, List·getD-map}
 use Rattle.rules.proofs.RuleLaws.{normal-normal, normal-length}
-use Rattle.rules.proofs.SameLaws.{same-refl}
-use Rattle.rules.proofs.Bools.{and-0}
+use Rattle.lists.proofs.Same.{same-refl}
+use Rattle.lists.proofs.Bools.{and-0}
 use Rattle.rules.specs.Rules.{normal, sort, unheldIn, distinct}
 use lib.Dec.{eqb, leb}
 use lib.Seq.{take-at}
 use Rattle.normaliser.specs.Normaliser.{normalAnswer, normalEffect}
 use borrow.Author.Tests.{leb-true, eq-eqb, ne-eqb, lt-ltb, le-ltb}
 use Rattle.image.specs.Limits.{unrestrictedNumber}
-use Rattle.image.specs.Bytes.{bytesOf, field, records, joined, every, Bytes}
+use Rattle.fields.specs.Bytes.{bytesOf, field, records, Bytes}
+use Rattle.lists.specs.Lists.{joined, every}
 use Rattle.image.specs.Policy.{Container, Policy, unrestrictedRule, ruleAt, ruleGood, Sound}
 use Rattle.image.specs.Image.{containersIn, usersIn, spanIn, ruleIn, spansIn, mixturesIn, rulesIn, spansGood, part, policyIn, lengthGood, pairsGood, rulesGood, checkOf}
 use Rattle.image.specs.Normal.{Meaning, normalAt, placeOf, meaning, numberOf, containerOf, writtenBy, policyOf, normalPolicy, containerBytes, spanBytes, spansOf, framed, encode, normalImage}
 use Rattle.image.specs.Words.{ruleOf, wordsOf}
-use Rattle.image.proofs.Lists.{every-nil, every-cons, every-left, every-right, every-map}
+use Rattle.lists.proofs.Every.{every-nil, every-cons, every-left, every-right, every-map}
 use Rattle.image.proofs.Decode.{passes, sound}
 use Rattle.image.proofs.Encode.{encode-length, encode-short}
 use Rattle.image.proofs.Means.{meaning-encodable, policy-sound, normal-good, form-rule}
 use Rattle.image.proofs.WordLaws.{words-rule, words-nine}
-use Rattle.image.proofs.Places.{map-at, records-count, rule-at, rule-fits}
+use Rattle.lists.proofs.Places.{map-at}
+use Rattle.fields.proofs.RecordLaws.{records-count}
+use Rattle.image.proofs.Places.{rule-at, rule-fits}
 use borrow.Rule.Slice.PartMut.{putMid}
 use Rattle.normaliser.specs.Tables.{formAt, formsIn, wordsGood, policyAt, policyFrom, Classified, classAt, classNamed, containerUses, placedAll, Ordered, found, containerBytesAt, userBytes, spanBytesAt, mixtureBytes, recordSize, Writable, Written, Tabled}
 use Rattle.normaliser.proofs.Laying.{wide, rows-length, records-rows, Laid, laid-start, laid-next, laid-end}

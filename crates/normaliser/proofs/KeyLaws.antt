@@ -10,11 +10,11 @@ use native.Mathlib.Numerals.{add-one}
 use lib.Bits.{bitOr, bitXor}
 use lib.ListN.{length, getD, drop, set, replicate, length-set, length-replicate, drop-of-length-le}
 use lib.Seq.{drop-cons, getD-set-same, getD-set-other}
-use Rattle.rules.proofs.Bools.{refuted}
-use Rattle.rules.proofs.SameLaws.{same-eq}
-use Rattle.rules.specs.Rules.{sameList}
+use Rattle.lists.proofs.Bools.{refuted}
+use Rattle.lists.proofs.Same.{same-eq}
+use Rattle.lists.specs.Lists.{sameList}
 use Rattle.image.specs.Limits.{unrestrictedNumber}
-use Rattle.image.specs.Bytes.{records}
+use Rattle.fields.specs.Bytes.{records}
 use Rattle.image.specs.Policy.{unrestrictedRule}
 use Rattle.image.specs.Normal.{position}
 use Rattle.image.specs.Words.{ruleOf}

@@ -11,8 +11,9 @@ use lib.ListN.{length, getD, take, drop, length-append, length-take, length-drop
 use lib.Seq.{take-at, drop-at, drop-drop, take-suc, take-all, length-take-le}
 use borrow.Author.Tests.{eqb-true}
 use borrow.Rule.Slice.PartMut.{putMid, same-len-mid}
-use Rattle.image.specs.Bytes.{joined, every, cut, records}
-use Rattle.image.proofs.Lists.{every-0, every-1, every-take, every-getD}
+use Rattle.lists.specs.Lists.{joined, every}
+use Rattle.fields.specs.Bytes.{cut, records}
+use Rattle.lists.proofs.Every.{every-0, every-1, every-take, every-getD}
 
 unfoldable pub wide : ℕ → List ℕ → Bool
 wide w r = eqb (length r) w

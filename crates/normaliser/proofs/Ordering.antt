@@ -11,8 +11,8 @@ use lib.Dec.{eqb, ltb}
 use lib.ListN.{length, getD, take, set, length-append, length-set}
 use lib.Seq.{take-suc-set, getD-set-same, getD-set-other, length-take-le}
 use borrow.Author.Tests.{eqb-true, eq-eqb, ne-eqb, ltb-true}
-use Rattle.rules.proofs.Bools.{and-0, and-1, or-1, or-cases, clash}
-use Rattle.rules.specs.Rules.{elem}
+use Rattle.lists.proofs.Bools.{and-0, and-1, or-1, or-cases, clash}
+use Rattle.lists.specs.Lists.{elem}
 use Rattle.image.specs.Limits.{unrestrictedNumber}
 use Rattle.image.specs.Policy.{named}
 use Rattle.normaliser.specs.Tables.{classAt, classNamed, placed, placedAll, indexOf, placeIn, Ordered, found, numberAt}

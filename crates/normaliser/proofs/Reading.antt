@@ -8,15 +8,17 @@ use native.Mathlib.Numerals.{add-one}
 use lib.ListN.{length, getD, take, drop, set, length-map, length-set, drop-of-length-le}
 use lib.Seq.{drop-cons, getD-set-same, getD-set-other}
 use native.Mathlib.Decide.{ℕ-discrete}
-use Rattle.rules.proofs.Bools.{and-0, and-1}
-use Rattle.image.specs.Bytes.{field, numberIn, records, every, bytesOf}
+use Rattle.lists.proofs.Bools.{and-0, and-1}
+use Rattle.fields.specs.Bytes.{field, numberIn, records, bytesOf}
+use Rattle.lists.specs.Lists.{every}
 use Rattle.image.specs.Policy.{Container}
 use Rattle.image.specs.Image.{containerIn, containersIn, usersIn}
 use Rattle.image.specs.Normal.{containerBytes}
-use Rattle.image.proofs.Lists.{every-getD, every-all, every-map}
-use Rattle.image.proofs.Scanning.{field-record}
-use Rattle.image.proofs.Places.{map-at, record-at, records-count}
-use Rattle.image.proofs.ByteLaws.{bytes-length}
+use Rattle.lists.proofs.Every.{every-getD, every-all, every-map}
+use Rattle.fields.proofs.FieldLaws.{field-record}
+use Rattle.lists.proofs.Places.{map-at}
+use Rattle.fields.proofs.RecordLaws.{record-at, records-count}
+use Rattle.fields.proofs.ByteLaws.{bytes-length}
 use borrow.Author.Tests.{eq-eqb}
 use Rattle.normaliser.specs.Tables.{classOf, Classified, classAt, containerUses, placedAll, Ordered, numberAt, renumbered}
 use Rattle.normaliser.proofs.Laying.{wide}

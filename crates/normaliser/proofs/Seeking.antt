@@ -9,14 +9,15 @@ use native.Mathlib.Numerals.{add-one}
 use lib.Dec.{eqb}
 use lib.ListN.{length, getD, take, drop, drop-of-length-le, length-take, length-drop}
 use lib.Seq.{drop-cons, sets, sets-eq}
-use Rattle.rules.proofs.Bools.{refuted}
-use Rattle.rules.proofs.SameLaws.{same-refl, same-eq}
-use Rattle.rules.specs.Rules.{sameList, unrestricted}
-use Rattle.image.specs.Bytes.{records}
+use Rattle.lists.proofs.Bools.{refuted}
+use Rattle.lists.proofs.Same.{same-refl, same-eq}
+use Rattle.lists.specs.Lists.{sameList}
+use Rattle.rules.specs.Rules.{unrestricted}
+use Rattle.fields.specs.Bytes.{records}
 use Rattle.image.specs.Policy.{unrestrictedRule}
 use Rattle.image.specs.Normal.{position}
 use Rattle.image.specs.Words.{ruleOf}
-use Rattle.image.proofs.Places.{records-count}
+use Rattle.fields.proofs.RecordLaws.{records-count}
 use Rattle.normaliser.specs.Tables.{wordsAt}
 use Rattle.normaliser.proofs.TableLaws.{words-at}
 

@@ -9,16 +9,17 @@ use lib.ListN.{length, getD, take, drop, length-append, length-take, length-drop
 use lib.Seq.{take-at, drop-at, drop-drop, take-all, getD-take, getD-drop}
 use borrow.Author.Tests.{ltb-true, leb-true}
 use borrow.Rule.Slice.PartMut.{putMid, same-len-mid}
-use Rattle.rules.proofs.Bools.{and-0, and-1}
-use Rattle.image.specs.Bytes.{bytesOf, joined, every}
+use Rattle.lists.proofs.Bools.{and-0, and-1}
+use Rattle.fields.specs.Bytes.{bytesOf}
+use Rattle.lists.specs.Lists.{joined, every}
 use Rattle.image.specs.Image.{Span}
 use Rattle.image.specs.Normal.{spanBytes, spansOf}
 use Rattle.image.specs.Words.{ruleOf}
-use Rattle.image.proofs.Lists.{every-getD, every-all, every-map}
-use Rattle.image.proofs.ByteLaws.{bytes-length, joined-length}
+use Rattle.lists.proofs.Every.{every-getD, every-all, every-map}
+use Rattle.fields.proofs.ByteLaws.{bytes-length, joined-length}
 use Rattle.image.proofs.Encode.{spans-length}
-use Rattle.image.proofs.Places.{map-at}
-use Rattle.image.proofs.Scanning.{take-mid}
+use Rattle.lists.proofs.Places.{map-at}
+use Rattle.fields.proofs.FieldLaws.{take-mid}
 use Rattle.normaliser.specs.Tables.{wordsAt, formAt, formGood, mixtureBytes}
 use Rattle.normaliser.proofs.Laying.{wide, Laid, laid-start, laid-next, laid-end, joined-more}
 

@@ -9,16 +9,17 @@ use lib.Dec.{eqb}
 use lib.ListN.{length, getD, take, drop, length-map}
 use lib.Seq.{getD-take, getD-drop}
 use borrow.Author.Tests.{eq-eqb, ne-eqb}
-use Rattle.rules.proofs.SameLaws.{same-refl, same-eq}
+use Rattle.lists.proofs.Same.{same-refl, same-eq}
 use Rattle.rules.specs.Rules.{normal}
 use Rattle.image.specs.Limits.{unrestrictedNumber}
-use Rattle.image.specs.Bytes.{every, records}
+use Rattle.lists.specs.Lists.{every}
+use Rattle.fields.specs.Bytes.{records}
 use Rattle.image.specs.Policy.{unrestrictedRule, ruleAt, named}
 use Rattle.image.specs.Normal.{normalAt, position, numberOf}
 use Rattle.image.specs.Words.{ruleOf, wordsOf}
-use Rattle.image.proofs.Lists.{every-0, every-1, every-getD, map-back}
+use Rattle.lists.proofs.Every.{every-0, every-1, every-getD, map-back}
 use Rattle.image.proofs.Means.{normal-unrestricted}
-use Rattle.image.proofs.Places.{record-at, records-count}
+use Rattle.fields.proofs.RecordLaws.{record-at, records-count}
 use Rattle.image.proofs.WordLaws.{words-rule, position-words}
 use Rattle.normaliser.specs.Tables.{wordsAt, formAt, formsIn, wordsGood, classOf, Classified, classAt}
 use Rattle.normaliser.proofs.Ordering.{class-none, class-some, named-some}

@@ -8,14 +8,14 @@ use native.Mathlib.Omega.{arith}
 use lib.Dec.{eqb, ltb, leb}
 use lib.ListN.{length, getD, take}
 use borrow.Author.Tests.{eq-eqb, ne-eqb, ltb-true, lt-ltb, not-true}
-use Rattle.rules.proofs.Bools.{and-in, and-0, and-1, or-0, or-1, or-cases, clash}
-use Rattle.rules.specs.Rules.{sameList}
+use Rattle.lists.proofs.Bools.{and-in, and-0, and-1, or-0, or-1, or-cases, clash}
+use Rattle.lists.specs.Lists.{sameList, every}
 use Rattle.image.specs.Limits.{unrestrictedNumber}
-use Rattle.image.specs.Bytes.{every, records}
+use Rattle.fields.specs.Bytes.{records}
 use Rattle.image.specs.Policy.{Container, unrestrictedRule, ruleAt, named, containerGood, ruleGood, Sound}
 use Rattle.image.specs.Image.{containersIn, usersIn}
 use Rattle.image.specs.Normal.{normalAt, placeOf, meaning, placeUses, uses, known, numbered, position, numberOf, containerOf}
-use Rattle.image.proofs.Lists.{every-0, every-1, every-nil, every-cons, every-imp, every-append, every-left, every-right, every-both, every-getD, every-map}
+use Rattle.lists.proofs.Every.{every-0, every-1, every-nil, every-cons, every-imp, every-append, every-left, every-right, every-both, every-getD, every-map}
 use Rattle.image.proofs.Numbering.{settled, all-settled, numbered-every, numbered-few, number-named, number-rule}
 use Rattle.image.proofs.Means.{container-named}
 use Rattle.normaliser.specs.Tables.{formAt, formsIn, wordsGood, formGood, policyAt, Classified, classAt, classNamed, containerUses, placedAll, placeIn, Ordered, numberAt, found, renumbered}

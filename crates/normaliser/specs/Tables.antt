@@ -5,10 +5,11 @@ use mathlib.Core.Bool.{Bool, true, cond, _&&_, _||_}
 use mathlib.Core.List.{List, [], _∷_, _++_, map}
 use lib.Dec.{eqb, ltb, leb}
 use lib.ListN.{length, getD, take, drop}
-use Rattle.rules.specs.Rules.{normal, elem, sameList}
+use Rattle.rules.specs.Rules.{normal}
+use Rattle.lists.specs.Lists.{elem, sameList, joined, every}
 use Rattle.rules.specs.Answers.{mixtureLimit}
 use Rattle.image.specs.Limits.{unrestrictedNumber, leadingNumber, headerSize, containerSize, userSize, ruleSize, mixtureSize, outputBound}
-use Rattle.image.specs.Bytes.{bytesOf, records, joined, every}
+use Rattle.fields.specs.Bytes.{bytesOf, records}
 use Rattle.image.specs.Policy.{Container, Policy, unrestrictedRule, named, Sound}
 use Rattle.image.specs.Image.{containersIn, usersIn, rulesIn}
 use Rattle.image.specs.Normal.{position, containerBytes, spanBytes, spansOf}

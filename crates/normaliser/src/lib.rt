@@ -4,9 +4,10 @@ ghost use mathlib.Core.Bool.{true, cond};
 ghost use mathlib.Core.List.{[], _++_, map};
 ghost use Prim.Native.Nat.{ℕ, _+_, _*_, _/_, _≤_, _<_};
 ghost use lib.ListN.{length, getD, take};
-ghost use Rattle.rules.specs.Rules.{normal, sameList};
+ghost use Rattle.rules.specs.Rules.{normal};
+ghost use Rattle.lists.specs.Lists.{sameList, joined, every};
 ghost use Rattle.image.specs.Limits.{unrestrictedNumber, containerSize, userSize, ruleSize, mixtureSize, headerSize, outputBound};
-ghost use Rattle.image.specs.Bytes.{bytesOf, records, joined, every};
+ghost use Rattle.fields.specs.Bytes.{bytesOf, records};
 ghost use Rattle.image.specs.Policy.{unrestrictedRule, named, Sound};
 ghost use Rattle.image.specs.Image.{containersIn, usersIn, spansIn, rulesIn, spansGood};
 ghost use Rattle.image.specs.Normal.{position, containerBytes, spanBytes, framed, normalImage};
@@ -214,8 +215,8 @@ fn place_containers(
     let mut i: usize = 0;
     while i < n {
         let at = i * image::CONTAINER_SIZE;
-        let permit = image::read16(containers, at + 2);
-        let run = image::read16(containers, at + 4);
+        let permit = fields::read16(containers, at + 2);
+        let run = fields::read16(containers, at + 4);
         let next = place(classes, order, places, m, permit);
         m = place(classes, order, places, next, run);
         i += 1;
@@ -238,7 +239,7 @@ fn place_users(
     let mut k = m;
     let mut i: usize = 0;
     while i < n {
-        let rule = image::read16(users, i * image::USER_SIZE);
+        let rule = fields::read16(users, i * image::USER_SIZE);
         k = place(classes, order, places, k, rule);
         i += 1;
     }
@@ -273,10 +274,10 @@ fn write_containers(out: &mut [u8], containers: &[u8], classes: &[u64], places: 
     let mut i: usize = 0;
     while i < n {
         let at = i * image::CONTAINER_SIZE;
-        let kind = image::read8(containers, at);
-        let atom = image::read8(containers, at + 1);
-        let permit = number(classes, places, image::read16(containers, at + 2));
-        let run = number(classes, places, image::read16(containers, at + 4));
+        let kind = fields::read8(containers, at);
+        let atom = fields::read8(containers, at + 1);
+        let permit = number(classes, places, fields::read16(containers, at + 2));
+        let run = number(classes, places, fields::read16(containers, at + 4));
         put_container(
             &mut out[at..at + image::CONTAINER_SIZE],
             kind,
@@ -297,7 +298,7 @@ fn write_users(out: &mut [u8], users: &[u8], classes: &[u64], places: &[u64])
     let mut i: usize = 0;
     while i < n {
         let at = i * image::USER_SIZE;
-        let rule = number(classes, places, image::read16(users, at));
+        let rule = number(classes, places, fields::read16(users, at));
         put16(&mut out[at..at + image::USER_SIZE], rule);
         i += 1;
     }

@@ -7,7 +7,7 @@ use native.Mathlib.Omega.{arith}
 use lib.Dec.{eqb}
 use lib.ListN.{getD}
 use borrow.Author.Tests.{eqb-true}
-use Rattle.rules.proofs.Bools.{and-0, and-1}
+use Rattle.lists.proofs.Bools.{and-0, and-1}
 use Rattle.image.specs.Limits.{processKind, isFree, isFile, isStore, isProcess}
 use Rattle.session.specs.Limits.{kindAt}
 use Rattle.session.specs.Rows.{rowOf, containerRow, userRow, containerRowGood, userRowGood, isDeclared}

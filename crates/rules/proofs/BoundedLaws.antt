@@ -9,7 +9,7 @@ use lib.Dec.{leb}
 use lib.ListN.{length, take, replicate, length-append, length-replicate}
 use lib.Seq.{take-at, take-append-add}
 use borrow.Author.Tests.{le-leb, lt-leb}
-use Rattle.rules.proofs.Bools.{decide}
+use Rattle.lists.proofs.Bools.{decide}
 use Rattle.rules.specs.declared.Bounded.{Bounded}
 use Rattle.rules.specs.Answers.{padded, boundedOf}
 

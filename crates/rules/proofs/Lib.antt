@@ -1,6 +1,5 @@
 -- Theorems is the file to read: the laws of this crate, stated and cited. The others prove them.
 pub mod Theorems
-pub mod Bools
 pub mod SetLaws
 pub mod RuleLaws
 pub mod MeetAll
@@ -10,5 +9,4 @@ pub mod SieveLaws
 pub mod Rounds
 pub mod ListLaws
 pub mod MeetLaws
-pub mod SameLaws
 pub mod RefineLaws

@@ -4,8 +4,9 @@ use mathlib.Core.Path.{_≡_, refl, sym, ap, ap₂, _∙_}
 use mathlib.Core.Bool.{Bool, true, false, _&&_, and-assoc, and-self, and-false, or-false}
 use mathlib.Core.List.{List, [], _∷_, _++_, List·Memᴰ, List·Memᴰ·head, List·Memᴰ·tail, List·Memᴰ·not-nil, List·Memᴰ·cases-cons}
 use mathlib.Core.Logic.{⊎-elim}
-use Rattle.rules.proofs.RuleLaws.{elem-cases, elem-none, is-normal, normal-unique, normal-normal, covers-meet}
-use Rattle.rules.proofs.Bools.{and-in, and-0, and-1, same-test}
+use Rattle.lists.proofs.Elem.{elem-cases, elem-none}
+use Rattle.rules.proofs.RuleLaws.{is-normal, normal-unique, normal-normal, covers-meet}
+use Rattle.lists.proofs.Bools.{and-in, and-0, and-1, same-test}
 use Rattle.rules.specs.Sets.{holds}
 use Rattle.rules.specs.Rules.{covers, normal, intersections, meet, unrestricted, meetAll, allCover}
 use native.Mathlib.Omega.{arith}

@@ -8,7 +8,8 @@ use lib.Bits.{bitAnd}
 use lib.ListN.{length, getD, take}
 use mathlib.Core.Logic.{⊎-elim}
 use Rattle.rules.proofs.MeetAll.{normal-one}
-use Rattle.rules.proofs.RuleLaws.{elem-none, elem-cases, normal-unique, meet-comm, meet-none, meet-unrestricted}
+use Rattle.lists.proofs.Elem.{elem-none, elem-cases}
+use Rattle.rules.proofs.RuleLaws.{normal-unique, meet-comm, meet-none, meet-unrestricted}
 use Rattle.rules.specs.Order.{Within}
 use Rattle.rules.specs.Rules.{normal, meet, intersections, unrestricted}
 use Rattle.rules.specs.Answers.{boundedOf}

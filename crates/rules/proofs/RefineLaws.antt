@@ -7,10 +7,12 @@ use mathlib.Core.Logic.{⊎-elim}
 use native.Mathlib.Numerals.{add-one}
 use lib.ListN.{length, getD, drop, drop-of-length-le}
 use lib.Seq.{drop-cons}
-use Rattle.rules.proofs.Bools.{and-in, and-0, and-1, same-test}
-use Rattle.rules.proofs.RuleLaws.{Largest, largest, elem-none, elem-here, elem-there, elem-cases, covers-by, covers-part, covers-intersections, normal-unique}
+use Rattle.lists.proofs.Bools.{and-in, and-0, and-1, same-test}
+use Rattle.rules.proofs.RuleLaws.{Largest, largest, covers-by, covers-part, covers-intersections, normal-unique}
+use Rattle.lists.proofs.Elem.{elem-none, elem-here, elem-there, elem-cases}
 use Rattle.rules.proofs.SetLaws.{holds-refl}
-use Rattle.rules.specs.Rules.{covers, elem, normal, intersections, meet, refines}
+use Rattle.rules.specs.Rules.{covers, normal, intersections, meet, refines}
+use Rattle.lists.specs.Lists.{elem}
 
 refines-each : (r s : List ℕ) → refines r s ≡ true → (m : ℕ) → elem m r ≡ true → covers s m ≡ true
 unfolding refines

@@ -2,9 +2,8 @@
 use Prim.Native.Nat.{ℕ, zero, suc, _+_, _*_, _/_, _%_, _^_, _-_, _≤_, _<_, min, max}
 use mathlib.Core.Path.{_≡_, refl, sym, ap, _∙_}
 use mathlib.Core.Bool.{true, false, _&&_}
-use mathlib.Core.Logic.{_↔_, _⊎_, inl, inr}
+use mathlib.Core.Logic.{_↔_, _⊎_, inl, inr, ⊎-elim}
 use native.Mathlib.Nat.{mod-lt, div-one, div-eq-of-lt, mul-mod-left, mul-assoc, one-mul, zero-div, lt-of-lt-of-le, mod-eq-of-lt, zero-lt-suc}
-use mathlib.Core.Logic.{⊎-elim}
 use native.Mathlib.Decide.{decLt, ℕ-discrete}
 use native.Mathlib.Omega.{arith}
 use lib.Arith.{half-le, digits-mod}
@@ -12,7 +11,7 @@ use lib.Pow.{shr-shr, shl-shr, pow-pos, pow-add, pow-mono, pow-lt, field, mod-mo
 use lib.Bits.{bitAnd, bitOr, and-step, or-step, and-shr, or-shr, and-le-l, and-comm, or-mod, and-mask}
 use lib.Dec.{eqb}
 use borrow.Author.Tests.{eqb-true, eq-eqb, ne-eqb}
-use Rattle.rules.proofs.Bools.{and-in, and-0, and-1, same-test}
+use Rattle.lists.proofs.Bools.{and-in, and-0, and-1, same-test}
 use Rattle.rules.specs.Sets.{atom, holds, dataOf, runningOf}
 
 -- ---- atoms

@@ -9,12 +9,13 @@ use mathlib.Core.List.{List, [], _++_, List·Memᴰ}
 use lib.Bits.{bitAnd, bitOr}
 use lib.ListN.{length}
 use Rattle.rules.specs.Sets.{atom, holds, dataOf, runningOf}
-use Rattle.rules.specs.Rules.{covers, elem, normal, meet, unrestricted, meetAll, allCover, sameList, refines}
+use Rattle.rules.specs.Rules.{covers, normal, meet, unrestricted, meetAll, allCover, refines}
+use Rattle.lists.specs.Lists.{elem, sameList}
 use Rattle.rules.specs.Order.{Ascending, Antichain, Within}
 use Rattle.rules.proofs.SetLaws as sets
 use Rattle.rules.proofs.RuleLaws as rules
 use Rattle.rules.proofs.MeetAll as all
-use Rattle.rules.proofs.SameLaws as same
+use Rattle.lists.proofs.Same as same
 use Rattle.rules.proofs.RefineLaws as refine
 
 -- ---- sets

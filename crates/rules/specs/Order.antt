@@ -4,7 +4,7 @@ use mathlib.Core.Path.{_≡_}
 use mathlib.Core.Bool.{true}
 use mathlib.Core.List.{List, [], _∷_}
 use Rattle.rules.specs.Sets.{holds}
-use Rattle.rules.specs.Rules.{elem}
+use Rattle.lists.specs.Lists.{elem}
 
 -- each number of r is below all behind it
 abbrev pub Ascending : List ℕ → Type 0

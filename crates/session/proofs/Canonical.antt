@@ -7,7 +7,7 @@ use lib.Dec.{eqb}
 use lib.ListN.{length}
 use native.Mathlib.Omega.{arith}
 use borrow.Author.Tests.{eq-eqb}
-use Rattle.image.specs.Bytes.{Bytes}
+use Rattle.fields.specs.Bytes.{Bytes}
 use Rattle.image.specs.Policy.{Policy, Sound}
 use Rattle.image.specs.Image.{checkOf, policyIn}
 use Rattle.image.specs.Normal.{Meaning, meaning, policyOf, normalPolicy, encode, normalImage}

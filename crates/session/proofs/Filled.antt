@@ -11,10 +11,10 @@ use lib.ListN.{length, getD, take, drop, replicate, length-append, length-replic
 use lib.Seq.{take-at, drop-at, drop-drop, drop-append-add}
 use borrow.Author.Tests.{eqb-true, leb-true}
 use borrow.Rule.Slice.PartMut.{putMid, same-len-mid}
-use Rattle.rules.proofs.Bools.{and-0, and-1}
-use Rattle.image.specs.Bytes.{every}
+use Rattle.lists.proofs.Bools.{and-0, and-1}
+use Rattle.lists.specs.Lists.{every}
 use Rattle.image.proofs.SpanWords.{drop-zeros}
-use Rattle.image.proofs.Lists.{every-0, every-1, every-imp, append-apart}
+use Rattle.lists.proofs.Every.{every-0, every-1, every-imp, append-apart}
 use Rattle.session.specs.Session.{filled}
 
 -- a row of w numbers

@@ -12,13 +12,15 @@ use borrow.Rule.Slice.PartMut.{putMid}
 use Rattle.rules.specs.Answers.{dataWidth, mixtureLimit}
 use Rattle.image.specs.Words.{wordsOf}
 use Rattle.image.specs.Limits.{containerLimit, userLimit, noAtom, containerSize, userSize, ruleSize, mixtureSize}
-use Rattle.image.specs.Bytes.{field, numberIn, records, every}
+use Rattle.fields.specs.Bytes.{field, numberIn, records}
+use Rattle.lists.specs.Lists.{every}
 use Rattle.image.specs.Policy.{Container, named, containerGood}
 use Rattle.image.specs.Image.{containerIn, containersIn, usersIn, spansIn, rulesIn, spansGood}
 use Rattle.image.specs.Normal.{Place, normalAt, placeOf}
-use Rattle.image.proofs.Lists.{every-map, every-getD}
+use Rattle.lists.proofs.Every.{every-map, every-getD}
 use Rattle.image.proofs.Means.{container-named, container-atom}
-use Rattle.image.proofs.Places.{record-at, records-count, map-at}
+use Rattle.fields.proofs.RecordLaws.{record-at, records-count}
+use Rattle.lists.proofs.Places.{map-at}
 use Rattle.image.proofs.RuleReading.{normal-short}
 use Rattle.session.specs.Limits.{rowWidth, userWidth}
 use Rattle.session.specs.Rows.{rowWords, userWords}

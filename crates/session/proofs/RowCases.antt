@@ -7,7 +7,7 @@ use mathlib.Core.Logic.{_⊎_, inl, inr}
 use lib.ListN.{length, getD}
 use Rattle.rules.specs.Rules.{normal}
 use Rattle.rules.specs.Answers.{mixtureLimit}
-use Rattle.rules.proofs.Bools.{decide}
+use Rattle.lists.proofs.Bools.{decide}
 use Rattle.image.specs.Limits.{isFree}
 use Rattle.session.specs.Limits.{rowWidth, userWidth, kindAt}
 use Rattle.session.specs.Rows.{Row, rowWords, rowOf, freeWords, containerRowGood, InUse, userWords, undeclaredWords, isDeclared, userRuleOf, userRowGood}

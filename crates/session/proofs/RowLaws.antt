@@ -9,14 +9,13 @@ use lib.Dec.{eqb}
 use lib.ListN.{length, getD, take, drop, replicate, length-take, length-drop, length-append, take-append-drop}
 use lib.Seq.{drop-cons, drop-drop, drop-at, take-at, take-all}
 use borrow.Author.Tests.{eqb-true, ne-eqb}
-use Rattle.rules.proofs.Bools.{and-0, and-1, or-cases, clash}
+use Rattle.lists.proofs.Bools.{and-0, and-1, or-cases, clash}
 use Rattle.rules.specs.Rules.{normal}
 use Rattle.rules.specs.Answers.{mixtureLimit}
 use Rattle.image.specs.Limits.{fileKind, volatileKind, processKind, isFree, isFile, isVolatile, isProcess, isStore}
 use Rattle.session.specs.Limits.{rowWidth, userWidth, kindAt, tagAt, permitAt, runAt, declaredAt, userRuleAt, declared}
-use Rattle.image.specs.Words.{ruleWidth}
+use Rattle.image.specs.Words.{ruleWidth, ruleOf, wordsOf}
 use Rattle.session.specs.Rows.{allZero, keptWell, Row, rowWords, freeWords, permitWords, runWords, rowOf, usedKind, containerRowGood, InUse, userWords, undeclaredWords, isDeclared, userRuleWords, userRuleOf, userRowGood}
-use Rattle.image.specs.Words.{ruleOf, wordsOf}
 use Rattle.session.proofs.RuleWords.{zeros, zero-is, words-kept, kept-count, kept-normal, kept-short, kept-words}
 use Rattle.image.proofs.WordLaws.{words-rule, words-nine}
 

@@ -9,13 +9,12 @@ use lib.Dec.{eqb, leb}
 use lib.ListN.{length, getD, take, drop, replicate, length-take, length-drop, take-append-drop}
 use lib.Seq.{drop-cons, drop-drop, drop-at, length-take-le}
 use borrow.Author.Tests.{eqb-true, leb-true, le-leb}
-use Rattle.rules.proofs.Bools.{and-in, and-0, and-1}
+use Rattle.lists.proofs.Bools.{and-in, and-0, and-1}
 use Rattle.rules.specs.Rules.{normal}
 use Rattle.rules.specs.Answers.{mixtureLimit, padded}
 use Rattle.image.proofs.WordLaws.{words-rule}
-use Rattle.image.specs.Words.{ruleWidth}
+use Rattle.image.specs.Words.{ruleWidth, ruleOf, wordsOf, isNormal}
 use Rattle.session.specs.Rows.{allZero, keptWell}
-use Rattle.image.specs.Words.{ruleOf, wordsOf, isNormal}
 use Rattle.image.proofs.RuleTests.{normal-is, is-normal-of}
 
 -- ---- zeros

@@ -10,14 +10,13 @@ use lib.Pow.{pow-lt, pow-pos}
 use lib.ListN.{length, getD, take, drop, replicate, length-append, length-drop, length-map}
 use lib.Seq.{take-append-le, drop-append-le, drop-append-add}
 use borrow.Author.Tests.{eq-eqb, leb-true, le-leb, eqb-true}
-use Rattle.rules.proofs.Bools.{and-in, and-0, and-1}
-use Rattle.rules.specs.Rules.{sameList}
+use Rattle.lists.proofs.Bools.{and-in, and-0, and-1}
+use Rattle.lists.specs.Lists.{sameList, every}
 use Rattle.rules.specs.Answers.{dataWidth, tagWidth, mixtureLimit}
 use Rattle.image.specs.Limits.{noAtom, isFile, isVolatile, isProcess, isStore, containerLimit, userLimit}
-use Rattle.image.specs.Bytes.{every}
 use Rattle.image.specs.Policy.{unrestrictedRule, ruleGood}
 use Rattle.image.specs.Normal.{Place, Meaning}
-use Rattle.image.proofs.Lists.{every-map, map-apart, append-apart}
+use Rattle.lists.proofs.Every.{every-map, map-apart, append-apart}
 use Rattle.image.proofs.Means.{formGood, shapeGood, placeGood, Encodable, form-rule, form-normal}
 use Rattle.session.specs.Limits.{sessionLength, rowWidth, userWidth, usersAt}
 use Rattle.session.specs.Rows.{Row, rowWords, rowOf, usedKind, InUse, userWords, userRuleOf, containerRow, userRow}

@@ -10,8 +10,8 @@ use Rattle.rules.specs.Answers.{mixtureLimit}
 use Rattle.image.specs.Limits.{containerLimit, userLimit}
 use Rattle.image.specs.Policy.{Container, Policy, Sound}
 use Rattle.image.specs.Normal.{Place, normalAt, placeOf, meaning}
-use Rattle.image.proofs.Lists.{every-getD}
-use Rattle.image.proofs.Places.{map-at}
+use Rattle.lists.proofs.Every.{every-getD}
+use Rattle.lists.proofs.Places.{map-at}
 use Rattle.image.proofs.Means.{formGood, placeGood, Encodable, form-normal, meaning-encodable}
 use Rattle.session.specs.Limits.{sessionLength, rowWidth, userWidth}
 use Rattle.session.specs.Rows.{rowOf, freeWords, containerRowGood, InUse, userWords, undeclaredWords, userRowGood, containerRow, userRow}

@@ -9,14 +9,14 @@ use lib.ListN.{length, take, drop, replicate, length-replicate, drop-of-length-l
 use lib.Seq.{take-at, drop-at, drop-drop}
 use borrow.Author.Tests.{eq-eqb, ne-eqb, leb-true}
 use borrow.Rule.Slice.PartMut.{putMid}
-use Rattle.rules.proofs.Bools.{and-0, and-1}
+use Rattle.lists.proofs.Bools.{and-0, and-1}
 use Rattle.image.specs.Limits.{containerLimit, userLimit, containerSize, userSize, ruleSize, mixtureSize, headerSize, imageLimit}
-use Rattle.image.specs.Bytes.{every}
+use Rattle.lists.specs.Lists.{every}
 use Rattle.image.specs.Policy.{named, containerGood}
 use Rattle.image.specs.Image.{offset, size, part, containersIn, usersIn, spansIn, rulesIn, spansGood, policyIn, checkOf, lengthGood, wholeGood, sectionsGood, rulesGood, containersGood, usersGood}
 use Rattle.image.specs.Normal.{placeOf, normalAt, meaning}
 use Rattle.image.proofs.Decode.{Passes, passes, few}
-use Rattle.image.proofs.Places.{records-count}
+use Rattle.fields.proofs.RecordLaws.{records-count}
 use Rattle.image.proofs.SpanWords.{drop-zeros}
 use Rattle.image.proofs.Scanning.{part-ends-0, part-ends-1, part-ends-2, part-ends-3}
 use Rattle.session.specs.Limits.{sessionLength, rowWidth, userWidth, usersAt}

@@ -12,15 +12,14 @@ use lib.Pow.{pow-pos}
 use lib.ListN.{length, getD, take, drop, length-drop, drop-of-length-le}
 use lib.Seq.{take-all, drop-cons}
 use borrow.Author.Tests.{eqb-true, eq-eqb, ne-eqb, le-leb, lt-leb}
-use Rattle.rules.proofs.Bools.{and-in, and-0, and-1, same-test, decide}
+use Rattle.lists.proofs.Bools.{and-in, and-0, and-1, same-test, decide}
 use Rattle.rules.proofs.SetLaws.{atom-or, atom-above, ext}
 use Rattle.rules.specs.Sets.{atom}
 use Rattle.rules.specs.Answers.{mixtureLimit}
 use Rattle.image.specs.Limits.{isFree, isFile, isVolatile, isProcess, isStore}
 use Rattle.session.specs.Limits.{kindAt, declaredAt, declared}
-use Rattle.image.specs.Words.{ruleWidth}
+use Rattle.image.specs.Words.{ruleWidth, ruleOf, isNormal}
 use Rattle.session.specs.Rows.{allZero, keptWell, permitWords, runWords, usedKind, containerRowGood, isDeclared, userRuleWords, userRowGood}
-use Rattle.image.specs.Words.{ruleOf, isNormal}
 use Rattle.image.proofs.RuleTests.{rising-start, rising-end}
 use Rattle.session.proofs.RuleWords.{rule-length}
 

@@ -8,7 +8,7 @@ use lib.ListN.{length}
 use Rattle.rules.specs.Rules.{normal}
 use Rattle.rules.specs.Answers.{mixtureLimit}
 use Rattle.image.specs.Limits.{containerLimit, userLimit}
-use Rattle.image.specs.Bytes.{Bytes}
+use Rattle.fields.specs.Bytes.{Bytes}
 use Rattle.image.specs.Image.{checkOf, policyIn}
 use Rattle.image.specs.Normal.{normalImage}
 use Rattle.session.specs.Limits.{sessionLength, rowWidth, userWidth}

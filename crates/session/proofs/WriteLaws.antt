@@ -11,13 +11,12 @@ use lib.ListN.{length, take, drop, set, length-append, length-set, length-take, 
 use lib.Seq.{take-at, drop-at, drop-drop}
 use borrow.Author.Tests.{eqb-true, ltb-true, eq-eqb, ne-eqb}
 use borrow.Rule.Slice.PartMut.{putMid}
-use Rattle.rules.proofs.Bools.{or-cases}
+use Rattle.lists.proofs.Bools.{or-cases}
 use Rattle.rules.specs.Answers.{dataWidth, tagWidth, mixtureLimit}
 use Rattle.image.specs.Limits.{noAtom}
 use Rattle.session.specs.Limits.{rowWidth, userWidth, kindAt, tagAt, permitAt, runAt, declaredAt, userRuleAt, declared}
-use Rattle.image.specs.Words.{ruleWidth}
+use Rattle.image.specs.Words.{ruleWidth, wordsOf}
 use Rattle.session.specs.Rows.{userWords}
-use Rattle.image.specs.Words.{wordsOf}
 use Rattle.session.specs.Session.{startTag}
 use Rattle.image.proofs.WordLaws.{words-nine}
 

@@ -7,14 +7,13 @@ ghost use Prim.Native.Nat.{_*_, _/_, _≤_};
 ghost use lib.ListN.{length, getD, drop, replicate};
 ghost use Rattle.rules.specs.Answers.{dataWidth, mixtureLimit};
 ghost use Rattle.image.specs.Limits.{noAtom, containerLimit, userLimit, containerSize, userSize, ruleSize, mixtureSize};
-ghost use Rattle.image.specs.Bytes.{every};
+ghost use Rattle.lists.specs.Lists.{every};
 ghost use Rattle.image.specs.Policy.{named, containerGood};
 ghost use Rattle.image.specs.Image.{containerIn, containersIn, usersIn, spansIn, rulesIn, spansGood};
 ghost use Rattle.image.specs.Normal.{normalAt, placeOf};
 ghost use Rattle.session.specs.Limits.{rowWidth, userWidth};
-ghost use Rattle.image.specs.Words.{ruleWidth};
+ghost use Rattle.image.specs.Words.{ruleWidth, ruleOf};
 ghost use Rattle.session.specs.Rows.{allZero, keptWell, usedKind, containerRowGood, userWords, userRowGood};
-ghost use Rattle.image.specs.Words.{ruleOf};
 ghost use Rattle.session.specs.Session.{filled, startTag, placeWords, startAnswer, startEffect};
 use rules::Bounded;
 
@@ -177,7 +176,7 @@ fn fill_users(out: &mut [u64], users: &[u8], rules: &[u8], m: &[u8])
             &mut out[at..at + USER_WIDTH],
             rules,
             m,
-            image::read16(users, i * image::USER_SIZE),
+            fields::read16(users, i * image::USER_SIZE),
         );
         i += 1;
     }
@@ -210,19 +209,19 @@ fn put_container(row: &mut [u64], r: &[u8], rules: &[u8], m: &[u8])
     requires { ⌜ (length (now row) ≡ rowWidth) × (length (now r) ≡ containerSize) × (containerGood (length (now rules) / ruleSize) (containerIn (now r)) ≡ true) × (spansGood (length (now m) / mixtureSize) 0 (spansIn (now rules)) ≡ true) ⌝ }
     ensures { λ _. ⌜ now (row .exit) ≡ placeWords (placeOf (rulesIn (now (rules .entry)) (now (m .entry))) (containerIn (now (r .entry)))) ⌝ }
 {
-    row[KIND_AT] = image::read8(r, 0) as u64;
-    row[TAG_AT] = tag_of(image::read8(r, 1));
+    row[KIND_AT] = fields::read8(r, 0) as u64;
+    row[TAG_AT] = tag_of(fields::read8(r, 1));
     image::put_rule_at(
         &mut row[PERMIT_AT..PERMIT_AT + image::RULE_WIDTH],
         rules,
         m,
-        image::read16(r, 2),
+        fields::read16(r, 2),
     );
     image::put_rule_at(
         &mut row[RUN_AT..RUN_AT + image::RULE_WIDTH],
         rules,
         m,
-        image::read16(r, 4),
+        fields::read16(r, 4),
     );
 }
 

@@ -4,7 +4,7 @@ use native.Mathlib.Omega.{arith}
 use mathlib.Core.Path.{_≡_, refl}
 use mathlib.Core.List.{List}
 use lib.ListN.{length}
-use Rattle.image.specs.Bytes.{field}
+use Rattle.fields.specs.Bytes.{field}
 use Rattle.operations.specs.declared.Answer.{Answer}
 use Rattle.operations.specs.declared.Answer.the-variants as answers
 use Rattle.listing.specs.declared.Outcome.{Outcome}

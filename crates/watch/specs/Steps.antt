@@ -1,7 +1,7 @@
 -- How a step is listed and counted (the paper, "Checked examples").
 use Prim.Native.Nat.{ℕ, _+_, _%_, _^_}
 use mathlib.Core.List.{List}
-use Rattle.image.specs.Bytes.{field}
+use Rattle.fields.specs.Bytes.{field}
 use Rattle.operations.specs.declared.Answer.{Answer}
 use Rattle.operations.specs.declared.Answer.the-variants as answers
 use Rattle.listing.specs.declared.Outcome.{Outcome}

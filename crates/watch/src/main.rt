@@ -68,9 +68,9 @@ fn put_record(out: &mut [u8], at: usize, step: u64, bytes: &[u8], answer: Answer
     requires { ⌜ (at + lineLimit ≤ length (now out)) × (length (now bytes) ≡ recordSize) ⌝ }
     ensures { λ r. ⌜ Appended (recordLine step (now (bytes .entry)) answer) (now (out .entry)) (now (out .exit)) at r ⌝ }
 {
-    let code = image::read8(bytes, 0);
-    let p = image::read16(bytes, 2);
-    let o = image::read16(bytes, 4);
+    let code = fields::read8(bytes, 0);
+    let p = fields::read16(bytes, 2);
+    let o = fields::read16(bytes, 4);
     let shown = outcome(answer);
     listing::put_step(out, at, step, code as u64, p as u64, o as u64, shown)
 }

@@ -1,4 +1,4 @@
-use Rattle.image.proofs.Scanning.{passes-test, fails-test}
+use Rattle.lists.proofs.Bools.{passes-test, fails-test}
 use Rattle.image.specs.Policy.{containerGood}
 use Rattle.image.specs.Image.{containerIn}
 use borrow.Author.Tests.{eq-eqb, ne-eqb}

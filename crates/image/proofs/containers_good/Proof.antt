@@ -1,4 +1,5 @@
-use Rattle.image.proofs.Scanning.{Scanned, scan-start, scan-next, scan-stop, scan-end, passes-test, fails-test}
+use Rattle.fields.proofs.RecordLaws.{Scanned, scan-start, scan-next, scan-stop, scan-end}
+use Rattle.lists.proofs.Bools.{passes-test, fails-test}
 use Rattle.image.specs.Policy.{containerGood}
 use Rattle.image.specs.Image.{containerIn, containersIn}
 use lib.ListN.{length-take, length-drop}

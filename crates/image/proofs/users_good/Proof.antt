@@ -1,6 +1,7 @@
-use Rattle.image.proofs.Scanning.{Scanned, scan-start, scan-next, scan-stop, scan-end, passes-test, fails-test}
+use Rattle.fields.proofs.RecordLaws.{Scanned, scan-start, scan-next, scan-stop, scan-end}
+use Rattle.lists.proofs.Bools.{passes-test, fails-test}
 use Rattle.image.specs.Policy.{named}
-use Rattle.image.specs.Bytes.{numberIn, field}
+use Rattle.fields.specs.Bytes.{numberIn, field}
 use Rattle.image.specs.Image.{usersIn}
 use mathlib.Core.Path.{sym}
 use Prim.Native.Nat.{_-_}

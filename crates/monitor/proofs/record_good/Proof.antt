@@ -1,6 +1,7 @@
 use mathlib.Core.Path.{sym, _∙_}
 use native.Mathlib.Omega.{arith}
-use Rattle.image.proofs.Scanning.{field-one, passes-test, fails-test}
+use Rattle.fields.proofs.FieldLaws.{field-one}
+use Rattle.lists.proofs.Bools.{passes-test, fails-test}
 use Rattle.monitor.proofs.Reading.{not-eight, code-none, code-over, byte-set, user-wrong, process-over, by-object}
 use borrow.Author.Needs.{needs}
 use Rattle.monitor.proofs.record_good.Statement.{statement}

@@ -1,6 +1,6 @@
 use mathlib.Core.Path.{sym, _∙_}
 use borrow.Author.Tests.{eqb-true}
-use Rattle.image.proofs.Scanning.{passes-test, fails-test}
+use Rattle.lists.proofs.Bools.{passes-test, fails-test}
 use Rattle.monitor.proofs.Late.{step-9, step-7, step-early, answer-late, effect-late}
 use Rattle.monitor.proofs.Reading.{good-eight, named-by}
 use borrow.Author.Needs.{needs}

@@ -1,15 +1,12 @@
-use Rattle.image.specs.Bytes.{field}
-use lib.ListN.{drop}
-use mathlib.Core.List.{_∷_}
-use Prim.Native.Nat.{_+_, _*_}
+use Rattle.fields.specs.Bytes.{field}
+use lib.ListN.{drop, length}
+use mathlib.Core.List.{_∷_, [], map}
+use Prim.Native.Nat.{_+_, _*_, _-_}
 use borrow.Author.Needs.{needs}
 use Rattle.normaliser.specs.Tables.{classAt, classNamed, containerUses, placedAll}
 use Rattle.image.specs.Image.{containersIn}
 use Rattle.normaliser.proofs.Ordering.{placing-asks, placing-next}
 use Rattle.normaliser.proofs.Reading.{Containing, containing-start, containing-first, containing-next, containing-end, both-at}
-use lib.ListN.{length}
-use mathlib.Core.List.{[], map}
-use Prim.Native.Nat.{_-_}
 use native.Mathlib.Omega.{arith}
 use Rattle.normaliser.proofs.place_containers.Statement.{statement}
 use Rattle.normaliser.proofs.place_containers.Tie as tie

@@ -1,7 +1,7 @@
 use borrow.Author.Needs.{needs}
 use Rattle.normaliser.specs.Tables.{classAt, classNamed, placedAll}
 use Rattle.image.specs.Image.{usersIn}
-use Rattle.image.specs.Bytes.{field}
+use Rattle.fields.specs.Bytes.{field}
 use Rattle.normaliser.proofs.Ordering.{placing-asks, placing-next}
 use Rattle.normaliser.proofs.Reading.{Using, using-start, using-first, using-next, using-end, one-at}
 use lib.ListN.{length, take, drop}

@@ -1,5 +1,5 @@
 use Rattle.normaliser.proofs.Seeking.{all-sets}
-use Rattle.image.specs.Bytes.{bytesOf}
+use Rattle.fields.specs.Bytes.{bytesOf}
 use borrow.Author.Needs.{needs}
 use Rattle.normaliser.proofs.put16.Statement.{statement}
 use Rattle.normaliser.proofs.put16.Tie as tie

@@ -1,5 +1,5 @@
 use Rattle.normaliser.proofs.Seeking.{all-sets}
-use Rattle.image.specs.Bytes.{bytesOf}
+use Rattle.fields.specs.Bytes.{bytesOf}
 use Rattle.image.specs.Normal.{containerBytes}
 use lib.ListN.{length-set}
 use native.Mathlib.Omega.{arith}

@@ -1,12 +1,12 @@
 use borrow.Author.Needs.{needs}
 use Rattle.normaliser.proofs.Spans.{Mixing, mixing-start, mixing-room, mixing-next, mixing-end, good-at, form-in, form-small, form-count, form-part}
 use mathlib.Core.Path.{ap, _∙_}
-use lib.ListN.{length, getD, length-take, length-drop}
+use lib.ListN.{length, getD, length-take, length-drop, drop}
 use Prim.Native.Nat.{ℕ, _+_, _-_, _*_}
 use native.Mathlib.Omega.{arith}
 use mathlib.Core.List.{List, map}
-use Rattle.image.specs.Bytes.{bytesOf, joined}
-use lib.ListN.{drop}
+use Rattle.fields.specs.Bytes.{bytesOf}
+use Rattle.lists.specs.Lists.{joined}
 use Rattle.normaliser.proofs.write_mixtures.Statement.{statement}
 use Rattle.normaliser.proofs.write_mixtures.Tie as tie
 

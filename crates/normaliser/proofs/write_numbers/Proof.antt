@@ -1,7 +1,7 @@
 use borrow.Author.Needs.{needs}
 use Rattle.normaliser.proofs.Laying.{Laid, laid-start, laid-next, laid-end, part-wide}
 use Rattle.normaliser.proofs.Reading.{numbers-wide, number-row}
-use Rattle.image.specs.Bytes.{bytesOf}
+use Rattle.fields.specs.Bytes.{bytesOf}
 use lib.ListN.{length, length-map}
 use mathlib.Core.List.{map}
 use mathlib.Core.Path.{ap, _∙_}

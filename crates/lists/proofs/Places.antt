@@ -1,13 +1,13 @@
 -- What holds of each of a list holds of the one at a place; a place of a mapped list.
-use Prim.Native.Nat.{ℕ, zero, suc}
+use Prim.Native.Nat.{ℕ, zero, suc, _<_}
 use native.Mathlib.Omega.{arith}
 use mathlib.Core.Path.{_≡_, refl, subst}
 use mathlib.Core.Bool.{Bool, true}
 use mathlib.Core.List.{List, [], _∷_, map}
 use mathlib.Core.Option.{Option, none, some}
-use lib.ListN.{getElem?}
-use Rattle.rules.proofs.Bools.{and-0, and-1}
-use Rattle.image.specs.Bytes.{every}
+use lib.ListN.{length, getD, getElem?}
+use Rattle.lists.proofs.Bools.{and-0, and-1}
+use Rattle.lists.specs.Lists.{every}
 
 pub some-inj : {A : Type 0} {a b : A} → some a ≡ some b → a ≡ b
 some-inj e = cc
@@ -26,7 +26,12 @@ abbrev pub mapped : {A B : Type 0} → (A → B) → Option A → Option B
 mapped f none = none
 mapped f (some x) = some (f x)
 
-pub map-at : {A B : Type 0} (f : A → B) (l : List A) (c : ℕ) → getElem? (map f l) c ≡ mapped f (getElem? l c)
-map-at f [] c = refl
-map-at f (x ∷ l) zero = refl
-map-at f (x ∷ l) (suc c) = map-at f l c
+pub mapped-at : {A B : Type 0} (f : A → B) (l : List A) (c : ℕ) → getElem? (map f l) c ≡ mapped f (getElem? l c)
+mapped-at f [] c = refl
+mapped-at f (x ∷ l) zero = refl
+mapped-at f (x ∷ l) (suc c) = mapped-at f l c
+
+pub map-at : {A B : Type 0} (f : A → B) (l : List A) (n : ℕ) (d : A) (e : B) → n < length l → getD (map f l) n e ≡ f (getD l n d)
+map-at f [] n d e h = absurd (omega arith)
+map-at f (x ∷ l) zero d e h = refl
+map-at f (x ∷ l) (suc n) d e h = map-at f l n d e (omega arith)

@@ -1,8 +1,8 @@
-use Rattle.image.proofs.Places.{field-split}
+use Rattle.fields.proofs.FieldLaws.{field-split}
 use native.Mathlib.Omega.{arith}
 use borrow.Author.Needs.{needs}
-use Rattle.image.proofs.read64.Statement.{statement}
-use Rattle.image.proofs.read64.Tie as tie
+use Rattle.fields.proofs.read64.Statement.{statement}
+use Rattle.fields.proofs.read64.Tie as tie
 
 read32-requires : tie.Need-read32-requires
 read32-requires c κs = search needs

@@ -1,7 +1,6 @@
 -- "Stored numbers are little-endian"; a section is cut into records of one width (the paper, "Policy image").
 use Prim.Native.Nat.{ℕ, zero, suc, _+_, _*_, _/_, _%_, _<_}
-use mathlib.Core.Bool.{Bool, true, _&&_}
-use mathlib.Core.List.{List, [], _∷_, _++_}
+use mathlib.Core.List.{List, [], _∷_}
 use lib.ListN.{length, getD, take, drop}
 
 -- the number that the bytes s spell
@@ -26,16 +25,6 @@ cut w (suc n) s = take w s ∷ cut w n (drop w s)
 -- the records of w bytes of a section
 unfoldable pub records : ℕ → List ℕ → List (List ℕ)
 records w s = cut w (length s / w) s
-
--- the lists one behind the other
-unfoldable pub joined : List (List ℕ) → List ℕ
-joined [] = []
-joined (x ∷ xs) = x ++ joined xs
-
--- each of the list passes the test
-unfoldable pub every : {A : Type 0} → (A → Bool) → List A → Bool
-every f [] = true
-every f (x ∷ xs) = f x && every f xs
 
 -- s is a list of bytes
 abbrev pub Bytes : List ℕ → Type 0

@@ -1,0 +1,1 @@
+-- Theorems is the file to read.

@@ -1,0 +1,65 @@
+-- The answer to a record (the paper, "Operations": "Each answer gives receiver and tag"; "A refusal returns its number, zeros
+-- elsewhere"): what its cases say, and the number and values of each.
+use Prim.Native.Nat.{ℕ}
+use mathlib.Core.Bool.{Bool, true, false}
+use Rattle.answers.specs.declared.Verdict.the-variants.{Quiet, Alert}
+use Rattle.answers.specs.declared.Received.{Received}
+use Rattle.answers.specs.declared.Answer.{Answer}
+use Rattle.answers.specs.declared.Answer.the-variants.{Given, Refused}
+
+-- ---- the answers
+
+abbrev pub received : ℕ → ℕ → Received
+received c t = record { receiver = c; tag = t }
+
+abbrev pub quiet : ℕ → ℕ → Answer
+quiet c t = Given Quiet (received c t)
+
+abbrev pub alert : ℕ → ℕ → Answer
+alert c t = Given Alert (received c t)
+
+abbrev pub refused : ℕ → Answer
+refused n = Refused n
+
+-- ---- their cases
+
+-- "A step is accepted if it is answered quiet or alert"
+abbrev pub accepted : Answer → Bool
+accepted (Given Quiet e) = true
+accepted (Given Alert e) = true
+accepted (Refused n) = false
+
+abbrev pub isAlert : Answer → Bool
+isAlert (Given Quiet e) = false
+isAlert (Given Alert e) = true
+isAlert (Refused n) = false
+
+abbrev pub isRefused : Answer → Bool
+isRefused (Given v e) = false
+isRefused (Refused n) = true
+
+-- ---- their numbers and values
+
+-- "zeros elsewhere"
+abbrev pub receivedOf : Answer → Received
+receivedOf (Given v e) = e
+receivedOf (Refused n) = received 0 0
+
+abbrev pub receiverOf : Answer → ℕ
+receiverOf a = receivedOf a .receiver
+
+abbrev pub tagOf : Answer → ℕ
+tagOf a = receivedOf a .tag
+
+abbrev pub quietNumber : ℕ
+quietNumber = 0
+
+-- apart from every refusal
+abbrev pub alertNumber : ℕ
+alertNumber = 256
+
+-- an answer as one number
+abbrev pub answerNumber : Answer → ℕ
+answerNumber (Given Quiet e) = quietNumber
+answerNumber (Given Alert e) = alertNumber
+answerNumber (Refused n) = n

@@ -1,0 +1,62 @@
+-- The refusal numbers (the paper, "Refused because of the input" and "Refused because of the session"), each named once.
+use Prim.Native.Nat.{ℕ}
+
+-- "1 image under 18 or over 20,480 bytes"
+abbrev pub imageLength : ℕ
+imageLength = 1
+
+-- "2 the leading 4 or the pairs"
+abbrev pub sections : ℕ
+sections = 2
+
+-- "3 section length no multiple, or too many records"
+abbrev pub recordCount : ℕ
+recordCount = 3
+
+-- "4 rule record"
+abbrev pub ruleRecord : ℕ
+ruleRecord = 4
+
+-- "5 container record"
+abbrev pub containerRecord : ℕ
+containerRecord = 5
+
+-- "6 user's rule number"
+abbrev pub userRule : ℕ
+userRule = 6
+
+-- "7 operation record"
+abbrev pub operationRecord : ℕ
+operationRecord = 7
+
+-- "8 matrix"
+abbrev pub matrix : ℕ
+matrix = 8
+
+-- "9 session of wrong length or output .. under 18,994 bytes"
+abbrev pub lentLength : ℕ
+lentLength = 9
+
+-- "10 a named row .. is not as "Session" says"
+abbrev pub row : ℕ
+row = 10
+
+-- "11 p is no process"
+abbrev pub noProcess : ℕ
+noProcess = 11
+
+-- "12 o of the wrong kind"
+abbrev pub wrongKind : ℕ
+wrongKind = 12
+
+-- "13 o not free"
+abbrev pub notFree : ℕ
+notFree = 13
+
+-- "14 u not declared"
+abbrev pub notDeclared : ℕ
+notDeclared = 14
+
+-- "15 a meet has over 8 mixtures"
+abbrev pub overLimit : ℕ
+overLimit = 15

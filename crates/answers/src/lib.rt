@@ -1,0 +1,128 @@
+// What the product answers: the refusal numbers, the answer to a record, and the tally of a run (the paper, "Operations" and
+// "Refused because ..").
+ghost use mathlib.Core.Path.{_≡_};
+ghost use Rattle.answers.specs.Tallies.{more, noTally, counted};
+use std::num::wrapping_add_u64;
+
+// ---- the refusals
+
+// An image under 18 or over 20,480 bytes.
+pub const IMAGE_LENGTH: u32 = 1;
+
+// The leading number or the pairs of an image.
+pub const SECTIONS: u32 = 2;
+
+// A section whose length is no multiple of its record's, or with too many records.
+pub const RECORD_COUNT: u32 = 3;
+
+// A rule record.
+pub const RULE_RECORD: u32 = 4;
+
+// A container record.
+pub const CONTAINER_RECORD: u32 = 5;
+
+// A user's rule number.
+pub const USER_RULE: u32 = 6;
+
+// An operation record.
+pub const OPERATION_RECORD: u32 = 7;
+
+// A matrix.
+pub const MATRIX: u32 = 8;
+
+// A session of the wrong length, or an output that is too short.
+pub const LENT_LENGTH: u32 = 9;
+
+// A row of the session that the record names.
+pub const ROW: u32 = 10;
+
+// The process is none.
+pub const NO_PROCESS: u32 = 11;
+
+// The object is of the wrong kind.
+pub const WRONG_KIND: u32 = 12;
+
+// The object is not free.
+pub const NOT_FREE: u32 = 13;
+
+// The user is not declared.
+pub const NOT_DECLARED: u32 = 14;
+
+// A meet of over 8 mixtures.
+pub const OVER_LIMIT: u32 = 15;
+
+// The number of an alert, apart from every refusal. That of a quiet answer is 0.
+pub const ALERT_NUMBER: u32 = 256;
+
+// ---- the answer to a record
+
+// What an access that was made is answered.
+pub enum Verdict {
+    Quiet,
+    Alert,
+}
+
+// The receiver of an access, and its tag afterwards.
+pub struct Received {
+    pub receiver: usize,
+    pub tag: u64,
+}
+
+// A verdict on what was received, or the refusal's number.
+pub enum Answer {
+    Given(Verdict, Received),
+    Refused(u32),
+}
+
+// ---- the tally of a run
+
+// How many records there were, and how many of them were answered by an alert, and refused. The counts wrap at 2 to the 64.
+pub struct Tally {
+    pub records: u64,
+    pub alerts: u64,
+    pub refused: u64,
+}
+
+// The tally before the first record.
+pub fn no_tally() -> Tally
+    ensures { λ r. ⌜ r ≡ noTally ⌝ }
+{
+    Tally {
+        records: 0,
+        alerts: 0,
+        refused: 0,
+    }
+}
+
+// One more.
+pub fn more(n: u64) -> u64
+    ensures { λ r. ⌜ r ≡ more n ⌝ }
+{
+    wrapping_add_u64(n, 1)
+}
+
+// The tally with one more record, which was answered so.
+pub fn count(tally: Tally, answer: Answer) -> Tally
+    ensures { λ r. ⌜ r ≡ counted tally answer ⌝ }
+{
+    let records = more(tally.records);
+    match answer {
+        Answer::Given(verdict, _) => match verdict {
+            Verdict::Quiet => Tally {
+                records: records,
+                alerts: tally.alerts,
+                refused: tally.refused,
+            },
+            Verdict::Alert => Tally {
+                records: records,
+                alerts: more(tally.alerts),
+                refused: tally.refused,
+            },
+        },
+        Answer::Refused(_) => Tally {
+            records: records,
+            alerts: tally.alerts,
+            refused: more(tally.refused),
+        },
+    }
+}

@@ -1,0 +1,4 @@
+-- Laws that the other crates cite.
+pub mod FieldLaws
+pub mod ByteLaws
+pub mod RecordLaws

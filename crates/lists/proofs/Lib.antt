@@ -1,0 +1,7 @@
+-- Laws that the other crates cite. Conditions is the file to read first.
+pub mod Conditions
+pub mod Bools
+pub mod Elem
+pub mod Same
+pub mod Every
+pub mod Places

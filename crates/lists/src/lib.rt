@@ -1,0 +1,1 @@
+// Lists and tests: the definitions and laws of this crate have no code of their own.
