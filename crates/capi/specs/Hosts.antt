@@ -3,19 +3,18 @@ use Prim.Native.Nat.{ℕ}
 use mathlib.Core.Bool.{cond}
 use lib.Dec.{eqb}
 use Rattle.matrix.specs.Limits.{matrixRefusal}
-use Rattle.chains.specs.Demand.{Answer, quiet, alert, refused}
+use Rattle.answers.specs.declared.Answer.{Answer}
+use Rattle.answers.specs.declared.Answer.the-variants.{Given, Refused}
 
 -- the receiver's number after an answer; in a refusal it is as it was
 abbrev pub receiverAfter : Answer → ℕ → ℕ
-receiverAfter (quiet c t) old = c
-receiverAfter (alert c t) old = c
-receiverAfter (refused n) old = old
+receiverAfter (Given v e) old = e .receiver
+receiverAfter (Refused n) old = old
 
 -- the tag after an answer; in a refusal it is as it was
 abbrev pub tagAfter : Answer → ℕ → ℕ
-tagAfter (quiet c t) old = t
-tagAfter (alert c t) old = t
-tagAfter (refused n) old = old
+tagAfter (Given v e) old = e .tag
+tagAfter (Refused n) old = old
 
 -- one of the three numbers of a matrix verdict: the value, or what stood there if the matrix is refused
 abbrev pub valueAfter : ℕ → ℕ → ℕ → ℕ

@@ -2,17 +2,15 @@
 ghost use mathlib.Core.Path.{_≡_};
 ghost use Rattle.image.specs.Image.{checkOf};
 ghost use Rattle.session.specs.Session.{startAnswer, startEffect};
-ghost use Rattle.operations.specs.Answers.{numberOf};
+ghost use Rattle.answers.specs.Answers.{answerNumber};
 ghost use Rattle.monitor.specs.Steps.{stepAnswer, stepEffect};
 ghost use Rattle.normaliser.specs.Normaliser.{normalAnswer, normalEffect};
 ghost use Rattle.matrix.specs.Verdicts.{verdictOf};
 ghost use Rattle.matrix.specs.Derived.{derivedAnswer, derivedEffect};
 ghost use Rattle.capi.specs.Hosts.{receiverAfter, tagAfter, valueAfter};
+use answers::Answer;
+use answers::Verdict;
 use matrix::Consistency;
-use operations::Answer;
-
-// The number of an alert.
-const ALERT: u32 = 256;
 
 // The number of a matrix that is not consistent, and of one that is refused.
 const INCONSISTENT: u32 = 1;
@@ -51,19 +49,17 @@ pub extern "C" fn yaslaurel_step(
     receiver: &mut u64,
     tag: &mut u64,
 ) -> u32
-    ensures { λ r. ⌜ (r ≡ numberOf (stepAnswer (now (session .entry)) (now (bytes .entry)))) × (now (session .exit) ≡ stepEffect (now (session .entry)) (now (bytes .entry))) × (now (receiver .exit) ≡ receiverAfter (stepAnswer (now (session .entry)) (now (bytes .entry))) (now (receiver .entry))) × (now (tag .exit) ≡ tagAfter (stepAnswer (now (session .entry)) (now (bytes .entry))) (now (tag .entry))) ⌝ }
+    ensures { λ r. ⌜ (r ≡ answerNumber (stepAnswer (now (session .entry)) (now (bytes .entry)))) × (now (session .exit) ≡ stepEffect (now (session .entry)) (now (bytes .entry))) × (now (receiver .exit) ≡ receiverAfter (stepAnswer (now (session .entry)) (now (bytes .entry))) (now (receiver .entry))) × (now (tag .exit) ≡ tagAfter (stepAnswer (now (session .entry)) (now (bytes .entry))) (now (tag .entry))) ⌝ }
 {
     let answer = monitor::step(session, bytes);
     match answer {
-        Answer::Quiet(c, t) => {
-            *receiver = c as u64;
-            *tag = t;
-            0
-        }
-        Answer::Alert(c, t) => {
-            *receiver = c as u64;
-            *tag = t;
-            ALERT
+        Answer::Given(verdict, received) => {
+            *receiver = received.receiver as u64;
+            *tag = received.tag;
+            match verdict {
+                Verdict::Quiet => 0,
+                Verdict::Alert => answers::ALERT_NUMBER,
+            }
         }
         Answer::Refused(n) => n,
     }

@@ -1,23 +1,28 @@
 -- The table, run on steps, is a monitor that follows the table.
-use mathlib.Core.Path.{_≡_, refl}
+use mathlib.Core.Path.{_≡_, refl, ap, _∙_}
+use mathlib.Core.Logic.{_⊎_, inl, inr, _≢_}
+use Rattle.lists.specs.Conditions.{firstFailed}
+use Rattle.lists.proofs.Conditions.{zero-or-not}
+use Rattle.answers.specs.declared.Answer.{Answer}
+use Rattle.chains.proofs.TableLaws.{operate-done, operate-refused}
 use mathlib.Core.Bool.{false}
 use mathlib.Core.Option.{some}
 use Rattle.lists.proofs.Bools.{clash}
 use Rattle.image.specs.Policy.{Policy, Sound}
 use Rattle.chains.specs.History.{Step}
-use Rattle.chains.specs.Demand.{accepted, Demand3, TagTold}
-use Rattle.chains.specs.Table.{State, Change, refuse, put, change, applied, operate, begin, Faithful}
+use Rattle.answers.specs.Answers.{accepted}
+use Rattle.chains.specs.Demand.{Demand3, TagTold}
+use Rattle.chains.specs.Table.{State, entry, tableConditions, operate, begin, Faithful}
 use Rattle.chains.proofs.VerdictLaws.{verdict-accepted}
 use Rattle.chains.proofs.Theorems.{demand3, tag-told}
 
 -- a refused step changes nothing
 pub refused-same : (σ : State) (s : Step) → accepted (operate σ s .1) ≡ false → operate σ s .0 ≡ σ
-unfolding operate
-refused-same σ s = on (change σ s)
+refused-same σ s f = by (zero-or-not (firstFailed (tableConditions σ s)))
   where
-    on : (k : Change) → accepted (applied σ s k .1) ≡ false → applied σ s k .0 ≡ σ
-    on (refuse n) e = refl
-    on (put c w) e = clash (verdict-accepted s w) e
+    by : (firstFailed (tableConditions σ s) ≡ 0) ⊎ (firstFailed (tableConditions σ s) ≢ 0) → operate σ s .0 ≡ σ
+    by (inl e) = clash (ap (λ (x : State × Answer). accepted (x .1)) (operate-done σ s e) ∙ verdict-accepted s (entry σ s .row)) f
+    by (inr n) = ap (λ (x : State × Answer). x .0) (operate-refused σ s n)
 
 pub itself : Faithful operate some (λ σ. σ) (λ σ. Unit {0})
 itself = record {

@@ -13,7 +13,6 @@ pub mod VerdictLaws
 pub mod TableLaws
 -- a whole list of records
 pub mod Whole
-pub mod WellFormed
 -- the table as a monitor, and the paper's listing run by it
 pub mod Itself
 pub mod Listing

@@ -9,13 +9,13 @@ use lib.ListN.{take}
 use Rattle.image.specs.Policy.{Policy, Sound}
 use Rattle.chains.specs.History.{Step, History, start, _▸_}
 use Rattle.chains.specs.Chains.{Item, Starts, Carries, Ends, Chain}
-use Rattle.chains.specs.Demand.{Answer, after, historyOf, historyFrom, Demand3, TagTold}
-use Rattle.chains.specs.Table.{State, begin, Formed, Faithful}
+use Rattle.answers.specs.declared.Answer.{Answer}
+use Rattle.chains.specs.Demand.{after, historyOf, historyFrom, Demand3, TagTold}
+use Rattle.chains.specs.Table.{State, begin, Faithful}
 use Rattle.chains.proofs.ChainLaws.{chain-snoc, chain-stay, chain-carry, chain-none, chain-here}
 use Rattle.chains.proofs.Inductive.{Built, listed, built}
 use Rattle.chains.proofs.Start.{Inv, begin-ok}
 use Rattle.chains.proofs.Whole.{Told, told-at, history-from-append}
-use Rattle.chains.proofs.WellFormed.{begin-formed, formed-after}
 
 -- ---- demand 3: of every monitor that follows the table, from every state that reads as the start of a sound policy
 
@@ -31,11 +31,6 @@ module _ {S R : Type 0} (op : S → R → S × Answer) (stepOf : R → Option St
       let t : Told P (historyOf op stepOf σ (take (suc n) rs)) s a =
       told-at P op stepOf view Valid F start σ v (subst (Inv P start) (sym e) (begin-ok P ok)) rs n s a A in
       (t .at, t .tag)
-
-  -- after any list of records the rows are as the paper's section "Session" says, so that none is refused for them
-  pub rows-formed : Faithful op stepOf view Valid → (P : Policy) → Sound P → (σ : S) → Valid σ → view σ ≡ begin P
-      → (rs : List R) → Formed (view (after op σ rs))
-  rows-formed F P ok σ v e rs = formed-after op stepOf view Valid F σ v (subst Formed (sym e) (begin-formed P ok)) rs
 
 -- the history of a list of records begins with the history of its first records
 pub history-append : {S R : Type 0} (op : S → R → S × Answer) (stepOf : R → Option Step) (σ : S) (rs qs : List R)

@@ -4,7 +4,7 @@ use mathlib.Core.Logic.{⊎-elim}
 use mathlib.Core.Bool.{true, false}
 use Rattle.lists.proofs.Bools.{decide}
 use Rattle.chains.specs.History.{Step, receiver}
-use Rattle.chains.specs.Demand.{quiet, alert, accepted}
+use Rattle.answers.specs.Answers.{quiet, alert, accepted}
 use Rattle.chains.specs.Table.{alerts, verdict}
 use Rattle.session.specs.Rows.{Row}
 

@@ -18,15 +18,18 @@ use Rattle.lists.proofs.Bools.{and-1, clash, decide}
 use Rattle.image.specs.Limits.{isFree}
 use Rattle.image.specs.Policy.{Policy}
 use Rattle.chains.specs.History.{Step, read, write, append, exec, fork, newFile, newVolatile, History, _▸_, receiver}
-use Rattle.chains.specs.Chains.{dataAtom, runningAtom, Chain, Governs, Reaches, Forbidden}
-use Rattle.chains.specs.Demand.{Answer, accepted, isAlert, receiverOf, tagOf, judged, extend, after, historyFrom, AcceptedAt}
-use Rattle.chains.specs.Table.{State, readRow, writeRow, appendRow, execRow, forkRow, newFileRow, newVolatileRow, Change, refuse, put, change, alerts, verdict, placed, applied, operate, Faithful}
+use Rattle.lists.specs.Conditions.{firstFailed}
+use Rattle.chains.specs.Chains.{UserRule, dataAtom, runningAtom, Chain, Governs, Reaches, Forbidden}
+use Rattle.answers.specs.declared.Answer.{Answer}
+use Rattle.answers.specs.Answers.{accepted, isAlert, receiverOf, tagOf}
+use Rattle.chains.specs.Demand.{judged, extend, after, historyFrom, AcceptedAt}
+use Rattle.chains.specs.Table.{State, readRow, writeRow, appendRow, execRow, forkRow, newFileRow, newVolatileRow, fitsNeed, ruleOr, entry, processGood, objectGood, userGood, tableConditions, alerts, verdict, placed, operate, Faithful}
 use Rattle.session.specs.Rows.{Row}
 use Rattle.chains.proofs.Exact.{Exact, covers-in, covers-out, Tagged}
 use Rattle.chains.proofs.Rows.{Good, RowOk, other, read-good, write-good, append-good, exec-good, fork-good, new-file-good, new-volatile-good}
 use Rattle.lists.proofs.Places.{some-inj, none-some}
 use Rattle.chains.proofs.KindLaws.{process-used, file-used, store-used}
-use Rattle.chains.proofs.TableLaws.{IfPut, Puts, change-puts}
+use Rattle.chains.proofs.TableLaws.{Passed, passed, operate-done, operate-accepted, rule-declared}
 use Rattle.chains.proofs.VerdictLaws.{verdict-alert, verdict-quiet}
 use Rattle.chains.proofs.Start.{Inv}
 
@@ -34,56 +37,51 @@ module _ (P : Policy) where
   -- ---- one step
 
   -- what the row put for the receiver is after the step
-  pub record Put (h : History) (s : Step) (c : ℕ) (w : Row) : Type 0 where
-    pub at : c ≡ receiver s
-    pub ok : RowOk P (h ▸ s) c w
-    pub tag : Tagged (λ d. Chain P (h ▸ s) (dataAtom d) c) (λ d. Chain P (h ▸ s) (runningAtom d) c) (w .tag)
-    pub permit : judged s ≡ true → Exact (λ r. Governs P (h ▸ s) c r) (w .permit)
+  pub record Put (h : History) (s : Step) (w : Row) : Type 0 where
+    pub ok : RowOk P (h ▸ s) (receiver s) w
+    pub tag : Tagged (λ d. Chain P (h ▸ s) (dataAtom d) (receiver s)) (λ d. Chain P (h ▸ s) (runningAtom d) (receiver s)) (w .tag)
+    pub permit : judged s ≡ true → Exact (λ r. Governs P (h ▸ s) (receiver s) r) (w .permit)
 
-  used : (h : History) (s : Step) (w : Row) → isFree (w .kind) ≡ false → Good P (h ▸ s) (receiver s) w → Put h s (receiver s) w
-  used h s w e g = record { at = refl; ok = record { empty = λ f. clash f e; good = λ f. g }; tag = g .tag; permit = λ j. g .permit }
+  used : (h : History) (s : Step) (w : Row) → isFree (w .kind) ≡ false → Good P (h ▸ s) (receiver s) w → Put h s w
+  used h s w e g = record { ok = record { empty = λ f. clash f e; good = λ f. g }; tag = g .tag; permit = λ j. g .permit }
 
-  puts : (h : History) (σ : State) → Inv P h σ → (s : Step) → Puts (Put h s) σ s
-  unfolding readRow writeRow appendRow execRow forkRow newFileRow newVolatileRow isFree
-  puts h σ I (read p o) =
-      λ ep eo em.
-      let up : isFree (σ .row p .kind) ≡ false = process-used (σ .row p .kind) ep in
-      let uo : isFree (σ .row o .kind) ≡ false = store-used (σ .row o .kind) eo in
+  -- the row of the table, by its clauses
+  puts : (h : History) (σ : State) → Inv P h σ → (s : Step) → Passed σ s → Put h s (entry σ s .row)
+  unfolding entry readRow writeRow appendRow execRow forkRow newFileRow newVolatileRow processGood objectGood userGood fitsNeed isFree
+  puts h σ I (read p o) g =
+      let up : isFree (σ .row p .kind) ≡ false = process-used (σ .row p .kind) (g .process) in
+      let uo : isFree (σ .row o .kind) ≡ false = store-used (σ .row o .kind) (g .object) in
       used h (read p o) _ up (read-good P h p o (σ .row p) (σ .row o) (I .rows p .good up) (I .rows o .good uo))
-  puts h σ I (write p o) =
-      λ ep eo.
-      let up : isFree (σ .row p .kind) ≡ false = process-used (σ .row p .kind) ep in
-      let uo : isFree (σ .row o .kind) ≡ false = store-used (σ .row o .kind) eo in
+  puts h σ I (write p o) g =
+      let up : isFree (σ .row p .kind) ≡ false = process-used (σ .row p .kind) (g .process) in
+      let uo : isFree (σ .row o .kind) ≡ false = store-used (σ .row o .kind) (g .object) in
       used h (write p o) _ uo (write-good P h p o (σ .row p) (σ .row o) (I .rows p .good up) (I .rows o .good uo))
-  puts h σ I (append p o) =
-      λ ep eo em.
-      let up : isFree (σ .row p .kind) ≡ false = process-used (σ .row p .kind) ep in
-      let uo : isFree (σ .row o .kind) ≡ false = store-used (σ .row o .kind) eo in
+  puts h σ I (append p o) g =
+      let up : isFree (σ .row p .kind) ≡ false = process-used (σ .row p .kind) (g .process) in
+      let uo : isFree (σ .row o .kind) ≡ false = store-used (σ .row o .kind) (g .object) in
       used h (append p o) _ uo (append-good P h p o (σ .row p) (σ .row o) (I .rows p .good up) (I .rows o .good uo))
-  puts h σ I (exec p o u) =
-      λ ep eo v ev em.
-      let up : isFree (σ .row p .kind) ≡ false = process-used (σ .row p .kind) ep in
-      let uo : isFree (σ .row o .kind) ≡ false = file-used (σ .row o .kind) eo in
-      used h (exec p o u) _ up (exec-good P h p o (σ .row p) (σ .row o) u v (I .rows o .good uo) (I .users u v ev))
-  puts h σ I (fork p o) =
-      λ ep eo.
-      let up : isFree (σ .row p .kind) ≡ false = process-used (σ .row p .kind) ep in
-      used h (fork p o) _ up (fork-good P h p o (σ .row p) (σ .row o) (I .rows o .empty eo) (I .rows p .good up))
-  puts h σ I (newFile p o u) =
-      λ ep eo v ev.
-      used h (newFile p o u) _ refl (new-file-good P h p o (σ .row p) (σ .row o) u v (I .rows o .empty eo) (I .users u v ev))
-  puts h σ I (newVolatile p o) =
-      λ ep eo.
-      used h (newVolatile p o) _ refl (new-volatile-good P h p o (σ .row p) (σ .row o) (I .rows o .empty eo))
+  puts h σ I (exec p o u) g =
+      let up : isFree (σ .row p .kind) ≡ false = process-used (σ .row p .kind) (g .process) in
+      let uo : isFree (σ .row o .kind) ≡ false = file-used (σ .row o .kind) (g .object) in
+      let gu : Exact (λ r. UserRule P u r) (ruleOr (σ .user u)) = I .users u (ruleOr (σ .user u)) (rule-declared (σ .user u) (g .user)) in
+      used h (exec p o u) _ up (exec-good P h p o (σ .row p) (σ .row o) u (ruleOr (σ .user u)) (I .rows o .good uo) gu)
+  puts h σ I (fork p o) g =
+      let up : isFree (σ .row p .kind) ≡ false = process-used (σ .row p .kind) (g .process) in
+      used h (fork p o) _ up (fork-good P h p o (σ .row p) (σ .row o) (I .rows o .empty (g .object)) (I .rows p .good up))
+  puts h σ I (newFile p o u) g =
+      let gu : Exact (λ r. UserRule P u r) (ruleOr (σ .user u)) = I .users u (ruleOr (σ .user u)) (rule-declared (σ .user u) (g .user)) in
+      used h (newFile p o u) _ refl (new-file-good P h p o (σ .row p) (σ .row o) u (ruleOr (σ .user u)) (I .rows o .empty (g .object)) gu)
+  puts h σ I (newVolatile p o) g =
+      used h (newVolatile p o) _ refl (new-volatile-good P h p o (σ .row p) (σ .row o) (I .rows o .empty (g .object)))
 
   -- the row that a step puts, and every other
-  placed-ok : (h : History) (σ : State) → Inv P h σ → (s : Step) (c : ℕ) (w : Row) → Put h s c w → Inv P (h ▸ s) (placed σ c w)
+  placed-ok : (h : History) (σ : State) → Inv P h σ → (s : Step) (w : Row) → Put h s w → Inv P (h ▸ s) (placed σ (receiver s) w)
   unfolding placed
-  placed-ok h σ I s c w g = record { rows = λ x. at x (eqb x c) refl; users = I .users }
+  placed-ok h σ I s w g = record { rows = λ x. at x (eqb x (receiver s)) refl; users = I .users }
     where
-      at : (x : ℕ) (b : Bool) → eqb x c ≡ b → RowOk P (h ▸ s) x (cond b w (σ .row x))
-      at x true e = subst (λ (z : ℕ). RowOk P (h ▸ s) z w) (sym (eqb-true x c e)) (g .ok)
-      at x false e = other P h s x (σ .row x) (λ q. eqb-false x c e (q ∙ sym (g .at))) (I .rows x)
+      at : (x : ℕ) (b : Bool) → eqb x (receiver s) ≡ b → RowOk P (h ▸ s) x (cond b w (σ .row x))
+      at x true e = subst (λ (z : ℕ). RowOk P (h ▸ s) z w) (sym (eqb-true x (receiver s) e)) (g .ok)
+      at x false e = other P h s x (σ .row x) (eqb-false x (receiver s) e) (I .rows x)
 
   -- ---- the answer
 
@@ -120,7 +118,7 @@ module _ (P : Policy) where
         let q : (m : ℕ) × (elem m r ≡ true) × ((k : ℕ) → atom t k ≡ 1 → atom m k ≡ 1) = covers-out r t (x .holds t e r gr) in
         nm (q .0) (q .1) (λ k z. q .2 k (reaches k .1 z))
 
-  told : (h : History) (s : Step) (w : Row) → Put h s (receiver s) w → Told (h ▸ s) s (verdict s w)
+  told : (h : History) (s : Step) (w : Row) → Put h s w → Told (h ▸ s) s (verdict s w)
   unfolding alerts
   told h s w g = on (decide (alerts s w))
     where
@@ -151,17 +149,12 @@ module _ (P : Policy) where
     pub inv : Inv P (h ▸ s) τ
     pub told : Told (h ▸ s) s a
 
-  applied-ok : (h : History) (σ : State) → Inv P h σ → (s : Step) (k : Change) → IfPut (Put h s) k → accepted (applied σ s k .1) ≡ true
-      → Stepped h s (applied σ s k .0) (applied σ s k .1)
-  applied-ok h σ I s (refuse n) f e = clash e refl
-  applied-ok h σ I s (put c w) f e = record {
-    inv = placed-ok h σ I s c w f;
-    told = told h s w (subst (λ (x : ℕ). Put h s x w) (f .at) f);
-  }
-
   operate-ok : (h : History) (σ : State) → Inv P h σ → (s : Step) → accepted (operate σ s .1) ≡ true → Stepped h s (operate σ s .0) (operate σ s .1)
-  unfolding operate
-  operate-ok h σ I s e = applied-ok h σ I s (change σ s) (change-puts (Put h s) σ s (puts h σ I s)) e
+  operate-ok h σ I s a =
+      let e : firstFailed (tableConditions σ s) ≡ 0 = operate-accepted σ s a in
+      let g : Put h s (entry σ s .row) = puts h σ I s (passed σ s e) in
+      subst (λ (x : State × Answer). Stepped h s (x .0) (x .1)) (sym (operate-done σ s e))
+      (record { inv = placed-ok h σ I s (entry σ s .row) g; told = told h s (entry σ s .row) g })
 
   -- ---- a monitor that follows the table
 

@@ -9,6 +9,8 @@ use mathlib.Core.Option.{Option, none, some}
 use lib.ListN.{getElem?, take}
 use Rattle.rules.specs.Sets.{atom}
 use Rattle.image.specs.Policy.{Policy}
+use Rattle.answers.specs.declared.Answer.{Answer}
+use Rattle.answers.specs.Answers.{accepted, isAlert, receiverOf, tagOf}
 use Rattle.chains.specs.History.{
   Step,
   read,
@@ -25,33 +27,7 @@ use Rattle.chains.specs.History.{
 }
 use Rattle.chains.specs.Chains.{Reaches, Forbidden}
 
--- ---- answers
-
--- "Each answer gives receiver and tag"; "A refusal returns its number, zeros elsewhere".
-pub data Answer : Type 0 where
-  refused : (number : ℕ) → Answer
-  quiet alert : (at tag : ℕ) → Answer
-
--- "A step is accepted if it is answered quiet or alert"
-abbrev pub accepted : Answer → Bool
-accepted (refused n) = false
-accepted (quiet c t) = true
-accepted (alert c t) = true
-
-abbrev pub isAlert : Answer → Bool
-isAlert (refused n) = false
-isAlert (quiet c t) = false
-isAlert (alert c t) = true
-
-abbrev pub receiverOf : Answer → ℕ
-receiverOf (refused n) = 0
-receiverOf (quiet c t) = c
-receiverOf (alert c t) = c
-
-abbrev pub tagOf : Answer → ℕ
-tagOf (refused n) = 0
-tagOf (quiet c t) = t
-tagOf (alert c t) = t
+-- ---- which steps are judged
 
 -- "Codes 1 to 5 answer alert if ..; 6 and 7 answer quiet."
 abbrev pub judged : Step → Bool

@@ -1,23 +1,28 @@
 -- The operations on rows, as the table of the paper's section "Operations" has them; the start; and what makes a monitor
 -- one that follows the table.
-use Prim.Native.Nat.{ℕ, _≤_}
+use Prim.Native.Nat.{ℕ}
 use mathlib.Core.Path.{_≡_}
 use mathlib.Core.Bool.{Bool, true, false, not, cond, _&&_, _||_}
-use mathlib.Core.List.{List, []}
+use mathlib.Core.List.{List, [], _∷_, _++_}
 use mathlib.Core.Option.{Option, none, some}
 use lib.Bits.{bitOr}
 use lib.Dec.{eqb, leb}
 use lib.ListN.{length, getElem?}
 use Rattle.rules.specs.Sets.{dataOf, runningOf}
-use Rattle.rules.specs.Rules.{covers, meet, normal}
+use Rattle.rules.specs.Rules.{covers, meet}
 use Rattle.rules.specs.Answers.{dataWidth, mixtureLimit}
 use Rattle.image.specs.Limits.{isFree, isFile, isProcess, isStore, freeKind, fileKind, volatileKind}
 use Rattle.image.specs.Policy.{Policy, unrestrictedRule}
 use Rattle.image.specs.Normal.{Place, meaning}
+use Rattle.lists.specs.Lists.{every}
+use Rattle.lists.specs.Conditions.{Condition, _orRefuse_, firstFailed}
+use Rattle.answers.specs.Refusals.{noProcess, wrongKind, notFree, notDeclared, overLimit}
 use Rattle.session.specs.Rows.{Row}
 use Rattle.session.specs.Session.{startRow}
 use Rattle.chains.specs.History.{Step, read, write, append, exec, fork, newFile, newVolatile, receiver}
-use Rattle.chains.specs.Demand.{Answer, refused, quiet, alert, accepted, judged}
+use Rattle.answers.specs.declared.Answer.{Answer}
+use Rattle.answers.specs.Answers.{refused, quiet, alert, accepted}
+use Rattle.chains.specs.Demand.{judged}
 
 -- ---- rows
 
@@ -64,81 +69,123 @@ newFileRow u = record { kind = fileKind; tag = 0; permit = u; run = unrestricted
 unfoldable pub newVolatileRow : Row
 newVolatileRow = record { kind = volatileKind; tag = 0; permit = unrestrictedRule; run = unrestrictedRule }
 
+-- ---- the table: what a step names and needs, the meets that it forms, and the receiver's row afterwards
+
+-- the column "o": what a step needs of its object
+pub data Need : Type 0 where
+  store file free : Need
+
+-- a container of the kind k serves as the object
+unfoldable pub fitsNeed : Need → ℕ → Bool
+fitsNeed store k = isStore k
+fitsNeed file k = isFile k
+fitsNeed free k = isFree k
+
+abbrev pub needsFree : Need → Bool
+needsFree store = false
+needsFree file = false
+needsFree free = true
+
+-- a row of the table: the numbers of p and o, and of u where the code names one; what it needs of o; the meets; the row
+pub record Entry : Type 0 where
+  pub process : ℕ
+  pub object : ℕ
+  pub user : Option ℕ
+  pub need : Need
+  pub meets : List (List ℕ)
+  pub row : Row
+
+-- the rule of user u; of one that is not declared, none
+abbrev pub ruleOr : Option (List ℕ) → List ℕ
+ruleOr none = []
+ruleOr (some v) = v
+
+unfoldable pub entry : State → Step → Entry
+entry σ (read p o) =
+    record {
+      process = p;
+      object = o;
+      user = none;
+      need = store;
+      meets = meet (σ .row p .run) (σ .row o .run) ∷ [];
+      row = readRow (σ .row p) (σ .row o);
+    }
+entry σ (write p o) =
+    record { process = p; object = o; user = none; need = store; meets = []; row = writeRow (σ .row p) (σ .row o) }
+entry σ (append p o) =
+    record {
+      process = p;
+      object = o;
+      user = none;
+      need = store;
+      meets = meet (σ .row o .run) (σ .row p .run) ∷ [];
+      row = appendRow (σ .row p) (σ .row o);
+    }
+entry σ (exec p o u) =
+    record {
+      process = p;
+      object = o;
+      user = some u;
+      need = file;
+      meets = meet (σ .row o .run) (ruleOr (σ .user u)) ∷ [];
+      row = execRow (σ .row p) (σ .row o) (ruleOr (σ .user u));
+    }
+entry σ (fork p o) =
+    record { process = p; object = o; user = none; need = free; meets = []; row = forkRow (σ .row p) }
+entry σ (newFile p o u) =
+    record { process = p; object = o; user = some u; need = free; meets = []; row = newFileRow (ruleOr (σ .user u)) }
+entry σ (newVolatile p o) =
+    record { process = p; object = o; user = none; need = free; meets = []; row = newVolatileRow }
+
 -- ---- "Refused because of the session": 11 to 15 in the order of the paper
 
--- "11 p is no process"
-abbrev pub notProcess : ℕ
-notProcess = 11
+-- 11: "p is no process"
+unfoldable pub processGood : State → Step → Bool
+processGood σ t = isProcess (σ .row (entry σ t .process) .kind)
 
--- "12 o of the wrong kind (codes 1 to 4)"
-abbrev pub wrongKind : ℕ
-wrongKind = 12
+-- the need is met by the object
+unfoldable pub objectGood : State → Step → Bool
+objectGood σ t = fitsNeed (entry σ t .need) (σ .row (entry σ t .object) .kind)
 
--- "13 o not free (5 to 7)"
-abbrev pub notFree : ℕ
-notFree = 13
+-- 12: "o of the wrong kind (codes 1 to 4)"
+unfoldable pub kindGood : State → Step → Bool
+kindGood σ t = needsFree (entry σ t .need) || objectGood σ t
 
--- "14 u not declared"
-abbrev pub notDeclared : ℕ
-notDeclared = 14
+-- 13: "o not free (5 to 7)"
+unfoldable pub freeGood : State → Step → Bool
+freeGood σ t = not (needsFree (entry σ t .need)) || objectGood σ t
 
--- "15 a meet has over 8 mixtures"
-abbrev pub overLimit : ℕ
-overLimit = 15
+abbrev pub isSome : {A : Type 0} → Option A → Bool
+isSome none = false
+isSome (some x) = true
 
--- what a step does: it is refused with a number, or puts a row in the place of container c's
-pub data Change : Type 0 where
-  refuse : (number : ℕ) → Change
-  put : (c : ℕ) (w : Row) → Change
+abbrev pub declaredIn : State → Option ℕ → Bool
+declaredIn σ none = true
+declaredIn σ (some u) = isSome (σ .user u)
 
--- the test passes, or the step is refused with the number n
-abbrev pub guard : Bool → ℕ → Change → Change
-guard true n k = k
-guard false n k = refuse n
-
--- the step goes on with the rule of u, or is refused with 14
-abbrev pub withRule : Option (List ℕ) → (List ℕ → Change) → Change
-withRule none f = refuse notDeclared
-withRule (some v) f = f v
+-- 14: "u not declared"
+unfoldable pub userGood : State → Step → Bool
+userGood σ t = declaredIn σ (entry σ t .user)
 
 -- a rule has at most 8 mixtures
 unfoldable pub fits : List ℕ → Bool
 fits r = leb (length r) mixtureLimit
 
-unfoldable pub change : State → Step → Change
-change σ (read p o) =
-    guard (isProcess (σ .row p .kind)) notProcess
-    (guard (isStore (σ .row o .kind)) wrongKind
-    (guard (fits (meet (σ .row p .run) (σ .row o .run))) overLimit
-    (put p (readRow (σ .row p) (σ .row o)))))
-change σ (write p o) =
-    guard (isProcess (σ .row p .kind)) notProcess
-    (guard (isStore (σ .row o .kind)) wrongKind
-    (put o (writeRow (σ .row p) (σ .row o))))
-change σ (append p o) =
-    guard (isProcess (σ .row p .kind)) notProcess
-    (guard (isStore (σ .row o .kind)) wrongKind
-    (guard (fits (meet (σ .row o .run) (σ .row p .run))) overLimit
-    (put o (appendRow (σ .row p) (σ .row o)))))
-change σ (exec p o u) =
-    guard (isProcess (σ .row p .kind)) notProcess
-    (guard (isFile (σ .row o .kind)) wrongKind
-    (withRule (σ .user u) (λ v.
-    guard (fits (meet (σ .row o .run) v)) overLimit
-    (put p (execRow (σ .row p) (σ .row o) v)))))
-change σ (fork p o) =
-    guard (isProcess (σ .row p .kind)) notProcess
-    (guard (isFree (σ .row o .kind)) notFree
-    (put o (forkRow (σ .row p))))
-change σ (newFile p o u) =
-    guard (isProcess (σ .row p .kind)) notProcess
-    (guard (isFree (σ .row o .kind)) notFree
-    (withRule (σ .user u) (λ v.
-    put o (newFileRow v))))
-change σ (newVolatile p o) =
-    guard (isProcess (σ .row p .kind)) notProcess
-    (guard (isFree (σ .row o .kind)) notFree
-    (put o newVolatileRow))
+-- 15: "a meet has over 8 mixtures"
+unfoldable pub meetGood : State → Step → Bool
+meetGood σ t = every fits (entry σ t .meets)
+
+-- those that are tested before a meet is formed
+unfoldable pub earlyConditions : State → Step → List Condition
+earlyConditions σ t =
+    (processGood σ t orRefuse noProcess)
+    ∷ (kindGood σ t orRefuse wrongKind)
+    ∷ (freeGood σ t orRefuse notFree)
+    ∷ (userGood σ t orRefuse notDeclared)
+    ∷ []
+
+unfoldable pub tableConditions : State → Step → List Condition
+tableConditions σ t = earlyConditions σ t ++ ((meetGood σ t orRefuse overLimit) ∷ [])
 
 -- ---- one operation
 
@@ -155,14 +202,12 @@ verdict s w = cond (alerts s w) (alert (receiver s) (w .tag)) (quiet (receiver s
 unfoldable pub placed : State → ℕ → Row → State
 placed σ c w = record { row = λ x. cond (eqb x c) w (σ .row x); user = σ .user }
 
--- "A refusal .. changes no lent memory"; "An alert does not undo the access."
-abbrev pub applied : State → Step → Change → State × Answer
-applied σ s (refuse n) = (σ, refused n)
-applied σ s (put c w) = (placed σ c w, verdict s w)
-
--- the state after the step, and the answer
+-- the state after the step, and the answer: "A refusal .. changes no lent memory"; "An alert does not undo the access."
 unfoldable pub operate : State → Step → State × Answer
-operate σ s = applied σ s (change σ s)
+operate σ t =
+    cond (eqb (firstFailed (tableConditions σ t)) 0)
+    (placed σ (receiver t) (entry σ t .row), verdict t (entry σ t .row))
+    (σ, refused (firstFailed (tableConditions σ t)))
 
 -- ---- the start
 
@@ -173,22 +218,6 @@ startRowOf (some K) = startRow K
 -- the containers and users of the policy, their rules in normal form; the other rows are free, the other users undeclared
 unfoldable pub begin : Policy → State
 begin P = record { row = λ c. startRowOf (getElem? (meaning P .places) c); user = λ u. getElem? (meaning P .users) u }
-
--- ---- "rules in normal form, a free or undeclared row is all 0"
-
-pub record RuleFormed (r : List ℕ) : Type 0 where
-  pub few : length r ≤ mixtureLimit
-  pub normalised : normal r ≡ r
-
-pub record RowFormed (w : Row) : Type 0 where
-  pub kinds : (isFree (w .kind) || (isStore (w .kind) || isProcess (w .kind))) ≡ true
-  pub free : isFree (w .kind) ≡ true → w ≡ freeRow
-  pub permits : RuleFormed (w .permit)
-  pub runs : RuleFormed (w .run)
-
-pub record Formed (σ : State) : Type 0 where
-  pub rows : (c : ℕ) → RowFormed (σ .row c)
-  pub users : (u : ℕ) (v : List ℕ) → σ .user u ≡ some v → RuleFormed v
 
 -- ---- a monitor that follows the table
 

@@ -4,7 +4,7 @@ use native.Mathlib.Omega.{arith}
 use mathlib.Core.Path.{_≡_, refl, sym, ap, _∙_}
 use mathlib.Core.Logic.{_⊎_, inl, inr, _↔_, _≢_}
 use mathlib.Core.Bool.{Bool, true, false, not, cond}
-use mathlib.Core.List.{List, [], _∷_}
+use mathlib.Core.List.{List, [], _∷_, _++_}
 use lib.Dec.{eqb}
 use lib.ListN.{length}
 use borrow.Author.Tests.{eqb-false, not-true}
@@ -27,6 +27,30 @@ module _ (c : Condition) (cs : List Condition) where
 pub none-left : firstFailed [] ≡ 0
 unfolding firstFailed
 none-left = refl
+
+-- ---- conditions behind others
+
+-- those behind do not matter where one of the first fails
+pub first-stops : (cs ds : List Condition) → firstFailed cs ≢ 0 → firstFailed (cs ++ ds) ≡ firstFailed cs
+unfolding firstFailed
+first-stops [] ds n = absurd (n refl)
+first-stops (c ∷ cs) ds n = by (c .holds) n (first-stops cs ds)
+  where
+    by : (b : Bool) → cond b (firstFailed cs) (c .number) ≢ 0 → (firstFailed cs ≢ 0 → firstFailed (cs ++ ds) ≡ firstFailed cs)
+        → cond b (firstFailed (cs ++ ds)) (c .number) ≡ cond b (firstFailed cs) (c .number)
+    by true n ih = ih n
+    by false n ih = refl
+
+-- and decide where the first ones hold
+pub first-passed : (cs ds : List Condition) → AllHold cs → firstFailed (cs ++ ds) ≡ firstFailed ds
+first-passed [] ds h = refl
+first-passed (c ∷ []) ds h = passed c ds h
+first-passed (c ∷ d ∷ cs) ds h = passed c (d ∷ cs ++ ds) (h .0) ∙ first-passed (d ∷ cs) ds (h .1)
+
+-- a number is 0 or not
+pub zero-or-not : (n : ℕ) → (n ≡ 0) ⊎ (n ≢ 0)
+zero-or-not zero = inl refl
+zero-or-not (suc n) = inr (λ e. omega arith)
 
 -- ---- no other number is given
 

@@ -1,23 +1,24 @@
 -- What an answer says, and its number.
 use Prim.Native.Nat.{ℕ}
-use mathlib.Core.Path.{_≡_, refl, ap}
+use mathlib.Core.Path.{_≡_, refl, sym, ap, _∙_}
 use mathlib.Core.Logic.{_≢_}
 use mathlib.Core.Bool.{Bool, true, false, not, cond}
-use mathlib.Core.List.{List}
+use mathlib.Core.List.{List, _∷_}
 use Rattle.rules.specs.Rules.{covers}
 use Rattle.lists.proofs.Bools.{clash}
 use Rattle.session.specs.Rows.{Row}
-use Rattle.chains.specs.History.{Step, receiver}
-use Rattle.chains.specs.Demand.{Answer, quiet, alert, refused, accepted, isAlert, receiverOf, tagOf, judged}
-use Rattle.chains.specs.Table.{newFileRow, newVolatileRow, alerts, verdict}
-use Rattle.operations.specs.declared.Request.{Request}
-use Rattle.operations.specs.Codes.{isCode}
-use Rattle.operations.specs.Requests.{stepIn}
-use Rattle.operations.specs.Effects.{receiverRow}
-use Rattle.operations.specs.Answers.{alertNumber, numberOf}
-use Rattle.monitor.specs.Steps.{refusalOf, stepAnswer}
-use Rattle.monitor.proofs.CodeLaws.{by-code}
-use Rattle.monitor.proofs.StepRefusals.{never-alert}
+use Rattle.lists.specs.Lists.{elem}
+use Rattle.lists.specs.Conditions.{numbersOf}
+use Rattle.lists.proofs.Conditions.{given-among}
+use Rattle.chains.specs.History.{Step, read, write, append, exec, fork, newFile, newVolatile, receiver}
+use Rattle.answers.specs.declared.Answer.{Answer}
+use Rattle.answers.specs.declared.Answer.the-variants.{Given, Refused}
+use Rattle.answers.specs.declared.Verdict.the-variants.{Quiet, Alert}
+use Rattle.answers.specs.Answers.{quiet, alert, accepted, isAlert, receiverOf, tagOf, quietNumber, alertNumber, answerNumber}
+use Rattle.chains.specs.Demand.{judged}
+use Rattle.chains.specs.Table.{State, newFileRow, newVolatileRow, entry, earlyConditions, tableConditions, alerts, verdict}
+use Rattle.operations.specs.Effects.{sessionConditions}
+use Rattle.monitor.specs.Steps.{stepConditions, refusalOf, stepAnswer}
 use Rattle.monitor.proofs.StepLaws.{refused-answer, answered}
 
 -- ---- quiet or alert
@@ -32,25 +33,37 @@ verdict-judged t w j = rw j (by (covers (w .permit) (w .tag)))
     by false = refl
 
 -- "6 and 7 answer quiet", with "empty tag"
-pub new-quiet : (s : List ℕ) (q : Request) → isCode (q .code) ≡ true → judged (stepIn q) ≡ false → verdict (stepIn q) (receiverRow s q) ≡ quiet (q .o) 0
-unfolding stepIn verdict alerts receiverRow newFileRow newVolatileRow
-new-quiet s =
-    by-code (λ q. judged (stepIn q) ≡ false → verdict (stepIn q) (receiverRow s q) ≡ quiet (q .o) 0) (λ p o u e. clash refl e) (λ p o u e. clash refl e) (λ p o u e. clash refl e)
-    (λ p o u e. clash refl e) (λ p o u e. clash refl e) (λ p o u e. refl) (λ p o u e. refl)
+pub new-quiet : (σ : State) (t : Step) → judged t ≡ false → verdict t (entry σ t .row) ≡ quiet (receiver t) 0
+unfolding entry verdict alerts newFileRow newVolatileRow
+new-quiet σ (read p o) e = clash refl e
+new-quiet σ (write p o) e = clash refl e
+new-quiet σ (append p o) e = clash refl e
+new-quiet σ (exec p o u) e = clash refl e
+new-quiet σ (fork p o) e = clash refl e
+new-quiet σ (newFile p o u) e = refl
+new-quiet σ (newVolatile p o) e = refl
 
 -- ---- numbers
 
 -- the number of an accepted answer tells quiet from alert
-number-accepted : (a : Answer) → accepted a ≡ true → numberOf a ≡ cond (isAlert a) alertNumber 0
-number-accepted (refused n) e = clash e refl
-number-accepted (quiet c t) e = refl
-number-accepted (alert c t) e = refl
+number-accepted : (a : Answer) → accepted a ≡ true → answerNumber a ≡ cond (isAlert a) alertNumber quietNumber
+number-accepted (Refused n) e = clash e refl
+number-accepted (Given Quiet r) e = refl
+number-accepted (Given Alert r) e = refl
 
-pub number-told : (s r : List ℕ) → refusalOf s r ≡ 0 → numberOf (stepAnswer s r) ≡ cond (isAlert (stepAnswer s r)) alertNumber 0
+pub number-told : (s r : List ℕ) → refusalOf s r ≡ 0 → answerNumber (stepAnswer s r) ≡ cond (isAlert (stepAnswer s r)) alertNumber quietNumber
 number-told s r e = number-accepted (stepAnswer s r) (answered s r e)
 
-pub number-refused : (s r : List ℕ) → refusalOf s r ≢ 0 → (numberOf (stepAnswer s r) ≡ refusalOf s r) × (refusalOf s r ≢ alertNumber)
-number-refused s r n = (ap numberOf (refused-answer s r n), never-alert s r)
+-- the number of an alert is no refusal
+never-alert : (s r : List ℕ) → refusalOf s r ≢ alertNumber
+unfolding refusalOf
+never-alert s r e = clash (ap (λ (n : ℕ). elem n (0 ∷ numbersOf (stepConditions s r))) (sym e) ∙ given-among (stepConditions s r)) apart
+  where
+    apart : elem alertNumber (0 ∷ numbersOf (stepConditions s r)) ≡ false
+    apart = unfold elem numbersOf stepConditions sessionConditions tableConditions earlyConditions in refl
+
+pub number-refused : (s r : List ℕ) → refusalOf s r ≢ 0 → (answerNumber (stepAnswer s r) ≡ refusalOf s r) × (refusalOf s r ≢ alertNumber)
+number-refused s r n = (ap answerNumber (refused-answer s r n), never-alert s r)
 
 -- "A refusal returns its number, zeros elsewhere"
 pub refused-zeros : (s r : List ℕ) → refusalOf s r ≢ 0 → (isAlert (stepAnswer s r) ≡ false) × (receiverOf (stepAnswer s r) ≡ 0) × (tagOf (stepAnswer s r) ≡ 0)

@@ -10,12 +10,13 @@ use Rattle.rules.specs.Sets.{atom}
 use Rattle.image.specs.Policy.{Policy}
 use Rattle.chains.specs.History.{Step, History, start, receiver}
 use Rattle.chains.specs.Chains.{Reaches, Forbidden}
-use Rattle.chains.specs.Demand.{Answer, accepted, isAlert, receiverOf, tagOf, judged, historyOf, AcceptedAt, Demand3, TagTold}
-use Rattle.operations.specs.Requests.{stepIn}
-use Rattle.monitor.specs.Records.{requestIn, stepOf}
-use Rattle.monitor.specs.Steps.{refusalOf, stepAnswer}
+use Rattle.answers.specs.declared.Answer.{Answer}
+use Rattle.answers.specs.Answers.{accepted, isAlert, receiverOf, tagOf}
+use Rattle.chains.specs.Demand.{judged, historyOf, AcceptedAt, Demand3, TagTold}
+use Rattle.records.specs.Records.{stepOf}
+use Rattle.monitor.specs.Steps.{stepAsked, refusalOf, stepAnswer}
 use Rattle.monitor.specs.Runs.{stepOn, runAnswers, runEffect, historyIn}
-use Rattle.monitor.proofs.RecordLaws.{record-step}
+use Rattle.records.proofs.RecordLaws.{record-step}
 use Rattle.monitor.proofs.StepLaws.{step-record, answered}
 use Rattle.monitor.proofs.RunLaws.{history-told, history-first, answer-last, record-last, take-last}
 
@@ -41,8 +42,8 @@ module _ (s : List ℕ) (P : Policy) (rs : List (List ℕ)) (given : List Answer
 -- ---- one more record
 
 module _ (s : List ℕ) (P : Policy) (rs : List (List ℕ)) (r : List ℕ) (e : refusalOf (runEffect s rs) r ≡ 0) where
-  last : AcceptedAt stepOn stepOf s (rs ++ (r ∷ [])) (length rs) (stepIn (requestIn r)) (stepAnswer (runEffect s rs) r)
-  unfolding stepOn
+  last : AcceptedAt stepOn stepOf s (rs ++ (r ∷ [])) (length rs) (stepAsked r) (stepAnswer (runEffect s rs) r)
+  unfolding stepOn stepAsked
   last = record {
     spelled = (r, record-last rs r, record-step r (step-record (runEffect s rs) r e));
     answered = answer-last s rs r;
@@ -53,8 +54,8 @@ module _ (s : List ℕ) (P : Policy) (rs : List (List ℕ)) (r : List ℕ) (e : 
   unfolding runAnswers historyIn
   whole = ap (historyOf stepOn stepOf s) (take-last rs r) ∙ history-told start s (rs ++ (r ∷ []))
 
-  pub alert-last : Demand3 stepOn stepOf s P → judged (stepIn (requestIn r)) ≡ true
-      → (isAlert (stepAnswer (runEffect s rs) r) ≡ true) ↔ Forbidden P (historyIn (rs ++ (r ∷ [])) (runAnswers s (rs ++ (r ∷ [])))) (receiver (stepIn (requestIn r)))
+  pub alert-last : Demand3 stepOn stepOf s P → judged (stepAsked r) ≡ true
+      → (isAlert (stepAnswer (runEffect s rs) r) ≡ true) ↔ Forbidden P (historyIn (rs ++ (r ∷ [])) (runAnswers s (rs ++ (r ∷ [])))) (receiver (stepAsked r))
   alert-last d j =
-      subst (λ (x : History). (isAlert (stepAnswer (runEffect s rs) r) ≡ true) ↔ Forbidden P x (receiver (stepIn (requestIn r)))) whole
-      (d (rs ++ (r ∷ [])) (length rs) (stepIn (requestIn r)) (stepAnswer (runEffect s rs) r) last j)
+      subst (λ (x : History). (isAlert (stepAnswer (runEffect s rs) r) ≡ true) ↔ Forbidden P x (receiver (stepAsked r))) whole
+      (d (rs ++ (r ∷ [])) (length rs) (stepAsked r) (stepAnswer (runEffect s rs) r) last j)

@@ -16,15 +16,18 @@ use Rattle.chains.proofs.KindLaws.{process-used}
 use Rattle.session.specs.Rows.{Row, allZero, keptWell, rowWords, freeWords, permitWords, runWords, rowOf, usedKind, containerRowGood, userWords, isDeclared, userRuleWords, userRuleOf, userRowGood, containerRow, userRow, putRow}
 use Rattle.image.specs.Words.{ruleOf, wordsOf, isNormal}
 use Rattle.session.specs.Session.{startTag, startRow, placeWords, filled, sessionOf, startOf}
-use Rattle.chains.specs.Demand.{quiet, alert, refused}
-use Rattle.chains.specs.Table.{readRow, writeRow, appendRow, execRow, forkRow, fits, alerts, verdict}
-use Rattle.operations.specs.Codes.{readCode, writeCode, appendCode, execCode, forkCode, objectFits, codes, codeAt, isCode}
-use Rattle.operations.specs.Requests.{stepIn}
-use Rattle.operations.specs.Effects.{processRow, objectRow, userRule, rowsGood, processGood, kindGood, freeGood, userGood, meetGood, sessionRefusal, receiverRow, acceptedAnswer, acceptedEffect}
-use Rattle.monitor.specs.Records.{noUser, requestIn, userFits, recordGood}
-use Rattle.monitor.specs.Steps.{lengthGood, refusalOf, stepAnswer, stepEffect}
+use Rattle.answers.specs.Answers.{quiet, alert, refused}
+use Rattle.answers.specs.Refusals.{notFree}
+use Rattle.chains.specs.History.{fork}
+use Rattle.chains.specs.Table.{State, freeRow, readRow, writeRow, appendRow, execRow, forkRow, fitsNeed, entry, processGood, objectGood, kindGood, freeGood, userGood, fits, meetGood, earlyConditions, tableConditions, alerts, verdict}
+use Rattle.lists.specs.Lists.{every}
+use Rattle.lists.specs.Conditions.{firstFailed}
+use Rattle.records.specs.Codes.{readCode, writeCode, appendCode, execCode, forkCode, stepWith, noRows, codeAt, isCode}
+use Rattle.records.specs.Records.{noUser, requestIn, stepIn, userFits, recordGood}
+use Rattle.operations.specs.View.{view}
+use Rattle.operations.specs.Effects.{rowsGood, sessionConditions, acceptedAnswer, acceptedEffect}
+use Rattle.monitor.specs.Steps.{lengthGood, stepAsked, stepConditions, refusalOf, stepAnswer, stepEffect}
 use Rattle.monitor.specs.Runs.{stepOn, runAnswers}
-use Rattle.monitor.proofs.CodeLaws.{request}
 
 -- the eight bytes of a record
 abbrev recordOf : ℕ → ℕ → ℕ → ℕ → List ℕ
@@ -91,16 +94,15 @@ pub record CheckedRuns : Type 0 where
   pub shortSession : stepAnswer [] (recordOf 9 0 0 0) ≡ refused 9
 
 pub checked-runs : CheckedRuns
-unfolding holds dataOf runningOf covers elem distinct heldIn unheldIn insert sort normal intersections meet unrestricted sameList padded isFree isFile isVolatile isProcess isStore numberIn bytesOf field unrestrictedRule ruleAt normalAt placeOf meaning ruleOf wordsOf allZero isNormal keptWell rowWords freeWords permitWords runWords rowOf usedKind containerRowGood userWords isDeclared userRuleWords userRuleOf userRowGood containerRow userRow putRow startTag startRow placeWords filled sessionOf startOf readRow writeRow appendRow execRow forkRow fits alerts verdict objectFits codes codeAt isCode stepIn processRow objectRow userRule rowsGood processGood kindGood freeGood userGood meetGood sessionRefusal receiverRow acceptedAnswer acceptedEffect requestIn userFits recordGood lengthGood refusalOf stepAnswer stepEffect stepOn runAnswers
+unfolding holds dataOf runningOf covers elem distinct heldIn unheldIn insert sort normal intersections meet unrestricted sameList padded isFree isFile isVolatile isProcess isStore numberIn bytesOf field unrestrictedRule ruleAt normalAt placeOf meaning ruleOf wordsOf allZero isNormal keptWell rowWords freeWords permitWords runWords rowOf usedKind containerRowGood userWords isDeclared userRuleWords userRuleOf userRowGood containerRow userRow putRow startTag startRow placeWords filled sessionOf startOf readRow writeRow appendRow execRow forkRow fits alerts verdict every firstFailed freeRow fitsNeed entry stepWith noRows codeAt isCode stepIn view rowsGood processGood objectGood kindGood freeGood userGood meetGood earlyConditions tableConditions sessionConditions acceptedAnswer acceptedEffect requestIn userFits recordGood lengthGood stepAsked stepConditions refusalOf stepAnswer stepEffect stepOn runAnswers
 checked-runs = record { forkItself = refl; execHolding = refl; readHolding = refl; meetOver = refl; listing = refl; shortSession = refl }
 
--- ---- the same of any session and any rows
+-- ---- the same of any rows
 
 -- p itself is a process, so it is not free
-pub fork-itself : (s : List ℕ) (p u : ℕ) → rowsGood s (request forkCode p p u) ≡ true → processGood s (request forkCode p p u) ≡ true
-    → sessionRefusal s (request forkCode p p u) ≡ 13
-unfolding sessionRefusal processGood kindGood freeGood processRow objectRow codeAt codes objectFits
-fork-itself s p u g h = rw (g, h, process-used (rowOf (containerRow s p) .kind) h)
+pub fork-itself : (σ : State) (p : ℕ) → processGood σ (fork p p) ≡ true → firstFailed (tableConditions σ (fork p p)) ≡ notFree
+unfolding firstFailed tableConditions earlyConditions processGood kindGood freeGood objectGood entry fitsNeed
+fork-itself σ p h = rw (h, process-used (σ .row p .kind) h)
 
 pub exec-holding : (p o : Row) (u : List ℕ) → o .tag ≡ 2 ^ 1 + 2 ^ 34 → execRow p o u .tag ≡ 2 ^ 33
 unfolding execRow runningOf dataOf

@@ -1,21 +1,10 @@
--- Theorems is the file to read: what is proved of the monitor, stated and cited. The others prove it.
-pub mod View
-pub mod CodeLaws
-pub mod TableLaws
-pub mod RefusalLaws
-pub mod StepRefusals
-pub mod KeptLaws
-pub mod RecordLaws
-pub mod ViewLaws
+-- Theorems is the file to read: what is proved of the monitor. The others prove it.
+pub mod Theorems
 pub mod StepLaws
 pub mod AnswerLaws
 pub mod StartView
 pub mod RunLaws
 pub mod DemandLaws
-pub mod Reading
-pub mod Ladder
-pub mod Late
 pub mod Replaying
-pub mod Theorems
 pub mod Examples
-pub mod Listing
+pub mod PaperListing

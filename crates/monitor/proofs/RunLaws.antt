@@ -4,25 +4,28 @@ use Prim.Native.Nat.{ℕ, zero, suc}
 use native.Mathlib.Omega.{arith}
 use mathlib.Core.Path.{_≡_, refl, ap, _∙_}
 use mathlib.Core.Logic.{_≢_}
-use mathlib.Core.Bool.{Bool, true, false, not, _||_}
+use mathlib.Core.Bool.{Bool, true, false, cond}
 use mathlib.Core.List.{List, [], _∷_, _++_}
-use mathlib.Core.Option.{some}
+use mathlib.Core.Option.{none, some}
 use lib.ListN.{length, take, getElem?}
 use Rattle.lists.proofs.Bools.{and-in, clash}
 use Rattle.session.specs.Rows.{userRowGood, userRow}
 use Rattle.chains.specs.History.{History, start}
-use Rattle.chains.specs.Demand.{accepted, extend, answers, historyFrom, historyOf}
-use Rattle.operations.specs.declared.Request.{Request}
-use Rattle.operations.specs.Codes.{codeAt}
-use Rattle.operations.specs.Effects.{rowsGood, sessionRefusal}
-use Rattle.monitor.specs.Records.{requestIn, recordGood, stepOf}
-use Rattle.monitor.specs.Steps.{lengthGood, refusalOf}
+use Rattle.answers.specs.Answers.{accepted}
+use Rattle.chains.specs.Demand.{extend, answers, historyFrom, historyOf}
+use Rattle.answers.specs.Refusals.{row}
+use Rattle.lists.specs.Conditions.{FailsFirst, numbersOf, numberAt}
+use Rattle.records.specs.declared.Request.{Request}
+use Rattle.records.specs.Codes.{codeAt}
+use Rattle.records.specs.Records.{requestIn, stepIn, stepOf, Asked}
+use Rattle.records.proofs.CodeLaws.{Entered, entered}
+use Rattle.records.proofs.RecordLaws.{asked}
+use Rattle.operations.specs.View.{view}
+use Rattle.operations.specs.Effects.{userNamedGood, rowsGood, sessionConditions}
+use Rattle.operations.proofs.PlacedRows.{Valid}
+use Rattle.monitor.specs.Steps.{stepAsked, stepConditions, refusalOf}
 use Rattle.monitor.specs.Runs.{stepOn, runAnswers, runEffect, historyBehind, historyIn}
-use Rattle.monitor.proofs.View.{Valid}
-use Rattle.monitor.proofs.TableLaws.{Bounded}
-use Rattle.monitor.proofs.RefusalLaws.{pass, session-10}
-use Rattle.monitor.proofs.RecordLaws.{record-bounded}
-use Rattle.monitor.proofs.StepLaws.{faithful}
+use Rattle.monitor.proofs.StepLaws.{refused-at, faithful}
 
 -- ---- rows
 
@@ -31,22 +34,26 @@ unfolding runEffect
 valid-run s v [] = v
 valid-run s v (r ∷ rs) = valid-run (stepOn s r .0) (faithful .stays s r v) rs
 
--- the user row is looked at only if the code names a user
-user-row : (b : Bool) (s : List ℕ) (u : ℕ) → (b ≡ true → userRowGood (userRow s u) ≡ true) → (not b || userRowGood (userRow s u)) ≡ true
-user-row true s u h = h refl
-user-row false s u h = refl
-
-valid-rows : (s : List ℕ) → Valid s → (q : Request) → Bounded q → rowsGood s q ≡ true
+valid-rows : (s : List ℕ) → Valid s → (q : Request) → Asked q → rowsGood s (stepIn q) ≡ true
 unfolding rowsGood
-valid-rows s v q b =
-    and-in (v .rows (q .p) (b .process)) (and-in (v .rows (q .o) (b .object)) (user-row (codeAt (q .code) .user) s (q .u) (λ e. v .users (q .u) (b .user e))))
+valid-rows s v q a =
+    let e : Entered (view s) q = entered (view s) q (a .codeLow) (a .codeHigh) in
+    rw (e .process, e .object, e .user)
+    (and-in (v .rows (q .p) (a .process)) (and-in (v .rows (q .o) (a .object)) (user-row (codeAt (q .code) .user) (λ c. v .users (q .u) (a .user c)))))
+  where
+    -- the user row is looked at only if the code names a user
+    user-row : (b : Bool) → (b ≡ true → userRowGood (userRow s (q .u)) ≡ true) → userNamedGood s (cond b (some (q .u)) none) ≡ true
+    user-row true h = h refl
+    user-row false h = refl
 
-pub never-10 : (s : List ℕ) → Valid s → (r : List ℕ) → refusalOf s r ≢ 10
-unfolding refusalOf
-never-10 s v r e =
-    let h : (lengthGood s ≡ true) × ((recordGood r ≡ true) × (rowsGood s (requestIn r) ≡ false)) =
-    pass (lengthGood s) _ 9 10 (λ z. omega arith) (pass (recordGood r) (sessionRefusal s (requestIn r)) 7 10 (λ z. omega arith) (session-10 s (requestIn r))) .0 e in
-    clash (valid-rows s v (requestIn r) (record-bounded r (h .1 .0))) (h .1 .1)
+pub never-10 : (s : List ℕ) → Valid s → (r : List ℕ) → refusalOf s r ≢ row
+never-10 s v r e = by (refused-at s r 2 (omega arith) .0 (e ∙ number))
+  where
+    number : row ≡ numberAt (stepConditions s r) 2
+    number = unfold numberAt numbersOf stepConditions sessionConditions in refl
+
+    by : FailsFirst (stepConditions s r) 2 → ⊥
+    by = unfold stepConditions sessionConditions stepAsked in (λ h. clash (valid-rows s v (requestIn r) (asked r (h .1 .0))) (h .1 .1))
 
 -- ---- histories
 

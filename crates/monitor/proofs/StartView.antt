@@ -19,8 +19,9 @@ use Rattle.session.proofs.StartLaws.{start-length, start-said, start-free, star
 use Rattle.chains.specs.Table.{freeRow, startRowOf, begin}
 use Rattle.lists.proofs.Places.{mapped, mapped-at}
 use Rattle.chains.proofs.TableLaws.{same-state}
-use Rattle.monitor.proofs.View.{view, Valid}
-use Rattle.monitor.proofs.TableLaws.{view-row, view-user, view-no-row, view-no-user}
+use Rattle.operations.specs.View.{view}
+use Rattle.operations.proofs.PlacedRows.{Valid}
+use Rattle.operations.proofs.ViewLaws.{view-row, view-user, view-no-row, view-no-user}
 
 pub start-valid : (P : Policy) → Sound P → Valid (startOf P)
 start-valid P ok = record { long = start-length P ok; rows = start-rows-good P ok; users = start-users-good P ok }

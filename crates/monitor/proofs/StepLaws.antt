@@ -1,32 +1,64 @@
 -- One step: refused, it leaves the session; accepted, it does what the table says of the step that the record spells.
-use Prim.Native.Nat.{ℕ, zero, suc, _<_}
+use Prim.Native.Nat.{ℕ, _<_}
 use native.Mathlib.Omega.{arith}
 use mathlib.Core.Path.{_≡_, refl, sym, ap, _∙_}
-use mathlib.Core.Logic.{_≢_, _⊎_, inl, inr}
+use mathlib.Core.Logic.{_≢_, _⊎_, inl, inr, _↔_}
 use mathlib.Core.Bool.{true, false}
 use mathlib.Core.List.{List}
 use mathlib.Core.Option.{some}
 use lib.ListN.{length}
-use borrow.Author.Tests.{eqb-true, ne-eqb}
+use borrow.Author.Tests.{eqb-true, eq-eqb, ne-eqb}
+use Rattle.lists.specs.Lists.{elem}
+use Rattle.lists.specs.Conditions.{FailsFirst, AllHold, firstFailed, numbersOf, numberAt, numbersGood}
 use Rattle.lists.proofs.Bools.{clash}
+use Rattle.lists.proofs.Conditions.{passed, zero-or-not, given-exactly, given-none}
+use Rattle.answers.specs.Refusals.{operationRecord, lentLength}
+use Rattle.answers.specs.declared.Answer.{Answer}
+use Rattle.answers.specs.Answers.{refused, accepted}
 use Rattle.image.specs.Limits.{containerLimit}
 use Rattle.session.specs.Limits.{sessionLength}
-use Rattle.session.specs.Rows.{InUse, rowWords, putRow}
+use Rattle.session.specs.Rows.{rowWords, putRow}
 use Rattle.chains.specs.History.{Step, receiver}
-use Rattle.chains.specs.Demand.{Answer, refused, accepted}
-use Rattle.chains.specs.Table.{State, put, verdict, applied, operate, Faithful}
+use Rattle.chains.specs.Table.{State, entry, meetGood, earlyConditions, tableConditions, verdict, operate, Faithful}
+use Rattle.chains.proofs.TableLaws.{operate-done}
 use Rattle.chains.proofs.VerdictLaws.{verdict-accepted}
-use Rattle.operations.specs.Requests.{stepIn}
-use Rattle.operations.specs.Effects.{sessionRefusal, receiverRow, acceptedAnswer, acceptedEffect}
-use Rattle.monitor.specs.Records.{requestIn, recordGood, stepOf}
-use Rattle.monitor.specs.Steps.{lengthGood, refusalOf, stepAnswer, stepEffect}
+use Rattle.records.specs.declared.Request.{Request}
+use Rattle.records.specs.Records.{requestIn, stepIn, recordGood, stepOf}
+use Rattle.records.proofs.CodeLaws.{receiver-bound}
+use Rattle.records.proofs.RecordLaws.{asked, record-step}
+use Rattle.operations.specs.View.{view}
+use Rattle.operations.specs.Effects.{Named, sessionConditions, sessionRefusal, acceptedAnswer, acceptedEffect, performAnswer, performEffect}
+use Rattle.operations.specs.Parts.{firstConditions, Ready}
+use Rattle.operations.proofs.KeptLaws.{Laid, entry-laid}
+use Rattle.operations.proofs.PlacedRows.{Valid, view-put, valid-put}
+use Rattle.operations.proofs.PerformLaws.{Performed, ready}
+use Rattle.monitor.specs.Steps.{lengthGood, stepAsked, stepConditions, refusalOf, stepAnswer, stepEffect}
 use Rattle.monitor.specs.Runs.{stepOn}
-use Rattle.monitor.proofs.View.{view, Valid}
-use Rattle.monitor.proofs.TableLaws.{table-puts}
-use Rattle.monitor.proofs.RefusalLaws.{pass}
-use Rattle.monitor.proofs.KeptLaws.{receiver-kept}
-use Rattle.monitor.proofs.RecordLaws.{record-code, record-bounded, record-step, receiver-bound}
-use Rattle.monitor.proofs.ViewLaws.{view-put, valid-put}
+
+-- ---- the tests in their order, as the code makes them
+
+-- 9
+pub step-9 : (s r : List ℕ) → (length s ≡ sessionLength → ⊥) → (refused lentLength ≡ stepAnswer s r) × (s ≡ stepEffect s r)
+unfolding stepAnswer stepEffect refusalOf stepConditions lengthGood firstFailed
+step-9 s r h = (simp (ne-eqb (length s) sessionLength h), simp (ne-eqb (length s) sessionLength h))
+
+-- 7
+pub step-7 : (s r : List ℕ) → length s ≡ sessionLength → recordGood r ≡ false → (refused operationRecord ≡ stepAnswer s r) × (s ≡ stepEffect s r)
+unfolding stepAnswer stepEffect refusalOf stepConditions lengthGood firstFailed
+step-7 s r l h = (simp (eq-eqb (length s) sessionLength l, h), simp (eq-eqb (length s) sessionLength l, h))
+
+-- the refusals because of the session, and the effect
+module _ (s r : List ℕ) (l : length s ≡ sessionLength) (h : recordGood r ≡ true) where
+  rest : refusalOf s r ≡ sessionRefusal s (stepAsked r)
+  unfolding refusalOf stepConditions lengthGood sessionRefusal
+  rest = passed _ _ (eq-eqb (length s) sessionLength l) ∙ passed _ _ h
+
+  pub named : (q : Request) → q ≡ requestIn r → Named s q
+  named q e = rw e (record { long = l; asked = asked r h })
+
+  pub step-performed : (q : Request) → q ≡ requestIn r → (a : Answer) (s₁ : List ℕ) → Performed s (stepIn q) a s₁ → (a ≡ stepAnswer s r) × (s₁ ≡ stepEffect s r)
+  unfolding stepAnswer stepEffect performAnswer performEffect stepAsked
+  step-performed q e a s₁ p = (p .0 ∙ rw (e, rest), p .1 ∙ rw (e, rest))
 
 -- ---- refused
 
@@ -41,61 +73,81 @@ module _ (s r : List ℕ) (n : refusalOf s r ≢ 0) where
 
 -- ---- not refused
 
+pub numbers : (s r : List ℕ) → numbersGood (numbersOf (stepConditions s r)) ≡ true
+unfolding stepConditions sessionConditions tableConditions earlyConditions numbersOf numbersGood elem
+numbers s r = refl
+
+conditions : (s r : List ℕ) → length (stepConditions s r) ≡ 8
+unfolding stepConditions sessionConditions tableConditions earlyConditions
+conditions s r = refl
+
+-- each number exactly under its condition
+pub refused-at : (s r : List ℕ) (k : ℕ) → k < 8 → (refusalOf s r ≡ numberAt (stepConditions s r) k) ↔ FailsFirst (stepConditions s r) k
+unfolding refusalOf
+refused-at s r k l = given-exactly (stepConditions s r) (numbers s r) k (omega (arith, conditions s r))
+
 module _ (s r : List ℕ) (e : refusalOf s r ≡ 0) where
-  parts : (lengthGood s ≡ true) × ((recordGood r ≡ true) × (sessionRefusal s (requestIn r) ≡ 0))
+  holds : AllHold (stepConditions s r)
   unfolding refusalOf
-  parts = pass (lengthGood s) _ 9 0 (λ z. omega arith) (pass (recordGood r) (sessionRefusal s (requestIn r)) 7 0 (λ z. omega arith) (λ z. z, λ z. z)) .0 e
+  holds = given-none (stepConditions s r) (numbers s r) .0 e
 
   pub step-long : length s ≡ sessionLength
-  unfolding lengthGood
-  step-long = eqb-true (length s) sessionLength (parts .0)
+  unfolding stepConditions sessionConditions tableConditions earlyConditions lengthGood
+  step-long = eqb-true (length s) sessionLength (holds .0)
 
   pub step-record : recordGood r ≡ true
-  step-record = parts .1 .0
+  unfolding stepConditions sessionConditions tableConditions earlyConditions
+  step-record = holds .1 .0
 
-  step-passes : sessionRefusal s (requestIn r) ≡ 0
-  step-passes = parts .1 .1
+  step-meet : meetGood (view s) (stepAsked r) ≡ true
+  unfolding stepConditions sessionConditions tableConditions earlyConditions
+  step-meet = holds .1 .1 .1 .1 .1 .1 .1
 
-  pub accepted-answer : stepAnswer s r ≡ verdict (stepIn (requestIn r)) (receiverRow s (requestIn r))
+  step-first : firstFailed (firstConditions s (stepAsked r)) ≡ 0
+  unfolding stepConditions sessionConditions tableConditions earlyConditions firstConditions firstFailed
+  step-first = rw (holds .1 .1 .0, holds .1 .1 .1 .0, holds .1 .1 .1 .1 .0, holds .1 .1 .1 .1 .1 .0, holds .1 .1 .1 .1 .1 .1 .0)
+
+  step-ready : Ready s (stepAsked r)
+  unfolding stepAsked
+  step-ready = ready s (requestIn r) (named s r step-long step-record (requestIn r) refl) step-first
+
+  step-table : firstFailed (tableConditions (view s) (stepAsked r)) ≡ 0
+  unfolding stepConditions sessionConditions tableConditions earlyConditions firstFailed
+  step-table = rw (holds .1 .1 .1 .0, holds .1 .1 .1 .1 .0, holds .1 .1 .1 .1 .1 .0, holds .1 .1 .1 .1 .1 .1 .0, holds .1 .1 .1 .1 .1 .1 .1)
+
+  pub accepted-answer : stepAnswer s r ≡ verdict (stepAsked r) (entry (view s) (stepAsked r) .row)
   unfolding stepAnswer acceptedAnswer
   accepted-answer = rw e
 
-  pub accepted-effect : stepEffect s r ≡ putRow s (receiver (stepIn (requestIn r))) (rowWords (receiverRow s (requestIn r)))
+  pub accepted-effect : stepEffect s r ≡ putRow s (receiver (stepAsked r)) (rowWords (entry (view s) (stepAsked r) .row))
   unfolding stepEffect acceptedEffect
   accepted-effect = rw e
 
-  pub step-receiver : receiver (stepIn (requestIn r)) < containerLimit
-  step-receiver = receiver-bound (requestIn r) (record-code r step-record) (record-bounded r step-record)
+  pub step-receiver : receiver (stepAsked r) < containerLimit
+  unfolding stepAsked
+  step-receiver = receiver-bound (requestIn r) (asked r step-record)
 
-  pub step-kept : InUse (receiverRow s (requestIn r))
-  step-kept = receiver-kept s (requestIn r) (record-code r step-record) step-passes
+  pub step-laid : Laid (entry (view s) (stepAsked r) .row)
+  step-laid = entry-laid s (stepAsked r) step-ready step-meet
 
-  pub step-table : operate (view s) (stepIn (requestIn r)) ≡ applied (view s) (stepIn (requestIn r)) (put (receiver (stepIn (requestIn r))) (receiverRow s (requestIn r)))
-  unfolding operate
-  step-table = ap (applied (view s) (stepIn (requestIn r))) (table-puts s (requestIn r) (record-code r step-record) (record-bounded r step-record) step-passes)
-
-  pub step-view : view (stepEffect s r) ≡ operate (view s) (stepIn (requestIn r)) .0
+  step-view : view (stepEffect s r) ≡ operate (view s) (stepAsked r) .0
   step-view =
       ap view accepted-effect
-      ∙ view-put s step-long (receiver (stepIn (requestIn r))) step-receiver (receiverRow s (requestIn r)) step-kept
-      ∙ sym (ap (λ (x : State × Answer). x .0) step-table)
+      ∙ view-put s step-long (receiver (stepAsked r)) step-receiver (entry (view s) (stepAsked r) .row) step-laid
+      ∙ sym (ap (λ (x : State × Answer). x .0) (operate-done (view s) (stepAsked r) step-table))
 
-  pub step-answer : stepAnswer s r ≡ operate (view s) (stepIn (requestIn r)) .1
-  step-answer = accepted-answer ∙ sym (ap (λ (x : State × Answer). x .1) step-table)
+  step-answer : stepAnswer s r ≡ operate (view s) (stepAsked r) .1
+  step-answer = accepted-answer ∙ sym (ap (λ (x : State × Answer). x .1) (operate-done (view s) (stepAsked r) step-table))
 
   step-valid : Valid s → Valid (stepEffect s r)
-  step-valid v = rw accepted-effect (valid-put s v (receiver (stepIn (requestIn r))) step-receiver (receiverRow s (requestIn r)) step-kept)
+  step-valid v = rw accepted-effect (valid-put s v (receiver (stepAsked r)) step-receiver (entry (view s) (stepAsked r) .row) step-laid)
 
 -- ---- a record is accepted if it is not refused
 
-pub zero-or-not : (n : ℕ) → (n ≡ 0) ⊎ (n ≢ 0)
-zero-or-not zero = inl refl
-zero-or-not (suc n) = inr (λ e. omega arith)
-
 pub answered : (s r : List ℕ) → refusalOf s r ≡ 0 → accepted (stepAnswer s r) ≡ true
-answered s r e = ap accepted (accepted-answer s r e) ∙ verdict-accepted (stepIn (requestIn r)) (receiverRow s (requestIn r))
+answered s r e = ap accepted (accepted-answer s r e) ∙ verdict-accepted (stepAsked r) (entry (view s) (stepAsked r) .row)
 
-pub answered-not : (s r : List ℕ) → refusalOf s r ≢ 0 → accepted (stepAnswer s r) ≡ false
+answered-not : (s r : List ℕ) → refusalOf s r ≢ 0 → accepted (stepAnswer s r) ≡ false
 answered-not s r n = ap accepted (refused-answer s r n)
 
 pub answered-zero : (s r : List ℕ) → accepted (stepAnswer s r) ≡ true → refusalOf s r ≡ 0
@@ -123,6 +175,7 @@ refusing-step s r f = by (zero-or-not (refusalOf s r))
 
 accepting-step : (s r : List ℕ) → accepted (stepAnswer s r) ≡ true
     → (t : Step) × (stepOf r ≡ some t) × (view (stepEffect s r) ≡ operate (view s) t .0) × (stepAnswer s r ≡ operate (view s) t .1)
+unfolding stepAsked
 accepting-step s r a =
     let e : refusalOf s r ≡ 0 = answered-zero s r a in
     (stepIn (requestIn r), record-step r (step-record s r e), step-view s r e, step-answer s r e)

@@ -1,6 +1,4 @@
--- What a reader must believe of this crate, in the order of the paper: records, the step, a run over many records, a trace.
-pub mod Records
+-- What a reader must believe of this crate, in the order of the paper: the step, a run over many records, a trace.
 pub mod Steps
 pub mod Runs
 pub mod Traces
-pub mod Counting

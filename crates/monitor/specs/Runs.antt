@@ -2,8 +2,10 @@
 use Prim.Native.Nat.{ℕ}
 use mathlib.Core.List.{List, [], _∷_}
 use Rattle.chains.specs.History.{History, start}
-use Rattle.chains.specs.Demand.{Answer, accepted, extend, answers, after}
-use Rattle.monitor.specs.Records.{stepOf}
+use Rattle.answers.specs.declared.Answer.{Answer}
+use Rattle.answers.specs.Answers.{accepted}
+use Rattle.chains.specs.Demand.{extend, answers, after}
+use Rattle.records.specs.Records.{stepOf}
 use Rattle.monitor.specs.Steps.{stepAnswer, stepEffect}
 
 -- the monitor's operation: the session afterwards, and the answer

@@ -1,26 +1,38 @@
 -- One step of the monitor on the session's numbers and the record's bytes: the answer, and every number afterwards.
 use Prim.Native.Nat.{ℕ}
 use mathlib.Core.Bool.{Bool, cond}
-use mathlib.Core.List.{List}
+use mathlib.Core.List.{List, _∷_}
 use lib.Dec.{eqb}
 use lib.ListN.{length}
+use Rattle.lists.specs.Conditions.{Condition, _orRefuse_, firstFailed}
+use Rattle.answers.specs.Refusals.{operationRecord, lentLength}
+use Rattle.answers.specs.declared.Answer.{Answer}
+use Rattle.answers.specs.Answers.{refused}
 use Rattle.session.specs.Limits.{sessionLength}
-use Rattle.chains.specs.Demand.{Answer, refused}
-use Rattle.operations.specs.Effects.{sessionRefusal, acceptedAnswer, acceptedEffect}
-use Rattle.monitor.specs.Records.{requestIn, recordGood}
+use Rattle.chains.specs.History.{Step}
+use Rattle.records.specs.Records.{requestIn, stepIn, recordGood}
+use Rattle.operations.specs.Effects.{sessionConditions, acceptedAnswer, acceptedEffect}
 
 -- 9: "session of wrong length"
 unfoldable pub lengthGood : List ℕ → Bool
 lengthGood s = eqb (length s) sessionLength
 
--- The refusal, 0 if there is none: the first condition that fails gives its number. 9, then 7 ("operation record"), then
--- those because of the session, 10 to 15.
+-- the step that the bytes of a record ask for
+unfoldable pub stepAsked : List ℕ → Step
+stepAsked r = stepIn (requestIn r)
+
+-- 9, then 7, then those because of the session, 10 to 15
+unfoldable pub stepConditions : List ℕ → List ℕ → List Condition
+stepConditions s r =
+    (lengthGood s orRefuse lentLength) ∷ (recordGood r orRefuse operationRecord) ∷ sessionConditions s (stepAsked r)
+
+-- the refusal, 0 if there is none
 unfoldable pub refusalOf : List ℕ → List ℕ → ℕ
-refusalOf s r = cond (lengthGood s) (cond (recordGood r) (sessionRefusal s (requestIn r)) 7) 9
+refusalOf s r = firstFailed (stepConditions s r)
 
 -- "A refusal returns its number, zeros elsewhere, and changes no lent memory."
 unfoldable pub stepAnswer : List ℕ → List ℕ → Answer
-stepAnswer s r = cond (eqb (refusalOf s r) 0) (acceptedAnswer s (requestIn r)) (refused (refusalOf s r))
+stepAnswer s r = cond (eqb (refusalOf s r) 0) (acceptedAnswer s (stepAsked r)) (refused (refusalOf s r))
 
 unfoldable pub stepEffect : List ℕ → List ℕ → List ℕ
-stepEffect s r = cond (eqb (refusalOf s r) 0) (acceptedEffect s (requestIn r)) s
+stepEffect s r = cond (eqb (refusalOf s r) 0) (acceptedEffect s (stepAsked r)) s

@@ -1,5 +1,10 @@
--- ReadyLaws: what a request that is not refused by 10 to 14 finds. RowSteps: what is read of the session, and what is
--- written to a row of it. EffectLaws: each operation does what the table says.
+-- Cited by the crates above: what the view says, what a request is refused for and does, that rows stay as "Session" says.
+pub mod ViewLaws
+pub mod KeptLaws
+pub mod PlacedRows
+pub mod PerformLaws
+-- Inside: the tests one by one, the rows that a step finds, what is read and written, each operation.
+pub mod RefusalTests
 pub mod ReadyLaws
 pub mod RowSteps
 pub mod EffectLaws

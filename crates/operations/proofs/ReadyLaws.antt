@@ -1,141 +1,100 @@
--- What a request that is not refused by 10 to 14 finds: the rows of p, o and u.
-use Prim.Native.Nat.{ℕ, suc, _≤_}
-use mathlib.Core.Path.{_≡_, refl, sym}
-use mathlib.Core.Bool.{Bool, true, false, not, cond, _&&_, _||_, true≢false}
+-- What a step that is not refused by 10 to 14 finds: the rows of p, o and u.
+use Prim.Native.Nat.{ℕ}
+use mathlib.Core.Path.{_≡_, refl, sym, ap, _∙_}
+use mathlib.Core.Bool.{Bool, true, false, not, cond, _&&_, _||_}
 use mathlib.Core.List.{List}
-use native.Mathlib.Omega.{arith}
-use lib.Dec.{eqb}
-use lib.ListN.{getD}
+use mathlib.Core.Option.{some, none}
 use borrow.Author.Tests.{eqb-true}
-use Rattle.lists.proofs.Bools.{and-0, and-1}
-use Rattle.image.specs.Limits.{processKind, isFree, isFile, isStore, isProcess}
-use Rattle.session.specs.Limits.{kindAt}
-use Rattle.session.specs.Rows.{rowOf, containerRow, userRow, containerRowGood, userRowGood, isDeclared}
+use Rattle.lists.specs.Lists.{elem}
+use Rattle.lists.specs.Conditions.{AllHold, firstFailed, numbersOf, numbersGood}
+use Rattle.lists.proofs.Bools.{and-0, and-1, clash}
+use Rattle.lists.proofs.Conditions.{given-none}
+use Rattle.image.specs.Limits.{processKind, isFree, isProcess}
+use Rattle.session.specs.Rows.{Row, rowOf, userRuleOf, containerRow, userRow, containerRowGood, isDeclared}
+use Rattle.chains.specs.History.{Step}
+use Rattle.chains.specs.Table.{Need, store, file, free, needsFree, fitsNeed, entry, isSome, processGood, objectGood, kindGood, freeGood, userGood, earlyConditions}
 use Rattle.chains.proofs.KindLaws.{process-used, file-used, store-used}
-use Rattle.operations.specs.declared.Request.{Request}
-use Rattle.operations.specs.Codes.{readCode, writeCode, appendCode, execCode, forkCode, newFileCode, newVolatileCode, needsStore, needsFile, needsFree, objectFits, codes, codeAt}
-use Rattle.operations.specs.Effects.{processRow, objectRow, rowsGood, processGood, kindGood, freeGood, userGood}
-use Rattle.operations.specs.Parts.{earlyRefusal, Ready, UsedAt, DeclaredAt}
+use Rattle.operations.specs.View.{view}
+use Rattle.operations.specs.Effects.{userNamedGood, rowsGood}
+use Rattle.operations.specs.Parts.{firstConditions, Ready, UsedAt, DeclaredAt}
+use Rattle.operations.proofs.ViewLaws.{view-row, view-user}
 
 -- ---- the tests one by one
 
-passed : (b : Bool) (x n : ℕ) → cond b x (suc n) ≡ 0 → (b ≡ true) × (x ≡ 0)
-passed true x n h = (refl, h)
-passed false x n h = absurd (omega arith)
+pub record Tests (s : List ℕ) (t : Step) : Type 0 where
+  pub rows : rowsGood s t ≡ true
+  pub process : processGood (view s) t ≡ true
+  pub object : objectGood (view s) t ≡ true
+  pub user : userGood (view s) t ≡ true
 
-record Tests (s : List ℕ) (q : Request) : Type 0 where
-  rows : rowsGood s q ≡ true
-  process : processGood s q ≡ true
-  kind : kindGood s q ≡ true
-  user : userGood s q ≡ true
+both : (b g : Bool) → (b || g) ≡ true → (not b || g) ≡ true → g ≡ true
+both true g h k = k
+both false g h k = h
 
-tests : (s : List ℕ) (q : Request) → Ready s q → Tests s q
-unfolding earlyRefusal
-tests s q h =
-    let a = passed (rowsGood s q) _ 9 (h .passed) in
-    let b = passed (processGood s q) _ 10 (a .1) in
-    let d = passed (kindGood s q) _ 11 (b .1) in
-    let e = passed (freeGood s q) _ 12 (d .1) in
-    let f = passed (userGood s q) _ 13 (e .1) in
-    record { rows = a .0; process = b .0; kind = d .0; user = f .0 }
-
--- ---- the object
-
-object-used : (need kind : ℕ) → eqb need needsFree ≡ false → objectFits need kind ≡ true → isFree kind ≡ false
-unfolding objectFits
-object-used need kind n h = by (eqb need needsStore) (eqb need needsFile) (rw n at h)
+pub tests : (s : List ℕ) (t : Step) → firstFailed (firstConditions s t) ≡ 0 → Tests s t
+tests s t e = of (given-none (firstConditions s t) numbers .0 e)
   where
-    by : (a b : Bool) → cond a (isStore kind) (cond b (isFile kind) (cond false (isFree kind) false)) ≡ true → isFree kind ≡ false
-    by true b f = store-used kind f
-    by false true f = file-used kind f
-    by false false f = absurd (true≢false (sym f))
+    numbers : numbersGood (numbersOf (firstConditions s t)) ≡ true
+    numbers = unfold firstConditions earlyConditions numbersOf numbersGood elem in refl
 
-or-rest : (a : Bool) {b : Bool} → a ≡ false → (a || b) ≡ true → b ≡ true
-or-rest true e h = absurd (true≢false e)
-or-rest false e h = h
+    of : AllHold (firstConditions s t) → Tests s t
+    of = unfold firstConditions earlyConditions in (λ h. record {
+      rows = h .0;
+      process = h .1 .0;
+      object = both (needsFree (entry (view s) t .need)) (objectGood (view s) t) (unfold kindGood in (h .1 .1 .0)) (unfold freeGood in (h .1 .1 .1 .0));
+      user = h .1 .1 .1 .1;
+    })
 
-not-rest : (a : Bool) {b : Bool} → a ≡ true → (not a || b) ≡ true → b ≡ true
-not-rest true e h = h
-not-rest false e h = absurd (true≢false (sym e))
+-- what a need asks of a kind makes it used, unless it is a free one
+fit-used : (n : Need) (k : ℕ) → needsFree n ≡ false → fitsNeed n k ≡ true → isFree k ≡ false
+unfolding fitsNeed
+fit-used store k e h = store-used k h
+fit-used file k e h = file-used k h
+fit-used free k e h = clash refl e
 
-module _ (s : List ℕ) (q : Request) (h : Ready s q) where
-  process-row : containerRowGood (containerRow s (q .p)) ≡ true
+module _ (s : List ℕ) (t : Step) (h : Ready s t) where
+  found : Tests s t
+  found = tests s t (h .passed)
+
+  process-row : containerRowGood (containerRow s (entry (view s) t .process)) ≡ true
   unfolding rowsGood
-  process-row = and-0 (containerRowGood (containerRow s (q .p))) (containerRowGood (containerRow s (q .o)) && (not (codeAt (q .code) .user) || userRowGood (userRow s (q .u)))) (tests s q h .rows)
+  process-row = and-0 (containerRowGood (containerRow s (entry (view s) t .process))) _ (found .rows)
 
-  other-rows : (containerRowGood (containerRow s (q .o)) && (not (codeAt (q .code) .user) || userRowGood (userRow s (q .u)))) ≡ true
+  other-rows : (containerRowGood (containerRow s (entry (view s) t .object)) && userNamedGood s (entry (view s) t .user)) ≡ true
   unfolding rowsGood
-  other-rows = and-1 (containerRowGood (containerRow s (q .p))) (tests s q h .rows)
+  other-rows = and-1 (containerRowGood (containerRow s (entry (view s) t .process))) (found .rows)
 
-  is-process : isProcess (getD (containerRow s (q .p)) kindAt 0) ≡ true
-  unfolding processGood processRow rowOf
-  is-process = tests s q h .process
+  pub process-kind : view s .row (entry (view s) t .process) .kind ≡ processKind
+  unfolding processGood isProcess
+  process-kind = eqb-true (view s .row (entry (view s) t .process) .kind) processKind (found .process)
 
-  pub process-kind : rowOf (containerRow s (q .p)) .kind ≡ processKind
-  unfolding rowOf isProcess
-  process-kind = eqb-true (getD (containerRow s (q .p)) kindAt 0) processKind is-process
+  pub ready-process : UsedAt s (entry (view s) t .process)
+  unfolding processGood rowOf
+  ready-process = record {
+    long = h .long;
+    low = h .process;
+    good = process-row;
+    used = process-used _ (ap (λ (w : Row). isProcess (w .kind)) (sym (view-row s (entry (view s) t .process) (h .process))) ∙ found .process);
+  }
 
-  pub ready-process : UsedAt s (q .p)
-  ready-process =
-      record {
-        long = h .named .long;
-        low = h .named .process;
-        good = process-row;
-        used = process-used (getD (containerRow s (q .p)) kindAt 0) is-process;
-      }
+  pub ready-object : needsFree (entry (view s) t .need) ≡ false → UsedAt s (entry (view s) t .object)
+  unfolding objectGood rowOf
+  ready-object n = record {
+    long = h .long;
+    low = h .object;
+    good = and-0 (containerRowGood (containerRow s (entry (view s) t .object))) _ other-rows;
+    used = fit-used (entry (view s) t .need) _ n (ap (λ (w : Row). fitsNeed (entry (view s) t .need) (w .kind)) (sym (view-row s (entry (view s) t .object) (h .object))) ∙ found .object);
+  }
 
-  object-kind : eqb (codeAt (q .code) .object) needsFree ≡ false → objectFits (codeAt (q .code) .object) (getD (containerRow s (q .o)) kindAt 0) ≡ true
-  unfolding kindGood objectRow rowOf
-  object-kind n = or-rest (eqb (codeAt (q .code) .object) needsFree) n (tests s q h .kind)
-
-  ready-object : eqb (codeAt (q .code) .object) needsFree ≡ false → UsedAt s (q .o)
-  ready-object n =
-      record {
-        long = h .named .long;
-        low = h .named .object;
-        good = and-0 (containerRowGood (containerRow s (q .o))) (not (codeAt (q .code) .user) || userRowGood (userRow s (q .u))) other-rows;
-        used = object-used (codeAt (q .code) .object) (getD (containerRow s (q .o)) kindAt 0) n (object-kind n);
-      }
-
-  is-declared : codeAt (q .code) .user ≡ true → isDeclared (userRow s (q .u)) ≡ true
+  pub ready-user : (u : ℕ) → entry (view s) t .user ≡ some u → DeclaredAt s u
   unfolding userGood
-  is-declared e = not-rest (codeAt (q .code) .user) e (tests s q h .user)
-
-  ready-user : codeAt (q .code) .user ≡ true → DeclaredAt s (q .u)
-  ready-user e =
-      record {
-        long = h .named .long;
-        low = h .named .user e;
-        good = not-rest (codeAt (q .code) .user) e (and-1 (containerRowGood (containerRow s (q .o))) other-rows);
-        declared = is-declared e;
-      }
-
-  -- ---- by code
-
-  pub read-object : q .code ≡ readCode → UsedAt s (q .o)
-  unfolding codeAt codes
-  read-object e = ready-object (rw e)
-
-  pub write-object : q .code ≡ writeCode → UsedAt s (q .o)
-  unfolding codeAt codes
-  write-object e = ready-object (rw e)
-
-  pub append-object : q .code ≡ appendCode → UsedAt s (q .o)
-  unfolding codeAt codes
-  append-object e = ready-object (rw e)
-
-  pub exec-object : q .code ≡ execCode → UsedAt s (q .o)
-  unfolding codeAt codes
-  exec-object e = ready-object (rw e)
-
-  pub exec-user : q .code ≡ execCode → DeclaredAt s (q .u)
-  unfolding codeAt codes
-  exec-user e = ready-user (rw e)
-
-  pub file-user : q .code ≡ newFileCode → DeclaredAt s (q .u)
-  unfolding codeAt codes
-  file-user e = ready-user (rw e)
-
--- the code that is none of the first six
-pub last-code : (n : ℕ) → 1 ≤ n → n ≤ 7 → (n ≡ readCode → ⊥) → (n ≡ writeCode → ⊥) → (n ≡ appendCode → ⊥) → (n ≡ execCode → ⊥) → (n ≡ forkCode → ⊥) → (n ≡ newFileCode → ⊥) → n ≡ newVolatileCode
-last-code n low high h1 h2 h3 h4 h5 h6 = omega arith
+  ready-user u e = record {
+    long = h .long;
+    low = h .user u e;
+    good = rw e at (and-1 (containerRowGood (containerRow s (entry (view s) t .object))) other-rows);
+    declared = by (isDeclared (userRow s u)) (rw (e, view-user s u (h .user u e)) at (found .user));
+  }
+    where
+      by : (b : Bool) → isSome (cond b (some (userRuleOf (userRow s u))) none) ≡ true → b ≡ true
+      by true k = refl
+      by false k = k

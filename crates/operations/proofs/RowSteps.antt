@@ -1,7 +1,8 @@
 -- What is read of the session, and what is written to a row of it.
-use Prim.Native.Nat.{ℕ, zero, suc, _+_, _-_, _*_, _≤_}
+use Prim.Native.Nat.{ℕ, zero, suc, _+_, _-_, _*_, _≤_, _<_}
 use mathlib.Core.Path.{_≡_, refl, sym, ap, ap₂, _∙_}
-use mathlib.Core.Bool.{Bool, true, false}
+use mathlib.Core.Bool.{Bool, true, false, cond}
+use mathlib.Core.Option.{none, some}
 use mathlib.Core.List.{List, [], _∷_, _++_, append-nil}
 use native.Mathlib.Omega.{arith}
 use lib.ListN.{length, getD, take, drop, set, length-take, length-drop, length-append, drop-of-length-le}
@@ -17,25 +18,25 @@ use Rattle.rules.proofs.RuleLaws.{meet-comm}
 use Rattle.rules.proofs.RefineLaws.{refines-meet}
 use Rattle.rules.proofs.MeetLaws.{meet-one}
 use Rattle.session.specs.Limits.{rowWidth, userWidth, usersAt, kindAt, tagAt, permitAt, runAt, userRuleAt}
-use Rattle.image.specs.Words.{ruleWidth}
-use Rattle.session.specs.Rows.{InUse, rowOf, rowWords, permitWords, runWords, containerRow, userRow, userRuleWords, userRuleOf}
-use Rattle.image.specs.Words.{ruleOf, wordsOf}
+use Rattle.image.specs.Words.{ruleWidth, ruleOf, wordsOf}
+use Rattle.session.specs.Rows.{Row, InUse, rowOf, rowWords, permitWords, runWords, containerRow, userRow, userRuleWords, userRuleOf}
 use Rattle.image.proofs.WordLaws.{bounded-words}
 use Rattle.session.proofs.RuleWords.{kept-count, kept-normal, kept-words, rule-length}
 use Rattle.session.proofs.RowLaws.{row-permit, good-counts, good-used, good-words, good-permit, good-run, user-kept, good-declared}
 use Rattle.session.proofs.PutLaws.{container-row-length, user-row-length}
 use Rattle.chains.specs.Table.{fits}
-use Rattle.chains.specs.Demand.{Answer, quiet, alert}
-use Rattle.operations.specs.Parts.{Kept, UsedAt, DeclaredAt, boundedWords, contentWords, newWords, coverAnswer}
+use Rattle.answers.specs.declared.Answer.{Answer}
+use Rattle.answers.specs.Answers.{quiet, alert}
+use Rattle.chains.specs.Table.{ruleOr}
+use Rattle.operations.specs.View.{view}
+use Rattle.operations.specs.Parts.{Kept, KeptAt, UsedAt, DeclaredAt, wordsFrom, boundedWords, contentWords, newWords, coverAnswer}
+use Rattle.operations.proofs.ViewLaws.{view-row, view-user}
+use Rattle.image.specs.Limits.{containerLimit}
 
 -- ---- a part of a row as it is lent
 
-inner : (s : List ℕ) (a w j k : ℕ) → j + k ≤ w → take (a + j + k - (a + j)) (drop (a + j) s) ≡ take k (drop j (take w (drop a s)))
-inner s a w j k h =
-    let e : a + j + k - (a + j) ≡ k = omega arith in
-    ap (λ (n : ℕ). take n (drop (a + j) s)) e
-    ∙ ap (take k) (sym (drop-drop j a s))
-    ∙ by (drop a s) j w h
+inner : (s : List ℕ) (a w j k : ℕ) → j + k ≤ w → take k (drop (a + j) s) ≡ take k (drop j (take w (drop a s)))
+inner s a w j k h = ap (take k) (sym (drop-drop j a s)) ∙ by (drop a s) j w h
   where
     by : (l : List ℕ) (j w : ℕ) → j + k ≤ w → take k (drop j l) ≡ take k (drop j (take w l))
     by l zero w h = sym (take-take k w l (omega arith))
@@ -43,21 +44,29 @@ inner s a w j k h =
     by (x ∷ l) (suc j) zero h = absurd (omega arith)
     by (x ∷ l) (suc j) (suc w) h = by l j w (omega arith)
 
-pub run-lent : (s : List ℕ) (c : ℕ) → take (c * rowWidth + runAt + ruleWidth - (c * rowWidth + runAt)) (drop (c * rowWidth + runAt) s) ≡ runWords (containerRow s c)
-unfolding runWords containerRow
-run-lent s c = inner s (c * rowWidth) rowWidth runAt ruleWidth (omega arith)
+-- the words from a place on, as they are lent
+pub words-lent : (s : List ℕ) (at : ℕ) → take (at + ruleWidth - at) (drop at s) ≡ wordsFrom s at
+unfolding wordsFrom
+words-lent s at = let e : at + ruleWidth - at ≡ ruleWidth = omega arith in ap (λ (k : ℕ). take k (drop at s)) e
 
-pub permit-lent : (s : List ℕ) (c : ℕ) → take (c * rowWidth + permitAt + ruleWidth - (c * rowWidth + permitAt)) (drop (c * rowWidth + permitAt) s) ≡ permitWords (containerRow s c)
-unfolding permitWords containerRow
-permit-lent s c = inner s (c * rowWidth) rowWidth permitAt ruleWidth (omega arith)
+run-words : (s : List ℕ) (c : ℕ) → wordsFrom s (c * rowWidth + runAt) ≡ runWords (containerRow s c)
+unfolding wordsFrom runWords containerRow
+run-words s c = inner s (c * rowWidth) rowWidth runAt ruleWidth (omega arith)
 
-pub rule-lent : (s : List ℕ) (u : ℕ) → take (usersAt + u * userWidth + userRuleAt + ruleWidth - (usersAt + u * userWidth + userRuleAt)) (drop (usersAt + u * userWidth + userRuleAt) s) ≡ userRuleWords (userRow s u)
-unfolding userRuleWords userRow
-rule-lent s u = inner s (usersAt + u * userWidth) userWidth userRuleAt ruleWidth (omega arith)
+permit-words : (s : List ℕ) (c : ℕ) → wordsFrom s (c * rowWidth + permitAt) ≡ permitWords (containerRow s c)
+unfolding wordsFrom permitWords containerRow
+permit-words s c = inner s (c * rowWidth) rowWidth permitAt ruleWidth (omega arith)
 
-pub tag-read : (s : List ℕ) (c : ℕ) → getD s (c * rowWidth + tagAt) 0 ≡ rowOf (containerRow s c) .tag
+user-words : (s : List ℕ) (u : ℕ) → wordsFrom s (usersAt + u * userWidth + userRuleAt) ≡ userRuleWords (userRow s u)
+unfolding wordsFrom userRuleWords userRow
+user-words s u = inner s (usersAt + u * userWidth) userWidth userRuleAt ruleWidth (omega arith)
+
+tag-read : (s : List ℕ) (c : ℕ) → getD s (c * rowWidth + tagAt) 0 ≡ rowOf (containerRow s c) .tag
 unfolding rowOf containerRow
 tag-read s c = sym (getD-take rowWidth (drop (c * rowWidth) s) tagAt 0 (omega arith) ∙ getD-drop (c * rowWidth) s tagAt 0)
+
+pub tag-seen : (s : List ℕ) (c : ℕ) → c < containerLimit → getD s (c * rowWidth + tagAt) 0 ≡ view s .row c .tag
+tag-seen s c l = tag-read s c ∙ ap (λ (w : Row). w .tag) (sym (view-row s c l))
 
 -- ---- a row in use
 
@@ -71,8 +80,8 @@ module _ (s : List ℕ) (c : ℕ) (h : UsedAt s c) where
   pub row-long : length (containerRow s c) ≡ rowWidth
   row-long = container-row-length s c (h .long) (h .low)
 
-  permit-words : permitWords (containerRow s c) ≡ wordsOf (rowOf (containerRow s c) .permit)
-  permit-words =
+  permit-kept-words : permitWords (containerRow s c) ≡ wordsOf (rowOf (containerRow s c) .permit)
+  permit-kept-words =
       ap permitWords (good-words (containerRow s c) row-long (h .good) (h .used))
       ∙ row-permit (rowOf (containerRow s c)) (row-used .permitShort) (row-used .runShort)
 
@@ -80,7 +89,7 @@ module _ (s : List ℕ) (c : ℕ) (h : UsedAt s c) where
   pub content-row : (t : ℕ) (r : List ℕ) (m : Bounded) → m ≡ boundedOf r → length r ≤ mixtureLimit
       → contentWords (containerRow s c) t m ≡ rowWords (record { kind = rowOf (containerRow s c) .kind; tag = t; permit = rowOf (containerRow s c) .permit; run = r })
   unfolding contentWords boundedWords rowWords rowOf
-  content-row t r m e l = ap₂ (λ (x y : List ℕ). getD (containerRow s c) kindAt 0 ∷ t ∷ (x ++ y)) permit-words (bounded-words r m e l)
+  content-row t r m e l = ap₂ (λ (x y : List ℕ). getD (containerRow s c) kindAt 0 ∷ t ∷ (x ++ y)) permit-kept-words (bounded-words r m e l)
 
 -- a new row, as a row
 pub new-row : (k t : ℕ) (p r : List ℕ) (m n : Bounded) → m ≡ boundedOf p → length p ≤ mixtureLimit → n ≡ boundedOf r → length r ≤ mixtureLimit
@@ -122,50 +131,52 @@ row-readable row l h = (permit-long row l, h)
 pub kept-readable : (ws : List ℕ) → Kept ws → Readable ws
 kept-readable ws k = (k .long, kept-count ws (k .well))
 
--- the rules of rows, as they are lent
-abbrev pub runPart : List ℕ → ℕ → List ℕ
-runPart s c = take (c * rowWidth + runAt + ruleWidth - (c * rowWidth + runAt)) (drop (c * rowWidth + runAt) s)
+-- ---- the rules that the session keeps, by their places
 
-abbrev pub permitPart : List ℕ → ℕ → List ℕ
-permitPart s c = take (c * rowWidth + permitAt + ruleWidth - (c * rowWidth + permitAt)) (drop (c * rowWidth + permitAt) s)
+-- a rule that is kept at a place of the session is the rule r
+pub record KeptAs (s : List ℕ) (at : ℕ) (r : List ℕ) : Type 0 where
+  pub kept : KeptAt s at
+  pub said : ruleOf (wordsFrom s at) ≡ r
 
-abbrev pub rulePart : List ℕ → ℕ → List ℕ
-rulePart s u = take (usersAt + u * userWidth + userRuleAt + ruleWidth - (usersAt + u * userWidth + userRuleAt)) (drop (usersAt + u * userWidth + userRuleAt) s)
+pub permit-kept : (s : List ℕ) (c : ℕ) → UsedAt s c → KeptAs s (c * rowWidth + permitAt) (view s .row c .permit)
+unfolding rowOf
+permit-kept s c h = record {
+  kept = record {
+    inside = omega (arith, h .long, h .low);
+    words = rw (permit-words s c) (record { long = permit-long (containerRow s c) (row-long s c h); well = good-permit (containerRow s c) (h .good) (h .used) });
+  };
+  said = ap ruleOf (permit-words s c) ∙ ap (λ (w : Row). w .permit) (sym (view-row s c (h .low)));
+}
 
-module _ (s : List ℕ) (c : ℕ) where
-  permit-part : ruleOf (permitPart s c) ≡ rowOf (containerRow s c) .permit
-  unfolding rowOf
-  permit-part = ap ruleOf (permit-lent s c)
+pub run-kept : (s : List ℕ) (c : ℕ) → UsedAt s c → KeptAs s (c * rowWidth + runAt) (view s .row c .run)
+unfolding rowOf
+run-kept s c h = record {
+  kept = record {
+    inside = omega (arith, h .long, h .low);
+    words = rw (run-words s c) (record { long = run-long (containerRow s c) (row-long s c h); well = good-run (containerRow s c) (h .good) (h .used) });
+  };
+  said = ap ruleOf (run-words s c) ∙ ap (λ (w : Row). w .run) (sym (view-row s c (h .low)));
+}
 
-  pub run-part : ruleOf (runPart s c) ≡ rowOf (containerRow s c) .run
-  unfolding rowOf
-  run-part = ap ruleOf (run-lent s c)
+pub user-kept-as : (s : List ℕ) (u : ℕ) → DeclaredAt s u → KeptAs s (usersAt + u * userWidth + userRuleAt) (ruleOr (view s .user u))
+unfolding userRuleOf
+user-kept-as s u h = record {
+  kept = record {
+    inside = omega (arith, h .long, h .low);
+    words = rw (user-words s u) (record { long = rule-long (userRow s u) (user-row-length s u (h .long) (h .low)); well = user-kept (userRow s u) (h .good) (h .declared) });
+  };
+  said = ap ruleOf (user-words s u) ∙ sym (ap ruleOr (view-user s u (h .low)) ∙ ap (λ (b : Bool). ruleOr (cond b (some (userRuleOf (userRow s u))) none)) (h .declared));
+}
 
-  pub rule-part : ruleOf (rulePart s c) ≡ userRuleOf (userRow s c)
-  unfolding userRuleOf
-  rule-part = ap ruleOf (rule-lent s c)
+-- a rule copied, and a meet formed, by the places
+pub copied : (s : List ℕ) (at : ℕ) (r : List ℕ) (m : Bounded) → KeptAs s at r → m ≡ boundedOf (ruleOf (wordsFrom s at)) → m ≡ boundedOf r
+copied s at r m k e = e ∙ ap boundedOf (k .said)
 
-  pub permit-kept : UsedAt s c → Kept (permitPart s c)
-  permit-kept h = rw permit-lent (record { long = permit-long (containerRow s c) (row-long s c h); well = good-permit (containerRow s c) (h .good) (h .used) })
+pub met : (s : List ℕ) (x y : ℕ) (r v : List ℕ) (m : Bounded) → KeptAs s x r → KeptAs s y v → m ≡ boundedOf (meet (ruleOf (wordsFrom s x)) (ruleOf (wordsFrom s y))) → m ≡ boundedOf (meet r v)
+met s x y r v m k l e = e ∙ ap₂ (λ (a b : List ℕ). boundedOf (meet a b)) (k .said) (l .said)
 
-  pub run-kept : UsedAt s c → Kept (runPart s c)
-  run-kept h = rw run-lent (record { long = run-long (containerRow s c) (row-long s c h); well = good-run (containerRow s c) (h .good) (h .used) })
-
-  pub rule-kept : DeclaredAt s c → Kept (rulePart s c)
-  rule-kept h = rw rule-lent (record { long = rule-long (userRow s c) (user-row-length s c (h .long) (h .low)); well = user-kept (userRow s c) (h .good) (h .declared) })
-
-  module _ (m : Bounded) where
-    pub permit-copied : m ≡ boundedOf (ruleOf (permitPart s c)) → m ≡ boundedOf (rowOf (containerRow s c) .permit)
-    permit-copied e = e ∙ ap boundedOf permit-part
-
-    pub run-copied : m ≡ boundedOf (ruleOf (runPart s c)) → m ≡ boundedOf (rowOf (containerRow s c) .run)
-    run-copied e = e ∙ ap boundedOf run-part
-
-    pub rule-copied : m ≡ boundedOf (ruleOf (rulePart s c)) → m ≡ boundedOf (userRuleOf (userRow s c))
-    rule-copied e = e ∙ ap boundedOf rule-part
-
-pub rule-short : (s : List ℕ) (u : ℕ) → DeclaredAt s u → length (userRuleOf (userRow s u)) ≤ mixtureLimit
-rule-short s u h = good-declared (userRow s u) (h .good) (h .declared) .0
+pub rule-short : (s : List ℕ) (u : ℕ) → DeclaredAt s u → length (ruleOr (view s .user u)) ≤ mixtureLimit
+rule-short s u h = rw (view-user s u (h .low), h .declared) (good-declared (userRow s u) (h .good) (h .declared) .0)
 
 -- ---- the words of a rule, copied as they stand
 
@@ -209,30 +220,22 @@ module _ (a b : List ℕ) (k : Kept a) where
   meet-second h = meet-first h ∙ meet-comm (ruleOf a) (ruleOf b)
 
 -- rules of one mixture
-single-rule : (s : List ℕ) (at : ℕ) → getD s at 0 ≡ 1 → length (take ruleWidth (drop at s)) ≡ ruleWidth → ruleOf (take ruleWidth (drop at s)) ≡ getD s (at + 1) 0 ∷ []
-unfolding ruleOf
-single-rule s at e l =
+meet-singles : (r v : List ℕ) (x y : ℕ) → r ≡ x ∷ [] → v ≡ y ∷ [] → bitAnd x y ∷ [] ≡ meet r v
+meet-singles r v x y e f = meet-one (x ∷ []) (y ∷ []) refl refl ∙ sym (ap₂ meet e f)
+
+single-rule : (s : List ℕ) (at : ℕ) → KeptAt s at → getD s at 0 ≡ 1 → ruleOf (wordsFrom s at) ≡ getD s (at + 1) 0 ∷ []
+unfolding ruleOf wordsFrom
+single-rule s at k e =
     let z : at + 0 ≡ at = omega arith in
     let w : List ℕ = take ruleWidth (drop at s) in
+    let l : length w ≡ ruleWidth = k .words .long in
     let f : getD w 0 0 ≡ 1 = getD-take ruleWidth (drop at s) 0 0 (omega arith) ∙ getD-drop at s 0 0 ∙ ap (λ (k : ℕ). getD s k 0) z ∙ e in
     let g : getD w 1 0 ≡ getD s (at + 1) 0 = getD-take ruleWidth (drop at s) 1 0 (omega arith) ∙ getD-drop at s 1 0 in
     ap (λ (k : ℕ). take k (drop 1 w)) f ∙ ap (take 1) (drop-cons w 1 0 (omega arith)) ∙ ap (λ (x : ℕ). x ∷ []) g
 
-part-is : (s : List ℕ) (at : ℕ) → take (at + ruleWidth - at) (drop at s) ≡ take ruleWidth (drop at s)
-part-is s at = let e : at + ruleWidth - at ≡ ruleWidth = omega arith in ap (λ (k : ℕ). take k (drop at s)) e
-
-pub single-run : (s : List ℕ) (c : ℕ) → UsedAt s c → getD s (c * rowWidth + runAt) 0 ≡ 1 → rowOf (containerRow s c) .run ≡ getD s (c * rowWidth + runAt + 1) 0 ∷ []
-single-run s c h e =
-    sym (run-part s c) ∙ ap ruleOf (part-is s (c * rowWidth + runAt))
-    ∙ single-rule s (c * rowWidth + runAt) e (ap length (sym (part-is s (c * rowWidth + runAt))) ∙ run-kept s c h .long)
-
-pub single-user : (s : List ℕ) (u : ℕ) → DeclaredAt s u → getD s (usersAt + u * userWidth + userRuleAt) 0 ≡ 1 → userRuleOf (userRow s u) ≡ getD s (usersAt + u * userWidth + userRuleAt + 1) 0 ∷ []
-single-user s u h e =
-    sym (rule-part s u) ∙ ap ruleOf (part-is s (usersAt + u * userWidth + userRuleAt))
-    ∙ single-rule s (usersAt + u * userWidth + userRuleAt) e (ap length (sym (part-is s (usersAt + u * userWidth + userRuleAt))) ∙ rule-kept s u h .long)
-
-pub meet-singles : (r v : List ℕ) (x y : ℕ) → r ≡ x ∷ [] → v ≡ y ∷ [] → bitAnd x y ∷ [] ≡ meet r v
-meet-singles r v x y e f = meet-one (x ∷ []) (y ∷ []) refl refl ∙ sym (ap₂ meet e f)
+pub meet-single : (s : List ℕ) (x y : ℕ) → KeptAt s x → KeptAt s y → getD s x 0 ≡ 1 → getD s y 0 ≡ 1
+    → bitAnd (getD s (x + 1) 0) (getD s (y + 1) 0) ∷ [] ≡ meet (ruleOf (wordsFrom s x)) (ruleOf (wordsFrom s y))
+meet-single s x y k l e f = meet-singles _ _ _ _ (single-rule s x k e) (single-rule s y l f)
 
 -- ---- a row with another tag and run rule
 

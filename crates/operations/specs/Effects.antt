@@ -1,94 +1,60 @@
--- What a request is refused for because of the session, and what it does when it is not (the paper, "Operations" and
--- "Refused because of the session").
+-- What a step is refused for because of the session, and what it answers and leaves (the paper, "Operations" and "Refused because
+-- of the session"): the table of operations, on the session's numbers.
 use Prim.Native.Nat.{ℕ}
-use mathlib.Core.Bool.{Bool, true, not, cond, _&&_, _||_}
-use mathlib.Core.List.{List}
+use mathlib.Core.Path.{_≡_}
+use mathlib.Core.Bool.{Bool, true, cond, _&&_}
+use mathlib.Core.List.{List, _∷_}
+use mathlib.Core.Option.{Option, none, some}
 use lib.Dec.{eqb}
-use Rattle.rules.specs.Rules.{meet}
-use Rattle.image.specs.Limits.{isProcess}
-use Rattle.session.specs.Rows.{Row, rowOf, rowWords, containerRowGood, userRowGood, isDeclared, userRuleOf, containerRow, userRow, putRow}
-use Rattle.chains.specs.History.{receiver}
-use Rattle.chains.specs.Demand.{Answer}
-use Rattle.chains.specs.Table.{readRow, writeRow, appendRow, execRow, forkRow, newFileRow, newVolatileRow, fits, verdict}
-use Rattle.operations.specs.declared.Request.{Request}
-use Rattle.operations.specs.Codes.{readCode, writeCode, appendCode, execCode, forkCode, newFileCode, needsFree, objectFits, codeAt}
-use Rattle.operations.specs.Requests.{stepIn}
+use lib.ListN.{length}
+use Rattle.lists.specs.Conditions.{Condition, _orRefuse_, firstFailed}
+use Rattle.answers.specs.Refusals.{row}
+use Rattle.answers.specs.declared.Answer.{Answer}
+use Rattle.answers.specs.Answers.{refused}
+use Rattle.session.specs.Limits.{sessionLength}
+use Rattle.session.specs.Rows.{rowWords, containerRowGood, userRowGood, containerRow, userRow, putRow}
+use Rattle.chains.specs.History.{Step, receiver}
+use Rattle.chains.specs.Table.{entry, tableConditions, verdict}
+use Rattle.records.specs.declared.Request.{Request}
+use Rattle.records.specs.Records.{Asked}
+use Rattle.operations.specs.View.{view}
 
--- ---- what a request names: the rows of p and o, and the rule of u
+-- what is known of a session and a request that 9 and 7 do not refuse
+pub record Named (s : List ℕ) (q : Request) : Type 0 where
+  pub long : length s ≡ sessionLength
+  pub asked : Asked q
 
-unfoldable pub processRow : List ℕ → Request → Row
-processRow s q = rowOf (containerRow s (q .p))
+-- ---- "Refused because of the session"
 
-unfoldable pub objectRow : List ℕ → Request → Row
-objectRow s q = rowOf (containerRow s (q .o))
-
-unfoldable pub userRule : List ℕ → Request → List ℕ
-userRule s q = userRuleOf (userRow s (q .u))
-
--- ---- "Refused because of the session": a named condition for each number
+-- the row of a user that a step names is as "Session" says
+abbrev pub userNamedGood : List ℕ → Option ℕ → Bool
+userNamedGood s none = true
+userNamedGood s (some u) = userRowGood (userRow s u)
 
 -- 10: "a named row (p, o, and u for 4 and 6) is not as "Session" says"
-unfoldable pub rowsGood : List ℕ → Request → Bool
-rowsGood s q =
-    containerRowGood (containerRow s (q .p))
-    && (containerRowGood (containerRow s (q .o)) && (not (codeAt (q .code) .user) || userRowGood (userRow s (q .u))))
+unfoldable pub rowsGood : List ℕ → Step → Bool
+rowsGood s t =
+    containerRowGood (containerRow s (entry (view s) t .process))
+    && (containerRowGood (containerRow s (entry (view s) t .object)) && userNamedGood s (entry (view s) t .user))
 
--- 11: "p is no process"
-unfoldable pub processGood : List ℕ → Request → Bool
-processGood s q = isProcess (processRow s q .kind)
+-- 10, then those of the table
+unfoldable pub sessionConditions : List ℕ → Step → List Condition
+sessionConditions s t = (rowsGood s t orRefuse row) ∷ tableConditions (view s) t
 
--- 12: "o of the wrong kind (codes 1 to 4)"
-unfoldable pub kindGood : List ℕ → Request → Bool
-kindGood s q = eqb (codeAt (q .code) .object) needsFree || objectFits (codeAt (q .code) .object) (objectRow s q .kind)
+unfoldable pub sessionRefusal : List ℕ → Step → ℕ
+sessionRefusal s t = firstFailed (sessionConditions s t)
 
--- 13: "o not free (5 to 7)"
-unfoldable pub freeGood : List ℕ → Request → Bool
-freeGood s q =
-    not (eqb (codeAt (q .code) .object) needsFree) || objectFits (codeAt (q .code) .object) (objectRow s q .kind)
+-- ---- what a step does
 
--- 14: "u not declared"
-unfoldable pub userGood : List ℕ → Request → Bool
-userGood s q = not (codeAt (q .code) .user) || isDeclared (userRow s (q .u))
+-- the session with the receiver's row of the table
+unfoldable pub acceptedEffect : List ℕ → Step → List ℕ
+acceptedEffect s t = putRow s (receiver t) (rowWords (entry (view s) t .row))
 
--- 15: "a meet has over 8 mixtures"
-unfoldable pub meetGood : List ℕ → Request → Bool
-meetGood s q =
-    cond (eqb (q .code) readCode) (fits (meet (processRow s q .run) (objectRow s q .run)))
-    (cond (eqb (q .code) appendCode) (fits (meet (objectRow s q .run) (processRow s q .run)))
-    (cond (eqb (q .code) execCode) (fits (meet (objectRow s q .run) (userRule s q)))
-    true))
+unfoldable pub acceptedAnswer : List ℕ → Step → Answer
+acceptedAnswer s t = verdict t (entry (view s) t .row)
 
--- the refusal because of the session, 0 if there is none: the first condition that fails gives its number
-unfoldable pub sessionRefusal : List ℕ → Request → ℕ
-sessionRefusal s q =
-    cond (rowsGood s q)
-    (cond (processGood s q)
-    (cond (kindGood s q)
-    (cond (freeGood s q)
-    (cond (userGood s q)
-    (cond (meetGood s q)
-    0
-    15)
-    14)
-    13)
-    12)
-    11)
-    10
+unfoldable pub performAnswer : List ℕ → Step → Answer
+performAnswer s t = cond (eqb (sessionRefusal s t) 0) (acceptedAnswer s t) (refused (sessionRefusal s t))
 
--- ---- what an accepted step does: the column "effect", by code
-
-unfoldable pub receiverRow : List ℕ → Request → Row
-receiverRow s q =
-    cond (eqb (q .code) readCode) (readRow (processRow s q) (objectRow s q))
-    (cond (eqb (q .code) writeCode) (writeRow (processRow s q) (objectRow s q))
-    (cond (eqb (q .code) appendCode) (appendRow (processRow s q) (objectRow s q))
-    (cond (eqb (q .code) execCode) (execRow (processRow s q) (objectRow s q) (userRule s q))
-    (cond (eqb (q .code) forkCode) (forkRow (processRow s q))
-    (cond (eqb (q .code) newFileCode) (newFileRow (userRule s q))
-    newVolatileRow)))))
-
-unfoldable pub acceptedAnswer : List ℕ → Request → Answer
-acceptedAnswer s q = verdict (stepIn q) (receiverRow s q)
-
-unfoldable pub acceptedEffect : List ℕ → Request → List ℕ
-acceptedEffect s q = putRow s (receiver (stepIn q)) (rowWords (receiverRow s q))
+unfoldable pub performEffect : List ℕ → Step → List ℕ
+performEffect s t = cond (eqb (sessionRefusal s t) 0) (acceptedEffect s t) s

@@ -1,6 +1,4 @@
--- What a reader must believe of this crate: the table of codes, what a request is refused for, and what it does.
-pub mod Codes
-pub mod Requests
+-- What a reader must believe of this crate: View and Effects. Parts has the contracts of private functions.
+pub mod View
 pub mod Effects
-pub mod Answers
 pub mod Parts

@@ -1,57 +1,46 @@
 -- Contracts of this crate's private functions: the refusals that are tested before a meet is formed, and what is known then.
 -- No public contract cites this file.
-use Prim.Native.Nat.{ℕ, _≤_, _<_}
+use Prim.Native.Nat.{ℕ, _+_, _≤_, _<_}
 use mathlib.Core.Path.{_≡_}
 use mathlib.Core.Bool.{true, false, cond}
 use mathlib.Core.List.{List, _∷_, _++_}
-use lib.ListN.{length, getD}
+use mathlib.Core.Option.{some}
+use lib.ListN.{length, getD, take, drop}
+use Rattle.lists.specs.Conditions.{Condition, _orRefuse_, firstFailed}
+use Rattle.answers.specs.Refusals.{row, overLimit}
+use Rattle.answers.specs.declared.Answer.{Answer}
+use Rattle.answers.specs.Answers.{refused, quiet, alert}
 use Rattle.rules.specs.Rules.{covers, meet}
 use Rattle.rules.specs.declared.Bounded.{Bounded}
 use Rattle.image.specs.Limits.{containerLimit, userLimit, isFree}
 use Rattle.image.specs.Words.{ruleWidth}
 use Rattle.session.specs.Limits.{sessionLength, kindAt}
-use Rattle.session.specs.Rows.{keptWell, Row, rowOf, rowWords, permitWords, containerRow, containerRowGood, putRow, userRow, userRowGood, isDeclared}
-use Rattle.chains.specs.Demand.{Answer, refused, quiet, alert}
-use Rattle.chains.specs.Table.{fits}
-use Rattle.operations.specs.declared.Request.{Request}
-use Rattle.operations.specs.Codes.{codeAt}
-use Rattle.operations.specs.Effects.{rowsGood, processGood, kindGood, freeGood, userGood, meetGood, acceptedAnswer, acceptedEffect}
+use Rattle.session.specs.Rows.{keptWell, Row, rowWords, permitWords, containerRow, containerRowGood, putRow, userRow, userRowGood, isDeclared}
+use Rattle.chains.specs.History.{Step}
+use Rattle.chains.specs.Table.{entry, fits, meetGood, earlyConditions}
+use Rattle.operations.specs.View.{view}
+use Rattle.operations.specs.Effects.{rowsGood, acceptedAnswer, acceptedEffect}
 
--- 10 to 14, 0 if none of them
-unfoldable pub earlyRefusal : List ℕ → Request → ℕ
-earlyRefusal s q =
-    cond (rowsGood s q)
-    (cond (processGood s q)
-    (cond (kindGood s q)
-    (cond (freeGood s q)
-    (cond (userGood s q)
-    0
-    14)
-    13)
-    12)
-    11)
-    10
+-- ---- before a meet is formed
 
--- the session has its length, and the request names one of its rows each
-pub record Named (s : List ℕ) (q : Request) : Type 0 where
+-- 10 to 14
+unfoldable pub firstConditions : List ℕ → Step → List Condition
+firstConditions s t = (rowsGood s t orRefuse row) ∷ earlyConditions (view s) t
+
+-- the session has its length, the step names rows of it, and is not refused by 10 to 14
+pub record Ready (s : List ℕ) (t : Step) : Type 0 where
   pub long : length s ≡ sessionLength
-  pub codeLow : 1 ≤ q .code
-  pub codeHigh : q .code ≤ 7
-  pub process : q .p < containerLimit
-  pub object : q .o < containerLimit
-  pub user : codeAt (q .code) .user ≡ true → q .u < userLimit
-
--- and is not refused by 10 to 14
-pub record Ready (s : List ℕ) (q : Request) : Type 0 where
-  pub named : Named s q
-  pub passed : earlyRefusal s q ≡ 0
+  pub process : entry (view s) t .process < containerLimit
+  pub object : entry (view s) t .object < containerLimit
+  pub user : (u : ℕ) → entry (view s) t .user ≡ some u → u < userLimit
+  pub passed : firstFailed (firstConditions s t) ≡ 0
 
 -- what is left: 15, or the effect
-unfoldable pub lateAnswer : List ℕ → Request → Answer
-lateAnswer s q = cond (meetGood s q) (acceptedAnswer s q) (refused 15)
+unfoldable pub lateAnswer : List ℕ → Step → Answer
+lateAnswer s t = cond (meetGood (view s) t) (acceptedAnswer s t) (refused overLimit)
 
-unfoldable pub lateEffect : List ℕ → Request → List ℕ
-lateEffect s q = cond (meetGood s q) (acceptedEffect s q) s
+unfoldable pub lateEffect : List ℕ → Step → List ℕ
+lateEffect s t = cond (meetGood (view s) t) (acceptedEffect s t) s
 
 -- ---- what is read
 
@@ -74,6 +63,15 @@ pub record Kept (ws : List ℕ) : Type 0 where
   pub long : length ws ≡ ruleWidth
   pub well : keptWell ws ≡ true
 
+-- the words of a rule that stand at a place of the session
+unfoldable pub wordsFrom : List ℕ → ℕ → List ℕ
+wordsFrom s at = take ruleWidth (drop at s)
+
+-- a rule that the session keeps stands at the place
+pub record KeptAt (s : List ℕ) (at : ℕ) : Type 0 where
+  pub inside : at + ruleWidth ≤ length s
+  pub words : Kept (wordsFrom s at)
+
 -- ---- what is written
 
 -- the numbers of a rule
@@ -95,20 +93,14 @@ coverAnswer c permit tag = cond (covers permit tag) (quiet c tag) (alert c tag)
 -- ---- container c takes in what d has, as a reader or a file that is appended to does: the tag t, and the meet of both run rules
 
 unfoldable pub sharedRun : List ℕ → ℕ → ℕ → List ℕ
-sharedRun s c d = meet (rowOf (containerRow s c) .run) (rowOf (containerRow s d) .run)
+sharedRun s c d = meet (view s .row c .run) (view s .row d .run)
 
 unfoldable pub absorbed : List ℕ → ℕ → ℕ → ℕ → Row
 absorbed s c d t =
-    record {
-      kind = rowOf (containerRow s c) .kind;
-      tag = t;
-      permit = rowOf (containerRow s c) .permit;
-      run = sharedRun s c d;
-    }
+    record { kind = view s .row c .kind; tag = t; permit = view s .row c .permit; run = sharedRun s c d }
 
 unfoldable pub absorbAnswer : List ℕ → ℕ → ℕ → ℕ → Answer
-absorbAnswer s c d t =
-    cond (fits (sharedRun s c d)) (coverAnswer c (rowOf (containerRow s c) .permit) t) (refused 15)
+absorbAnswer s c d t = cond (fits (sharedRun s c d)) (coverAnswer c (view s .row c .permit) t) (refused overLimit)
 
 unfoldable pub absorbEffect : List ℕ → ℕ → ℕ → ℕ → List ℕ
 absorbEffect s c d t = cond (fits (sharedRun s c d)) (putRow s c (rowWords (absorbed s c d t))) s

@@ -1,6 +1,6 @@
 // The checked examples of the paper that are run and not proved; the listing is the watch program's.
+use answers::Answer;
 use libc::STDOUT_FILENO;
-use operations::Answer;
 
 // Writes a line: what was tried, and the number that came of it.
 fn line(name: &[u8], number: u64) {

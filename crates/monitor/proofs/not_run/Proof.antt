@@ -1,11 +1,13 @@
-use Rattle.monitor.specs.Traces.{noReport}
-use mathlib.Core.Path.{refl}
+-- `monitor::not_run`: the tally is what `answers::no_tally` ensures.
+use borrow.Author.Needs.{needs}
 use Rattle.monitor.proofs.not_run.Statement.{statement}
 use Rattle.monitor.proofs.not_run.Tie as tie
 
+no-tally-requires : tie.Need-no-tally-requires
+no-tally-requires c κs = search needs
+
 returns : tie.Need-returns
-unfolding noReport
-returns c = refl
+returns c = rw (c .no-tally .ensures)
 
 pub not-run-spec : {M : Type 1} → statement M
-not-run-spec = tie.close (tie.spec returns)
+not-run-spec = tie.close (tie.spec no-tally-requires returns)

@@ -1,5 +1,6 @@
-use Rattle.operations.specs.Parts.{boundedWords, newWords}
-use Rattle.operations.proofs.EffectLaws.{lent-long, volatile-done}
+use Rattle.operations.proofs.EffectLaws.{volatile-done}
+use Rattle.operations.specs.Parts.{newWords, boundedWords}
+use Rattle.chains.specs.Table.{entry}
 use borrow.Author.Needs.{needs}
 use Rattle.operations.proofs.new_volatile.Statement.{statement}
 use Rattle.operations.proofs.new_volatile.Tie as tie
@@ -8,12 +9,15 @@ unrestricted-requires : tie.Need-unrestricted-requires
 unrestricted-requires c κs = search needs
 
 mul-b : tie.Need-mul-b
+unfolding entry
 mul-b c = search needs
 
 add-put-row : tie.Need-add-put-row
+unfolding entry
 add-put-row c = search needs
 
 mul-put-row : tie.Need-mul-put-row
+unfolding entry
 mul-put-row c = search needs
 
 sub-put-row : tie.Need-sub-put-row
@@ -23,17 +27,30 @@ part-put-row-start : tie.Need-part-put-row-start
 part-put-row-start c = search needs
 
 part-put-row-end : tie.Need-part-put-row-end
+unfolding entry
 part-put-row-end c = search needs
 
 put-row-requires : tie.Need-put-row-requires
-put-row-requires c κs = lent-long (c .before .before .before .args .s .now) (c .before .before .before .args .q .o) (c .before .before .before .pre .0 .named .long) (c .before .before .before .pre .0 .named .object)
+put-row-requires c κs = search needs
 
 same-length : tie.Need-same-length
 same-length c = search needs
 
 returns : tie.Need-returns
-unfolding newWords boundedWords
-returns c = volatile-done (c .before .before .before .before .before .before .args .s .now) (c .before .before .before .before .before .before .args .q) (c .before .before .before .before .before .before .pre .0) (c .before .before .before .before .before .before .pre .1) _ (c .before .before .before .before .unrestricted .ensures) _ (c .before .before .put-row .ensures)
+unfolding entry newWords boundedWords
+returns c = let start = c .before .before .before .before .before .before in volatile-done (start .args .s .now) (start .args .p) (start .args .o) _ (c .before .before .before .before .unrestricted .ensures) _ (c .before .before .put-row .ensures)
 
 pub new-volatile-spec : {M : Type 1} → statement M
-new-volatile-spec = tie.close (tie.spec unrestricted-requires mul-b add-put-row mul-put-row sub-put-row part-put-row-start part-put-row-end put-row-requires same-length returns)
+new-volatile-spec =
+    tie.close
+    (tie.spec
+    unrestricted-requires
+    mul-b
+    add-put-row
+    mul-put-row
+    sub-put-row
+    part-put-row-start
+    part-put-row-end
+    put-row-requires
+    same-length
+    returns)

@@ -1,5 +1,5 @@
 use Rattle.image.specs.Limits.{isFree}
-use Rattle.operations.specs.Codes.{objectFits}
+use Rattle.records.specs.Codes.{objectFits}
 use borrow.Author.Tests.{eq-eqb, ne-eqb}
 use borrow.Author.Needs.{needs}
 use Rattle.operations.proofs.object_fits.Statement.{statement}

@@ -1,4 +1,4 @@
-use Rattle.operations.proofs.RowSteps.{tag-read}
+use Rattle.operations.proofs.RowSteps.{tag-seen}
 use borrow.Author.Needs.{needs}
 use Rattle.operations.proofs.tag_of.Statement.{statement}
 use Rattle.operations.proofs.tag_of.Tie as tie
@@ -16,7 +16,7 @@ shared-slice-read-result : tie.Need-shared-slice-read-result
 shared-slice-read-result c = search needs
 
 returns : tie.Need-returns
-returns c = tag-read (c .before .args .s .now) (c .before .args .c)
+returns c = tag-seen (c .before .args .s .now) (c .before .args .c) (c .before .pre .1)
 
 pub tag-of-spec : {M : Type 1} → statement M
 tag-of-spec =

@@ -1,22 +1,39 @@
-use Rattle.operations.proofs.ReadyLaws.{ready-process, write-object}
+use Rattle.operations.proofs.ReadyLaws.{ready-process, ready-object}
+use Rattle.operations.proofs.RowSteps.{run-kept, copied}
 use Rattle.operations.proofs.EffectLaws.{lent-fit, write-done}
+use mathlib.Core.Path.{refl}
+use Rattle.chains.specs.History.{write}
+use Rattle.chains.specs.Table.{entry}
 use borrow.Author.Needs.{needs}
 use Rattle.operations.proofs.write.Statement.{statement}
 use Rattle.operations.proofs.write.Tie as tie
 
-run-copy-requires : tie.Need-run-copy-requires
-run-copy-requires c κs = ready-process (c .before .before .args .s .now) (c .before .before .args .q) (c .before .before .pre .0)
+mul-rule-at : tie.Need-mul-rule-at
+unfolding entry
+mul-rule-at c = search needs
+
+add-rule-at : tie.Need-add-rule-at
+unfolding entry
+add-rule-at c = search needs
+
+rule-at-requires : tie.Need-rule-at-requires
+unfolding entry
+rule-at-requires c κs = let start = c .before .before in run-kept (start .args .s .now) (start .args .p) (ready-process (start .args .s .now) (write (start .args .p) (start .args .o)) (start .pre)) .kept
 
 tag-of-requires : tie.Need-tag-of-requires
+unfolding entry
 tag-of-requires c κs = search needs
 
 mul-at : tie.Need-mul-at
+unfolding entry
 mul-at c = search needs
 
 add-update : tie.Need-add-update
+unfolding entry
 add-update c = search needs
 
 mul-update : tie.Need-mul-update
+unfolding entry
 mul-update c = search needs
 
 sub-update : tie.Need-sub-update
@@ -26,16 +43,34 @@ part-update-start : tie.Need-part-update-start
 part-update-start c = search needs
 
 part-update-end : tie.Need-part-update-end
+unfolding entry
 part-update-end c = search needs
 
 update-requires : tie.Need-update-requires
-update-requires c κs = lent-fit (c .before .before .before .before .before .before .args .s .now) (c .before .before .before .before .before .before .args .q .o) (write-object (c .before .before .before .before .before .before .args .s .now) (c .before .before .before .before .before .before .args .q) (c .before .before .before .before .before .before .pre .0) (c .before .before .before .before .before .before .pre .1))
+unfolding entry
+update-requires c κs = let start = c .before .before .before .before .before .before in lent-fit (start .args .s .now) (start .args .o) (ready-object (start .args .s .now) (write (start .args .p) (start .args .o)) (start .pre) refl)
 
 same-length : tie.Need-same-length
 same-length c = search needs
 
 returns : tie.Need-returns
-returns c = write-done (c .before .before .before .before .before .before .before .before .before .args .s .now) (c .before .before .before .before .before .before .before .before .before .args .q) (c .before .before .before .before .before .before .before .before .before .pre .0) (c .before .before .before .before .before .before .before .before .before .pre .1) _ (c .before .before .before .before .before .before .run-copy .ensures) _ (c .before .before .before .before .tag-of .ensures) _ _ (c .before .before .update .ensures .0) (c .before .before .update .ensures .1)
+unfolding entry
+returns c = let start = c .before .before .before .before .before .before .before .before .before in let s = start .args .s .now in write-done s (start .args .p) (start .args .o) (start .pre) _ (copied s _ _ _ (run-kept s (start .args .p) (ready-process s (write (start .args .p) (start .args .o)) (start .pre))) (c .before .before .before .before .before .before .rule-at .ensures)) _ (c .before .before .before .before .tag-of .ensures) _ _ (c .before .before .update .ensures .0) (c .before .before .update .ensures .1)
 
 pub write-spec : {M : Type 1} → statement M
-write-spec = tie.close (tie.spec run-copy-requires tag-of-requires mul-at add-update mul-update sub-update part-update-start part-update-end update-requires same-length returns)
+write-spec =
+    tie.close
+    (tie.spec
+    mul-rule-at
+    add-rule-at
+    rule-at-requires
+    tag-of-requires
+    mul-at
+    add-update
+    mul-update
+    sub-update
+    part-update-start
+    part-update-end
+    update-requires
+    same-length
+    returns)

@@ -1,0 +1,125 @@
+-- A request has one of the codes: what holds of each of them holds of all. What the table says of a code, whatever the rows.
+use Prim.Native.Nat.{ℕ, zero, suc, _≤_, _<_}
+use native.Mathlib.Omega.{arith}
+use mathlib.Core.Path.{_≡_, refl}
+use mathlib.Core.Bool.{true, false, cond}
+use mathlib.Core.List.{List, [], _∷_}
+use mathlib.Core.Option.{none, some}
+use lib.ListN.{getD}
+use Rattle.image.specs.Limits.{containerLimit}
+use Rattle.chains.specs.History.{read, write, append, exec, fork, newFile, newVolatile, receiver}
+use Rattle.chains.specs.Table.{State, Need, store, file, free, fitsNeed, entry}
+use Rattle.records.specs.declared.Code.{Code}
+use Rattle.records.specs.declared.Request.{Request}
+use Rattle.records.specs.Codes.{readCode, writeCode, appendCode, execCode, forkCode, newFileCode, newVolatileCode, codeCount, stepWith, needsStore, needsFile, needsFree, needNumber, objectFits, noRows, codeAt}
+use Rattle.records.specs.Records.{stepIn, Asked}
+
+abbrev pub request : ℕ → ℕ → ℕ → ℕ → Request
+request n p o u = record { code = n; p = p; o = o; u = u }
+
+-- ---- code by code
+
+module _ (P : Request → Type 0) (reads : (p o u : ℕ) → P (request readCode p o u)) (writes : (p o u : ℕ) → P (request writeCode p o u))
+    (appends : (p o u : ℕ) → P (request appendCode p o u)) (execs : (p o u : ℕ) → P (request execCode p o u)) (forks : (p o u : ℕ) → P (request forkCode p o u))
+    (files : (p o u : ℕ) → P (request newFileCode p o u)) (volatiles : (p o u : ℕ) → P (request newVolatileCode p o u)) where
+  at-code : (n p o u : ℕ) → 1 ≤ n → n < codeCount → P (request n p o u)
+  at-code zero p o u low high = absurd (omega arith)
+  at-code (suc zero) p o u low high = reads p o u
+  at-code (suc (suc zero)) p o u low high = writes p o u
+  at-code (suc (suc (suc zero))) p o u low high = appends p o u
+  at-code (suc (suc (suc (suc zero)))) p o u low high = execs p o u
+  at-code (suc (suc (suc (suc (suc zero))))) p o u low high = forks p o u
+  at-code (suc (suc (suc (suc (suc (suc zero)))))) p o u low high = files p o u
+  at-code (suc (suc (suc (suc (suc (suc (suc zero))))))) p o u low high = volatiles p o u
+  at-code (suc (suc (suc (suc (suc (suc (suc (suc n)))))))) p o u low high = absurd (omega arith)
+
+  pub by-code : (q : Request) → 1 ≤ q .code → q .code < codeCount → P q
+  by-code q low high = at-code (q .code) (q .p) (q .o) (q .u) low high
+
+-- ---- what the table says of the step of a request
+
+-- it names p and o, and u if the code names a user; what it needs is the code's
+pub record Entered (σ : State) (q : Request) : Type 0 where
+  pub process : entry σ (stepIn q) .process ≡ q .p
+  pub object : entry σ (stepIn q) .object ≡ q .o
+  pub user : entry σ (stepIn q) .user ≡ cond (codeAt (q .code) .user) (some (q .u)) none
+  pub need : codeAt (q .code) .object ≡ needNumber (entry σ (stepIn q) .need)
+
+pub entered : (σ : State) (q : Request) → 1 ≤ q .code → q .code < codeCount → Entered σ q
+unfolding stepIn stepWith entry codeAt noRows
+entered σ =
+    by-code (Entered σ)
+    (λ p o u. record { process = refl; object = refl; user = refl; need = refl })
+    (λ p o u. record { process = refl; object = refl; user = refl; need = refl })
+    (λ p o u. record { process = refl; object = refl; user = refl; need = refl })
+    (λ p o u. record { process = refl; object = refl; user = refl; need = refl })
+    (λ p o u. record { process = refl; object = refl; user = refl; need = refl })
+    (λ p o u. record { process = refl; object = refl; user = refl; need = refl })
+    (λ p o u. record { process = refl; object = refl; user = refl; need = refl })
+
+pub need-fits : (n : Need) (k : ℕ) → objectFits (needNumber n) k ≡ fitsNeed n k
+unfolding objectFits fitsNeed
+need-fits store k = refl
+need-fits file k = refl
+need-fits free k = refl
+
+-- the receiver is p or o
+pub receiver-bound : (q : Request) → Asked q → receiver (stepIn q) < containerLimit
+unfolding stepIn stepWith
+receiver-bound q a =
+    by-code (λ q. q .p < containerLimit → q .o < containerLimit → receiver (stepIn q) < containerLimit)
+    (λ p o u hp ho. hp) (λ p o u hp ho. ho) (λ p o u hp ho. ho) (λ p o u hp ho. hp) (λ p o u hp ho. ho) (λ p o u hp ho. ho) (λ p o u hp ho. ho)
+    q (a .codeLow) (a .codeHigh) (a .process) (a .object)
+
+-- ---- the step of a request, by its code
+
+module _ (q : Request) where
+  pub step-read : q .code ≡ readCode → stepIn q ≡ read (q .p) (q .o)
+  unfolding stepIn stepWith
+  step-read e = rw e
+
+  pub step-write : q .code ≡ writeCode → stepIn q ≡ write (q .p) (q .o)
+  unfolding stepIn stepWith
+  step-write e = rw e
+
+  pub step-append : q .code ≡ appendCode → stepIn q ≡ append (q .p) (q .o)
+  unfolding stepIn stepWith
+  step-append e = rw e
+
+  pub step-exec : q .code ≡ execCode → stepIn q ≡ exec (q .p) (q .o) (q .u)
+  unfolding stepIn stepWith
+  step-exec e = rw e
+
+  pub step-fork : q .code ≡ forkCode → stepIn q ≡ fork (q .p) (q .o)
+  unfolding stepIn stepWith
+  step-fork e = rw e
+
+  pub step-file : q .code ≡ newFileCode → stepIn q ≡ newFile (q .p) (q .o) (q .u)
+  unfolding stepIn stepWith
+  step-file e = rw e
+
+  -- the code that is none of the first six
+  pub step-volatile : Asked q → (q .code ≡ readCode → ⊥) → (q .code ≡ writeCode → ⊥) → (q .code ≡ appendCode → ⊥) → (q .code ≡ execCode → ⊥)
+      → (q .code ≡ forkCode → ⊥) → (q .code ≡ newFileCode → ⊥) → stepIn q ≡ newVolatile (q .p) (q .o)
+  unfolding stepIn stepWith
+  step-volatile a h1 h2 h3 h4 h5 h6 = let e : q .code ≡ newVolatileCode = omega (arith, a .codeLow, a .codeHigh) in rw e
+
+-- ---- the table as the code has it
+
+abbrev pub rows : List Code
+rows =
+    record { object = 0; user = false }
+    ∷ record { object = needsStore; user = false }
+    ∷ record { object = needsStore; user = false }
+    ∷ record { object = needsStore; user = false }
+    ∷ record { object = needsFile; user = true }
+    ∷ record { object = needsFree; user = false }
+    ∷ record { object = needsFree; user = true }
+    ∷ record { object = needsFree; user = false }
+    ∷ []
+
+pub row-at : (n : ℕ) (z : Code) → 1 ≤ n → n < codeCount → getD rows n z ≡ codeAt n
+unfolding codeAt stepWith entry noRows
+row-at n z low high =
+    by-code (λ q. getD rows (q .code) z ≡ codeAt (q .code))
+    (λ p o u. refl) (λ p o u. refl) (λ p o u. refl) (λ p o u. refl) (λ p o u. refl) (λ p o u. refl) (λ p o u. refl) (request n 0 0 0) low high

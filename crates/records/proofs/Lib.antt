@@ -1,0 +1,6 @@
+-- Theorems is the file to read: what is proved of codes and records. CodeLaws and RecordLaws are cited by other crates; TestLaws
+-- serves inside.
+pub mod Theorems
+pub mod CodeLaws
+pub mod RecordLaws
+pub mod TestLaws

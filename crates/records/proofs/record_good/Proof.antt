@@ -1,0 +1,53 @@
+use mathlib.Core.Path.{sym, _∙_}
+use native.Mathlib.Omega.{arith}
+use Rattle.fields.proofs.FieldLaws.{field-one}
+use Rattle.lists.proofs.Bools.{passes-test, fails-test}
+use Rattle.records.proofs.TestLaws.{not-eight, code-none, code-over, byte-set, user-wrong, process-over, by-object}
+use borrow.Author.Needs.{needs}
+use Rattle.records.proofs.record_good.Statement.{statement}
+use Rattle.records.proofs.record_good.Tie as tie
+
+returns : tie.Need-returns
+returns c = not-eight _ (c .if1 .taken)
+
+request-of-requires : tie.Need-request-of-requires
+request-of-requires c κs = search needs
+
+returns-2 : tie.Need-returns-2
+returns-2 c = code-none _ _ (c .before .before .request-of .ensures) (c .before .before .before .if1 .left) (c .if2 .taken)
+
+returns-3 : tie.Need-returns-3
+returns-3 c = code-over _ _ (c .before .before .before .before .request-of .ensures) (c .before .before .before .before .before .if1 .left) (c .before .before .if2 .left) (c .if3 .taken)
+
+shared-slice-read-if4 : tie.Need-shared-slice-read-if4
+shared-slice-read-if4 c = search needs
+
+returns-4 : tie.Need-returns-4
+returns-4 c = byte-set _ _ (c .before .before .before .before .before .before .request-of .ensures) (c .before .before .before .before .before .before .before .if1 .left) (c .before .before .before .before .if2 .left) (c .before .before .if3 .left) (λ e. (c .if4 .taken) (field-one _ 1 (omega arith) ∙ e))
+
+user-fits-requires : tie.Need-user-fits-requires
+user-fits-requires c κs = search needs
+
+returns-5 : tie.Need-returns-5
+returns-5 c = user-wrong _ _ (c .before .before .before .before .before .before .before .before .request-of .ensures) (c .before .before .before .before .before .before .before .before .before .if1 .left) (c .before .before .before .before .before .before .if2 .left) (c .before .before .before .before .if3 .left) (sym (field-one _ 1 (omega arith)) ∙ (c .before .before .if4 .left)) (fails-test (c .before .user-fits .ensures) (c .if5 .taken))
+
+returns-6 : tie.Need-returns-6
+returns-6 c = process-over _ _ (c .before .before .before .before .before .before .before .before .before .before .request-of .ensures) (c .before .before .before .before .before .before .before .before .before .before .before .if1 .left) (c .before .before .before .before .before .before .before .before .if2 .left) (c .before .before .before .before .before .before .if3 .left) (sym (field-one _ 1 (omega arith)) ∙ (c .before .before .before .before .if4 .left)) (passes-test (c .before .before .before .user-fits .ensures) (c .before .before .if5 .left)) (c .if6 .taken)
+
+returns-7 : tie.Need-returns-7
+returns-7 c = by-object _ _ (c .before .before .before .before .before .before .before .before .before .before .before .request-of .ensures) (c .before .before .before .before .before .before .before .before .before .before .before .before .if1 .left) (c .before .before .before .before .before .before .before .before .before .if2 .left) (c .before .before .before .before .before .before .before .if3 .left) (sym (field-one _ 1 (omega arith)) ∙ (c .before .before .before .before .before .if4 .left)) (passes-test (c .before .before .before .before .user-fits .ensures) (c .before .before .before .if5 .left)) (c .before .if6 .left)
+
+pub record-good-spec : {M : Type 1} → statement M
+record-good-spec =
+    tie.close
+    (tie.spec
+    returns
+    request-of-requires
+    returns-2
+    returns-3
+    shared-slice-read-if4
+    returns-4
+    user-fits-requires
+    returns-5
+    returns-6
+    returns-7)

@@ -1,0 +1,88 @@
+-- "One table of codes gives the kind that each code needs" (the paper, "Operations"): the codes, the step that each asks for, and
+-- what the table of steps (crate chains, specs/Table) says of it.
+use Prim.Native.Nat.{ℕ}
+use mathlib.Core.Bool.{Bool, false, cond, _&&_}
+use mathlib.Core.Option.{none}
+use lib.Dec.{eqb, ltb}
+use Rattle.image.specs.Limits.{isFree, isFile, isStore}
+use Rattle.chains.specs.History.{Step, read, write, append, exec, fork, newFile, newVolatile}
+use Rattle.chains.specs.Table.{State, freeRow, Need, store, file, free, entry, isSome}
+use Rattle.records.specs.declared.Code.{Code}
+
+-- ---- the codes
+
+abbrev pub readCode : ℕ
+readCode = 1
+
+abbrev pub writeCode : ℕ
+writeCode = 2
+
+abbrev pub appendCode : ℕ
+appendCode = 3
+
+abbrev pub execCode : ℕ
+execCode = 4
+
+abbrev pub forkCode : ℕ
+forkCode = 5
+
+abbrev pub newFileCode : ℕ
+newFileCode = 6
+
+abbrev pub newVolatileCode : ℕ
+newVolatileCode = 7
+
+-- the places of the table: one for each code, and place 0, which is no code
+abbrev pub codeCount : ℕ
+codeCount = 8
+
+unfoldable pub isCode : ℕ → Bool
+isCode n = ltb 0 n && ltb n codeCount
+
+-- the step that a code asks for
+unfoldable pub stepWith : ℕ → ℕ → ℕ → ℕ → Step
+stepWith code p o u =
+    cond (eqb code readCode) (read p o)
+    (cond (eqb code writeCode) (write p o)
+    (cond (eqb code appendCode) (append p o)
+    (cond (eqb code execCode) (exec p o u)
+    (cond (eqb code forkCode) (fork p o)
+    (cond (eqb code newFileCode) (newFile p o u)
+    (newVolatile p o))))))
+
+-- ---- what a code needs of its object, as a number
+
+-- "file, volatile"
+abbrev pub needsStore : ℕ
+needsStore = 1
+
+-- "file"
+abbrev pub needsFile : ℕ
+needsFile = 2
+
+-- "free"
+abbrev pub needsFree : ℕ
+needsFree = 3
+
+abbrev pub needNumber : Need → ℕ
+needNumber store = needsStore
+needNumber file = needsFile
+needNumber free = needsFree
+
+-- the need is met by the object's kind
+unfoldable pub objectFits : ℕ → ℕ → Bool
+objectFits need kind =
+    cond (eqb need needsStore) (isStore kind) (cond (eqb need needsFile) (isFile kind) (cond (eqb need needsFree) (isFree kind) false))
+
+-- ---- the table by codes: what each needs of its object, and whether it names a user ("u is 65535 except for codes 4 and 6")
+
+-- rows do not matter to either
+unfoldable pub noRows : State
+noRows = record { row = λ c. freeRow; user = λ u. none }
+
+unfoldable pub codeAt : ℕ → Code
+codeAt n =
+    record {
+      object = needNumber (entry noRows (stepWith n 0 0 0) .need);
+      user = isSome (entry noRows (stepWith n 0 0 0) .user);
+    }

@@ -1,0 +1,83 @@
+-- "A record has 8 bytes: code and a zero (8 bits each), process p, object o, user u (16 bits each)" (the paper, "Operations").
+use Prim.Native.Nat.{ℕ, _≤_, _<_}
+use mathlib.Core.Path.{_≡_}
+use mathlib.Core.Bool.{Bool, true, cond, _&&_}
+use mathlib.Core.List.{List}
+use mathlib.Core.Option.{Option, none, some}
+use lib.Dec.{eqb, ltb}
+use lib.ListN.{length}
+use Rattle.image.specs.Limits.{containerLimit, userLimit}
+use Rattle.fields.specs.Bytes.{field}
+use Rattle.chains.specs.History.{Step}
+use Rattle.records.specs.declared.Request.{Request}
+use Rattle.records.specs.Codes.{isCode, codeCount, codeAt, stepWith}
+
+-- ---- the layout of a record, in bytes
+
+abbrev pub recordLength : ℕ
+recordLength = 8
+
+abbrev pub codePlace : ℕ
+codePlace = 0
+
+abbrev pub zeroPlace : ℕ
+zeroPlace = 1
+
+abbrev pub processPlace : ℕ
+processPlace = 2
+
+abbrev pub objectPlace : ℕ
+objectPlace = 4
+
+abbrev pub userPlace : ℕ
+userPlace = 6
+
+-- "8 bits"
+abbrev pub codeSize : ℕ
+codeSize = 1
+
+-- "16 bits each"
+abbrev pub numberSize : ℕ
+numberSize = 2
+
+-- "u is 65535 except for codes 4 and 6"
+abbrev pub noUser : ℕ
+noUser = 65535
+
+-- ---- what a record asks for
+
+unfoldable pub requestIn : List ℕ → Request
+requestIn r =
+    record {
+      code = field r codePlace codeSize;
+      p = field r processPlace numberSize;
+      o = field r objectPlace numberSize;
+      u = field r userPlace numberSize;
+    }
+
+unfoldable pub stepIn : Request → Step
+stepIn q = stepWith (q .code) (q .p) (q .o) (q .u)
+
+-- the code names a user below 16 exactly if the table says that it names one
+unfoldable pub userFits : Request → Bool
+userFits q = cond (codeAt (q .code) .user) (ltb (q .u) userLimit) (eqb (q .u) noUser)
+
+-- "7 operation record (not 8 bytes, code, zero byte, u set wrongly, container over 255, user over 15)"
+unfoldable pub recordGood : List ℕ → Bool
+recordGood r =
+    eqb (length r) recordLength
+    && (isCode (requestIn r .code)
+    && (eqb (field r zeroPlace codeSize) 0
+    && (userFits (requestIn r) && (ltb (requestIn r .p) containerLimit && ltb (requestIn r .o) containerLimit))))
+
+-- the step that a record spells, if it is a record
+unfoldable pub stepOf : List ℕ → Option Step
+stepOf r = cond (recordGood r) (some (stepIn (requestIn r))) none
+
+-- what a request has that comes of a good record: a code, containers and, where the code names one, a user of the session
+pub record Asked (q : Request) : Type 0 where
+  pub codeLow : 1 ≤ q .code
+  pub codeHigh : q .code < codeCount
+  pub process : q .p < containerLimit
+  pub object : q .o < containerLimit
+  pub user : codeAt (q .code) .user ≡ true → q .u < userLimit

@@ -1,0 +1,160 @@
+// The operation record: the table of codes, and what a record of 8 bytes asks for (the paper, "Operations").
+ghost use mathlib.Core.Path.{_≡_};
+ghost use Prim.Native.Nat.{_≤_, _<_};
+ghost use lib.ListN.{length};
+ghost use Rattle.records.specs.Codes.{codeCount, codeAt};
+ghost use Rattle.records.specs.Records.{recordLength, requestIn, userFits, recordGood};
+use image::CONTAINER_LIMIT;
+use image::USER_LIMIT;
+
+// ---- the codes
+
+pub const READ_CODE: usize = 1;
+
+pub const WRITE_CODE: usize = 2;
+
+pub const APPEND_CODE: usize = 3;
+
+pub const EXEC_CODE: usize = 4;
+
+pub const FORK_CODE: usize = 5;
+
+pub const NEW_FILE_CODE: usize = 6;
+
+// The places of the table: one for each code, the last being new volatile, and place 0, which is no code.
+pub const CODE_COUNT: usize = 8;
+
+// What a code needs of its object, and whether it names a user.
+pub struct Code {
+    pub object: u8,
+    pub user: bool,
+}
+
+const NO_NEED: u8 = 0;
+
+pub const NEEDS_STORE: u8 = 1;
+
+pub const NEEDS_FILE: u8 = 2;
+
+pub const NEEDS_FREE: u8 = 3;
+
+// The table of codes: 0 no code, 1 read, 2 write, 3 append, 4 exec, 5 fork, 6 new file, 7 new volatile.
+const CODES: [Code; 8] = [
+    Code {
+        object: NO_NEED,
+        user: false,
+    },
+    Code {
+        object: NEEDS_STORE,
+        user: false,
+    },
+    Code {
+        object: NEEDS_STORE,
+        user: false,
+    },
+    Code {
+        object: NEEDS_STORE,
+        user: false,
+    },
+    Code {
+        object: NEEDS_FILE,
+        user: true,
+    },
+    Code {
+        object: NEEDS_FREE,
+        user: false,
+    },
+    Code {
+        object: NEEDS_FREE,
+        user: true,
+    },
+    Code {
+        object: NEEDS_FREE,
+        user: false,
+    },
+];
+
+// The table's row of a code.
+pub fn code_at(code: usize) -> Code
+    requires { ⌜ (1 ≤ code) × (code < codeCount) ⌝ }
+    ensures { λ r. ⌜ r ≡ codeAt code ⌝ }
+{
+    CODES[code]
+}
+
+// ---- the record
+
+// The bytes of a record, and the places of its fields.
+pub const RECORD_LENGTH: usize = 8;
+
+const CODE_PLACE: usize = 0;
+
+const ZERO_PLACE: usize = 1;
+
+const PROCESS_PLACE: usize = 2;
+
+const OBJECT_PLACE: usize = 4;
+
+const USER_PLACE: usize = 6;
+
+// The user field of a record whose code names no user.
+const NO_USER: usize = 65535;
+
+// What a record asks for.
+pub struct Request {
+    pub code: usize,
+    pub p: usize,
+    pub o: usize,
+    pub u: usize,
+}
+
+// What the bytes of a record ask for.
+pub fn request_of(bytes: &[u8]) -> Request
+    requires { ⌜ length (now bytes) ≡ recordLength ⌝ }
+    ensures { λ r. ⌜ r ≡ requestIn (now (bytes .entry)) ⌝ }
+{
+    Request {
+        code: fields::read8(bytes, CODE_PLACE),
+        p: fields::read16(bytes, PROCESS_PLACE),
+        o: fields::read16(bytes, OBJECT_PLACE),
+        u: fields::read16(bytes, USER_PLACE),
+    }
+}
+
+// The user field is set exactly where the code names a user.
+fn user_fits(q: Request) -> bool
+    requires { ⌜ (1 ≤ q .code) × (q .code < codeCount) ⌝ }
+    ensures { λ r. ⌜ r ≡ userFits q ⌝ }
+{
+    let need = code_at(q.code);
+    if need.user {
+        return q.u < USER_LIMIT;
+    }
+    q.u == NO_USER
+}
+
+// The bytes are an operation record: the refusal 7 where they are not.
+pub fn record_good(bytes: &[u8]) -> bool
+    ensures { λ r. ⌜ r ≡ recordGood (now (bytes .entry)) ⌝ }
+{
+    if bytes.len() != RECORD_LENGTH {
+        return false;
+    }
+    let q = request_of(bytes);
+    if q.code == 0 {
+        return false;
+    }
+    if CODE_COUNT <= q.code {
+        return false;
+    }
+    if bytes[ZERO_PLACE] != 0 {
+        return false;
+    }
+    if !user_fits(q) {
+        return false;
+    }
+    if CONTAINER_LIMIT <= q.p {
+        return false;
+    }
+    q.o < CONTAINER_LIMIT
+}
