@@ -6,10 +6,11 @@ use native.Mathlib.Omega.{arith}
 use mathlib.Core.Path.{_≡_, refl}
 use mathlib.Core.List.{List, [], _∷_, _++_}
 use lib.ListN.{length, getD}
-use Rattle.listing.specs.declared.Outcome.{Outcome}
-use Rattle.listing.specs.declared.Outcome.the-variants.{Refused}
+use Rattle.answers.specs.declared.Answer.{Answer}
+use Rattle.answers.specs.Refusals.{operationRecord}
+use Rattle.answers.specs.Answers.{refused}
 use Rattle.listing.specs.Text.{ascii, digit, decimalLimit, decimalIn, decimal, tagDigits, hexadecimal, spelled}
-use Rattle.listing.specs.Lines.{line, wordOf, verdictOf, valuesOf, heading, stepLine, shortLine, totalLine, policyLine}
+use Rattle.listing.specs.Lines.{line, wordOf, verdictWord, answerWord, answerFields, heading, stepLine, shortLine, totalLine, policyLine}
 use Rattle.listing.specs.Buffer.{lineLimit, WroteWithSpare}
 use Rattle.fields.specs.Writing.{Wrote}
 use Rattle.listing.proofs.TextLaws as text
@@ -44,12 +45,12 @@ hexadecimal-length = text.hexadecimal-length
 -- ---- lines
 
 -- a short last record is listed as a step with an unknown code that is refused with 7
-pub short-step : (step : ℕ) → shortLine step ≡ stepLine step 0 0 0 (Refused 7)
-unfolding shortLine stepLine line wordOf verdictOf valuesOf decimal decimalIn digit ascii
+pub short-step : (step : ℕ) → shortLine step ≡ stepLine step 0 0 0 (refused operationRecord)
+unfolding shortLine stepLine line wordOf answerWord answerFields verdictWord decimal decimalIn digit ascii
 short-step step = refl
 
 -- no line has more bytes than the functions ask room for
-pub step-fits : (step code p o : ℕ) (x : Outcome) → length (stepLine step code p o x) ≤ lineLimit
+pub step-fits : (step code p o : ℕ) (x : Answer) → length (stepLine step code p o x) ≤ lineLimit
 step-fits = lines.step-length
 
 pub heading-fits : length heading ≤ lineLimit

@@ -19,9 +19,13 @@ wordLimit = 8
 abbrev pub accessLimit : ℕ
 accessLimit = 72
 
--- the most bytes of a verdict with its values and byte 10
-abbrev pub outcomeLimit : ℕ
-outcomeLimit = 44
+-- the bytes of a verdict's word and the space behind it
+abbrev pub verdictLength : ℕ
+verdictLength = 6
+
+-- the most bytes of an answer's fields and byte 10
+abbrev pub answerLimit : ℕ
+answerLimit = 44
 
 -- no line has more bytes: the sum of the two
 abbrev pub lineLimit : ℕ

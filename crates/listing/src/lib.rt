@@ -8,8 +8,10 @@ ghost use lib.ListN.{length, take};
 ghost use Rattle.fields.specs.Bytes.{bytesOf};
 ghost use Rattle.fields.specs.Writing.{Wrote};
 ghost use Rattle.listing.specs.Text.{digits, decimalLimit, decimal, tagDigits, hexadecimal};
-ghost use Rattle.listing.specs.Lines.{space, newline, line, spaced, wordOf, verdictOf, valuesOf, heading, stepLine, shortLine, totalLine, policyLine};
-ghost use Rattle.listing.specs.Buffer.{WroteWithSpare, wordLimit, accessLimit, outcomeLimit, lineLimit};
+ghost use Rattle.listing.specs.Lines.{space, newline, line, spaced, wordOf, verdictWord, answerWord, answerFields, heading, stepLine, shortLine, totalLine, policyLine};
+ghost use Rattle.listing.specs.Buffer.{WroteWithSpare, wordLimit, accessLimit, verdictLength, answerLimit, lineLimit};
+use answers::Answer;
+use answers::Verdict;
 
 // The most bytes of a line.
 pub const LINE_LIMIT: usize = 116;
@@ -24,17 +26,8 @@ const SPACE: u8 = 32;
 
 const NEWLINE: u8 = 10;
 
-// The verdicts' words as the bytes of a number, the first letter lowest, with spaces behind them.
-const QUIET: u64 = 0x2020207465697571;
-
-const ALERT: u64 = 0x2020207472656c61;
-
-// What a step was answered: quiet or alert with the receiver and its tag, or the refusal's number.
-pub enum Outcome {
-    Quiet { receiver: u64, tag: u64 },
-    Alert { receiver: u64, tag: u64 },
-    Refused(u64),
-}
+// The bytes of a verdict's word with the space behind it.
+const VERDICT_LENGTH: usize = 6;
 
 // A text as it is given.
 fn put_text(out: &mut [u8], at: usize, text: &[u8]) -> usize
@@ -283,25 +276,40 @@ fn put_access(out: &mut [u8], at: usize, step: u64, code: u64, p: u64, o: u64) -
     put_container(out, object, o)
 }
 
-// A verdict's word with the space behind it, the receiver and its tag.
-fn put_verdict(out: &mut [u8], at: usize, word: u64, receiver: u64, tag: u64) -> usize
-    requires { ⌜ at + outcomeLimit ≤ length (now out) ⌝ }
-    ensures { λ r. ⌜ Wrote (take 6 (bytesOf 8 word) ++ line (decimal receiver) (hexadecimal tag ∷ [])) (now (out .entry)) (now (out .exit)) at r ⌝ }
+// A verdict's word as the bytes of a number, the first letter lowest, with spaces behind it.
+fn verdict_word(verdict: Verdict) -> u64
+    ensures { λ r. ⌜ take verdictLength (bytesOf 8 r) ≡ verdictWord verdict ++ (space ∷ []) ⌝ }
 {
-    fields::put64(out, at, word);
-    let next = put_container(out, at + 6, receiver);
+    match verdict {
+        Verdict::Quiet => 0x2020207465697571,
+        Verdict::Alert => 0x2020207472656c61,
+    }
+}
+
+// A verdict's word, the receiver and its tag.
+fn put_verdict(out: &mut [u8], at: usize, verdict: Verdict, receiver: u64, tag: u64) -> usize
+    requires { ⌜ at + answerLimit ≤ length (now out) ⌝ }
+    ensures { λ r. ⌜ Wrote (line (verdictWord verdict) (decimal receiver ∷ hexadecimal tag ∷ [])) (now (out .entry)) (now (out .exit)) at r ⌝ }
+{
+    fields::put64(out, at, verdict_word(verdict));
+    let next = put_container(out, at + VERDICT_LENGTH, receiver);
     put_tag(out, next, tag)
 }
 
 // The fields of a step's line from the verdict on.
-fn put_outcome(out: &mut [u8], at: usize, outcome: Outcome) -> usize
-    requires { ⌜ at + outcomeLimit ≤ length (now out) ⌝ }
-    ensures { λ r. ⌜ Wrote (line (verdictOf outcome) (valuesOf outcome)) (now (out .entry)) (now (out .exit)) at r ⌝ }
+fn put_answer(out: &mut [u8], at: usize, answer: Answer) -> usize
+    requires { ⌜ at + answerLimit ≤ length (now out) ⌝ }
+    ensures { λ r. ⌜ Wrote (line (answerWord answer) (answerFields answer)) (now (out .entry)) (now (out .exit)) at r ⌝ }
 {
-    match outcome {
-        Outcome::Quiet { receiver, tag } => put_verdict(out, at, QUIET, receiver, tag),
-        Outcome::Alert { receiver, tag } => put_verdict(out, at, ALERT, receiver, tag),
-        Outcome::Refused(number) => put_named(out, at, b"refused ", number, NEWLINE),
+    match answer {
+        Answer::Given(verdict, received) => put_verdict(
+            out,
+            at,
+            verdict,
+            received.receiver as u64,
+            received.tag,
+        ),
+        Answer::Refused(number) => put_named(out, at, b"refused ", number as u64, NEWLINE),
     }
 }
 
@@ -321,13 +329,13 @@ pub fn put_step(
     code: u64,
     p: u64,
     o: u64,
-    outcome: Outcome,
+    answer: Answer,
 ) -> usize
     requires { ⌜ at + lineLimit ≤ length (now out) ⌝ }
-    ensures { λ r. ⌜ Wrote (stepLine step code p o outcome) (now (out .entry)) (now (out .exit)) at r ⌝ }
+    ensures { λ r. ⌜ Wrote (stepLine step code p o answer) (now (out .entry)) (now (out .exit)) at r ⌝ }
 {
     let next = put_access(out, at, step, code, p, o);
-    put_outcome(out, next, outcome)
+    put_answer(out, next, answer)
 }
 
 // The line of a short last record.

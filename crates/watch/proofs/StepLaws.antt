@@ -1,48 +1,39 @@
 -- The line of a record, and that a line put where there is room for one ends inside the buffer.
 use Prim.Native.Nat.{ℕ, _+_, _≤_}
 use native.Mathlib.Omega.{arith}
-use mathlib.Core.Path.{_≡_, refl}
+use mathlib.Core.Path.{_≡_}
 use mathlib.Core.List.{List}
 use lib.ListN.{length}
 use Rattle.fields.specs.Bytes.{field}
-use Rattle.operations.specs.declared.Answer.{Answer}
-use Rattle.operations.specs.declared.Answer.the-variants as answers
-use Rattle.listing.specs.declared.Outcome.{Outcome}
-use Rattle.listing.specs.Lines.{heading, stepLine, shortLine, totalLine, policyLine}
 use Rattle.fields.specs.Writing.{Wrote}
-use Rattle.listing.specs.Buffer.{lineLimit}
 use Rattle.fields.proofs.WritingLaws.{wrote-as}
+use Rattle.answers.specs.declared.Answer.{Answer}
+use Rattle.answers.specs.declared.Tally.{Tally}
+use Rattle.listing.specs.Lines.{heading, stepLine, shortLine, totalLine, policyLine}
+use Rattle.listing.specs.Buffer.{lineLimit}
 use Rattle.listing.proofs.LineLaws.{heading-length, step-length, short-length, total-length, policy-length}
 use Rattle.watch.specs.declared.Progress.{Progress}
-use Rattle.watch.specs.Steps.{outcomeOf, recordLine, bufferSize, counted}
+use Rattle.watch.specs.Steps.{recordLine, bufferSize, Listed}
 
-pub record-text : (step code p o : ℕ) (x : Outcome) (bytes : List ℕ) (answer : Answer) {at next : ℕ} {before after : List ℕ}
-    → code ≡ field bytes 0 1 → p ≡ field bytes 2 2 → o ≡ field bytes 4 2 → x ≡ outcomeOf answer
-    → Wrote (stepLine step code p o x) before after at next → Wrote (recordLine step bytes answer) before after at next
+pub record-text : (step code p o n : ℕ) (bytes : List ℕ) (answer : Answer) {at next : ℕ} {before after : List ℕ}
+    → code ≡ field bytes 0 1 → p ≡ field bytes 2 2 → o ≡ field bytes 4 2 → step ≡ n
+    → Wrote (stepLine step code p o answer) before after at next → Wrote (recordLine n bytes answer) before after at next
 unfolding recordLine
-record-text step code p o x bytes answer ec ep eo ex h = wrote-as (rw (ec, ep, eo, ex)) h
-
-counted-at : (t : Progress) (answer : Answer) (at : ℕ) → counted t answer at .at ≡ at
-unfolding counted
-counted-at t (answers.Quiet receiver tag) at = refl
-counted-at t (answers.Alert receiver tag) at = refl
-counted-at t (answers.Refused number) at = refl
+record-text step code p o n bytes answer ec ep eo es h = wrote-as (rw (ec, ep, eo, es)) h
 
 within : (n : ℕ) {text before after : List ℕ} {at next : ℕ} → Wrote text before after at next → length text ≤ lineLimit
     → at + lineLimit ≤ n → next ≤ n
 within n h short free = omega (arith, h .ends)
 
-pub record-within : (run : Progress) (answer : Answer) (step : ℕ) (bytes : List ℕ) {r : Progress} {at next : ℕ} {before after : List ℕ}
-    → r ≡ counted run answer next → Wrote (recordLine step bytes answer) before after at next → at + lineLimit ≤ bufferSize
-    → r .at ≤ bufferSize
+pub record-within : (step : ℕ) (bytes : List ℕ) (answer : Answer) {tally : Tally} {run : Progress} {at : ℕ} {before after : List ℕ}
+    → Listed (recordLine step bytes answer) tally before after at run → at + lineLimit ≤ bufferSize → run .at ≤ bufferSize
 unfolding recordLine
-record-within run answer step bytes {next = next} e h free =
-    rw (e, counted-at run answer next)
-    (within bufferSize h (step-length step (field bytes 0 1) (field bytes 2 2) (field bytes 4 2) (outcomeOf answer)) free)
+record-within step bytes answer h free =
+    within bufferSize (h .text) (step-length step (field bytes 0 1) (field bytes 2 2) (field bytes 4 2) answer) free
 
-pub short-within : (step : ℕ) {at next : ℕ} {before after : List ℕ} → Wrote (shortLine step) before after at next → at + lineLimit ≤ bufferSize
-    → next ≤ bufferSize
-short-within step h free = within bufferSize h (short-length step) free
+pub short-within : (step : ℕ) {tally : Tally} {run : Progress} {at : ℕ} {before after : List ℕ}
+    → Listed (shortLine step) tally before after at run → at + lineLimit ≤ bufferSize → run .at ≤ bufferSize
+short-within step h free = within bufferSize (h .text) (short-length step) free
 
 pub total-within : (records alerts refused : ℕ) {at next : ℕ} {before after : List ℕ}
     → Wrote (totalLine records alerts refused) before after at next → at + lineLimit ≤ bufferSize → next ≤ bufferSize

@@ -4,15 +4,19 @@ ghost use mathlib.Core.Path.{_≡_};
 ghost use Prim.Native.Nat.{_+_, _≤_};
 ghost use lib.ListN.{length};
 ghost use Rattle.io.specs.Counts.{Counts};
+ghost use Rattle.answers.specs.Answers.{refused};
+ghost use Rattle.answers.specs.Refusals.{operationRecord};
+ghost use Rattle.answers.specs.Tallies.{more, counted};
 ghost use Rattle.monitor.specs.Records.{recordSize};
-ghost use Rattle.fields.specs.Writing.{Wrote};
 ghost use Rattle.listing.specs.Buffer.{lineLimit};
-ghost use Rattle.watch.specs.Steps.{outcomeOf, recordLine, bufferSize, more, counted};
+ghost use Rattle.listing.specs.Lines.{shortLine};
+ghost use Rattle.watch.specs.Steps.{toAnswer, recordLine, bufferSize, Listed};
+use answers::Answer;
+use answers::Received;
+use answers::Tally;
+use answers::Verdict;
 use libc::STDOUT_FILENO;
 use listing::LINE_LIMIT;
-use listing::Outcome;
-use operations::Answer;
-use std::num::wrapping_add_u64;
 
 const RECORD_SIZE: usize = 8;
 
@@ -21,11 +25,9 @@ const POLICY_ROOM: usize = 20481;
 
 // ---- the listing
 
-// The counts of the last line, and where the next line begins in the buffer.
+// The tally of the records so far, and where the next line begins in the buffer.
 pub struct Progress {
-    pub records: u64,
-    pub alerts: u64,
-    pub refused: u64,
+    pub tally: Tally,
     pub at: usize,
 }
 
@@ -48,96 +50,79 @@ fn room(out: &[u8], at: usize) -> usize
     at
 }
 
-fn outcome(answer: Answer) -> Outcome
-    ensures { λ r. ⌜ r ≡ outcomeOf answer ⌝ }
-{
-    match answer {
-        Answer::Quiet(receiver, tag) => Outcome::Quiet {
-            receiver: receiver as u64,
-            tag: tag,
-        },
-        Answer::Alert(receiver, tag) => Outcome::Alert {
-            receiver: receiver as u64,
-            tag: tag,
-        },
-        Answer::Refused(number) => Outcome::Refused(number as u64),
-    }
-}
-
-// The line of a whole record.
-fn put_record(out: &mut [u8], at: usize, step: u64, bytes: &[u8], answer: Answer) -> usize
-    requires { ⌜ (at + lineLimit ≤ length (now out)) × (length (now bytes) ≡ recordSize) ⌝ }
-    ensures { λ r. ⌜ Wrote (recordLine step (now (bytes .entry)) answer) (now (out .entry)) (now (out .exit)) at r ⌝ }
+// The line of a whole record at a place with room for it, and the record counted.
+fn list_record(out: &mut [u8], free: usize, tally: Tally, bytes: &[u8], answer: Answer) -> Progress
+    requires { ⌜ (free + lineLimit ≤ length (now out)) × (length (now bytes) ≡ recordSize) ⌝ }
+    ensures { λ r. ⌜ Listed (recordLine (more (tally .records)) (now (bytes .entry)) answer) (counted tally answer) (now (out .entry)) (now (out .exit)) free r ⌝ }
 {
     let code = fields::read8(bytes, 0);
     let p = fields::read16(bytes, 2);
     let o = fields::read16(bytes, 4);
-    let shown = outcome(answer);
-    listing::put_step(out, at, step, code as u64, p as u64, o as u64, shown)
+    let step = answers::more(tally.records);
+    let at = listing::put_step(out, free, step, code as u64, p as u64, o as u64, answer);
+    let counted = answers::count(tally, answer);
+    Progress {
+        tally: counted,
+        at: at,
+    }
 }
 
-// One more.
-fn more(n: u64) -> u64
-    ensures { λ r. ⌜ r ≡ more n ⌝ }
+// The line of a short last record, which is counted as refused.
+fn list_short(out: &mut [u8], free: usize, tally: Tally) -> Progress
+    requires { ⌜ free + lineLimit ≤ length (now out) ⌝ }
+    ensures { λ r. ⌜ Listed (shortLine (more (tally .records))) (counted tally (refused operationRecord)) (now (out .entry)) (now (out .exit)) free r ⌝ }
 {
-    wrapping_add_u64(n, 1)
-}
-
-// One more record was answered, and the next line begins at `at`.
-fn count(run: Progress, answer: Answer, at: usize) -> Progress
-    ensures { λ r. ⌜ r ≡ counted run answer at ⌝ }
-{
-    let records = more(run.records);
-    match answer {
-        Answer::Quiet(_, _) => Progress {
-            records: records,
-            alerts: run.alerts,
-            refused: run.refused,
-            at: at,
-        },
-        Answer::Alert(_, _) => Progress {
-            records: records,
-            alerts: more(run.alerts),
-            refused: run.refused,
-            at: at,
-        },
-        Answer::Refused(_) => Progress {
-            records: records,
-            alerts: run.alerts,
-            refused: more(run.refused),
-            at: at,
-        },
+    let step = answers::more(tally.records);
+    let at = listing::put_short(out, free, step);
+    let counted = answers::count(tally, Answer::Refused(answers::OPERATION_RECORD));
+    Progress {
+        tally: counted,
+        at: at,
     }
 }
 
 // ---- the trace
+
+// An answer of the monitor, in the words of `answers`.
+fn to_answer(answer: operations::Answer) -> Answer
+    ensures { λ r. ⌜ r ≡ toAnswer answer ⌝ }
+{
+    match answer {
+        operations::Answer::Quiet(receiver, tag) => Answer::Given(
+            Verdict::Quiet,
+            Received {
+                receiver: receiver,
+                tag: tag,
+            },
+        ),
+        operations::Answer::Alert(receiver, tag) => Answer::Given(
+            Verdict::Alert,
+            Received {
+                receiver: receiver,
+                tag: tag,
+            },
+        ),
+        operations::Answer::Refused(number) => Answer::Refused(number),
+    }
+}
 
 // A whole record: run on the session, listed and counted.
 fn run_record(bytes: &[u8], session: &mut [u64], out: &mut [u8], run: Progress) -> Progress
     requires { ⌜ (length (now bytes) ≡ recordSize) × (length (now out) ≡ bufferSize) × (run .at ≤ bufferSize) ⌝ }
     ensures { λ r. ⌜ r .at ≤ bufferSize ⌝ }
 {
-    let answer = monitor::step(session, bytes);
-    let step = more(run.records);
+    let answer = to_answer(monitor::step(session, bytes));
     let free = room(out, run.at);
-    let at = put_record(out, free, step, bytes, answer);
-    count(run, answer, at)
+    list_record(out, free, run.tally, bytes, answer)
 }
 
-// A short last record: no operation, listed and counted as refused.
+// A short last record: no operation.
 fn run_short(out: &mut [u8], run: Progress) -> Progress
     requires { ⌜ (length (now out) ≡ bufferSize) × (run .at ≤ bufferSize) ⌝ }
     ensures { λ r. ⌜ r .at ≤ bufferSize ⌝ }
 {
-    let step = more(run.records);
     let free = room(out, run.at);
-    let at = listing::put_short(out, free, step);
-    Progress {
-        records: step,
-        alerts: run.alerts,
-        refused: more(run.refused),
-        at: at,
-    }
+    list_short(out, free, run.tally)
 }
 
 // The whole records of a chunk.
@@ -210,10 +195,9 @@ fn watch(session: &mut [u64], out: &mut [u8]) -> Progress
     ensures { λ r. ⌜ r .at ≤ bufferSize ⌝ }
 {
     let at = listing::put_heading(out, 0);
+    let none = answers::no_tally();
     let begun = Progress {
-        records: 0,
-        alerts: 0,
-        refused: 0,
+        tally: none,
         at: at,
     };
     let fd = os::open_read(b"trace.bin");
@@ -230,7 +214,8 @@ fn finish(out: &mut [u8], run: Progress)
     requires { ⌜ (length (now out) ≡ bufferSize) × (run .at ≤ bufferSize) ⌝ }
 {
     let free = room(out, run.at);
-    let at = listing::put_total(out, free, run.records, run.alerts, run.refused);
+    let tally = run.tally;
+    let at = listing::put_total(out, free, tally.records, tally.alerts, tally.refused);
     flush(out, at);
 }
 

@@ -1,6 +1,7 @@
+-- By cases.
 use borrow.Author.Needs.{needs}
-use Rattle.watch.proofs.outcome.Statement.{statement}
-use Rattle.watch.proofs.outcome.Tie as tie
+use Rattle.watch.proofs.to_answer.Statement.{statement}
+use Rattle.watch.proofs.to_answer.Tie as tie
 
 enum-known-answer : tie.Need-enum-known-answer
 enum-known-answer c = search needs
@@ -11,9 +12,6 @@ enum-known-answer-2 c = search needs
 enum-known-answer-3 : tie.Need-enum-known-answer-3
 enum-known-answer-3 c = search needs
 
-cast-t10 : tie.Need-cast-t10
-cast-t10 c = search needs
-
 returns : tie.Need-returns
 returns c = rw (c .before .answer .given .1)
 
@@ -23,14 +21,13 @@ returns-2 c = rw (c .before .answer2 .given .1)
 returns-3 : tie.Need-returns-3
 returns-3 c = rw (c .before .answer3 .given .1)
 
-pub outcome-spec : {M : Type 1} → statement M
-outcome-spec =
+pub to-answer-spec : {M : Type 1} → statement M
+to-answer-spec =
     tie.close
     (tie.spec
     enum-known-answer
     enum-known-answer-2
     enum-known-answer-3
-    cast-t10
     returns
     returns-2
     returns-3)
