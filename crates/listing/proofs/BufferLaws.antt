@@ -1,13 +1,13 @@
--- Texts written with bytes behind them that do not count.
-use Prim.Native.Nat.{ℕ, _+_, _-_, _≤_}
+-- Texts written with bytes behind them that do not count. Only this crate cites it.
+use Prim.Native.Nat.{ℕ, _+_, _-_, _≤_, _<_}
 use native.Mathlib.Nat.{add-zero}
 use native.Mathlib.Omega.{arith}
 use mathlib.Core.Path.{_≡_, refl, sym, ap, ap₂, _∙_, subst}
-use mathlib.Core.List.{List, _++_, append-assoc}
-use lib.ListN.{length, take, drop, length-append, length-drop, take-append-drop}
+use mathlib.Core.List.{List, [], _∷_, _++_, append-assoc}
+use lib.ListN.{length, take, drop, set, length-append, length-drop, take-append-drop}
 use lib.Seq.{length-take-le, take-at, drop-append-add, drop-drop, take-length}
 use Rattle.fields.specs.Writing.{overwritten, Wrote}
-use Rattle.fields.proofs.WritingLaws.{wrote-as}
+use Rattle.fields.proofs.WritingLaws.{wrote-byte, wrote-as}
 use Rattle.listing.specs.Buffer.{WroteWithSpare}
 
 -- a text whose last bytes do not count
@@ -71,7 +71,7 @@ spare-join {x} {y} {b} {m} {a} {at} {n} {e} {k} l h p q =
       ends = omega (arith, p .ends, q .ends, length-append x y);
     }
 
--- the same text, spelled otherwise
+-- the same text, decimalValue otherwise
 pub spare-as : {x y b a : List ℕ} {at n k : ℕ} → x ≡ y → WroteWithSpare x k b a at n → WroteWithSpare y k b a at n
 spare-as {b = b} {a = a} {at = at} {n = n} {k = k} e p = subst (λ (t : List ℕ). WroteWithSpare t k b a at n) e p
 
@@ -89,3 +89,10 @@ spare-more {x} {b} {a} {at} {n} {k} l h p =
           ∙ ap (λ (i : ℕ). drop i b) f;
       ends = p .ends;
     }
+
+-- a byte behind a text, over what does not count
+pub spare-byte : {x b m : List ℕ} {at n k : ℕ} (d l : ℕ) → n < length m → k ≤ 1 + l → WroteWithSpare x k b m at n
+    → WroteWithSpare (x ++ (d ∷ [])) l b (set m n d) at (n + 1)
+spare-byte {m = m} {n = n} d l h f p =
+    let g : n ≤ length m = omega arith in
+    spare-join l f p (wrote-spare l g (wrote-byte d n m h))

@@ -1,4 +1,4 @@
--- The lines as their parts one behind the other, and their lengths.
+-- The lines as their parts one behind the other, and their lengths. Theorems restates what the lines' lengths are at most.
 use Prim.Native.Nat.{ℕ, _+_, _≤_}
 use native.Mathlib.Omega.{arith}
 use mathlib.Core.Path.{_≡_, refl}
@@ -12,15 +12,15 @@ use Rattle.answers.specs.declared.Verdict.the-variants.{Quiet, Alert}
 use Rattle.answers.specs.declared.Answer.{Answer}
 use Rattle.answers.specs.declared.Answer.the-variants.{Given, Refused}
 use Rattle.listing.specs.Text.{ascii, decimalLimit, decimal}
-use Rattle.listing.specs.Lines.{space, newline, line, spaced, wordOf, verdictWord, answerWord, answerFields, heading, stepLine, shortLine, totalLine, policyLine}
-use Rattle.listing.specs.Buffer.{wordLimit, accessLimit, verdictLength, answerLimit, lineLimit}
+use Rattle.listing.specs.Lines.{space, newline, line, spaced, operationWord, verdictWord, answerWord, answerFields, heading, stepLine, shortLine, totalLine, policyLine}
+use Rattle.listing.specs.Buffer.{operationLimit, accessLimit, verdictLength, answerLimit, lineLimit}
 use Rattle.listing.proofs.TextLaws.{decimal-length, hexadecimal-length}
 
 -- ---- texts
 
 pub other-word : (code : ℕ) → (code ≡ 1 → ⊥) → (code ≡ 2 → ⊥) → (code ≡ 3 → ⊥) → (code ≡ 4 → ⊥) → (code ≡ 5 → ⊥) → (code ≡ 6 → ⊥) → (code ≡ 7 → ⊥)
-    → wordOf code ≡ ascii "other"
-unfolding wordOf
+    → operationWord code ≡ ascii "other"
+unfolding operationWord
 other-word code a b d e f g h =
     simp (ne-eqb code 1 a, ne-eqb code 2 b, ne-eqb code 3 d, ne-eqb code 4 e, ne-eqb code 5 f, ne-eqb code 6 g, ne-eqb code 7 h)
 
@@ -34,7 +34,7 @@ unfolding line
 verdict-text w d h = simp append-assoc
 
 pub step-text : (step code p o : ℕ) (x : Answer)
-    → spaced (decimal step ∷ wordOf code ∷ decimal p ∷ decimal o ∷ []) ++ line (answerWord x) (answerFields x) ≡ stepLine step code p o x
+    → spaced (decimal step ∷ operationWord code ∷ decimal p ∷ decimal o ∷ []) ++ line (answerWord x) (answerFields x) ≡ stepLine step code p o x
 unfolding spaced stepLine line
 step-text step code p o x = simp append-assoc
 
@@ -58,11 +58,11 @@ cond-either P true x y p q = p
 cond-either P false x y p q = q
 
 abbrev Word : List ℕ → Type 0
-Word w = (4 ≤ length w) × (length w ≤ wordLimit)
+Word w = (4 ≤ length w) × (length w ≤ operationLimit)
 
-pub word-lengths : (code : ℕ) → (4 ≤ length (wordOf code)) × (length (wordOf code) ≤ wordLimit)
-unfolding wordOf ascii
-word-lengths code =
+pub operation-bounds : (code : ℕ) → (4 ≤ length (operationWord code)) × (length (operationWord code) ≤ operationLimit)
+unfolding operationWord ascii
+operation-bounds code =
     cond-either Word (eqb code 1) _ _ (omega arith, omega arith)
     (cond-either Word (eqb code 2) _ _ (omega arith, omega arith)
     (cond-either Word (eqb code 3) _ _ (omega arith, omega arith)
@@ -71,31 +71,31 @@ word-lengths code =
     (cond-either Word (eqb code 6) _ _ (omega arith, omega arith)
     (cond-either Word (eqb code 7) _ _ (omega arith, omega arith) (omega arith, omega arith)))))))
 
-pub word-length : (code : ℕ) → length (wordOf code ++ (space ∷ [])) ≤ wordLimit + 1
-word-length code = simp length-append (omega (arith, word-lengths code))
+pub operation-length : (code : ℕ) → length (operationWord code ++ (space ∷ [])) ≤ operationLimit + 1
+operation-length code = simp length-append (omega (arith, operation-bounds code))
 
-pub access-length : (step code p o : ℕ) → length (spaced (decimal step ∷ wordOf code ∷ decimal p ∷ decimal o ∷ [])) ≤ accessLimit
+pub access-length : (step code p o : ℕ) → length (spaced (decimal step ∷ operationWord code ∷ decimal p ∷ decimal o ∷ [])) ≤ accessLimit
 unfolding spaced
 access-length step code p o =
-    simp length-append (omega (arith, decimal-length step, word-lengths code, decimal-length p, decimal-length o))
+    simp length-append (omega (arith, decimal-length step, operation-bounds code, decimal-length p, decimal-length o))
 
 pub verdict-length : (v : Verdict) → length (verdictWord v ++ (space ∷ [])) ≡ verdictLength
 unfolding verdictWord ascii
 verdict-length Quiet = refl
 verdict-length Alert = refl
 
-pub answer-lengths : (x : Answer) → (2 ≤ length (line (answerWord x) (answerFields x))) × (length (line (answerWord x) (answerFields x)) ≤ answerLimit)
+pub answer-bounds : (x : Answer) → (2 ≤ length (line (answerWord x) (answerFields x))) × (length (line (answerWord x) (answerFields x)) ≤ answerLimit)
 unfolding answerWord answerFields line ascii
-answer-lengths (Given verdict received) =
+answer-bounds (Given verdict received) =
     let v : length (verdictWord verdict) ≡ 5 = omega (arith, length-append (verdictWord verdict) (space ∷ []), verdict-length verdict) in (
       simp length-append (omega arith),
       simp length-append (omega (arith, v, decimal-length (received .receiver), hexadecimal-length (received .tag))),
     )
-answer-lengths (Refused number) = (simp length-append (omega arith), simp length-append (omega (arith, decimal-length number)))
+answer-bounds (Refused number) = (simp length-append (omega arith), simp length-append (omega (arith, decimal-length number)))
 
 pub step-length : (step code p o : ℕ) (x : Answer) → length (stepLine step code p o x) ≤ lineLimit
 step-length step code p o x =
-    rw (← step-text step code p o x, length-append) (omega (arith, access-length step code p o, answer-lengths x))
+    rw (← step-text step code p o x, length-append) (omega (arith, access-length step code p o, answer-bounds x))
 
 pub heading-length : length heading ≤ lineLimit
 unfolding heading line ascii

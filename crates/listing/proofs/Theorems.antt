@@ -1,5 +1,5 @@
 -- What is proved of the listing, beside the contracts of src/: the statements, each with the law that proves it.
--- `decimal`, `hexadecimal` and `spelled` are the definitions of specs/Text.antt, the lines those of specs/Lines.antt,
+-- `decimal`, `hexadecimal` and `decimalValue` are the definitions of specs/Text.antt, the lines those of specs/Lines.antt,
 -- `WroteWithSpare` is that of specs/Buffer.antt.
 use Prim.Native.Nat.{ℕ, _+_, _/_, _%_, _^_, _≤_, _<_}
 use native.Mathlib.Omega.{arith}
@@ -9,8 +9,8 @@ use lib.ListN.{length, getD}
 use Rattle.answers.specs.declared.Answer.{Answer}
 use Rattle.answers.specs.Refusals.{operationRecord}
 use Rattle.answers.specs.Answers.{refused}
-use Rattle.listing.specs.Text.{ascii, digit, decimalLimit, decimalIn, decimal, tagDigits, hexadecimal, spelled}
-use Rattle.listing.specs.Lines.{line, wordOf, verdictWord, answerWord, answerFields, heading, stepLine, shortLine, totalLine, policyLine}
+use Rattle.listing.specs.Text.{ascii, digit, decimalLimit, decimalIn, decimal, tagDigits, hexadecimal, decimalValue}
+use Rattle.listing.specs.Lines.{line, operationWord, verdictWord, answerWord, answerFields, heading, stepLine, shortLine, totalLine, policyLine}
 use Rattle.listing.specs.Buffer.{lineLimit, WroteWithSpare}
 use Rattle.fields.specs.Writing.{Wrote}
 use Rattle.listing.proofs.TextLaws as text
@@ -27,8 +27,8 @@ pub decimal-above : (n : ℕ) → 10 ≤ n → n < 10 ^ decimalLimit → decimal
 decimal-above = text.decimal-above
 
 -- the digits spell the number
-pub decimal-spells : (n : ℕ) → n < 10 ^ decimalLimit → spelled 0 (decimal n) ≡ n
-decimal-spells = text.spelled-decimal
+pub decimal-spells : (n : ℕ) → n < 10 ^ decimalLimit → decimalValue 0 (decimal n) ≡ n
+decimal-spells = text.value-decimal
 
 -- no leading zeros
 pub decimal-leads : (n : ℕ) → 0 < n → n < 10 ^ decimalLimit → digit 0 < getD (decimal n) 0 0
@@ -46,7 +46,7 @@ hexadecimal-length = text.hexadecimal-length
 
 -- a short last record is listed as a step with an unknown code that is refused with 7
 pub short-step : (step : ℕ) → shortLine step ≡ stepLine step 0 0 0 (refused operationRecord)
-unfolding shortLine stepLine line wordOf answerWord answerFields verdictWord decimal decimalIn digit ascii
+unfolding shortLine stepLine line operationWord answerWord answerFields verdictWord decimal decimalIn digit ascii
 short-step step = refl
 
 -- no line has more bytes than the functions ask room for

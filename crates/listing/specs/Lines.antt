@@ -28,8 +28,8 @@ spaced [] = []
 spaced (f ∷ fs) = f ++ (space ∷ spaced fs)
 
 -- "Words: read, write, append, exec, fork, file, volatile, other (unknown code)"
-unfoldable pub wordOf : ℕ → List ℕ
-wordOf code =
+unfoldable pub operationWord : ℕ → List ℕ
+operationWord code =
     cond (eqb code 1) (ascii "read")
     (cond (eqb code 2) (ascii "write")
     (cond (eqb code 3) (ascii "append")
@@ -49,7 +49,7 @@ unfoldable pub answerWord : Answer → List ℕ
 answerWord (Given verdict received) = verdictWord verdict
 answerWord (Refused number) = ascii "refused"
 
--- "receiver, tag in 16 hexadecimal digits (small letters), or the refusal number": the fields behind it
+-- "receiver, tag in 16 hexadecimal digits (by-ten letters), or the refusal number": the fields behind it
 unfoldable pub answerFields : Answer → List (List ℕ)
 answerFields (Given verdict received) = decimal (received .receiver) ∷ hexadecimal (received .tag) ∷ []
 answerFields (Refused number) = decimal number ∷ []
@@ -61,7 +61,7 @@ heading = line (ascii "step") (ascii "op" ∷ ascii "p" ∷ ascii "o" ∷ ascii 
 -- "Fields: step, operation, p, o, verdict, receiver, tag .., or the refusal number"
 unfoldable pub stepLine : ℕ → ℕ → ℕ → ℕ → Answer → List ℕ
 stepLine step code p o answer =
-    line (decimal step) (wordOf code ∷ decimal p ∷ decimal o ∷ answerWord answer ∷ answerFields answer)
+    line (decimal step) (operationWord code ∷ decimal p ∷ decimal o ∷ answerWord answer ∷ answerFields answer)
 
 -- "a short last record counts as a step and is listed, behind its step number, as `other 0 0 refused 7`"
 unfoldable pub shortLine : ℕ → List ℕ

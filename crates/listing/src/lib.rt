@@ -8,8 +8,8 @@ ghost use lib.ListN.{length, take};
 ghost use Rattle.fields.specs.Bytes.{bytesOf};
 ghost use Rattle.fields.specs.Writing.{Wrote};
 ghost use Rattle.listing.specs.Text.{digits, decimalLimit, decimal, tagDigits, hexadecimal};
-ghost use Rattle.listing.specs.Lines.{space, newline, line, spaced, wordOf, verdictWord, answerWord, answerFields, heading, stepLine, shortLine, totalLine, policyLine};
-ghost use Rattle.listing.specs.Buffer.{WroteWithSpare, wordLimit, accessLimit, verdictLength, answerLimit, lineLimit};
+ghost use Rattle.listing.specs.Lines.{space, newline, line, spaced, operationWord, verdictWord, answerWord, answerFields, heading, stepLine, shortLine, totalLine, policyLine};
+ghost use Rattle.listing.specs.Buffer.{WroteWithSpare, operationLimit, accessLimit, verdictLength, answerLimit, lineLimit};
 use answers::Answer;
 use answers::Verdict;
 
@@ -200,8 +200,8 @@ fn put_named(out: &mut [u8], at: usize, name: &[u8], n: u64, end: u8) -> usize
 }
 
 // An operation's word as the bytes of a number, the first letter lowest, with spaces behind it.
-fn word(code: u64) -> u64
-    ensures { λ r. ⌜ take (length (wordOf code)) (bytesOf 8 r) ≡ wordOf code ⌝ }
+fn operation_word(code: u64) -> u64
+    ensures { λ r. ⌜ take (length (operationWord code)) (bytesOf 8 r) ≡ operationWord code ⌝ }
 {
     match code {
         1 => 0x2020202064616572,
@@ -216,8 +216,8 @@ fn word(code: u64) -> u64
 }
 
 // How many letters the word has.
-fn word_length(code: u64) -> usize
-    ensures { λ r. ⌜ r ≡ length (wordOf code) ⌝ }
+fn operation_length(code: u64) -> usize
+    ensures { λ r. ⌜ r ≡ length (operationWord code) ⌝ }
 {
     match code {
         1 => 4,
@@ -232,12 +232,12 @@ fn word_length(code: u64) -> usize
 }
 
 // An operation's word and the space behind it.
-fn put_word(out: &mut [u8], at: usize, code: u64) -> usize
-    requires { ⌜ at + wordLimit < length (now out) ⌝ }
-    ensures { λ r. ⌜ WroteWithSpare (wordOf code ++ (space ∷ [])) 3 (now (out .entry)) (now (out .exit)) at r ⌝ }
+fn put_operation(out: &mut [u8], at: usize, code: u64) -> usize
+    requires { ⌜ at + operationLimit < length (now out) ⌝ }
+    ensures { λ r. ⌜ WroteWithSpare (operationWord code ++ (space ∷ [])) 3 (now (out .entry)) (now (out .exit)) at r ⌝ }
 {
-    fields::put64(out, at, word(code));
-    let next = at + word_length(code);
+    fields::put64(out, at, operation_word(code));
+    let next = at + operation_length(code);
     out[next] = SPACE;
     next + 1
 }
@@ -268,10 +268,10 @@ fn put_container(out: &mut [u8], at: usize, n: u64) -> usize
 // The fields of a step's line before the verdict.
 fn put_access(out: &mut [u8], at: usize, step: u64, code: u64, p: u64, o: u64) -> usize
     requires { ⌜ at + accessLimit ≤ length (now out) ⌝ }
-    ensures { λ r. ⌜ WroteWithSpare (spaced (decimal step ∷ wordOf code ∷ decimal p ∷ decimal o ∷ [])) 2 (now (out .entry)) (now (out .exit)) at r ⌝ }
+    ensures { λ r. ⌜ WroteWithSpare (spaced (decimal step ∷ operationWord code ∷ decimal p ∷ decimal o ∷ [])) 2 (now (out .entry)) (now (out .exit)) at r ⌝ }
 {
     let op = put_step_number(out, at, step);
-    let subject = put_word(out, op, code);
+    let subject = put_operation(out, op, code);
     let object = put_container(out, subject, p);
     put_container(out, object, o)
 }

@@ -2,7 +2,7 @@
 use Prim.Native.Nat.{ℕ}
 use mathlib.Core.Path.{_≡_}
 use mathlib.Core.List.{List}
-use Rattle.fields.specs.Bytes.{field}
+use Rattle.monitor.specs.Records.{requestIn}
 use Rattle.fields.specs.Writing.{Wrote}
 use Rattle.answers.specs.declared.Answer.{Answer}
 use Rattle.answers.specs.declared.Tally.{Tally}
@@ -18,15 +18,15 @@ toAnswer (answered.Quiet receiver tag) = quiet receiver tag
 toAnswer (answered.Alert receiver tag) = alert receiver tag
 toAnswer (answered.Refused number) = refused number
 
--- the line of a record of 8 bytes: its own code, p and o, whatever it was answered
+-- the line of a whole record: its own code, p and o, whatever it was answered
 unfoldable pub recordLine : ℕ → List ℕ → Answer → List ℕ
-recordLine step bytes answer = stepLine step (field bytes 0 1) (field bytes 2 2) (field bytes 4 2) answer
+recordLine step bytes answer = stepLine step (requestIn bytes .code) (requestIn bytes .p) (requestIn bytes .o) answer
 
 -- bytes of the buffers for the trace and for the listing
 abbrev pub bufferSize : ℕ
 bufferSize = 65536
 
 -- a line was written at a place of the buffer, the next begins behind it, and the tally is this one
-pub record Listed (line : List ℕ) (tally : Tally) (before after : List ℕ) (at : ℕ) (run : Progress) : Type 0 where
+pub record ListedLine (line : List ℕ) (tally : Tally) (before after : List ℕ) (at : ℕ) (run : Progress) : Type 0 where
   pub text : Wrote line before after at (run .at)
   pub counts : run .tally ≡ tally

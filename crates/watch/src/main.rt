@@ -10,7 +10,7 @@ ghost use Rattle.answers.specs.Tallies.{more, counted};
 ghost use Rattle.monitor.specs.Records.{recordSize};
 ghost use Rattle.listing.specs.Buffer.{lineLimit};
 ghost use Rattle.listing.specs.Lines.{shortLine};
-ghost use Rattle.watch.specs.Steps.{toAnswer, recordLine, bufferSize, Listed};
+ghost use Rattle.watch.specs.Steps.{toAnswer, recordLine, bufferSize, ListedLine};
 use answers::Answer;
 use answers::Received;
 use answers::Tally;
@@ -53,7 +53,7 @@ fn room(out: &[u8], at: usize) -> usize
 // The line of a whole record at a place with room for it, and the record counted.
 fn list_record(out: &mut [u8], free: usize, tally: Tally, bytes: &[u8], answer: Answer) -> Progress
     requires { ⌜ (free + lineLimit ≤ length (now out)) × (length (now bytes) ≡ recordSize) ⌝ }
-    ensures { λ r. ⌜ Listed (recordLine (more (tally .records)) (now (bytes .entry)) answer) (counted tally answer) (now (out .entry)) (now (out .exit)) free r ⌝ }
+    ensures { λ r. ⌜ ListedLine (recordLine (more (tally .records)) (now (bytes .entry)) answer) (counted tally answer) (now (out .entry)) (now (out .exit)) free r ⌝ }
 {
     let code = fields::read8(bytes, 0);
     let p = fields::read16(bytes, 2);
@@ -70,7 +70,7 @@ fn list_record(out: &mut [u8], free: usize, tally: Tally, bytes: &[u8], answer: 
 // The line of a short last record, which is counted as refused.
 fn list_short(out: &mut [u8], free: usize, tally: Tally) -> Progress
     requires { ⌜ free + lineLimit ≤ length (now out) ⌝ }
-    ensures { λ r. ⌜ Listed (shortLine (more (tally .records))) (counted tally (refused operationRecord)) (now (out .entry)) (now (out .exit)) free r ⌝ }
+    ensures { λ r. ⌜ ListedLine (shortLine (more (tally .records))) (counted tally (refused operationRecord)) (now (out .entry)) (now (out .exit)) free r ⌝ }
 {
     let step = answers::more(tally.records);
     let at = listing::put_short(out, free, step);

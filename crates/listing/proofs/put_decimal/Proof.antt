@@ -1,3 +1,4 @@
+-- By the number's size.
 use Prim.Native.Nat.{_≤_}
 use native.Mathlib.Omega.{arith}
 use lib.ListN.{length}

@@ -1,3 +1,4 @@
+-- Of the four bytes that are stored, the three digits count.
 use Prim.Native.Nat.{ℕ, _+_, _≤_}
 use native.Mathlib.Omega.{arith}
 use mathlib.Core.Path.{_≡_, ap, _∙_}
@@ -5,7 +6,7 @@ use lib.ListN.{length, take}
 use Rattle.listing.specs.Text.{digits}
 use Rattle.fields.specs.Bytes.{bytesOf}
 use Rattle.listing.proofs.TextLaws.{digits-length, group-digits}
-use Rattle.fields.proofs.ByteLaws.{bytes-length, bytes-take}
+use Rattle.fields.proofs.ByteLaws.{bytes-length, bytes-first}
 use Rattle.listing.proofs.BufferLaws.{spare-front}
 use borrow.Author.Needs.{needs}
 use Rattle.listing.proofs.put_group.Statement.{statement}
@@ -31,8 +32,11 @@ returns c =
     let h : a .at ≤ length (a .out .now) = omega arith in
     let l : length (digits 10 3 (a .n)) ≡ 3 = digits-length 10 3 (a .n) in
     let e : take (length (digits 10 3 (a .n))) (bytesOf 4 r) ≡ digits 10 3 (a .n) =
-    ap (λ (k : ℕ). take k (bytesOf 4 r)) l ∙ bytes-take 3 1 r ∙ c .before .before .before .three-digits .ensures ∙ group-digits (a .n) in
-    spare-front (digits 10 3 (a .n)) (bytesOf 4 r) (a .out .now) (p .last .0) (a .at) (p .result) 1 (a .at + 3) h e (omega (arith, bytes-length 4 r)) (p .ensures) (omega arith)
+    ap (λ (k : ℕ). take k (bytesOf 4 r)) l ∙ bytes-first 3 1 r ∙ c .before .before .before .three-digits .ensures ∙ group-digits (a .n) in
+    spare-front (digits 10 3 (a .n)) (bytesOf 4 r) (a .out .now) (p .last .0) (a .at) (p .result) 1 (a .at + 3) h e
+    (omega (arith, bytes-length 4 r))
+    (p .ensures)
+    (omega arith)
 
 pub put-group-spec : {M : Type 1} → statement M
 put-group-spec =

@@ -1,3 +1,4 @@
+-- The digits of the tag's halves, one behind the other.
 use Prim.Native.Nat.{ℕ, _≤_}
 use native.Mathlib.Omega.{arith}
 use mathlib.Core.Path.{ap₂, _∙_}
@@ -29,8 +30,10 @@ returns : tie.Need-returns
 returns c =
     let a = c .before .before .before .before .before .before .before .before .before .before .before .args in
     let h : a .at ≤ length (a .out .now) = omega arith in
+    let high = c .before .before .before .before .before .before .before .before .eight-digits in
+    let low = c .before .before .before .eight-digits2 in
     wrote-as
-    (ap₂ (λ (x y : List ℕ). x ++ y) (c .before .before .before .before .before .before .before .before .eight-digits .ensures) (c .before .before .before .eight-digits2 .ensures) ∙ hexadecimal-halves (a .tag))
+    (ap₂ (λ (x y : List ℕ). x ++ y) (high .ensures) (low .ensures) ∙ hexadecimal-halves (a .tag))
     (wrote-join h (c .before .before .before .before .before .before .before .put64 .ensures) (c .before .before .put642 .ensures))
 
 pub put-hexadecimal-spec : {M : Type 1} → statement M

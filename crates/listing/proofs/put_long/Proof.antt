@@ -1,3 +1,4 @@
+-- Invariant: the digits that are still to be written and those behind them make the number (Spelling).
 use Prim.Native.Nat.{ℕ, _+_, _%_, _≤_, _<_}
 use native.Mathlib.Omega.{arith}
 use mathlib.Core.Path.{_≡_, sym, ap, _∙_}

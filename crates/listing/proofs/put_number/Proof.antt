@@ -1,3 +1,4 @@
+-- A number and a byte, one behind the other.
 use Prim.Native.Nat.{_≤_, _<_}
 use native.Mathlib.Omega.{arith}
 use lib.ListN.{length}

@@ -1,3 +1,4 @@
+-- Of the four bytes that are stored, those of the digits that the number needs count.
 use Prim.Native.Nat.{ℕ, _+_, _-_, _*_, _/_, _^_, _≤_}
 use native.Mathlib.Omega.{arith}
 use lib.ListN.{length}

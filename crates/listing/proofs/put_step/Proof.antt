@@ -1,8 +1,9 @@
+-- The access and the answer; the answer is longer than what does not count behind the access.
 use Prim.Native.Nat.{_≤_}
 use native.Mathlib.Omega.{arith}
 use lib.ListN.{length}
 use Rattle.listing.proofs.BufferLaws.{wrote-spare, spare-none, spare-join, spare-as}
-use Rattle.listing.proofs.LineLaws.{step-text, access-length, answer-lengths}
+use Rattle.listing.proofs.LineLaws.{step-text, access-length, answer-bounds}
 use borrow.Author.Needs.{needs}
 use Rattle.listing.proofs.put_step.Statement.{statement}
 use Rattle.listing.proofs.put_step.Tie as tie
@@ -21,12 +22,13 @@ same-length c = search needs
 returns : tie.Need-returns
 returns c =
     let a = c .before .before .before .before .before .before .before .before .before .args in
-    let p = c .before .before .before .before .before .before .put-access in
-    let h : p .result ≤ length (p .last .0) = omega (arith, access-length (a .step) (a .code) (a .p) (a .o)) in
+    let access = c .before .before .before .before .before .before .put-access in
+    let h : access .result ≤ length (access .last .0) = omega (arith, access-length (a .step) (a .code) (a .p) (a .o)) in
+    let answer = wrote-spare 0 h (c .before .before .put-answer .ensures) in
     spare-none
     (spare-as
     (step-text (a .step) (a .code) (a .p) (a .o) (a .answer))
-    (spare-join 0 (omega (arith, answer-lengths (a .answer))) (p .ensures) (wrote-spare 0 h (c .before .before .put-answer .ensures))))
+    (spare-join 0 (omega (arith, answer-bounds (a .answer))) (access .ensures) answer))
 
 pub put-step-spec : {M : Type 1} → statement M
 put-step-spec = tie.close (tie.spec put-access-requires put-answer-requires same-length returns)

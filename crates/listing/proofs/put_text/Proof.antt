@@ -1,3 +1,4 @@
+-- Invariant: the first i bytes are copied.
 use Prim.Native.Nat.{_-_, _≤_}
 use native.Mathlib.Numerals.{add-one}
 use native.Mathlib.Omega.{arith}

@@ -1,4 +1,5 @@
 -- The text is that of the listing, the tally that of the count.
+use Rattle.monitor.specs.Records.{requestIn}
 use Rattle.watch.proofs.StepLaws.{record-text}
 use borrow.Author.Needs.{needs}
 use Rattle.watch.proofs.list_record.Statement.{statement}
@@ -26,6 +27,7 @@ same-length : tie.Need-same-length
 same-length c = search needs
 
 returns : tie.Need-returns
+unfolding requestIn
 returns c =
     let p = c .before .before .before .before .before .before .before .read16 in
     let o = c .before .before .before .before .before .before .read162 in
