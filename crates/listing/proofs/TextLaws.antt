@@ -51,11 +51,11 @@ digits-length b (suc k) n =
 
 -- ---- decimal
 
-pub decimalIn-below : (k n : ℕ) → n < 10 → decimalIn (suc k) n ≡ digit n ∷ []
+decimalIn-below : (k n : ℕ) → n < 10 → decimalIn (suc k) n ≡ digit n ∷ []
 unfolding decimalIn
 decimalIn-below k n h = let e : n % 10 ≡ n = omega arith in simp (lt-ltb n 10 h, e)
 
-pub decimalIn-above : (k n : ℕ) → 10 ≤ n → decimalIn (suc k) n ≡ decimalIn k (n / 10) ++ (digit (n % 10) ∷ [])
+decimalIn-above : (k n : ℕ) → 10 ≤ n → decimalIn (suc k) n ≡ decimalIn k (n / 10) ++ (digit (n % 10) ∷ [])
 unfolding decimalIn
 decimalIn-above k n h = simp (le-ltb n 10 h)
 
@@ -79,7 +79,7 @@ one-more (suc k) n h =
     (λ l. decimalIn-below (suc (suc k)) n l ∙ sym (decimalIn-below (suc k) n l))
     (λ l. decimalIn-above (suc (suc k)) n l ∙ ap (λ (x : List ℕ). x ++ (digit (n % 10) ∷ [])) (one-more k (n / 10) (tenth (suc k) n h)) ∙ sym (decimalIn-above (suc k) n l))
 
-pub decimalIn-length : (k n : ℕ) → length (decimalIn k n) ≤ k
+decimalIn-length : (k n : ℕ) → length (decimalIn k n) ≤ k
 unfolding decimalIn
 decimalIn-length zero n = omega arith
 decimalIn-length (suc k) n =

@@ -253,7 +253,7 @@ fn put_step_number(out: &mut [u8], at: usize, n: u64) -> usize
 }
 
 // A container's number and the space behind it.
-fn put_container(out: &mut [u8], at: usize, n: u64) -> usize
+fn put_container_number(out: &mut [u8], at: usize, n: u64) -> usize
     requires { ⌜ at + decimalLimit < length (now out) ⌝ }
     ensures { λ r. ⌜ WroteWithSpare (decimal n ++ (space ∷ [])) 2 (now (out .entry)) (now (out .exit)) at r ⌝ }
 {
@@ -272,8 +272,8 @@ fn put_access(out: &mut [u8], at: usize, step: u64, code: u64, p: u64, o: u64) -
 {
     let op = put_step_number(out, at, step);
     let subject = put_operation(out, op, code);
-    let object = put_container(out, subject, p);
-    put_container(out, object, o)
+    let object = put_container_number(out, subject, p);
+    put_container_number(out, object, o)
 }
 
 // A verdict's word as the bytes of a number, the first letter lowest, with spaces behind it.
@@ -292,7 +292,7 @@ fn put_verdict(out: &mut [u8], at: usize, verdict: Verdict, receiver: u64, tag: 
     ensures { λ r. ⌜ Wrote (line (verdictWord verdict) (decimal receiver ∷ hexadecimal tag ∷ [])) (now (out .entry)) (now (out .exit)) at r ⌝ }
 {
     fields::put64(out, at, verdict_word(verdict));
-    let next = put_container(out, at + VERDICT_LENGTH, receiver);
+    let next = put_container_number(out, at + VERDICT_LENGTH, receiver);
     put_tag(out, next, tag)
 }
 

@@ -18,13 +18,13 @@ put-step-number-requires c κs = search needs
 put-operation-requires : tie.Need-put-operation-requires
 put-operation-requires c κs = omega (arith, number-length (c .before .before .before .before .before .before .args .step) space)
 
-put-container-requires : tie.Need-put-container-requires
-put-container-requires c κs =
+put-container-number-requires : tie.Need-put-container-number-requires
+put-container-number-requires c κs =
     let a = c .before .before .before .before .before .before .before .before .before .before .args in
     omega (arith, number-length (a .step) space, operation-length (a .code))
 
-put-container-requires-2 : tie.Need-put-container-requires-2
-put-container-requires-2 c κs =
+put-container-number-requires-2 : tie.Need-put-container-number-requires-2
+put-container-number-requires-2 c κs =
     let a = c .before .before .before .before .before .before .before .before .before .before .before .before .before .before .args in
     omega (arith, number-length (a .step) space, operation-length (a .code), number-length (a .p) space)
 
@@ -36,8 +36,8 @@ returns c =
     let a = c .before .before .before .before .before .before .before .before .before .before .before .before .before .before .before .before .before .args in
     let step = c .before .before .before .before .before .before .before .before .before .before .before .before .before .before .put-step-number in
     let operation = c .before .before .before .before .before .before .before .before .before .before .put-operation in
-    let subject = c .before .before .before .before .before .before .put-container in
-    let object = c .before .before .put-container2 in
+    let subject = c .before .before .before .before .before .before .put-container-number in
+    let object = c .before .before .put-container-number2 in
     let p : 3 ≤ length (decimal (a .p) ++ (space ∷ [])) + 2 = omega (arith, length-append (decimal (a .p)) (space ∷ []), decimal-some (a .p)) in
     let first = spare-join 3 (omega arith) (step .ensures) (operation .ensures) in
     let second = spare-join 2 p first (subject .ensures) in
@@ -51,7 +51,7 @@ put-access-spec =
     (tie.spec
     put-step-number-requires
     put-operation-requires
-    put-container-requires
-    put-container-requires-2
+    put-container-number-requires
+    put-container-number-requires-2
     same-length
     returns)

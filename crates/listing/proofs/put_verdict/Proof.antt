@@ -22,11 +22,11 @@ verdict-word-requires c κs = search needs
 put64-requires : tie.Need-put64-requires
 put64-requires c κs = search needs
 
-add-put-container : tie.Need-add-put-container
-add-put-container c = search needs
+add-put-container-number : tie.Need-add-put-container-number
+add-put-container-number c = search needs
 
-put-container-requires : tie.Need-put-container-requires
-put-container-requires c κs = search needs
+put-container-number-requires : tie.Need-put-container-number-requires
+put-container-number-requires c κs = search needs
 
 put-tag-requires : tie.Need-put-tag-requires
 put-tag-requires c κs =
@@ -42,7 +42,7 @@ returns c =
     let a = start .args in
     let b = c .before .before .before .before .before .before .before .before .before .before .before .verdict-word in
     let p = c .before .before .before .before .before .before .before .before .before .before .put64 in
-    let q = c .before .before .before .before .before .before .put-container in
+    let q = c .before .before .before .before .before .before .put-container-number in
     let w : List ℕ = verdictWord (a .verdict) ++ (space ∷ []) in
     let l : length w ≡ verdictLength = verdict-length (a .verdict) in
     let h : a .at ≤ length (a .out .now) = omega arith in
@@ -66,8 +66,8 @@ put-verdict-spec =
     (tie.spec
     verdict-word-requires
     put64-requires
-    add-put-container
-    put-container-requires
+    add-put-container-number
+    put-container-number-requires
     put-tag-requires
     same-length
     returns)

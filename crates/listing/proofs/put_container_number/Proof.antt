@@ -6,8 +6,8 @@ use Rattle.listing.specs.Lines.{space}
 use Rattle.listing.proofs.TextLaws.{decimal-length}
 use Rattle.listing.proofs.BufferLaws.{wrote-spare, spare-byte}
 use borrow.Author.Needs.{needs}
-use Rattle.listing.proofs.put_container.Statement.{statement}
-use Rattle.listing.proofs.put_container.Tie as tie
+use Rattle.listing.proofs.put_container_number.Statement.{statement}
+use Rattle.listing.proofs.put_container_number.Tie as tie
 
 put-short-number-requires : tie.Need-put-short-number-requires
 put-short-number-requires c κs = search needs
@@ -40,8 +40,8 @@ returns-2 c =
     let h : a .at ≤ length (a .out .now) = omega arith in
     wrote-spare 2 h (c .before .before .put-number .ensures)
 
-pub put-container-spec : {M : Type 1} → statement M
-put-container-spec =
+pub put-container-number-spec : {M : Type 1} → statement M
+put-container-number-spec =
     tie.close
     (tie.spec
     put-short-number-requires
