@@ -1,9 +1,9 @@
 -- The paper's listing and numbers as text, each computed from the definitions.
 use mathlib.Core.Path.{_≡_, refl}
 use mathlib.Core.List.{[], _∷_, map}
-use Rattle.listing.specs.declared.Outcome.the-variants.{Quiet, Alert, Refused}
+use Rattle.answers.specs.Answers.{quiet, alert, refused}
 use Rattle.listing.specs.Text.{ascii, digit, digits, decimalIn, decimal, hexadecimal}
-use Rattle.listing.specs.Lines.{line, wordOf, verdictOf, valuesOf, heading, stepLine, shortLine, totalLine, policyLine}
+use Rattle.listing.specs.Lines.{line, operationWord, verdictWord, answerWord, answerFields, heading, stepLine, shortLine, totalLine, policyLine}
 
 -- ---- the listing
 
@@ -11,28 +11,28 @@ names-the-fields : heading ≡ ascii "step op p o verdict at tag\n"
 unfolding heading line ascii
 names-the-fields = refl
 
-step-1 : stepLine 1 1 4 2 (Quiet 4 4) ≡ ascii "1 read 4 2 quiet 4 0000000000000004\n"
-unfolding stepLine wordOf verdictOf valuesOf line decimal decimalIn hexadecimal digits digit ascii
+step-1 : stepLine 1 1 4 2 (quiet 4 4) ≡ ascii "1 read 4 2 quiet 4 0000000000000004\n"
+unfolding stepLine operationWord answerWord answerFields verdictWord line decimal decimalIn hexadecimal digits digit ascii
 step-1 = refl
 
-step-2 : stepLine 2 3 4 0 (Quiet 0 5) ≡ ascii "2 append 4 0 quiet 0 0000000000000005\n"
-unfolding stepLine wordOf verdictOf valuesOf line decimal decimalIn hexadecimal digits digit ascii
+step-2 : stepLine 2 3 4 0 (quiet 0 5) ≡ ascii "2 append 4 0 quiet 0 0000000000000005\n"
+unfolding stepLine operationWord answerWord answerFields verdictWord line decimal decimalIn hexadecimal digits digit ascii
 step-2 = refl
 
-step-3 : stepLine 3 1 5 0 (Quiet 5 5) ≡ ascii "3 read 5 0 quiet 5 0000000000000005\n"
-unfolding stepLine wordOf verdictOf valuesOf line decimal decimalIn hexadecimal digits digit ascii
+step-3 : stepLine 3 1 5 0 (quiet 5 5) ≡ ascii "3 read 5 0 quiet 5 0000000000000005\n"
+unfolding stepLine operationWord answerWord answerFields verdictWord line decimal decimalIn hexadecimal digits digit ascii
 step-3 = refl
 
-step-4 : stepLine 4 3 5 1 (Alert 1 7) ≡ ascii "4 append 5 1 alert 1 0000000000000007\n"
-unfolding stepLine wordOf verdictOf valuesOf line decimal decimalIn hexadecimal digits digit ascii
+step-4 : stepLine 4 3 5 1 (alert 1 7) ≡ ascii "4 append 5 1 alert 1 0000000000000007\n"
+unfolding stepLine operationWord answerWord answerFields verdictWord line decimal decimalIn hexadecimal digits digit ascii
 step-4 = refl
 
-step-5 : stepLine 5 2 6 1 (Quiet 1 0) ≡ ascii "5 write 6 1 quiet 1 0000000000000000\n"
-unfolding stepLine wordOf verdictOf valuesOf line decimal decimalIn hexadecimal digits digit ascii
+step-5 : stepLine 5 2 6 1 (quiet 1 0) ≡ ascii "5 write 6 1 quiet 1 0000000000000000\n"
+unfolding stepLine operationWord answerWord answerFields verdictWord line decimal decimalIn hexadecimal digits digit ascii
 step-5 = refl
 
-step-6 : stepLine 6 1 6 9 (Refused 12) ≡ ascii "6 read 6 9 refused 12\n"
-unfolding stepLine wordOf verdictOf valuesOf line decimal decimalIn hexadecimal digits digit ascii
+step-6 : stepLine 6 1 6 9 (refused 12) ≡ ascii "6 read 6 9 refused 12\n"
+unfolding stepLine operationWord answerWord answerFields verdictWord line decimal decimalIn hexadecimal digits digit ascii
 step-6 = refl
 
 last-line : totalLine 6 1 1 ≡ ascii "total 6 alerts 1 refused 1\n"
@@ -49,19 +49,19 @@ refused-policy : policyLine 1 ≡ ascii "policy refused 1\n"
 unfolding policyLine line decimal decimalIn digit ascii
 refused-policy = refl
 
-every-word : map wordOf (1 ∷ 2 ∷ 3 ∷ 4 ∷ 5 ∷ 6 ∷ 7 ∷ [])
+every-word : map operationWord (1 ∷ 2 ∷ 3 ∷ 4 ∷ 5 ∷ 6 ∷ 7 ∷ [])
     ≡ map ascii ("read" ∷ "write" ∷ "append" ∷ "exec" ∷ "fork" ∷ "file" ∷ "volatile" ∷ [])
-unfolding wordOf ascii
+unfolding operationWord ascii
 every-word = refl
 
-unknown-codes : map wordOf (0 ∷ 8 ∷ 255 ∷ []) ≡ map ascii ("other" ∷ "other" ∷ "other" ∷ [])
-unfolding wordOf ascii
+unknown-codes : map operationWord (0 ∷ 8 ∷ 255 ∷ []) ≡ map ascii ("other" ∷ "other" ∷ "other" ∷ [])
+unfolding operationWord ascii
 unknown-codes = refl
 
 -- the longest line
-longest-line : stepLine 18446744073709551615 7 18446744073709551615 18446744073709551615 (Alert 18446744073709551615 18446744073709551615)
+longest-line : stepLine 18446744073709551615 7 18446744073709551615 18446744073709551615 (alert 18446744073709551615 18446744073709551615)
     ≡ ascii "18446744073709551615 volatile 18446744073709551615 18446744073709551615 alert 18446744073709551615 ffffffffffffffff\n"
-unfolding stepLine wordOf verdictOf valuesOf line decimal decimalIn hexadecimal digits digit ascii
+unfolding stepLine operationWord answerWord answerFields verdictWord line decimal decimalIn hexadecimal digits digit ascii
 longest-line = refl
 
 -- ---- numbers

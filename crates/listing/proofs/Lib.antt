@@ -1,7 +1,8 @@
--- Theorems is the file to read: what is proved of numbers, lines and buffers. Examples has the paper's listing, computed
--- from the definitions. The others prove the theorems and what the functions ensure.
+-- For readers and other crates: Theorems has what is proved of numbers, lines and buffers, Examples the paper's listing, computed
+-- from the definitions.
 pub mod Theorems
 pub mod Examples
+-- Inside this crate: what proves the theorems and what the functions ensure.
 pub mod Finite
 pub mod TextLaws
 pub mod Hexadecimal

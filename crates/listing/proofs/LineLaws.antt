@@ -1,24 +1,26 @@
--- The lines as their parts one behind the other, and their lengths.
+-- The lines as their parts one behind the other, and their lengths. Theorems restates what the lines' lengths are at most.
 use Prim.Native.Nat.{ℕ, _+_, _≤_}
 use native.Mathlib.Omega.{arith}
-use mathlib.Core.Path.{_≡_}
+use mathlib.Core.Path.{_≡_, refl}
 use mathlib.Core.Bool.{Bool, true, false, cond}
 use mathlib.Core.List.{List, [], _∷_, _++_, append-assoc}
 use lib.Dec.{eqb}
 use lib.ListN.{length, length-append}
 use borrow.Author.Tests.{ne-eqb}
-use Rattle.listing.specs.declared.Outcome.{Outcome}
-use Rattle.listing.specs.declared.Outcome.the-variants.{Quiet, Alert, Refused}
+use Rattle.answers.specs.declared.Verdict.{Verdict}
+use Rattle.answers.specs.declared.Verdict.the-variants.{Quiet, Alert}
+use Rattle.answers.specs.declared.Answer.{Answer}
+use Rattle.answers.specs.declared.Answer.the-variants.{Given, Refused}
 use Rattle.listing.specs.Text.{ascii, decimalLimit, decimal}
-use Rattle.listing.specs.Lines.{space, newline, line, spaced, wordOf, verdictOf, valuesOf, heading, stepLine, shortLine, totalLine, policyLine}
-use Rattle.listing.specs.Buffer.{wordLimit, accessLimit, outcomeLimit, lineLimit}
+use Rattle.listing.specs.Lines.{space, newline, line, spaced, operationWord, verdictWord, answerWord, answerFields, heading, stepLine, shortLine, totalLine, policyLine}
+use Rattle.listing.specs.Buffer.{operationLimit, accessLimit, verdictLength, answerLimit, lineLimit}
 use Rattle.listing.proofs.TextLaws.{decimal-length, hexadecimal-length}
 
 -- ---- texts
 
 pub other-word : (code : ℕ) → (code ≡ 1 → ⊥) → (code ≡ 2 → ⊥) → (code ≡ 3 → ⊥) → (code ≡ 4 → ⊥) → (code ≡ 5 → ⊥) → (code ≡ 6 → ⊥) → (code ≡ 7 → ⊥)
-    → wordOf code ≡ ascii "other"
-unfolding wordOf
+    → operationWord code ≡ ascii "other"
+unfolding operationWord
 other-word code a b d e f g h =
     simp (ne-eqb code 1 a, ne-eqb code 2 b, ne-eqb code 3 d, ne-eqb code 4 e, ne-eqb code 5 f, ne-eqb code 6 g, ne-eqb code 7 h)
 
@@ -27,12 +29,12 @@ pub access-text : (s w p o : List ℕ)
 unfolding spaced
 access-text s w p o = simp append-assoc
 
-pub verdict-text : (w d h : List ℕ) → (w ++ (d ++ (space ∷ []))) ++ (h ++ (newline ∷ [])) ≡ w ++ line d (h ∷ [])
+pub verdict-text : (w d h : List ℕ) → ((w ++ (space ∷ [])) ++ (d ++ (space ∷ []))) ++ (h ++ (newline ∷ [])) ≡ line w (d ∷ h ∷ [])
 unfolding line
 verdict-text w d h = simp append-assoc
 
-pub step-text : (step code p o : ℕ) (x : Outcome)
-    → spaced (decimal step ∷ wordOf code ∷ decimal p ∷ decimal o ∷ []) ++ line (verdictOf x) (valuesOf x) ≡ stepLine step code p o x
+pub step-text : (step code p o : ℕ) (x : Answer)
+    → spaced (decimal step ∷ operationWord code ∷ decimal p ∷ decimal o ∷ []) ++ line (answerWord x) (answerFields x) ≡ stepLine step code p o x
 unfolding spaced stepLine line
 step-text step code p o x = simp append-assoc
 
@@ -56,11 +58,11 @@ cond-either P true x y p q = p
 cond-either P false x y p q = q
 
 abbrev Word : List ℕ → Type 0
-Word w = (4 ≤ length w) × (length w ≤ wordLimit)
+Word w = (4 ≤ length w) × (length w ≤ operationLimit)
 
-pub word-lengths : (code : ℕ) → (4 ≤ length (wordOf code)) × (length (wordOf code) ≤ wordLimit)
-unfolding wordOf ascii
-word-lengths code =
+pub operation-bounds : (code : ℕ) → (4 ≤ length (operationWord code)) × (length (operationWord code) ≤ operationLimit)
+unfolding operationWord ascii
+operation-bounds code =
     cond-either Word (eqb code 1) _ _ (omega arith, omega arith)
     (cond-either Word (eqb code 2) _ _ (omega arith, omega arith)
     (cond-either Word (eqb code 3) _ _ (omega arith, omega arith)
@@ -69,25 +71,31 @@ word-lengths code =
     (cond-either Word (eqb code 6) _ _ (omega arith, omega arith)
     (cond-either Word (eqb code 7) _ _ (omega arith, omega arith) (omega arith, omega arith)))))))
 
-pub word-length : (code : ℕ) → length (wordOf code ++ (space ∷ [])) ≤ wordLimit + 1
-word-length code = simp length-append (omega (arith, word-lengths code))
+pub operation-length : (code : ℕ) → length (operationWord code ++ (space ∷ [])) ≤ operationLimit + 1
+operation-length code = simp length-append (omega (arith, operation-bounds code))
 
-pub access-length : (step code p o : ℕ) → length (spaced (decimal step ∷ wordOf code ∷ decimal p ∷ decimal o ∷ [])) ≤ accessLimit
+pub access-length : (step code p o : ℕ) → length (spaced (decimal step ∷ operationWord code ∷ decimal p ∷ decimal o ∷ [])) ≤ accessLimit
 unfolding spaced
 access-length step code p o =
-    simp length-append (omega (arith, decimal-length step, word-lengths code, decimal-length p, decimal-length o))
+    simp length-append (omega (arith, decimal-length step, operation-bounds code, decimal-length p, decimal-length o))
 
-pub outcome-lengths : (x : Outcome) → (2 ≤ length (line (verdictOf x) (valuesOf x))) × (length (line (verdictOf x) (valuesOf x)) ≤ outcomeLimit)
-unfolding verdictOf valuesOf line ascii
-outcome-lengths (Quiet receiver tag) =
-    (simp length-append (omega arith), simp length-append (omega (arith, decimal-length receiver, hexadecimal-length tag)))
-outcome-lengths (Alert receiver tag) =
-    (simp length-append (omega arith), simp length-append (omega (arith, decimal-length receiver, hexadecimal-length tag)))
-outcome-lengths (Refused number) = (simp length-append (omega arith), simp length-append (omega (arith, decimal-length number)))
+pub verdict-length : (v : Verdict) → length (verdictWord v ++ (space ∷ [])) ≡ verdictLength
+unfolding verdictWord ascii
+verdict-length Quiet = refl
+verdict-length Alert = refl
 
-pub step-length : (step code p o : ℕ) (x : Outcome) → length (stepLine step code p o x) ≤ lineLimit
+pub answer-bounds : (x : Answer) → (2 ≤ length (line (answerWord x) (answerFields x))) × (length (line (answerWord x) (answerFields x)) ≤ answerLimit)
+unfolding answerWord answerFields line ascii
+answer-bounds (Given verdict received) =
+    let v : length (verdictWord verdict) ≡ 5 = omega (arith, length-append (verdictWord verdict) (space ∷ []), verdict-length verdict) in (
+      simp length-append (omega arith),
+      simp length-append (omega (arith, v, decimal-length (received .receiver), hexadecimal-length (received .tag))),
+    )
+answer-bounds (Refused number) = (simp length-append (omega arith), simp length-append (omega (arith, decimal-length number)))
+
+pub step-length : (step code p o : ℕ) (x : Answer) → length (stepLine step code p o x) ≤ lineLimit
 step-length step code p o x =
-    rw (← step-text step code p o x, length-append) (omega (arith, access-length step code p o, outcome-lengths x))
+    rw (← step-text step code p o x, length-append) (omega (arith, access-length step code p o, answer-bounds x))
 
 pub heading-length : length heading ≤ lineLimit
 unfolding heading line ascii

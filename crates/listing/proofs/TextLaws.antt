@@ -1,34 +1,44 @@
--- Laws of numbers as text.
+-- Laws of numbers as text. Theorems restates those that a reader or another crate needs.
 use Prim.Native.Nat.{ℕ, zero, suc, _+_, _*_, _-_, _/_, _%_, _^_, _≤_, _<_}
-use native.Mathlib.Nat.{pow-succ', add-zero, zero-add, add-suc, suc-add, suc-mul}
+use native.Mathlib.Nat.{pow-succ', add-zero, add-suc, suc-mul}
 use native.Mathlib.Numerals.{add-one}
 use native.Mathlib.Omega.{arith}
 use mathlib.Core.Path.{_≡_, refl, sym, ap, ap₂, _∙_}
 use mathlib.Core.Bool.{Bool, true, false}
 use mathlib.Core.List.{List, [], _∷_, _++_, append-assoc}
-use lib.Dec.{ltb, eqb, eqb→eq}
+use lib.Dec.{ltb, eqb}
 use lib.ListN.{length, getD, take, drop, length-append, List·getD-append, drop-of-length-le}
 use lib.Seq.{drop-append-le}
-use lib.Pow.{shr-shr, mod-mod-pow}
+use lib.Pow.{pow-add, mod-mod-pow}
 use lib.Pow as Pow
-use borrow.Author.Tests.{lt-ltb, le-ltb, ltb-true, ltb-false}
-use Rattle.listing.specs.Text.{ascii, digit, digits, packed, decimalLimit, decimalIn, decimal, tagDigits, hexadecimal, spelled}
+use borrow.Author.Tests.{lt-ltb, le-ltb, ltb-true, ltb-false, eqb-true}
+use Rattle.fields.specs.Bytes.{numberIn, bytesOf, Bytes}
+use Rattle.fields.proofs.ByteLaws.{bytes-first, bytes-rest, bytes-number}
+use Rattle.listing.specs.Text.{ascii, digit, digits, decimalLimit, decimalIn, decimal, tagDigits, hexadecimal, decimalValue}
 use Rattle.listing.proofs.Finite.{all-at}
 
 -- ---- one digit
 
+-- the code of the digit 0
+abbrev pub zeroCode : ℕ
+zeroCode = 48
+
+-- what a letter's code has beside its value and the code of the digit 0
+abbrev pub letterGap : ℕ
+letterGap = 39
+
 -- a digit's code from its value: one from 10 on reaches 16 once 6 is added, and is a letter
-glyph : ℕ → ℕ
-glyph d = d + 48 + (d + 6) / 16 * 39
+abbrev pub glyph : ℕ → ℕ
+glyph d = d + zeroCode + (d + 6) / 16 * letterGap
 
 same-digit : ℕ → Bool
 same-digit d = eqb (digit d) (glyph d)
 
-pub digit-glyph : (d : ℕ) → d < 16 → digit d ≡ d + 48 + (d + 6) / 16 * 39
-unfolding same-digit digit glyph ascii
-digit-glyph d h = eqb→eq _ _ (all-at same-digit 16 d tt h)
+pub digit-glyph : (d : ℕ) → d < 16 → digit d ≡ glyph d
+unfolding same-digit digit ascii
+digit-glyph d h = eqb-true _ _ (all-at same-digit 16 d refl h)
 
-pub digit-low : (d : ℕ) → d < 10 → digit d ≡ 48 + d
+pub digit-low : (d : ℕ) → d < 10 → digit d ≡ zeroCode + d
 digit-low d h = let l : d < 16 = omega arith in omega (arith, digit-glyph d l)
 
 -- ---- digits
@@ -41,17 +51,17 @@ digits-length b (suc k) n =
 
 -- ---- decimal
 
-pub decimalIn-below : (k n : ℕ) → n < 10 → decimalIn (suc k) n ≡ digit n ∷ []
+decimalIn-below : (k n : ℕ) → n < 10 → decimalIn (suc k) n ≡ digit n ∷ []
 unfolding decimalIn
 decimalIn-below k n h = let e : n % 10 ≡ n = omega arith in simp (lt-ltb n 10 h, e)
 
-pub decimalIn-above : (k n : ℕ) → 10 ≤ n → decimalIn (suc k) n ≡ decimalIn k (n / 10) ++ (digit (n % 10) ∷ [])
+decimalIn-above : (k n : ℕ) → 10 ≤ n → decimalIn (suc k) n ≡ decimalIn k (n / 10) ++ (digit (n % 10) ∷ [])
 unfolding decimalIn
 decimalIn-above k n h = simp (le-ltb n 10 h)
 
 -- a number is below 10 or not
-pub small : {A : Type 0} (n : ℕ) → (n < 10 → A) → (10 ≤ n → A) → A
-small {A} n f g = by (ltb n 10) refl
+pub by-ten : {A : Type 0} (n : ℕ) → (n < 10 → A) → (10 ≤ n → A) → A
+by-ten {A} n f g = by (ltb n 10) refl
   where
     by : (b : Bool) → ltb n 10 ≡ b → A
     by true e = f (ltb-true n 10 e)
@@ -64,16 +74,16 @@ tenth k n h = omega (arith, pow-succ' 10 k)
 one-more : (k n : ℕ) → n < 10 ^ suc k → decimalIn (suc (suc k)) n ≡ decimalIn (suc k) n
 one-more zero n h = let l : n < 10 = omega arith in decimalIn-below 1 n l ∙ sym (decimalIn-below 0 n l)
 one-more (suc k) n h =
-    small
+    by-ten
     n
     (λ l. decimalIn-below (suc (suc k)) n l ∙ sym (decimalIn-below (suc k) n l))
     (λ l. decimalIn-above (suc (suc k)) n l ∙ ap (λ (x : List ℕ). x ++ (digit (n % 10) ∷ [])) (one-more k (n / 10) (tenth (suc k) n h)) ∙ sym (decimalIn-above (suc k) n l))
 
-pub decimalIn-length : (k n : ℕ) → length (decimalIn k n) ≤ k
+decimalIn-length : (k n : ℕ) → length (decimalIn k n) ≤ k
 unfolding decimalIn
 decimalIn-length zero n = omega arith
 decimalIn-length (suc k) n =
-    small
+    by-ten
     n
     (λ l. omega (arith, ap length (decimalIn-below k n l)))
     (λ l. omega (arith, ap length (decimalIn-above k n l), length-append (decimalIn k (n / 10)) (digit (n % 10) ∷ []), decimalIn-length k (n / 10)))
@@ -83,7 +93,7 @@ decimalIn-few : (j k n : ℕ) → n < 10 ^ suc k → length (decimalIn j n) ≤ 
 unfolding decimalIn
 decimalIn-few zero k n h = omega arith
 decimalIn-few (suc j) k n h =
-    small n (λ l. omega (arith, ap length (decimalIn-below j n l))) (more k h (λ (i : ℕ) (l : n / 10 < 10 ^ suc i). decimalIn-few j i (n / 10) l))
+    by-ten n (λ l. omega (arith, ap length (decimalIn-below j n l))) (more k h (λ (i : ℕ) (l : n / 10 < 10 ^ suc i). decimalIn-few j i (n / 10) l))
   where
     more : (k : ℕ) → n < 10 ^ suc k → ((i : ℕ) → n / 10 < 10 ^ suc i → length (decimalIn j (n / 10)) ≤ suc i) → 10 ≤ n
         → length (decimalIn (suc j) n) ≤ suc k
@@ -99,19 +109,19 @@ decimalIn-digits : (k n : ℕ) → digits 10 (length (decimalIn k n)) n ≡ deci
 unfolding digits
 decimalIn-digits zero n = none-digits n
 decimalIn-digits (suc k) n =
-    small
+    by-ten
     n
     (λ l. let e : n % 10 ≡ n = omega arith in rw (decimalIn-below k n l, e))
     (λ l. rw (decimalIn-above k n l, length-append, add-one) (ap (λ (x : List ℕ). x ++ (digit (n % 10) ∷ [])) (decimalIn-digits k (n / 10))))
 
 pub decimal-below : (n : ℕ) → n < 10 → decimal n ≡ digit n ∷ []
 unfolding decimal
-decimal-below n h = decimalIn-below 19 n h
+decimal-below n h = decimalIn-below (decimalLimit - 1) n h
 
 pub decimal-above : (n : ℕ) → 10 ≤ n → n < 10 ^ decimalLimit → decimal n ≡ decimal (n / 10) ++ (digit (n % 10) ∷ [])
 unfolding decimal
 decimal-above n l h =
-    decimalIn-above 19 n l ∙ ap (λ (x : List ℕ). x ++ (digit (n % 10) ∷ [])) (sym (one-more 18 (n / 10) (tenth 19 n h)))
+    decimalIn-above (decimalLimit - 1) n l ∙ ap (λ (x : List ℕ). x ++ (digit (n % 10) ∷ [])) (sym (one-more (decimalLimit - 2) (n / 10) (tenth (decimalLimit - 1) n h)))
 
 pub decimal-length : (n : ℕ) → length (decimal n) ≤ decimalLimit
 unfolding decimal
@@ -130,7 +140,7 @@ unfolding hexadecimal
 hexadecimal-length n = digits-length 16 tagDigits n
 
 -- the digits of a number's halves
-digits-halves : (n : ℕ) → digits 16 16 n ≡ digits 16 8 (n / 16 / 16 / 16 / 16 / 16 / 16 / 16 / 16) ++ digits 16 8 n
+digits-halves : (n : ℕ) → digits 16 tagDigits n ≡ digits 16 8 (n / 16 / 16 / 16 / 16 / 16 / 16 / 16 / 16) ++ digits 16 8 n
 unfolding digits
 digits-halves n = refl
 
@@ -173,35 +183,15 @@ length-three n l h =
 
 -- ---- digits as the bytes of a number
 
-pub packed-length : (k n : ℕ) → length (packed k n) ≡ k
-unfolding packed
-packed-length zero n = refl
-packed-length (suc k) n = ap suc (packed-length k (n / 256))
-
-pub packed-four : (n : ℕ) → packed 4 n ≡ n % 256 ∷ n / 256 % 256 ∷ n / 65536 % 256 ∷ n / 16777216 % 256 ∷ []
-unfolding packed
-packed-four n =
-    let e : n / 256 / 256 ≡ n / 65536 = omega arith in
-    let f : n / 65536 / 256 ≡ n / 16777216 = omega arith in
-    rw (e, f)
-
-pub packed-eight : (n : ℕ) → packed 8 n ≡ packed 4 n ++ packed 4 (n / 4294967296)
-unfolding packed
-packed-eight n = let e : n / 256 / 256 / 256 / 256 ≡ n / 4294967296 = omega arith in rw e
-
--- fewer bytes are the first of them
-pub packed-take : (m j n : ℕ) → take m (packed (m + j) n) ≡ packed m n
-unfolding packed
-packed-take zero j n = refl
-packed-take (suc m) j n = rw (suc-add m j) (ap (λ (x : List ℕ). n % 256 ∷ x) (packed-take m j (n / 256)))
-
 -- a shift by whole bytes drops them
-packed-drop : (k m n : ℕ) → drop k (packed (k + m) n) ≡ packed m (n / 2 ^ (8 * k))
-unfolding packed
-packed-drop zero m n = let e : n / 1 ≡ n = omega arith in rw (zero-add m, e)
-packed-drop (suc k) m n =
-    let e : 8 + 8 * k ≡ 8 * suc k = omega arith in
-    rw (suc-add k m) (packed-drop k m (n / 256) ∙ ap (λ (x : ℕ). packed m x) (shr-shr n 8 (8 * k) ∙ ap (λ (i : ℕ). n / 2 ^ i) e))
+shifted : (k n : ℕ) → n / 2 ^ (8 * k) ≡ n / 256 ^ k
+shifted k n = ap (λ (i : ℕ). n / i) (by k)
+  where
+    by : (k : ℕ) → 2 ^ (8 * k) ≡ 256 ^ k
+    by zero = refl
+    by (suc k) =
+        let e : 8 * suc k ≡ 8 + 8 * k = omega arith in
+        ap (λ (i : ℕ). 2 ^ i) e ∙ pow-add 2 8 (8 * k) ∙ ap (λ (i : ℕ). 256 * i) (by k) ∙ sym (pow-succ' 256 k)
 
 digits-drop : (b k m n : ℕ) → drop k (digits b (k + m) n) ≡ digits b m n
 unfolding digits
@@ -212,46 +202,44 @@ digits-drop b k (suc m) n =
     ∙ ap (λ (x : List ℕ). x ++ (digit (n % b) ∷ [])) (digits-drop b k m (n / b)))
 
 -- a number of at most three digits, which are the bytes of x: its first bytes once the unused digits are shifted out
-pub short-number : (n k x : ℕ) → k + length (decimal n) ≡ 3 → packed 3 x ≡ digits 10 3 n
-    → take (length (decimal n)) (packed 4 (x / 2 ^ (8 * k))) ≡ decimal n
+pub short-number : (n k x : ℕ) → k + length (decimal n) ≡ 3 → bytesOf 3 x ≡ digits 10 3 n
+    → take (length (decimal n)) (bytesOf 4 (x / 2 ^ (8 * k))) ≡ decimal n
 short-number n k x e p =
     let m : ℕ = length (decimal n) in
     let f : m + (4 - m) ≡ 4 = omega arith in
-    ap (λ (i : ℕ). take m (packed i (x / 2 ^ (8 * k)))) (sym f)
-    ∙ packed-take m (4 - m) (x / 2 ^ (8 * k))
-    ∙ sym (packed-drop k m x)
-    ∙ ap (λ (i : ℕ). drop k (packed i x)) e
+    ap (λ (i : ℕ). take m (bytesOf i (x / 2 ^ (8 * k)))) (sym f)
+    ∙ bytes-first m (4 - m) (x / 2 ^ (8 * k))
+    ∙ ap (λ (y : ℕ). bytesOf m y) (shifted k x)
+    ∙ sym (bytes-rest k m x)
+    ∙ ap (λ (i : ℕ). drop k (bytesOf i x)) e
     ∙ ap (λ (y : List ℕ). drop k y) p
     ∙ ap (λ (i : ℕ). drop k (digits 10 i n)) (sym e)
     ∙ digits-drop 10 k m n
     ∙ decimal-digits n
 
-low-digit : (n : ℕ) → digit (n % 10) ≡ 48 + n % 10
+low-digit : (n : ℕ) → digit (n % 10) ≡ zeroCode + n % 10
 low-digit n = let l : n % 10 < 10 = omega arith in digit-low (n % 10) l
-
--- the number of which these are the bytes, the lowest first
-abbrev pub joined : List ℕ → ℕ
-joined [] = 0
-joined (d ∷ ds) = joined ds * 256 + d
 
 -- each is below the bound
 abbrev pub Below : ℕ → List ℕ → Type 0
 Below k [] = Unit {0}
 Below k (d ∷ ds) = (d < k) × Below k ds
 
-pub packed-joined : (ds : List ℕ) → Below 256 ds → packed (length ds) (joined ds) ≡ ds
-unfolding packed
-packed-joined [] h = refl
-packed-joined (d ∷ ds) (l, h) =
-    let e : (joined ds * 256 + d) % 256 ≡ d = omega arith in
-    let f : (joined ds * 256 + d) / 256 ≡ joined ds = omega arith in
-    rw (e, f) (ap (λ (x : List ℕ). d ∷ x) (packed-joined ds h))
+below-bytes : (ds : List ℕ) → Below 256 ds → Bytes ds
+below-bytes [] h k = omega arith
+below-bytes (d ∷ ds) (l, h) zero = l
+below-bytes (d ∷ ds) (l, h) (suc k) = below-bytes ds h k
 
-three-joined : (h t d : ℕ) → (h * 100 + t * 10 + d) * 65536 + 3158064 - (h * 10 + t) * 655104 - h * 2559
-    ≡ joined ((48 + h) ∷ (48 + t) ∷ (48 + d) ∷ [])
-three-joined h t d = omega arith
+-- bytes are those of the number that they spell
+pub bytes-below : (ds : List ℕ) → Below 256 ds → bytesOf (length ds) (numberIn ds) ≡ ds
+bytes-below ds h = bytes-number ds (below-bytes ds h)
 
-pub three-digits : (n : ℕ) → n < 1000 → packed 3 (n * 65536 + 3158064 - n / 10 * 655104 - n / 100 * 2559) ≡ digits 10 3 n
+three-spelled : (h t d : ℕ) → (h * 100 + t * 10 + d) * 65536 + 3158064 - (h * 10 + t) * 655104 - h * 2559
+    ≡ numberIn ((zeroCode + h) ∷ (zeroCode + t) ∷ (zeroCode + d) ∷ [])
+unfolding numberIn
+three-spelled h t d = omega arith
+
+pub three-digits : (n : ℕ) → n < 1000 → bytesOf 3 (n * 65536 + 3158064 - n / 10 * 655104 - n / 100 * 2559) ≡ digits 10 3 n
 unfolding digits
 three-digits n l =
     let h : ℕ = n / 10 / 10 % 10 in
@@ -260,10 +248,10 @@ three-digits n l =
     let u : n ≡ h * 100 + t * 10 + d = omega arith in
     let v : n / 10 ≡ h * 10 + t = omega arith in
     let w : n / 100 ≡ h = omega arith in
-    ap (λ (i : ℕ). packed 3 (i * 65536 + 3158064 - n / 10 * 655104 - n / 100 * 2559)) u
-    ∙ ap₂ (λ (i j : ℕ). packed 3 ((h * 100 + t * 10 + d) * 65536 + 3158064 - i * 655104 - j * 2559)) v w
-    ∙ ap (λ (i : ℕ). packed 3 i) (three-joined h t d)
-    ∙ packed-joined ((48 + h) ∷ (48 + t) ∷ (48 + d) ∷ []) (omega arith, (omega arith, (omega arith, tt)))
+    ap (λ (i : ℕ). bytesOf 3 (i * 65536 + 3158064 - n / 10 * 655104 - n / 100 * 2559)) u
+    ∙ ap₂ (λ (i j : ℕ). bytesOf 3 ((h * 100 + t * 10 + d) * 65536 + 3158064 - i * 655104 - j * 2559)) v w
+    ∙ ap (λ (i : ℕ). bytesOf 3 i) (three-spelled h t d)
+    ∙ bytes-below ((zeroCode + h) ∷ (zeroCode + t) ∷ (zeroCode + d) ∷ []) (omega arith, (omega arith, (omega arith, tt)))
     ∙ rw (low-digit (n / 10 / 10), low-digit (n / 10), low-digit n)
 
 -- the last three digits are those of the rest by 1,000
@@ -288,50 +276,50 @@ decimal-thousands n l h =
 
 -- ---- reading back
 
-spelled-snoc : (v : ℕ) (x : List ℕ) (d : ℕ) → spelled v (x ++ (d ∷ [])) ≡ spelled v x * 10 + (d - 48)
-unfolding spelled digit ascii
-spelled-snoc v [] d = refl
-spelled-snoc v (y ∷ x) d = spelled-snoc (v * 10 + (y - 48)) x d
+value-snoc : (v : ℕ) (x : List ℕ) (d : ℕ) → decimalValue v (x ++ (d ∷ [])) ≡ decimalValue v x * 10 + (d - zeroCode)
+unfolding decimalValue digit ascii
+value-snoc v [] d = refl
+value-snoc v (y ∷ x) d = value-snoc (v * 10 + (y - zeroCode)) x d
 
-spelled-one : (d : ℕ) → spelled 0 (d ∷ []) ≡ d - 48
-unfolding spelled digit ascii
-spelled-one d = omega arith
+value-one : (d : ℕ) → decimalValue 0 (d ∷ []) ≡ d - zeroCode
+unfolding decimalValue digit ascii
+value-one d = omega arith
 
-spelled-none : (n : ℕ) → spelled 0 (decimalIn 0 n) ≡ 0
-unfolding spelled decimalIn
-spelled-none n = refl
+value-none : (n : ℕ) → decimalValue 0 (decimalIn 0 n) ≡ 0
+unfolding decimalValue decimalIn
+value-none n = refl
 
-spelled-decimalIn : (k n : ℕ) → n < 10 ^ k → spelled 0 (decimalIn k n) ≡ n
-spelled-decimalIn zero n h = omega (arith, spelled-none n)
-spelled-decimalIn (suc k) n h =
-    small
+value-decimalIn : (k n : ℕ) → n < 10 ^ k → decimalValue 0 (decimalIn k n) ≡ n
+value-decimalIn zero n h = omega (arith, value-none n)
+value-decimalIn (suc k) n h =
+    by-ten
     n
-    (λ l. rw (decimalIn-below k n l, spelled-one) (omega (arith, digit-low n l)))
+    (λ l. rw (decimalIn-below k n l, value-one) (omega (arith, digit-low n l)))
     (λ l.
     let u : n % 10 < 10 = omega arith in
-    rw (decimalIn-above k n l, spelled-snoc) (omega (arith, spelled-decimalIn k (n / 10) (tenth k n h), digit-low (n % 10) u)))
+    rw (decimalIn-above k n l, value-snoc) (omega (arith, value-decimalIn k (n / 10) (tenth k n h), digit-low (n % 10) u)))
 
-pub spelled-decimal : (n : ℕ) → n < 10 ^ decimalLimit → spelled 0 (decimal n) ≡ n
+pub value-decimal : (n : ℕ) → n < 10 ^ decimalLimit → decimalValue 0 (decimal n) ≡ n
 unfolding decimal
-spelled-decimal n h = spelled-decimalIn decimalLimit n h
+value-decimal n h = value-decimalIn decimalLimit n h
 
 -- ---- the first digit
 
 some-digit : (k n : ℕ) → 0 < length (decimalIn (suc k) n)
 some-digit k n =
-    small
+    by-ten
     n
     (λ l. omega (arith, ap length (decimalIn-below k n l)))
     (λ l. omega (arith, ap length (decimalIn-above k n l), length-append (decimalIn k (n / 10)) (digit (n % 10) ∷ [])))
 
 pub decimal-some : (n : ℕ) → 0 < length (decimal n)
 unfolding decimal
-decimal-some n = some-digit 19 n
+decimal-some n = some-digit (decimalLimit - 1) n
 
-first-digit : (k n : ℕ) → 0 < n → n < 10 ^ suc k → 48 < getD (decimalIn (suc k) n) 0 0
+first-digit : (k n : ℕ) → 0 < n → n < 10 ^ suc k → zeroCode < getD (decimalIn (suc k) n) 0 0
 first-digit zero n p h = let l : n < 10 = omega arith in rw (decimalIn-below 0 n l) (omega (arith, digit-low n l))
 first-digit (suc k) n p h =
-    small
+    by-ten
     n
     (λ l. rw (decimalIn-below (suc k) n l) (omega (arith, digit-low n l)))
     (λ l.
@@ -340,6 +328,6 @@ first-digit (suc k) n p h =
     (decimalIn-above (suc k) n l, List·getD-append (decimalIn (suc k) (n / 10)) (digit (n % 10) ∷ []) 0 0 (some-digit k (n / 10)))
     (first-digit k (n / 10) q (tenth (suc k) n h)))
 
-pub first-decimal : (n : ℕ) → 0 < n → n < 10 ^ decimalLimit → 48 < getD (decimal n) 0 0
+pub first-decimal : (n : ℕ) → 0 < n → n < 10 ^ decimalLimit → zeroCode < getD (decimal n) 0 0
 unfolding decimal
-first-decimal n p h = first-digit 19 n p h
+first-decimal n p h = first-digit (decimalLimit - 1) n p h

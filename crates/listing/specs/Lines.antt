@@ -4,8 +4,10 @@ use mathlib.Core.Bool.{cond}
 use mathlib.Core.List.{List, [], _∷_, _++_}
 use lib.Dec.{eqb}
 use Rattle.listing.specs.Text.{ascii, decimal, hexadecimal}
-use Rattle.listing.specs.declared.Outcome.{Outcome}
-use Rattle.listing.specs.declared.Outcome.the-variants.{Quiet, Alert, Refused}
+use Rattle.answers.specs.declared.Verdict.{Verdict}
+use Rattle.answers.specs.declared.Verdict.the-variants.{Quiet, Alert}
+use Rattle.answers.specs.declared.Answer.{Answer}
+use Rattle.answers.specs.declared.Answer.the-variants.{Given, Refused}
 
 -- the byte between two fields
 abbrev pub space : ℕ
@@ -26,8 +28,8 @@ spaced [] = []
 spaced (f ∷ fs) = f ++ (space ∷ spaced fs)
 
 -- "Words: read, write, append, exec, fork, file, volatile, other (unknown code)"
-unfoldable pub wordOf : ℕ → List ℕ
-wordOf code =
+unfoldable pub operationWord : ℕ → List ℕ
+operationWord code =
     cond (eqb code 1) (ascii "read")
     (cond (eqb code 2) (ascii "write")
     (cond (eqb code 3) (ascii "append")
@@ -38,25 +40,28 @@ wordOf code =
     (ascii "other")))))))
 
 -- the verdict's word, as in the paper's listing
-unfoldable pub verdictOf : Outcome → List ℕ
-verdictOf (Quiet receiver tag) = ascii "quiet"
-verdictOf (Alert receiver tag) = ascii "alert"
-verdictOf (Refused number) = ascii "refused"
+unfoldable pub verdictWord : Verdict → List ℕ
+verdictWord Quiet = ascii "quiet"
+verdictWord Alert = ascii "alert"
 
--- "receiver, tag in 16 hexadecimal digits (small letters), or the refusal number": the fields behind the verdict
-unfoldable pub valuesOf : Outcome → List (List ℕ)
-valuesOf (Quiet receiver tag) = decimal receiver ∷ hexadecimal tag ∷ []
-valuesOf (Alert receiver tag) = decimal receiver ∷ hexadecimal tag ∷ []
-valuesOf (Refused number) = decimal number ∷ []
+-- the field of the verdict
+unfoldable pub answerWord : Answer → List ℕ
+answerWord (Given verdict received) = verdictWord verdict
+answerWord (Refused number) = ascii "refused"
+
+-- "receiver, tag in 16 hexadecimal digits (by-ten letters), or the refusal number": the fields behind it
+unfoldable pub answerFields : Answer → List (List ℕ)
+answerFields (Given verdict received) = decimal (received .receiver) ∷ hexadecimal (received .tag) ∷ []
+answerFields (Refused number) = decimal number ∷ []
 
 -- "The first line names the fields"
 unfoldable pub heading : List ℕ
 heading = line (ascii "step") (ascii "op" ∷ ascii "p" ∷ ascii "o" ∷ ascii "verdict" ∷ ascii "at" ∷ ascii "tag" ∷ [])
 
 -- "Fields: step, operation, p, o, verdict, receiver, tag .., or the refusal number"
-unfoldable pub stepLine : ℕ → ℕ → ℕ → ℕ → Outcome → List ℕ
-stepLine step code p o outcome =
-    line (decimal step) (wordOf code ∷ decimal p ∷ decimal o ∷ verdictOf outcome ∷ valuesOf outcome)
+unfoldable pub stepLine : ℕ → ℕ → ℕ → ℕ → Answer → List ℕ
+stepLine step code p o answer =
+    line (decimal step) (operationWord code ∷ decimal p ∷ decimal o ∷ answerWord answer ∷ answerFields answer)
 
 -- "a short last record counts as a step and is listed, behind its step number, as `other 0 0 refused 7`"
 unfoldable pub shortLine : ℕ → List ℕ

@@ -13,7 +13,7 @@ unfoldable pub ascii : String → List ℕ
 ascii ε = []
 ascii (c ◂ s) = code c ∷ ascii s
 
--- a digit below 16, "small letters"
+-- a digit below 16, "by-ten letters"
 unfoldable pub digit : ℕ → ℕ
 digit d = getD (ascii "0123456789abcdef") d 0
 
@@ -21,11 +21,6 @@ digit d = getD (ascii "0123456789abcdef") d 0
 unfoldable pub digits : ℕ → ℕ → ℕ → List ℕ
 digits b zero n = []
 digits b (suc k) n = digits b k (n / b) ++ (digit (n % b) ∷ [])
-
--- the k lowest bytes of n, the lowest first: what one store of a number writes
-unfoldable pub packed : ℕ → ℕ → List ℕ
-packed zero n = []
-packed (suc k) n = n % 256 ∷ packed k (n / 256)
 
 -- n in decimal, by at most k digits: those of n / 10 unless n is below 10, then n % 10
 unfoldable pub decimalIn : ℕ → ℕ → List ℕ
@@ -40,7 +35,7 @@ decimalLimit = 20
 unfoldable pub decimal : ℕ → List ℕ
 decimal n = decimalIn decimalLimit n
 
--- "tag in 16 hexadecimal digits (small letters)"
+-- "tag in 16 hexadecimal digits (by-ten letters)"
 abbrev pub tagDigits : ℕ
 tagDigits = 16
 
@@ -48,6 +43,6 @@ unfoldable pub hexadecimal : ℕ → List ℕ
 hexadecimal n = digits 16 tagDigits n
 
 -- the number that decimal digits spell, behind digits that spell v
-unfoldable pub spelled : ℕ → List ℕ → ℕ
-spelled v [] = v
-spelled v (d ∷ ds) = spelled (v * 10 + (d - digit 0)) ds
+unfoldable pub decimalValue : ℕ → List ℕ → ℕ
+decimalValue v [] = v
+decimalValue v (d ∷ ds) = decimalValue (v * 10 + (d - digit 0)) ds

@@ -1,54 +1,46 @@
 -- The line of a record, and that a line put where there is room for one ends inside the buffer.
 use Prim.Native.Nat.{ℕ, _+_, _≤_}
 use native.Mathlib.Omega.{arith}
-use mathlib.Core.Path.{_≡_, refl}
+use mathlib.Core.Path.{_≡_}
 use mathlib.Core.List.{List}
 use lib.ListN.{length}
-use Rattle.fields.specs.Bytes.{field}
-use Rattle.operations.specs.declared.Answer.{Answer}
-use Rattle.operations.specs.declared.Answer.the-variants as answers
-use Rattle.listing.specs.declared.Outcome.{Outcome}
+use Rattle.fields.specs.Writing.{Wrote}
+use Rattle.fields.proofs.WritingLaws.{wrote-as}
+use Rattle.answers.specs.declared.Answer.{Answer}
+use Rattle.answers.specs.declared.Tally.{Tally}
+use Rattle.records.specs.declared.Request.{Request}
+use Rattle.records.specs.Records.{requestIn}
 use Rattle.listing.specs.Lines.{heading, stepLine, shortLine, totalLine, policyLine}
-use Rattle.listing.specs.Buffer.{Appended, lineLimit}
-use Rattle.listing.proofs.BufferLaws.{appended-as}
-use Rattle.listing.proofs.LineLaws.{heading-length, step-length, short-length, total-length, policy-length}
+use Rattle.listing.specs.Buffer.{lineLimit}
+use Rattle.listing.proofs.Theorems.{heading-fits, step-fits, short-fits, total-fits, policy-fits}
 use Rattle.watch.specs.declared.Progress.{Progress}
-use Rattle.watch.specs.Steps.{outcomeOf, recordLine, bufferSize, counted}
+use Rattle.watch.specs.Steps.{recordLine, bufferSize, ListedLine}
 
-pub record-text : (step code p o : ℕ) (x : Outcome) (bytes : List ℕ) (answer : Answer) {at next : ℕ} {before after : List ℕ}
-    → code ≡ field bytes 0 1 → p ≡ field bytes 2 2 → o ≡ field bytes 4 2 → x ≡ outcomeOf answer
-    → Appended (stepLine step code p o x) before after at next → Appended (recordLine step bytes answer) before after at next
+pub record-text : (step n : ℕ) (q : Request) (bytes : List ℕ) (answer : Answer) {at next : ℕ} {before after : List ℕ} → q ≡ requestIn bytes → step ≡ n
+    → Wrote (stepLine step (q .code) (q .p) (q .o) answer) before after at next → Wrote (recordLine n bytes answer) before after at next
 unfolding recordLine
-record-text step code p o x bytes answer ec ep eo ex h = appended-as (rw (ec, ep, eo, ex)) h
+record-text step n q bytes answer e es h = wrote-as (rw (e, es)) h
 
-counted-at : (t : Progress) (answer : Answer) (at : ℕ) → counted t answer at .at ≡ at
-unfolding counted
-counted-at t (answers.Quiet receiver tag) at = refl
-counted-at t (answers.Alert receiver tag) at = refl
-counted-at t (answers.Refused number) at = refl
-
-within : (n : ℕ) {text before after : List ℕ} {at next : ℕ} → Appended text before after at next → length text ≤ lineLimit
+line-within : (n : ℕ) {text before after : List ℕ} {at next : ℕ} → Wrote text before after at next → length text ≤ lineLimit
     → at + lineLimit ≤ n → next ≤ n
-within n h short free = omega (arith, h .ends)
+line-within n h short free = omega (arith, h .ends)
 
-pub record-within : (run : Progress) (answer : Answer) (step : ℕ) (bytes : List ℕ) {r : Progress} {at next : ℕ} {before after : List ℕ}
-    → r ≡ counted run answer next → Appended (recordLine step bytes answer) before after at next → at + lineLimit ≤ bufferSize
-    → r .at ≤ bufferSize
+pub record-within : (step : ℕ) (bytes : List ℕ) (answer : Answer) {tally : Tally} {run : Progress} {at : ℕ} {before after : List ℕ}
+    → ListedLine (recordLine step bytes answer) tally before after at run → at + lineLimit ≤ bufferSize → run .at ≤ bufferSize
 unfolding recordLine
-record-within run answer step bytes {next = next} e h free =
-    rw (e, counted-at run answer next)
-    (within bufferSize h (step-length step (field bytes 0 1) (field bytes 2 2) (field bytes 4 2) (outcomeOf answer)) free)
+record-within step bytes answer h free =
+    line-within bufferSize (h .text) (step-fits step (requestIn bytes .code) (requestIn bytes .p) (requestIn bytes .o) answer) free
 
-pub short-within : (step : ℕ) {at next : ℕ} {before after : List ℕ} → Appended (shortLine step) before after at next → at + lineLimit ≤ bufferSize
-    → next ≤ bufferSize
-short-within step h free = within bufferSize h (short-length step) free
+pub short-within : (step : ℕ) {tally : Tally} {run : Progress} {at : ℕ} {before after : List ℕ}
+    → ListedLine (shortLine step) tally before after at run → at + lineLimit ≤ bufferSize → run .at ≤ bufferSize
+short-within step h free = line-within bufferSize (h .text) (short-fits step) free
 
 pub total-within : (records alerts refused : ℕ) {at next : ℕ} {before after : List ℕ}
-    → Appended (totalLine records alerts refused) before after at next → at + lineLimit ≤ bufferSize → next ≤ bufferSize
-total-within records alerts refused h free = within bufferSize h (total-length records alerts refused) free
+    → Wrote (totalLine records alerts refused) before after at next → at + lineLimit ≤ bufferSize → next ≤ bufferSize
+total-within records alerts refused h free = line-within bufferSize h (total-fits records alerts refused) free
 
-pub policy-within : (number : ℕ) {next : ℕ} {before after : List ℕ} → Appended (policyLine number) before after 0 next → next ≤ bufferSize
-policy-within number h = within bufferSize h (policy-length number) (omega arith)
+pub policy-within : (number : ℕ) {next : ℕ} {before after : List ℕ} → Wrote (policyLine number) before after 0 next → next ≤ bufferSize
+policy-within number h = line-within bufferSize h (policy-fits number) (omega arith)
 
-pub heading-within : {next : ℕ} {before after : List ℕ} → Appended heading before after 0 next → next ≤ bufferSize
-heading-within h = within bufferSize h heading-length (omega arith)
+pub heading-within : {next : ℕ} {before after : List ℕ} → Wrote heading before after 0 next → next ≤ bufferSize
+heading-within h = line-within bufferSize h heading-fits (omega arith)

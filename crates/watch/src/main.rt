@@ -4,27 +4,27 @@ ghost use mathlib.Core.Path.{_≡_};
 ghost use Prim.Native.Nat.{_+_, _≤_};
 ghost use lib.ListN.{length};
 ghost use Rattle.io.specs.Counts.{Counts};
-ghost use Rattle.monitor.specs.Records.{recordSize};
-ghost use Rattle.listing.specs.Buffer.{Appended, lineLimit};
-ghost use Rattle.watch.specs.Steps.{outcomeOf, recordLine, bufferSize, more, counted};
+ghost use Rattle.answers.specs.Answers.{refused};
+ghost use Rattle.answers.specs.Refusals.{operationRecord};
+ghost use Rattle.answers.specs.Tallies.{more, counted};
+ghost use Rattle.records.specs.Records.{recordLength};
+ghost use Rattle.listing.specs.Buffer.{lineLimit};
+ghost use Rattle.listing.specs.Lines.{shortLine};
+ghost use Rattle.watch.specs.Steps.{recordLine, bufferSize, ListedLine};
+use answers::Answer;
+use answers::Tally;
 use libc::STDOUT_FILENO;
 use listing::LINE_LIMIT;
-use listing::Outcome;
-use operations::Answer;
-use std::num::wrapping_add_u64;
-
-const RECORD_SIZE: usize = 8;
+use records::RECORD_LENGTH;
 
 // One byte more than a policy may have: a longer file is refused for its length and not read further.
 const POLICY_ROOM: usize = 20481;
 
 // ---- the listing
 
-// The counts of the last line, and where the next line begins in the buffer.
+// The tally of the records so far, and where the next line begins in the buffer.
 pub struct Progress {
-    pub records: u64,
-    pub alerts: u64,
-    pub refused: u64,
+    pub tally: Tally,
     pub at: usize,
 }
 
@@ -47,65 +47,40 @@ fn room(out: &[u8], at: usize) -> usize
     at
 }
 
-fn outcome(answer: Answer) -> Outcome
-    ensures { λ r. ⌜ r ≡ outcomeOf answer ⌝ }
+// The line of a whole record at a place with room for it, and the record counted.
+fn list_record(out: &mut [u8], free: usize, tally: Tally, bytes: &[u8], answer: Answer) -> Progress
+    requires { ⌜ (free + lineLimit ≤ length (now out)) × (length (now bytes) ≡ recordLength) ⌝ }
+    ensures { λ r. ⌜ ListedLine (recordLine (more (tally .records)) (now (bytes .entry)) answer) (counted tally answer) (now (out .entry)) (now (out .exit)) free r ⌝ }
 {
-    match answer {
-        Answer::Quiet(receiver, tag) => Outcome::Quiet {
-            receiver: receiver as u64,
-            tag: tag,
-        },
-        Answer::Alert(receiver, tag) => Outcome::Alert {
-            receiver: receiver as u64,
-            tag: tag,
-        },
-        Answer::Refused(number) => Outcome::Refused(number as u64),
+    let q = records::request_of(bytes);
+    let step = answers::more(tally.records);
+    let at = listing::put_step(
+        out,
+        free,
+        step,
+        q.code as u64,
+        q.p as u64,
+        q.o as u64,
+        answer,
+    );
+    let counted = answers::count(tally, answer);
+    Progress {
+        tally: counted,
+        at: at,
     }
 }
 
-// The line of a whole record.
-fn put_record(out: &mut [u8], at: usize, step: u64, bytes: &[u8], answer: Answer) -> usize
-    requires { ⌜ (at + lineLimit ≤ length (now out)) × (length (now bytes) ≡ recordSize) ⌝ }
-    ensures { λ r. ⌜ Appended (recordLine step (now (bytes .entry)) answer) (now (out .entry)) (now (out .exit)) at r ⌝ }
+// The line of a short last record, which is counted as refused.
+fn list_short(out: &mut [u8], free: usize, tally: Tally) -> Progress
+    requires { ⌜ free + lineLimit ≤ length (now out) ⌝ }
+    ensures { λ r. ⌜ ListedLine (shortLine (more (tally .records))) (counted tally (refused operationRecord)) (now (out .entry)) (now (out .exit)) free r ⌝ }
 {
-    let code = fields::read8(bytes, 0);
-    let p = fields::read16(bytes, 2);
-    let o = fields::read16(bytes, 4);
-    let shown = outcome(answer);
-    listing::put_step(out, at, step, code as u64, p as u64, o as u64, shown)
-}
-
-// One more.
-fn more(n: u64) -> u64
-    ensures { λ r. ⌜ r ≡ more n ⌝ }
-{
-    wrapping_add_u64(n, 1)
-}
-
-// One more record was answered, and the next line begins at `at`.
-fn count(run: Progress, answer: Answer, at: usize) -> Progress
-    ensures { λ r. ⌜ r ≡ counted run answer at ⌝ }
-{
-    let records = more(run.records);
-    match answer {
-        Answer::Quiet(_, _) => Progress {
-            records: records,
-            alerts: run.alerts,
-            refused: run.refused,
-            at: at,
-        },
-        Answer::Alert(_, _) => Progress {
-            records: records,
-            alerts: more(run.alerts),
-            refused: run.refused,
-            at: at,
-        },
-        Answer::Refused(_) => Progress {
-            records: records,
-            alerts: run.alerts,
-            refused: more(run.refused),
-            at: at,
-        },
+    let step = answers::more(tally.records);
+    let at = listing::put_short(out, free, step);
+    let counted = answers::count(tally, Answer::Refused(answers::OPERATION_RECORD));
+    Progress {
+        tally: counted,
+        at: at,
     }
 }
 
@@ -113,30 +88,21 @@ fn count(run: Progress, answer: Answer, at: usize) -> Progress
 
 // A whole record: run on the session, listed and counted.
 fn run_record(bytes: &[u8], session: &mut [u64], out: &mut [u8], run: Progress) -> Progress
-    requires { ⌜ (length (now bytes) ≡ recordSize) × (length (now out) ≡ bufferSize) × (run .at ≤ bufferSize) ⌝ }
+    requires { ⌜ (length (now bytes) ≡ recordLength) × (length (now out) ≡ bufferSize) × (run .at ≤ bufferSize) ⌝ }
     ensures { λ r. ⌜ r .at ≤ bufferSize ⌝ }
 {
     let answer = monitor::step(session, bytes);
-    let step = more(run.records);
     let free = room(out, run.at);
-    let at = put_record(out, free, step, bytes, answer);
-    count(run, answer, at)
+    list_record(out, free, run.tally, bytes, answer)
 }
 
-// A short last record: no operation, listed and counted as refused.
+// A short last record: no operation.
 fn run_short(out: &mut [u8], run: Progress) -> Progress
     requires { ⌜ (length (now out) ≡ bufferSize) × (run .at ≤ bufferSize) ⌝ }
     ensures { λ r. ⌜ r .at ≤ bufferSize ⌝ }
 {
-    let step = more(run.records);
     let free = room(out, run.at);
-    let at = listing::put_short(out, free, step);
-    Progress {
-        records: step,
-        alerts: run.alerts,
-        refused: more(run.refused),
-        at: at,
-    }
+    list_short(out, free, run.tally)
 }
 
 // The whole records of a chunk.
@@ -145,11 +111,11 @@ fn run_records(chunk: &[u8], session: &mut [u64], out: &mut [u8], begun: Progres
     ensures { λ r. ⌜ r .at ≤ bufferSize ⌝ }
 {
     let mut run = begun;
-    let n = chunk.len() / RECORD_SIZE;
+    let n = chunk.len() / RECORD_LENGTH;
     let mut i: usize = 0;
     while i < n {
-        let a = i * RECORD_SIZE;
-        run = run_record(&chunk[a..a + RECORD_SIZE], session, out, run);
+        let a = i * RECORD_LENGTH;
+        run = run_record(&chunk[a..a + RECORD_LENGTH], session, out, run);
         i += 1;
     }
     run
@@ -161,7 +127,7 @@ fn run_chunk(chunk: &[u8], session: &mut [u64], out: &mut [u8], begun: Progress)
     ensures { λ r. ⌜ r .at ≤ bufferSize ⌝ }
 {
     let run = run_records(chunk, session, out, begun);
-    if chunk.len() % RECORD_SIZE == 0 {
+    if chunk.len() % RECORD_LENGTH == 0 {
         return run;
     }
     run_short(out, run)
@@ -209,10 +175,9 @@ fn watch(session: &mut [u64], out: &mut [u8]) -> Progress
     ensures { λ r. ⌜ r .at ≤ bufferSize ⌝ }
 {
     let at = listing::put_heading(out, 0);
+    let none = answers::no_tally();
     let begun = Progress {
-        records: 0,
-        alerts: 0,
-        refused: 0,
+        tally: none,
         at: at,
     };
     let fd = os::open_read(b"trace.bin");
@@ -229,7 +194,8 @@ fn finish(out: &mut [u8], run: Progress)
     requires { ⌜ (length (now out) ≡ bufferSize) × (run .at ≤ bufferSize) ⌝ }
 {
     let free = room(out, run.at);
-    let at = listing::put_total(out, free, run.records, run.alerts, run.refused);
+    let tally = run.tally;
+    let at = listing::put_total(out, free, tally.records, tally.alerts, tally.refused);
     flush(out, at);
 }
 

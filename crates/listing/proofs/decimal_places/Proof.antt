@@ -1,3 +1,4 @@
+-- Invariant: the digits counted and those of what is left are one more than the number's.
 use Prim.Native.Nat.{_+_, _^_, _≤_, _<_}
 use native.Mathlib.Omega.{arith}
 use mathlib.Core.Path.{_≡_, refl, ap}

@@ -1,3 +1,4 @@
+-- What the program computes is `coded` of the parted values; the law of Hexadecimal says what its bytes are.
 use Prim.Native.Nat.{ℕ, _+_, _/_}
 use native.Mathlib.Omega.{arith}
 use lib.Bits.{and-le-r}

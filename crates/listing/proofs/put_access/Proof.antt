@@ -1,10 +1,13 @@
+-- The four fields one behind the other, each over what does not count behind the one before.
+use Prim.Native.Nat.{_+_, _≤_}
 use native.Mathlib.Omega.{arith}
-use mathlib.Core.List.{[], _∷_}
-use lib.ListN.{length-append}
+use mathlib.Core.List.{[], _∷_, _++_}
+use lib.ListN.{length, length-append}
 use Rattle.listing.specs.Text.{decimal}
-use Rattle.listing.specs.Lines.{space, wordOf}
-use Rattle.listing.proofs.BufferLaws.{written-join, written-as}
-use Rattle.listing.proofs.LineLaws.{access-text, number-length, word-length}
+use Rattle.listing.specs.Lines.{space, operationWord}
+use Rattle.listing.proofs.TextLaws.{decimal-some}
+use Rattle.listing.proofs.BufferLaws.{spare-join, spare-as}
+use Rattle.listing.proofs.LineLaws.{access-text, number-length, operation-length}
 use borrow.Author.Needs.{needs}
 use Rattle.listing.proofs.put_access.Statement.{statement}
 use Rattle.listing.proofs.put_access.Tie as tie
@@ -12,18 +15,18 @@ use Rattle.listing.proofs.put_access.Tie as tie
 put-step-number-requires : tie.Need-put-step-number-requires
 put-step-number-requires c κs = search needs
 
-put-word-requires : tie.Need-put-word-requires
-put-word-requires c κs = omega (arith, number-length (c .before .before .before .before .before .before .args .step) space)
+put-operation-requires : tie.Need-put-operation-requires
+put-operation-requires c κs = omega (arith, number-length (c .before .before .before .before .before .before .args .step) space)
 
-put-container-requires : tie.Need-put-container-requires
-put-container-requires c κs =
+put-container-number-requires : tie.Need-put-container-number-requires
+put-container-number-requires c κs =
     let a = c .before .before .before .before .before .before .before .before .before .before .args in
-    omega (arith, number-length (a .step) space, word-length (a .code))
+    omega (arith, number-length (a .step) space, operation-length (a .code))
 
-put-container-requires-2 : tie.Need-put-container-requires-2
-put-container-requires-2 c κs =
+put-container-number-requires-2 : tie.Need-put-container-number-requires-2
+put-container-number-requires-2 c κs =
     let a = c .before .before .before .before .before .before .before .before .before .before .before .before .before .before .args in
-    omega (arith, number-length (a .step) space, word-length (a .code), number-length (a .p) space)
+    omega (arith, number-length (a .step) space, operation-length (a .code), number-length (a .p) space)
 
 same-length : tie.Need-same-length
 same-length c = search needs
@@ -31,19 +34,24 @@ same-length c = search needs
 returns : tie.Need-returns
 returns c =
     let a = c .before .before .before .before .before .before .before .before .before .before .before .before .before .before .before .before .before .args in
-    written-as
-    (access-text (decimal (a .step)) (wordOf (a .code)) (decimal (a .p)) (decimal (a .o)))
-    (written-join 2 (omega arith)
-    (written-join 2 (omega (arith, length-append (decimal (a .p)) (space ∷ []))) (written-join 3 (omega arith) (c .before .before .before .before .before .before .before .before .before .before .before .before .before .before .put-step-number .ensures) (c .before .before .before .before .before .before .before .before .before .before .put-word .ensures)) (c .before .before .before .before .before .before .put-container .ensures))
-    (c .before .before .put-container2 .ensures))
+    let step = c .before .before .before .before .before .before .before .before .before .before .before .before .before .before .put-step-number in
+    let operation = c .before .before .before .before .before .before .before .before .before .before .put-operation in
+    let subject = c .before .before .before .before .before .before .put-container-number in
+    let object = c .before .before .put-container-number2 in
+    let p : 3 ≤ length (decimal (a .p) ++ (space ∷ [])) + 2 = omega (arith, length-append (decimal (a .p)) (space ∷ []), decimal-some (a .p)) in
+    let first = spare-join 3 (omega arith) (step .ensures) (operation .ensures) in
+    let second = spare-join 2 p first (subject .ensures) in
+    spare-as
+    (access-text (decimal (a .step)) (operationWord (a .code)) (decimal (a .p)) (decimal (a .o)))
+    (spare-join 2 (omega arith) second (object .ensures))
 
 pub put-access-spec : {M : Type 1} → statement M
 put-access-spec =
     tie.close
     (tie.spec
     put-step-number-requires
-    put-word-requires
-    put-container-requires
-    put-container-requires-2
+    put-operation-requires
+    put-container-number-requires
+    put-container-number-requires-2
     same-length
     returns)

@@ -1,3 +1,4 @@
+-- The text is the heading, computed.
 use Rattle.listing.specs.Text.{ascii}
 use Rattle.listing.specs.Lines.{line, heading}
 use borrow.Author.Needs.{needs}

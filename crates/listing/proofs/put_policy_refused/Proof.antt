@@ -1,3 +1,4 @@
+-- The named number is the line.
 use Rattle.listing.specs.Text.{ascii}
 use Rattle.listing.specs.Lines.{line, policyLine}
 use borrow.Author.Needs.{needs}

@@ -1,9 +1,10 @@
-use Prim.Native.Nat.{_≤_, _<_}
+-- The space stands on the first byte that does not count behind the number.
+use Prim.Native.Nat.{_<_}
 use native.Mathlib.Omega.{arith}
 use lib.ListN.{length}
 use Rattle.listing.specs.Lines.{space}
 use Rattle.listing.proofs.TextLaws.{decimal-length}
-use Rattle.listing.proofs.BufferLaws.{appended-byte, appended-written, written-join}
+use Rattle.listing.proofs.BufferLaws.{spare-byte}
 use borrow.Author.Needs.{needs}
 use Rattle.listing.proofs.put_step_number.Statement.{statement}
 use Rattle.listing.proofs.put_step_number.Tie as tie
@@ -24,9 +25,8 @@ returns : tie.Need-returns
 returns c =
     let a = c .before .before .before .before .before .args in
     let p = c .before .before .put-decimal in
-    let h : p .result ≤ length (p .last .0) = omega (arith, decimal-length (a .n)) in
     let l : p .result < length (p .last .0) = omega (arith, decimal-length (a .n)) in
-    written-join 2 (omega arith) (p .ensures) (appended-written 2 h (appended-byte space (p .result) (p .last .0) l))
+    spare-byte space 2 l (omega arith) (p .ensures)
 
 pub put-step-number-spec : {M : Type 1} → statement M
 put-step-number-spec =

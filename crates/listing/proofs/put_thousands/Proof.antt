@@ -1,8 +1,9 @@
+-- The thousands, and the last three digits over what does not count.
 use Prim.Native.Nat.{_/_, _^_, _≤_, _<_}
 use native.Mathlib.Omega.{arith}
 use Rattle.listing.specs.Text.{decimalLimit}
 use Rattle.listing.proofs.TextLaws.{digits-length, decimal-few, decimal-thousands}
-use Rattle.listing.proofs.BufferLaws.{written-join, written-as}
+use Rattle.listing.proofs.BufferLaws.{spare-join, spare-as}
 use borrow.Author.Needs.{needs}
 use Rattle.listing.proofs.put_thousands.Statement.{statement}
 use Rattle.listing.proofs.put_thousands.Tie as tie
@@ -24,9 +25,8 @@ returns c =
     let a = c .before .before .before .before .before .before .before .before .before .args in
     let l : 1000 ≤ a .n = omega arith in
     let b : a .n < 10 ^ decimalLimit = omega arith in
-    written-as
-    (decimal-thousands (a .n) l b)
-    (written-join 1 (omega (arith, digits-length 10 3 (a .n))) (c .before .before .before .before .before .before .put-short-number .ensures) (c .before .before .put-group .ensures))
+    let high = c .before .before .before .before .before .before .put-short-number in
+    spare-as (decimal-thousands (a .n) l b) (spare-join 1 (omega (arith, digits-length 10 3 (a .n))) (high .ensures) (c .before .before .put-group .ensures))
 
 pub put-thousands-spec : {M : Type 1} → statement M
 put-thousands-spec =

@@ -1,3 +1,4 @@
+-- The law of three digits is the contract.
 use Rattle.listing.proofs.TextLaws.{three-digits}
 use borrow.Author.Needs.{needs}
 use Rattle.listing.proofs.three_digits.Statement.{statement}

@@ -1,3 +1,4 @@
+-- There is room for a line, so what is written ends inside the buffer.
 use native.Mathlib.Omega.{arith}
 use Rattle.watch.proofs.StepLaws.{total-within}
 use borrow.Author.Needs.{needs}
@@ -11,7 +12,10 @@ put-total-requires : tie.Need-put-total-requires
 put-total-requires c κs = search needs
 
 flush-requires : tie.Need-flush-requires
-flush-requires c κs = omega (arith, total-within _ _ _ (c .before .before .before .put-total .ensures) (c .before .before .before .before .before .room .ensures))
+flush-requires c κs =
+    let total = c .before .before .before .put-total in
+    let room = c .before .before .before .before .before .before .room in
+    omega (arith, total-within _ _ _ (total .ensures) (room .ensures))
 
 same-length : tie.Need-same-length
 same-length c = search needs

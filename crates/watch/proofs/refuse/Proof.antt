@@ -1,3 +1,4 @@
+-- The line ends inside the buffer.
 use native.Mathlib.Omega.{arith}
 use Rattle.watch.proofs.StepLaws.{policy-within}
 use borrow.Author.Needs.{needs}

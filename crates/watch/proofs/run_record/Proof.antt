@@ -1,3 +1,4 @@
+-- There is room for a line.
 use Rattle.watch.proofs.StepLaws.{record-within}
 use borrow.Author.Needs.{needs}
 use Rattle.watch.proofs.run_record.Statement.{statement}
@@ -6,17 +7,11 @@ use Rattle.watch.proofs.run_record.Tie as tie
 step-requires : tie.Need-step-requires
 step-requires c κs = search needs
 
-more-requires : tie.Need-more-requires
-more-requires c κs = search needs
-
 room-requires : tie.Need-room-requires
 room-requires c κs = search needs
 
-put-record-requires : tie.Need-put-record-requires
-put-record-requires c κs = search needs
-
-count-requires : tie.Need-count-requires
-count-requires c κs = search needs
+list-record-requires : tie.Need-list-record-requires
+list-record-requires c κs = search needs
 
 same-length : tie.Need-same-length
 same-length c = search needs
@@ -25,17 +20,9 @@ same-length-2 : tie.Need-same-length-2
 same-length-2 c = search needs
 
 returns : tie.Need-returns
-returns c = record-within _ _ _ _ (c .count .ensures) (c .before .before .before .put-record .ensures) (c .before .before .before .before .before .room .ensures)
+returns c = record-within _ _ _ (c .before .before .list-record .ensures) (c .before .before .before .before .room .ensures)
 
 pub run-record-spec : {M : Type 1} → statement M
 run-record-spec =
     tie.close
-    (tie.spec
-    step-requires
-    more-requires
-    room-requires
-    put-record-requires
-    count-requires
-    same-length
-    same-length-2
-    returns)
+    (tie.spec step-requires room-requires list-record-requires same-length same-length-2 returns)

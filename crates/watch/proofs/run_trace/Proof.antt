@@ -1,3 +1,4 @@
+-- Invariant: the next line begins inside the buffer.
 use mathlib.Core.Path.{_≡_}
 use Prim.Native.Nat.{_≤_}
 use borrow.Author.Needs.{needs}

@@ -1,3 +1,4 @@
+-- The heading ends inside the buffer.
 use Rattle.watch.proofs.StepLaws.{heading-within}
 use borrow.Author.Needs.{needs}
 use Rattle.watch.proofs.watch.Statement.{statement}
@@ -5,6 +6,9 @@ use Rattle.watch.proofs.watch.Tie as tie
 
 put-heading-requires : tie.Need-put-heading-requires
 put-heading-requires c κs = search needs
+
+no-tally-requires : tie.Need-no-tally-requires
+no-tally-requires c κs = search needs
 
 slice-aggregate-open-read : tie.Need-slice-aggregate-open-read
 slice-aggregate-open-read c = search needs
@@ -16,10 +20,12 @@ same-length : tie.Need-same-length
 same-length c = search needs
 
 returns : tie.Need-returns
-returns c = heading-within (c .before .before .before .before .before .put-heading .ensures)
+returns c = heading-within (c .before .before .before .before .before .before .put-heading .ensures)
 
 run-trace-requires : tie.Need-run-trace-requires
-run-trace-requires c κs = search (needs, heading-within (c .before .before .before .before .before .before .before .put-heading .ensures))
+run-trace-requires c κs =
+    let heading = c .before .before .before .before .before .before .before .before .put-heading in
+    search (needs, heading-within (heading .ensures))
 
 close-requires : tie.Need-close-requires
 close-requires c κs = search needs
@@ -38,6 +44,7 @@ watch-spec =
     tie.close
     (tie.spec
     put-heading-requires
+    no-tally-requires
     slice-aggregate-open-read
     open-read-requires
     same-length

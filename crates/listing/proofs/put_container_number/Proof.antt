@@ -1,12 +1,13 @@
+-- A number below 1,000 leaves up to three bytes behind it, and the space stands on the first.
 use Prim.Native.Nat.{_≤_, _<_}
 use native.Mathlib.Omega.{arith}
 use lib.ListN.{length}
 use Rattle.listing.specs.Lines.{space}
 use Rattle.listing.proofs.TextLaws.{decimal-length}
-use Rattle.listing.proofs.BufferLaws.{appended-byte, appended-written, written-join}
+use Rattle.listing.proofs.BufferLaws.{wrote-spare, spare-byte}
 use borrow.Author.Needs.{needs}
-use Rattle.listing.proofs.put_container.Statement.{statement}
-use Rattle.listing.proofs.put_container.Tie as tie
+use Rattle.listing.proofs.put_container_number.Statement.{statement}
+use Rattle.listing.proofs.put_container_number.Tie as tie
 
 put-short-number-requires : tie.Need-put-short-number-requires
 put-short-number-requires c κs = search needs
@@ -24,9 +25,8 @@ returns : tie.Need-returns
 returns c =
     let a = c .before .before .before .before .before .before .args in
     let p = c .before .before .put-short-number in
-    let h : p .result ≤ length (p .last .0) = omega (arith, decimal-length (a .n)) in
     let l : p .result < length (p .last .0) = omega (arith, decimal-length (a .n)) in
-    written-join 2 (omega arith) (p .ensures) (appended-written 2 h (appended-byte space (p .result) (p .last .0) l))
+    spare-byte space 2 l (omega arith) (p .ensures)
 
 put-number-requires : tie.Need-put-number-requires
 put-number-requires c κs = search needs
@@ -38,10 +38,10 @@ returns-2 : tie.Need-returns-2
 returns-2 c =
     let a = c .before .before .before .before .before .before .args in
     let h : a .at ≤ length (a .out .now) = omega arith in
-    appended-written 2 h (c .before .before .put-number .ensures)
+    wrote-spare 2 h (c .before .before .put-number .ensures)
 
-pub put-container-spec : {M : Type 1} → statement M
-put-container-spec =
+pub put-container-number-spec : {M : Type 1} → statement M
+put-container-number-spec =
     tie.close
     (tie.spec
     put-short-number-requires

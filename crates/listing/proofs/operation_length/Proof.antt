@@ -1,37 +1,38 @@
+-- By the code: each word's length is computed.
 use mathlib.Core.Path.{sym, ap}
 use lib.ListN.{length}
 use Rattle.listing.specs.Text.{ascii}
-use Rattle.listing.specs.Lines.{wordOf}
+use Rattle.listing.specs.Lines.{operationWord}
 use Rattle.listing.proofs.LineLaws.{other-word}
-use Rattle.listing.proofs.word_length.Statement.{statement}
-use Rattle.listing.proofs.word_length.Tie as tie
+use Rattle.listing.proofs.operation_length.Statement.{statement}
+use Rattle.listing.proofs.operation_length.Tie as tie
 
 returns : tie.Need-returns
-unfolding wordOf ascii
+unfolding operationWord ascii
 returns c = rw (c .match .keys1)
 
 returns-2 : tie.Need-returns-2
-unfolding wordOf ascii
+unfolding operationWord ascii
 returns-2 c = rw (c .match .keys2)
 
 returns-3 : tie.Need-returns-3
-unfolding wordOf ascii
+unfolding operationWord ascii
 returns-3 c = rw (c .match .keys3)
 
 returns-4 : tie.Need-returns-4
-unfolding wordOf ascii
+unfolding operationWord ascii
 returns-4 c = rw (c .match .keys4)
 
 returns-5 : tie.Need-returns-5
-unfolding wordOf ascii
+unfolding operationWord ascii
 returns-5 c = rw (c .match .keys5)
 
 returns-6 : tie.Need-returns-6
-unfolding wordOf ascii
+unfolding operationWord ascii
 returns-6 c = rw (c .match .keys6)
 
 returns-7 : tie.Need-returns-7
-unfolding wordOf ascii
+unfolding operationWord ascii
 returns-7 c = rw (c .match .keys7)
 
 returns-8 : tie.Need-returns-8
@@ -41,7 +42,7 @@ returns-8 c =
     let e = other-word (c .before .args .code) (r .0 .0 .0 .0 .0 .0 .1) (r .0 .0 .0 .0 .0 .1) (r .0 .0 .0 .0 .1) (r .0 .0 .0 .1) (r .0 .0 .1) (r .0 .1) (r .1) in
     ap length (sym e)
 
-pub word-length-spec : {M : Type 1} → statement M
-word-length-spec =
+pub operation-length-spec : {M : Type 1} → statement M
+operation-length-spec =
     tie.close
     (tie.spec returns returns-2 returns-3 returns-4 returns-5 returns-6 returns-7 returns-8)
