@@ -16,10 +16,11 @@ use Rattle.image.specs.Limits.{isFile, isVolatile, isProcess, unrestrict
 use Rattle.fields.specs.Bytes.{numberIn, bytesOf, field, Bytes}
 use Rattle.lists.specs.Lists.{every, joined}
 use Rattle.image.specs.Policy.{Container, Policy, named, containerGood, ruleGood, Sound}
-use Rattle.image.specs.Image.{Span, containerIn, spanIn, ruleIn, containersIn, usersIn, spansIn, mixturesIn, rulesIn, policyIn, part, wholeGood, sectionsGood, spansGood, rulesGood, containersGood, usersGood, checkOf, accepted, judged, readImage}
+use Rattle.image.specs.Image.{Span, containerIn, spanIn, ruleIn, containersIn, usersIn, spansIn, mixturesIn, rulesIn, policyIn, part, wholeGood, sectionsGood, spansGood, rulesGood, containersGood, usersGood, imageConditions, checkOf}
 use Rattle.image.specs.Normal.{containerBytes, spanBytes, spansOf, pair, header, framed, encode}
 use Rattle.lists.proofs.Every.{every-0, every-1, every-nil, every-cons, every-append}
 use Rattle.fields.proofs.ByteLaws.{bytes-length, number-bytes, joined-length, section-back, byte, bytes-byte, joined-byte, every-bytes}
+use Rattle.image.proofs.ImageRefusals.{refused-by-none}
 use Rattle.image.proofs.Frame.{part-0, part-1, part-2, part-3, frame-length, frame-long, frame-pairs}
 
 -- ---- one record
@@ -247,8 +248,8 @@ module _ (p : Policy) (h : Sound p) where
   framed-users = rw (part-2 c u r m fits, part-1 c u r m fits, rules-count, u-back) (h .usersGood)
 
   framed-check : checkOf (framed c u r m) ≡ 0
-  unfolding checkOf
-  framed-check = simp (frame-long c u r m fits, frame-pairs c u r m fits, framed-sections, framed-rules, framed-containers, framed-users)
+  unfolding imageConditions
+  framed-check = refused-by-none (framed c u r m) .1 (frame-long c u r m fits, (frame-pairs c u r m fits, (framed-sections, (framed-rules, (framed-containers, framed-users)))))
 
   -- DECODE AFTER ENCODE
   pub check-encode : checkOf (encode p) ≡ 0
@@ -257,9 +258,8 @@ module _ (p : Policy) (h : Sound p) where
   pub policy-encode : policyIn (encode p) ≡ p
   policy-encode = ap policyIn encoded ∙ framed-policy
 
-  pub read-encode : readImage (encode p) ≡ accepted p
-  unfolding readImage judged
-  read-encode = rw (check-encode, policy-encode)
+  pub read-encode : (checkOf (encode p) ≡ 0) × (policyIn (encode p) ≡ p)
+  read-encode = (check-encode, policy-encode)
 
   pub encode-length : length (encode p) ≡ 18 + 6 * length (p .containers) + 2 * length (p .users) + 4 * length (p .rules) + 8 * length (joined (p .rules))
   encode-length = ap length encoded ∙ frame-length c u r m fits ∙ omega (arith, c-length, u-length, r-length, m-length)

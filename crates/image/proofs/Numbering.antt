@@ -33,14 +33,14 @@ known-append r (x ∷ t) s = by (sameList r x) (known-append r t s)
     by true ih = refl
     by false ih = ih
 
-known-more : (r : List ℕ) (t s : List (List ℕ)) → known r t ≡ true → known r (t ++ s) ≡ true
+pub known-more : (r : List ℕ) (t s : List (List ℕ)) → known r t ≡ true → known r (t ++ s) ≡ true
 known-more r t s h = known-append r t s ∙ or-0 (known r t) (known r s) h
 
-known-last : (r : List ℕ) (t : List (List ℕ)) → known r (t ++ (r ∷ [])) ≡ true
+pub known-last : (r : List ℕ) (t : List (List ℕ)) → known r (t ++ (r ∷ [])) ≡ true
 unfolding known
 known-last r t = known-append r t (r ∷ []) ∙ or-1 (known r t) (sameList r r || false) (or-0 (sameList r r) false (same-refl r))
 
-settled-noted : (t : List (List ℕ)) (r s : List ℕ) → settled t s ≡ true → settled (noted t r) s ≡ true
+pub settled-noted : (t : List (List ℕ)) (r s : List ℕ) → settled t s ≡ true → settled (noted t r) s ≡ true
 unfolding settled noted
 settled-noted t r s h = by (sameList r unrestrictedRule || known r t)
   where
@@ -48,7 +48,7 @@ settled-noted t r s h = by (sameList r unrestrictedRule || known r t)
     by true = h
     by false = ⊎-elim (λ p. or-0 (sameList s unrestrictedRule) (known s (t ++ (r ∷ []))) p) (λ p. or-1 (sameList s unrestrictedRule) (known s (t ++ (r ∷ []))) (known-more s t (r ∷ []) p)) (or-cases (sameList s unrestrictedRule) h)
 
-settled-itself : (t : List (List ℕ)) (r : List ℕ) → settled (noted t r) r ≡ true
+pub settled-itself : (t : List (List ℕ)) (r : List ℕ) → settled (noted t r) r ≡ true
 unfolding settled noted
 settled-itself t r = by (sameList r unrestrictedRule || known r t) refl
   where
@@ -141,7 +141,7 @@ numbered-few rs s h = omega (arith, numbered-count [] rs s h, unseen-length [] s
 
 -- ---- a settled rule's number is that rule's
 
-position-lt : (r : List ℕ) (t : List (List ℕ)) → known r t ≡ true → position r t < length t
+pub position-lt : (r : List ℕ) (t : List (List ℕ)) → known r t ≡ true → position r t < length t
 unfolding known position
 position-lt r [] h = clash h refl
 position-lt r (x ∷ t) h = by (sameList r x) h (position-lt r t)

@@ -4,14 +4,14 @@ use mathlib.Core.Path.{_≡_, refl, sym, ap, _∙_}
 use mathlib.Core.Bool.{true, false, _&&_}
 use mathlib.Core.List.{List, map}
 use native.Mathlib.Omega.{arith}
-use lib.Dec.{eqb, leb}
+use lib.Dec.{leb}
 use lib.ListN.{length, take, drop}
 use lib.Seq.{drop-drop}
-use borrow.Author.Tests.{lt-leb, le-leb, leb-true}
-use Rattle.lists.proofs.Bools.{and-in, and-0, and-1}
+use borrow.Author.Tests.{lt-leb, le-leb}
+use Rattle.lists.proofs.Bools.{and-in}
 use Rattle.fields.specs.Bytes.{field, cut, records}
 use Rattle.fields.proofs.FieldLaws.{field-record}
-use Rattle.image.specs.Image.{spanIn, spansIn, spansGood, offset, size, partGood, pairsGood, lengthGood}
+use Rattle.image.specs.Image.{spanIn, spansIn, spansGood, imageLengthGood}
 
 -- ---- rules, where a record is held against the one before
 
@@ -58,45 +58,16 @@ module _ (m : ℕ) (s : List ℕ) (n from i : ℕ) (g : SpansScanned m s n from 
   unfolding cut spansGood
   spans-end l = let e : n - i ≡ 0 = omega arith in rw e at (g .rest)
 
--- ---- good pairs: each section ends within the image
+-- ---- the length
 
-part-end : (i : List ℕ) (from k : ℕ) → partGood i from k ≡ true → offset i k + size i k ≤ length i
-unfolding partGood
-part-end i from k h = leb-true (offset i k + size i k) (length i) (and-1 (leb from (offset i k)) h)
-
-module _ (i : List ℕ) (h : pairsGood i ≡ true) where
-  after-0 : (partGood i 18 0 && (partGood i (offset i 0 + size i 0) 1 && (partGood i (offset i 1 + size i 1) 2 && partGood i (offset i 2 + size i 2) 3))) ≡ true
-  unfolding pairsGood
-  after-0 = and-1 (eqb (field i 0 2) 4) h
-
-  after-1 : (partGood i (offset i 0 + size i 0) 1 && (partGood i (offset i 1 + size i 1) 2 && partGood i (offset i 2 + size i 2) 3)) ≡ true
-  after-1 = and-1 (partGood i 18 0) after-0
-
-  after-2 : (partGood i (offset i 1 + size i 1) 2 && partGood i (offset i 2 + size i 2) 3) ≡ true
-  after-2 = and-1 (partGood i (offset i 0 + size i 0) 1) after-1
-
-  pub part-ends-0 : offset i 0 + size i 0 ≤ length i
-  part-ends-0 = part-end i 18 0 (and-0 (partGood i 18 0) _ after-0)
-
-  pub part-ends-1 : offset i 1 + size i 1 ≤ length i
-  part-ends-1 = part-end i (offset i 0 + size i 0) 1 (and-0 (partGood i (offset i 0 + size i 0) 1) _ after-1)
-
-  pub part-ends-2 : offset i 2 + size i 2 ≤ length i
-  part-ends-2 = part-end i (offset i 1 + size i 1) 2 (and-0 (partGood i (offset i 1 + size i 1) 2) _ after-2)
-
-  pub part-ends-3 : offset i 3 + size i 3 ≤ length i
-  part-ends-3 = part-end i (offset i 2 + size i 2) 3 (and-1 (partGood i (offset i 1 + size i 1) 2) after-2)
-
--- ---- 1
-
-pub too-short : (i : List ℕ) → length i < 18 → lengthGood i ≡ false
-unfolding lengthGood
+pub too-short : (i : List ℕ) → length i < 18 → imageLengthGood i ≡ false
+unfolding imageLengthGood
 too-short i h = rw (lt-leb 18 (length i) h)
 
-pub too-long : (i : List ℕ) → 18 ≤ length i → 20480 < length i → lengthGood i ≡ false
-unfolding lengthGood
+pub too-long : (i : List ℕ) → 18 ≤ length i → 20480 < length i → imageLengthGood i ≡ false
+unfolding imageLengthGood
 too-long i k h = rw (le-leb 18 (length i) k, lt-leb (length i) 20480 h)
 
-pub long-enough : (i : List ℕ) → 18 ≤ length i → length i ≤ 20480 → lengthGood i ≡ true
-unfolding lengthGood
+pub long-enough : (i : List ℕ) → 18 ≤ length i → length i ≤ 20480 → imageLengthGood i ≡ true
+unfolding imageLengthGood
 long-enough i k h = and-in (le-leb 18 (length i) k) (le-leb (length i) 20480 h)

@@ -1,11 +1,13 @@
 -- The policy image: what it is refused for, and the policy that it spells (the paper, "Policy image" and "Refused because of the input").
-use Prim.Native.Nat.{ℕ, zero, suc, _+_, _*_, _/_, _%_}
-use mathlib.Core.Bool.{Bool, true, cond, _&&_}
+use Prim.Native.Nat.{ℕ, _+_, _*_, _/_, _%_}
+use mathlib.Core.Bool.{Bool, true, _&&_}
 use mathlib.Core.List.{List, [], _∷_, map}
 use lib.Dec.{eqb, leb}
 use lib.ListN.{length, take, drop}
 use Rattle.fields.specs.Bytes.{numberIn, field, records}
 use Rattle.lists.specs.Lists.{every}
+use Rattle.lists.specs.Conditions.{Condition, _orRefuse_, firstFailed}
+use Rattle.answers.specs.Refusals.{imageLength, sections, recordCount, ruleRecord, containerRecord, userRule}
 use Rattle.rules.specs.Answers.{mixtureLimit}
 use Rattle.image.specs.Limits.{
   containerLimit,
@@ -76,8 +78,8 @@ policyIn i =
 -- ---- the tests
 
 -- 1: "image under 18 or over 20,480 bytes"
-unfoldable pub lengthGood : List ℕ → Bool
-lengthGood i = leb headerSize (length i) && leb (length i) imageLimit
+unfoldable pub imageLengthGood : List ℕ → Bool
+imageLengthGood i = leb headerSize (length i) && leb (length i) imageLimit
 
 -- "Each section starts at or after the previous end .. and ends within the image": section k, the previous end being given
 unfoldable pub partGood : List ℕ → ℕ → ℕ → Bool
@@ -120,30 +122,17 @@ containersGood i = every (containerGood (length (part i 2) / ruleSize)) (contain
 unfoldable pub usersGood : List ℕ → Bool
 usersGood i = every (named (length (part i 2) / ruleSize)) (usersIn (part i 1))
 
--- the refusal of an image, 0 for none; each number is judged for the whole image before the next
+-- "In this order"; each is judged for the whole image before the next
+unfoldable pub imageConditions : List ℕ → List Condition
+imageConditions i =
+    (imageLengthGood i orRefuse imageLength)
+    ∷ (pairsGood i orRefuse sections)
+    ∷ (sectionsGood i orRefuse recordCount)
+    ∷ (rulesGood i orRefuse ruleRecord)
+    ∷ (containersGood i orRefuse containerRecord)
+    ∷ (usersGood i orRefuse userRule)
+    ∷ []
+
+-- the refusal of an image, 0 for none
 unfoldable pub checkOf : List ℕ → ℕ
-checkOf i =
-    cond (lengthGood i)
-    (cond (pairsGood i)
-    (cond (sectionsGood i)
-    (cond (rulesGood i)
-    (cond (containersGood i)
-    (cond (usersGood i)
-    0
-    6)
-    5)
-    4)
-    3)
-    2)
-    1
-
-pub data Reading : Type 0 where
-  refused : ℕ → Reading
-  accepted : Policy → Reading
-
-unfoldable pub judged : ℕ → Policy → Reading
-judged zero p = accepted p
-judged (suc n) p = refused (suc n)
-
-unfoldable pub readImage : List ℕ → Reading
-readImage i = judged (checkOf i) (policyIn i)
+checkOf i = firstFailed (imageConditions i)

@@ -46,7 +46,10 @@ noAtom = 255
 abbrev pub unrestrictedNumber : ℕ
 unrestrictedNumber = 65535
 
--- ---- the sections: how many records at most, and how many bytes each has
+-- ---- the sections: how many there are, how many records at most, and how many bytes each has
+
+abbrev pub sectionCount : ℕ
+sectionCount = 4
 
 abbrev pub containerLimit : ℕ
 containerLimit = 256

@@ -13,9 +13,8 @@ use Rattle.lists.proofs.Bools.{and-in, and-0, and-1}
 use Rattle.rules.specs.Rules.{normal}
 use Rattle.rules.specs.Answers.{mixtureLimit, padded}
 use Rattle.rule_words.specs.Words.{ruleWidth, ruleOf, wordsOf, isNormal, allZero, keptWell}
-use Rattle.rule_words.proofs.WordLaws.{words-rule}
+use Rattle.rule_words.proofs.WordLaws.{words-rule, normal-is, is-normal-of}
 use Rattle.rule_words.proofs.ZeroLaws.{zeros, zero-is}
-use Rattle.rule_words.proofs.NormalTest.{normal-is, is-normal-of}
 
 module _ (ws : List ℕ) (h : keptWell ws ≡ true) where
   pub kept-count : getD ws 0 0 ≤ mixtureLimit

@@ -11,24 +11,15 @@ use lib.ListN.{length, getD, take, drop, drop-of-length-le}
 use lib.Seq.{take-suc, take-all, drop-cons}
 use Rattle.lists.proofs.Bools.{or-0, or-1, or-cases, clash, refuted}
 use Rattle.rules.proofs.SetLaws.{holds-is, holds-not, holds-le}
-use Rattle.lists.proofs.Same.{same-refl, same-eq}
 use Rattle.lists.proofs.Elem.{elem-here, elem-there, elem-cases, elem-none}
 use Rattle.rules.proofs.RuleLaws.{is-normal, normal-ascends, normal-antichain}
 use Rattle.rules.specs.Order.{Ascending, Antichain}
 use Rattle.rules.specs.Sets.{holds}
-use Rattle.lists.specs.Lists.{elem, sameList}
+use Rattle.lists.specs.Lists.{elem}
 use Rattle.rules.specs.Rules.{normal}
+use Rattle.rule_words.proofs.WordLaws.{normal-is, is-normal-of}
 use Rattle.rule_words.specs.Words.{isNormal}
 use Rattle.rule_words.specs.RuleTest.{holdsOne}
-
-module _ (r : List ℕ) where
-  pub normal-is : isNormal r ≡ true → normal r ≡ r
-  unfolding isNormal
-  normal-is h = same-eq (normal r) r h
-
-  pub is-normal-of : normal r ≡ r → isNormal r ≡ true
-  unfolding isNormal
-  is-normal-of e = ap (λ (s : List ℕ). sameList s r) e ∙ same-refl r
 
 -- ---- one of l is held
 

@@ -1,6 +1,7 @@
 -- Rules as 9 words: the words of a rule, and the rule of the words.
 use Prim.Native.Nat.{ℕ, _+_, _-_, _≤_}
 use mathlib.Core.Path.{_≡_, refl, sym, ap, _∙_}
+use mathlib.Core.Bool.{true}
 use mathlib.Core.List.{List, _∷_}
 use native.Mathlib.Omega.{arith}
 use native.Mathlib.Nat.{add-sub-cancel}
@@ -13,7 +14,7 @@ use Rattle.lists.specs.Lists.{sameList}
 use Rattle.rules.specs.Rules.{normal}
 use Rattle.rules.specs.Answers.{mixtureLimit, padded, boundedOf}
 use Rattle.rules.specs.declared.Bounded.{Bounded}
-use Rattle.rule_words.specs.Words.{ruleWidth, ruleOf, wordsOf}
+use Rattle.rule_words.specs.Words.{ruleWidth, ruleOf, wordsOf, isNormal}
 
 pub bounded-words : (rule : List ℕ) (m : Bounded) → m ≡ boundedOf rule → length rule ≤ mixtureLimit → m .count ∷ m .mixtures ≡ wordsOf rule
 unfolding wordsOf
@@ -45,3 +46,14 @@ words-good ws x e l =
 
 pub normal-out : (out ws x r : List ℕ) → out ≡ wordsOf (normal (ruleOf ws)) → ws ≡ wordsOf x → x ≡ r → out ≡ wordsOf (normal r)
 normal-out out ws x r h e f = h ∙ ap (λ (y : List ℕ). wordsOf (normal y)) (ap ruleOf e ∙ words-rule x ∙ f)
+
+-- ---- the test of a normal form
+
+module _ (r : List ℕ) where
+  pub normal-is : isNormal r ≡ true → normal r ≡ r
+  unfolding isNormal
+  normal-is h = same-eq (normal r) r h
+
+  pub is-normal-of : normal r ≡ r → isNormal r ≡ true
+  unfolding isNormal
+  is-normal-of e = ap (λ (s : List ℕ). sameList s r) e ∙ same-refl r

@@ -10,4 +10,5 @@ pub mod Canonical
 pub mod Theorems
 pub mod WriteLaws
 pub mod RecordRows
+pub mod StartRefusals
 pub mod StartSteps

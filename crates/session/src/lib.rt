@@ -185,7 +185,7 @@ pub fn start(image: &[u8], session: &mut [u64]) -> u32
     ensures { λ r. ⌜ (r ≡ startAnswer (now (image .entry)) (now (session .entry))) × (now (session .exit) ≡ startEffect (now (image .entry)) (now (session .entry))) ⌝ }
 {
     if session.len() != SESSION_LENGTH {
-        return 9;
+        return answers::LENT_LENGTH;
     }
     let refusal = image::check(image);
     if refusal != 0 {
