@@ -20,7 +20,8 @@ use Rattle.image.specs.Image.{checkOf, policyIn}
 use Rattle.session.specs.Limits.{sessionLength}
 use Rattle.session.specs.Rows.{Row, rowOf, rowWords, containerRowGood, InUse, isDeclared, userRuleOf, userRowGood, containerRow, userRow}
 use Rattle.session.specs.Session.{startOf, startAnswer, startEffect}
-use Rattle.session.proofs.Canonical.{accepted-sound, effect-start}
+use Rattle.image.proofs.Decode.{accepted-sound}
+use Rattle.session.proofs.Canonical.{effect-start}
 use Rattle.chains.specs.History.{Step, read, write, append, exec, fork, newFile, newVolatile, History, receiver}
 use Rattle.chains.specs.Chains.{Governs, Reaches, Forbidden}
 use Rattle.chains.specs.Demand.{Answer, quiet, alert, refused, accepted, isAlert, receiverOf, tagOf, judged, Demand3, TagTold}
