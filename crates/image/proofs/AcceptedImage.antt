@@ -20,6 +20,7 @@ use Rattle.image.specs.Limits.{
   userSize,
   ruleSize,
   mixtureSize,
+  size16,
   leadingNumber,
   headerSize,
   imageLimit,
@@ -55,7 +56,7 @@ part-end i from k h = leb-true (offset i k + size i k) (length i) (and-1 (leb fr
 module _ (i : List ℕ) (h : pairsGood i ≡ true) where
   after-0 : (partGood i headerSize 0 && (partGood i (offset i 0 + size i 0) 1 && (partGood i (offset i 1 + size i 1) 2 && partGood i (offset i 2 + size i 2) 3))) ≡ true
   unfolding pairsGood
-  after-0 = and-1 (eqb (field i 0 2) leadingNumber) h
+  after-0 = and-1 (eqb (field i 0 size16) leadingNumber) h
 
   after-1 : (partGood i (offset i 0 + size i 0) 1 && (partGood i (offset i 1 + size i 1) 2 && partGood i (offset i 2 + size i 2) 3)) ≡ true
   after-1 = and-1 (partGood i headerSize 0) after-0

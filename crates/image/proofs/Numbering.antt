@@ -17,6 +17,7 @@ use Rattle.image.specs.Normal.{known, noted, numbered, position, numberO
 use Rattle.rule_words.specs.Words.{wordsOf}
 use Rattle.rule_words.proofs.WordLaws.{words-same}
 use Rattle.lists.proofs.Every.{every-0, every-1, every-nil, every-cons, every-append}
+use Rattle.image.specs.Limits.{ruleLimit}
 
 -- r needs no number, or has one
 unfoldable pub settled : List (List ℕ) → List ℕ → Bool
@@ -159,7 +160,7 @@ position-at r (x ∷ t) h = by (sameList r x) refl h (position-at r t)
     by true e k ih = sym (same-eq r x e)
     by false e k ih = ih k
 
-module _ (t : List (List ℕ)) (few : length t ≤ 256) (r : List ℕ) (h : settled t r ≡ true) where
+module _ (t : List (List ℕ)) (few : length t ≤ ruleLimit) (r : List ℕ) (h : settled t r ≡ true) where
   pub number-rule : ruleAt t (numberOf t r) ≡ r
   unfolding ruleAt numberOf settled
   number-rule = by (sameList r unrestrictedRule) refl h

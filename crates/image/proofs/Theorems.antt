@@ -23,7 +23,7 @@ use Rattle.image.specs.Normal.{meaning, uses, known, position, writtenBy
 use Rattle.image.proofs.ImageRefusals.{refused-at, refused-by-none}
 use Rattle.image.proofs.Encode as encoded
 use Rattle.image.proofs.Decode as decoded
-use Rattle.image.proofs.Means.{meaning-encodable, policy-sound, policy-means}
+use Rattle.image.proofs.WrittenMeaning.{meaning-encodable, policy-sound, policy-means}
 use Rattle.image.proofs.FirstUses.{Firsts, firsts, known-every, uses-normal}
 
 -- ---- REFUSALS: an image is refused by a number exactly when its condition is the first of the six that fails

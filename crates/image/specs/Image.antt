@@ -1,5 +1,5 @@
 -- The policy image: what it is refused for, and the policy that it spells (the paper, "Policy image" and "Refused because of the input").
-use Prim.Native.Nat.{ℕ, _+_, _*_, _/_, _%_}
+use Prim.Native.Nat.{ℕ, _+_, _/_, _%_}
 use mathlib.Core.Bool.{Bool, true, _&&_}
 use mathlib.Core.List.{List, [], _∷_, map}
 use lib.Dec.{eqb, leb}
@@ -18,6 +18,16 @@ use Rattle.image.specs.Limits.{
   userSize,
   ruleSize,
   mixtureSize,
+  size8,
+  size16,
+  kindField,
+  atomField,
+  permitField,
+  runField,
+  firstField,
+  countField,
+  offsetAt,
+  sizeAt,
   leadingNumber,
   headerSize,
   imageLimit,
@@ -27,10 +37,10 @@ use Rattle.image.specs.Policy.{Container, Policy, containerGood, named}
 -- ---- the four pairs and their sections: 0 containers, 1 users, 2 rules, 3 mixtures
 
 unfoldable pub offset : List ℕ → ℕ → ℕ
-offset i k = field i (2 + 4 * k) 2
+offset i k = field i (offsetAt k) size16
 
 unfoldable pub size : List ℕ → ℕ → ℕ
-size i k = field i (4 + 4 * k) 2
+size i k = field i (sizeAt k) size16
 
 unfoldable pub part : List ℕ → ℕ → List ℕ
 part i k = take (size i k) (drop (offset i k) i)
@@ -38,7 +48,13 @@ part i k = take (size i k) (drop (offset i k) i)
 -- ---- the records
 
 unfoldable pub containerIn : List ℕ → Container
-containerIn r = record { kind = field r 0 1; atom = field r 1 1; permit = field r 2 2; run = field r 4 2 }
+containerIn r =
+    record {
+      kind = field r kindField size8;
+      atom = field r atomField size8;
+      permit = field r permitField size16;
+      run = field r runField size16;
+    }
 
 -- a rule record: its first mixture and its count
 pub record Span : Type 0 where
@@ -46,7 +62,7 @@ pub record Span : Type 0 where
   pub count : ℕ
 
 unfoldable pub spanIn : List ℕ → Span
-spanIn r = record { first = field r 0 2; count = field r 2 2 }
+spanIn r = record { first = field r firstField size16; count = field r countField size16 }
 
 unfoldable pub ruleIn : List ℕ → Span → List ℕ
 ruleIn mixtures r = take (r .count) (drop (r .first) mixtures)
@@ -88,7 +104,7 @@ partGood i from k = leb from (offset i k) && leb (offset i k + size i k) (length
 -- 2: "the leading 4 or the pairs"
 unfoldable pub pairsGood : List ℕ → Bool
 pairsGood i =
-    eqb (field i 0 2) leadingNumber
+    eqb (field i 0 size16) leadingNumber
     && (partGood i headerSize 0
     && (partGood i (offset i 0 + size i 0) 1
     && (partGood i (offset i 1 + size i 1) 2

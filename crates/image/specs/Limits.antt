@@ -1,5 +1,5 @@
 -- The numbers of the paper's section "Policy image", each named once, and the tests of a container's kind.
-use Prim.Native.Nat.{ℕ}
+use Prim.Native.Nat.{ℕ, _+_, _*_}
 use mathlib.Core.Bool.{Bool, _||_}
 use lib.Dec.{eqb}
 
@@ -75,10 +75,47 @@ ruleSize = 4
 abbrev pub mixtureSize : ℕ
 mixtureSize = 8
 
--- ---- "First a 16-bit 4, then four pairs .., so 18 bytes"; "At most 20,480 bytes"; "at most 18,994; the output must hold that many"
+-- ---- fields: the bytes of a number of 8 and of 16 bits; the places in a record of a container, and of a rule
+
+abbrev pub size8 : ℕ
+size8 = 1
+
+abbrev pub size16 : ℕ
+size16 = 2
+
+abbrev pub kindField : ℕ
+kindField = 0
+
+abbrev pub atomField : ℕ
+atomField = 1
+
+abbrev pub permitField : ℕ
+permitField = 2
+
+abbrev pub runField : ℕ
+runField = 4
+
+abbrev pub firstField : ℕ
+firstField = 0
+
+abbrev pub countField : ℕ
+countField = 2
+
+-- ---- "First a 16-bit 4, then four pairs of 16-bit offset and length .., so 18 bytes"; "At most 20,480 bytes"; a normal image
+-- has "at most 18,994; the output must hold that many"
 
 abbrev pub leadingNumber : ℕ
 leadingNumber = 4
+
+abbrev pub pairSize : ℕ
+pairSize = 4
+
+-- where the offset of section k stands, and its length
+abbrev pub offsetAt : ℕ → ℕ
+offsetAt k = 2 + pairSize * k
+
+abbrev pub sizeAt : ℕ → ℕ
+sizeAt k = 4 + pairSize * k
 
 abbrev pub headerSize : ℕ
 headerSize = 18

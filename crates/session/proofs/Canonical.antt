@@ -9,7 +9,7 @@ use Rattle.image.specs.Policy.{Policy, Sound}
 use Rattle.image.specs.Image.{checkOf, policyIn}
 use Rattle.image.specs.Normal.{Meaning, meaning, policyOf, normalPolicy, encode, normalImage}
 use Rattle.image.proofs.Encode.{check-encode, policy-encode}
-use Rattle.image.proofs.Means.{Encodable, meaning-encodable, policy-sound, policy-means}
+use Rattle.image.proofs.WrittenMeaning.{Encodable, meaning-encodable, policy-sound, policy-means}
 use Rattle.session.specs.Limits.{sessionLength}
 use Rattle.session.specs.Session.{sessionOf, startOf, startAnswer, startEffect}
 use Rattle.session.proofs.StartRefusals.{length-good, given-by-image}

@@ -17,12 +17,12 @@ use Rattle.image.specs.Limits.{noAtom, isFile, isVolatile, isProcess, isStore, 
 use Rattle.image.specs.Policy.{unrestrictedRule, ruleGood}
 use Rattle.image.specs.Normal.{Place, Meaning}
 use Rattle.lists.proofs.Every.{every-map, map-apart, append-apart}
-use Rattle.image.proofs.Means.{formGood, shapeGood, placeGood, Encodable, form-rule, form-normal}
+use Rattle.image.proofs.WrittenMeaning.{formGood, shapeGood, placeGood, Encodable, form-rule, form-normal}
 use Rattle.session.specs.Limits.{sessionLength, rowWidth, userWidth, usersAt}
 use Rattle.session.specs.Rows.{Row, rowWords, rowOf, InUse, userWords, userRuleOf, containerRow, userRow}
 use Rattle.session.specs.Session.{filled, startTag, startRow, placeWords, sessionOf}
 use Rattle.session.proofs.RowLaws.{used-kind, row-length, row-words, row-kind, user-length, user-words}
-use Rattle.session.proofs.Filled.{wide, used, all-wide, filled-length, filled-row, filled-apart}
+use Rattle.session.proofs.RowsOfOneWidth.{wide, used, all-wide, filled-length, filled-row, filled-apart}
 
 -- ---- what a good place and a good rule say
 

@@ -20,7 +20,7 @@ use Rattle.lists.specs.Lists.{every}
 use Rattle.image.specs.Policy.{named, containerGood}
 use Rattle.image.proofs.AcceptedImage.{accepted-spans, accepted-containers, accepted-users, few-containers, few-users}
 use Rattle.session.proofs.StartRefusals.{length-good, refused-9, length-passed}
-use Rattle.session.proofs.Filled.{filled-length}
+use Rattle.session.proofs.RowsOfOneWidth.{filled-length}
 use Rattle.session.proofs.RecordRows.{containers-wide}
 
 -- ---- the container rows and the user rows of an image

@@ -20,7 +20,7 @@ use Rattle.image.specs.Normal.{normalImage}
 use Rattle.session.specs.Limits.{sessionLength, rowWidth, userWidth}
 use Rattle.session.specs.Rows.{Row, rowWords, freeWords, containerRowGood, InUse, userWords, undeclaredWords, userRowGood, containerRow, userRow}
 use Rattle.session.specs.Session.{startOf, sessionLengthGood, startConditions, startAnswer, startEffect}
-use Rattle.session.proofs.RowCases.{row-says, says-row, user-says, says-user}
+use Rattle.session.proofs.GoodRows.{row-says, says-row, user-says, says-user}
 use Rattle.image.proofs.Decode.{accepted-sound}
 use Rattle.session.proofs.Canonical.{normal-check, normal-same-start, same-start, same-image, started-effect}
 use Rattle.session.proofs.StartRefusals.{refused-9, given-by-image}

@@ -144,19 +144,19 @@ fn put_container(row: &mut [u64], r: &[u8], rules: &[u8], m: &[u8])
     requires { ⌜ (length (now row) ≡ rowWidth) × (length (now r) ≡ containerSize) × (containerGood (length (now rules) / ruleSize) (containerIn (now r)) ≡ true) × (spansGood (length (now m) / mixtureSize) 0 (spansIn (now rules)) ≡ true) ⌝ }
     ensures { λ _. ⌜ now (row .exit) ≡ placeWords (placeOf (rulesIn (now (rules .entry)) (now (m .entry))) (containerIn (now (r .entry)))) ⌝ }
 {
-    row[KIND_AT] = fields::read8(r, 0) as u64;
-    row[TAG_AT] = tag_of(fields::read8(r, 1));
+    row[KIND_AT] = fields::read8(r, image::KIND_FIELD) as u64;
+    row[TAG_AT] = tag_of(fields::read8(r, image::ATOM_FIELD));
     image::put_rule_at(
         &mut row[PERMIT_AT..PERMIT_AT + rule_words::RULE_WIDTH],
         rules,
         m,
-        fields::read16(r, 2),
+        fields::read16(r, image::PERMIT_FIELD),
     );
     image::put_rule_at(
         &mut row[RUN_AT..RUN_AT + rule_words::RULE_WIDTH],
         rules,
         m,
-        fields::read16(r, 4),
+        fields::read16(r, image::RUN_FIELD),
     );
 }
 

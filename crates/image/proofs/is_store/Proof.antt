@@ -1,3 +1,4 @@
+-- The tests, one after the other, are those of `isStore`.
 use Rattle.image.specs.Limits.{isStore}
 use borrow.Author.Needs.{needs}
 use Rattle.image.proofs.is_store.Statement.{statement}

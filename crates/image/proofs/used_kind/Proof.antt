@@ -1,3 +1,4 @@
+-- The tests, one after the other, are those of `usedKind`.
 use mathlib.Core.Path.{sym, _∙_}
 use Rattle.image.specs.Limits.{usedKind}
 use borrow.Author.Needs.{needs}

@@ -63,7 +63,9 @@ check-requires : tie.Need-check-requires
 check-requires c κs = search needs
 
 returns-2 : tie.Need-returns-2
-returns-2 c = refused-image (c .before .before .before .before .before .args .image .now) (c .before .before .before .before .before .args .session .now) (c .before .before .if1 .left) _ (c .before .check .ensures) (c .if2 .taken)
+returns-2 c =
+    let start = c .before .before .before .before .before in
+    refused-image (start .args .image .now) (start .args .session .now) (c .before .before .if1 .left) _ (c .before .check .ensures) (c .if2 .taken)
 
 clear-requires : tie.Need-clear-requires
 clear-requires c κs = search needs

@@ -15,8 +15,8 @@ use Rattle.rules.proofs.MeetAll.{normal-one}
 use Rattle.lists.specs.Lists.{elem, sameList, every}
 use Rattle.rules.specs.Rules.{normal, unrestricted}
 use Rattle.lists.proofs.Same.{same-refl, same-eq}
-use Rattle.rules.specs.Answers.{dataWidth}
-use Rattle.image.specs.Limits.{isFile, isVolatile, isProcess, unrestrictedNumber, noAtom}
+use Rattle.rules.specs.Answers.{dataWidth, tagWidth, mixtureLimit}
+use Rattle.image.specs.Limits.{containerLimit, userLimit, ruleLimit, isFile, isVolatile, isProcess, unrestrictedNumber, noAtom}
 use Rattle.image.specs.Policy.{Container, Policy, unrestrictedRule, ruleAt, named, containerGood, ruleGood, Sound}
 use Rattle.image.specs.Normal.{Place, Meaning, normalAt, placeOf, meaning, placeUses, uses, known, numbered, numberOf, containerOf, writtenBy, policyOf}
 use Rattle.lists.proofs.Every.{every-0, every-1, every-nil, every-cons, every-imp, every-append, every-left, every-right, every-both, every-map, every-getD, map-back}
@@ -37,11 +37,11 @@ placeGood p = shapeGood p && (formGood (p .permit) && formGood (p .run))
 
 -- a meaning that can be written down
 pub record Encodable (m : Meaning) : Type 0 where
-  pub fewPlaces : length (m .places) ≤ 256
-  pub fewUsers : length (m .users) ≤ 16
+  pub fewPlaces : length (m .places) ≤ containerLimit
+  pub fewUsers : length (m .users) ≤ userLimit
   pub placesGood : every placeGood (m .places) ≡ true
   pub usersGood : every formGood (m .users) ≡ true
-  pub fewRules : length (numbered [] (uses m)) ≤ 256
+  pub fewRules : length (numbered [] (uses m)) ≤ ruleLimit
 
 -- ---- the normal form of a good rule
 
@@ -58,13 +58,13 @@ unfolding formGood ruleGood
 normal-good r h =
     and-in
     (and-in
-    (le-leb (length (normal r)) 8 (omega (arith, normal-length r, leb-true (length r) 8 (and-0 (leb (length r) 8) (every (λ m. ltb m (2 ^ 64)) r) h))))
-    (elem-every (λ m. ltb m (2 ^ 64)) (normal r) (λ m e. every-elem (λ m. ltb m (2 ^ 64)) r m (and-1 (leb (length r) 8) h) (normal-among r m e))))
+    (le-leb (length (normal r)) mixtureLimit (omega (arith, normal-length r, leb-true (length r) mixtureLimit (and-0 (leb (length r) mixtureLimit) (every (λ m. ltb m (2 ^ tagWidth)) r) h))))
+    (elem-every (λ m. ltb m (2 ^ tagWidth)) (normal r) (λ m e. every-elem (λ m. ltb m (2 ^ tagWidth)) r m (and-1 (leb (length r) mixtureLimit) h) (normal-among r m e))))
     (rw (normal-normal r) (same-refl (normal r)))
 
 pub normal-unrestricted : normal unrestrictedRule ≡ unrestrictedRule
 unfolding unrestrictedRule unrestricted
-normal-unrestricted = normal-one (2 ^ 64 - 1)
+normal-unrestricted = normal-one (2 ^ tagWidth - 1)
 
 unrestricted-good : ruleGood unrestrictedRule ≡ true
 unfolding ruleGood unrestrictedRule unrestricted every
@@ -172,7 +172,7 @@ module _ (p : Policy) (h : Sound p) where
       (uses-every (p .rules) (settled (map normal (p .rules))) (λ n k. named-settled (p .rules) (h .rulesGood) n k) (p .containers) (h .containersGood))
       (every-map (named (length (p .rules))) (settled (map normal (p .rules))) (normalAt (p .rules)) (p .users) (λ n k. named-settled (p .rules) (h .rulesGood) n k) (h .usersGood))
 
-  rules-few : length (numbered [] (uses (meaning p))) ≤ 256
+  rules-few : length (numbered [] (uses (meaning p))) ≤ ruleLimit
   rules-few = omega (arith, numbered-few (uses (meaning p)) (map normal (p .rules)) all-used, length-map (p .rules) normal, h .fewRules)
 
   pub meaning-encodable : Encodable (meaning p)
@@ -208,7 +208,7 @@ places-uses f (p ∷ ps) h =
     every-cons f (p .permit) (p .run ∷ placeUses ps) (and-0 (f (p .permit)) (f (p .run)) k)
     (every-cons f (p .run) (placeUses ps) (and-1 (f (p .permit)) k) (places-uses f ps (every-1 (λ p. f (p .permit) && f (p .run)) p ps h)))
 
-module _ (t : List (List ℕ)) (few : length t ≤ 256) where
+module _ (t : List (List ℕ)) (few : length t ≤ ruleLimit) where
   number-back : (r : List ℕ) → (formGood r && settled t r) ≡ true → normalAt t (numberOf t r) ≡ r
   unfolding normalAt
   number-back r h = ap normal (number-rule t few r (and-1 (formGood r) h)) ∙ form-normal r (and-0 (formGood r) (settled t r) h)
@@ -246,7 +246,7 @@ module _ (m : Meaning) (h : Encodable m) where
   t : List (List ℕ)
   t = numbered [] (uses m)
 
-  t-few : length t ≤ 256
+  t-few : length t ≤ ruleLimit
   unfolding t
   t-few = h .fewRules
 
