@@ -21,7 +21,7 @@ use Rattle.image.specs.Policy.{Container, unrestrictedRule, ruleAt, named, cont
 use Rattle.image.specs.Image.{policyIn, checkOf}
 use Rattle.image.specs.Normal.{Place, Meaning, normalAt, placeOf, meaning, policyOf, normalPolicy, encode, normalImage}
 use Rattle.image.proofs.Encode.{read-encode, encode-short}
-use Rattle.image.proofs.Means.{Encodable, meaning-encodable, normal-unrestricted, policy-sound, policy-means}
+use Rattle.image.proofs.WrittenMeaning.{Encodable, meaning-encodable, normal-unrestricted, policy-sound, policy-means}
 use Rattle.lists.proofs.Every.{every-0, every-1, every-nil, every-cons, every-imp, every-append}
 use Rattle.matrix.specs.Flows.{has, rowsGood}
 use Rattle.matrix.specs.Derived.{writerMixtures, orAlone, permitOf, countFrom, objectFile, subjectProcess, derivedPolicy, derivedImage}

@@ -24,11 +24,11 @@ use Rattle.lists.proofs.Every.{every-nil, every-cons, every-left, every-right, 
 use Rattle.image.proofs.AcceptedImage.{passes}
 use Rattle.image.proofs.Decode.{accepted-sound as image-sound}
 use Rattle.image.proofs.Encode.{encode-length, encode-short}
-use Rattle.image.proofs.Means.{meaning-encodable, policy-sound, normal-good, form-rule}
+use Rattle.image.proofs.WrittenMeaning.{meaning-encodable, policy-sound, normal-good, form-rule}
 use Rattle.rule_words.proofs.WordLaws.{words-rule, words-nine}
 use Rattle.lists.proofs.Places.{map-at}
 use Rattle.fields.proofs.RecordLaws.{records-count}
-use Rattle.image.proofs.Places.{rule-at, rule-fits}
+use Rattle.image.proofs.RecordsByPlace.{rule-at, rule-fits}
 use borrow.Rule.Slice.PartMut.{putMid}
 use Rattle.normaliser.specs.Tables.{formAt, formsIn, wordsGood, policyAt, policyFrom, Classified, classAt, classNamed, containerUses, placedAll, Ordered, found, containerBytesAt, userBytes, spanBytesAt, mixtureBytes, recordSize, Writable, Written, Tabled}
 use Rattle.normaliser.proofs.Laying.{wide, rows-length, records-rows, Laid, laid-start, laid-next, laid-end}

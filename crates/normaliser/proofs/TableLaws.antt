@@ -18,7 +18,7 @@ use Rattle.image.specs.Policy.{unrestrictedRule, ruleAt, named}
 use Rattle.image.specs.Normal.{normalAt, position, numberOf}
 use Rattle.rule_words.specs.Words.{ruleOf, wordsOf}
 use Rattle.lists.proofs.Every.{every-0, every-1, every-getD, map-back}
-use Rattle.image.proofs.Means.{normal-unrestricted}
+use Rattle.image.proofs.WrittenMeaning.{normal-unrestricted}
 use Rattle.fields.proofs.RecordLaws.{record-at, records-count}
 use Rattle.rule_words.proofs.WordLaws.{words-rule}
 use Rattle.image.proofs.Numbering.{position-words}
