@@ -1,5 +1,5 @@
 -- The bytes of a sound policy are accepted, and spell that policy.
-use Prim.Native.Nat.{ℕ, suc, _+_, _*_, _/_, _%_, _^_, _≤_, _<_}
+use Prim.Native.Nat.{ℕ, suc, _+_, _-_, _*_, _/_, _%_, _^_, _≤_, _<_}
 use mathlib.Core.Path.{_≡_, refl, sym, ap, ap₂, _∙_}
 use mathlib.Core.Bool.{Bool, true, false, cond, _&&_, _||_}
 use mathlib.Core.List.{List, [], _∷_, _++_, map, append-assoc}
@@ -11,30 +11,31 @@ use lib.ListN.{length, take, drop, length-append}
 use lib.Seq.{drop-at, take-append-seam}
 use borrow.Author.Tests.{eq-eqb, le-leb, lt-ltb, ltb-true, eqb-true, leb-true}
 use Rattle.lists.proofs.Bools.{and-in, and-0, and-1, or-cases}
-use Rattle.rules.specs.Answers.{dataWidth}
-use Rattle.image.specs.Limits.{isFile, isVolatile, isProcess, unrestrictedNumber, noAtom}
+use Rattle.rules.specs.Answers.{dataWidth, tagWidth, mixtureLimit}
+use Rattle.image.specs.Limits.{fileKind, volatileKind, processKind, isFile, isVolatile, isProcess, unrestrictedNumber, noAtom, containerLimit, userLimit, ruleLimit, mixtureTotal, containerSize, userSize, ruleSize, mixtureSize, size8, size16, leadingNumber, headerSize, imageLimit, outputBound}
 use Rattle.fields.specs.Bytes.{numberIn, bytesOf, field, Bytes}
 use Rattle.lists.specs.Lists.{every, joined}
 use Rattle.image.specs.Policy.{Container, Policy, named, containerGood, ruleGood, Sound}
-use Rattle.image.specs.Image.{Span, containerIn, spanIn, ruleIn, containersIn, usersIn, spansIn, mixturesIn, rulesIn, policyIn, part, wholeGood, sectionsGood, spansGood, rulesGood, containersGood, usersGood, checkOf, accepted, judged, readImage}
+use Rattle.image.specs.Image.{Span, containerIn, spanIn, ruleIn, containersIn, usersIn, spansIn, mixturesIn, rulesIn, policyIn, part, wholeGood, sectionsGood, spansGood, rulesGood, containersGood, usersGood, imageConditions, checkOf}
 use Rattle.image.specs.Normal.{containerBytes, spanBytes, spansOf, pair, header, framed, encode}
 use Rattle.lists.proofs.Every.{every-0, every-1, every-nil, every-cons, every-append}
 use Rattle.fields.proofs.ByteLaws.{bytes-length, number-bytes, joined-length, section-back, byte, bytes-byte, joined-byte, every-bytes}
-use Rattle.image.proofs.Frame.{part-0, part-1, part-2, part-3, frame-length, frame-long, frame-pairs}
+use Rattle.image.proofs.ImageRefusals.{refused-by-none}
+use Rattle.image.proofs.FramedSections.{part-0, part-1, part-2, part-3, frame-length, frame-long, frame-pairs}
 
 -- ---- one record
 
-named-fits : (n r : ℕ) → n ≤ 256 → named n r ≡ true → r < 65536
+named-fits : (n r : ℕ) → n ≤ ruleLimit → named n r ≡ true → r < 256 ^ size16
 unfolding named
 named-fits n r h k = ⊎-elim (λ p. omega (arith, ltb-true r n p)) (λ p. omega (arith, eqb-true r unrestrictedNumber p)) (or-cases (ltb r n) k)
 
 record Fits (c : Container) : Type 0 where
-  kind : c .kind < 256
-  atom : c .atom < 256
-  permit : c .permit < 65536
-  run : c .run < 65536
+  kind : c .kind < 256 ^ size8
+  atom : c .atom < 256 ^ size8
+  permit : c .permit < 256 ^ size16
+  run : c .run < 256 ^ size16
 
-container-fits : (n : ℕ) (c : Container) → n ≤ 256 → containerGood n c ≡ true → Fits c
+container-fits : (n : ℕ) (c : Container) → n ≤ ruleLimit → containerGood n c ≡ true → Fits c
 unfolding containerGood isFile isVolatile isProcess
 container-fits n c h = by (isFile (c .kind)) refl
   where
@@ -42,8 +43,8 @@ container-fits n c h = by (isFile (c .kind)) refl
     file e k =
         let g : (named n (c .permit) && named n (c .run)) ≡ true = and-1 (ltb (c .atom) dataWidth || eqb (c .atom) noAtom) k in
         record {
-          kind = omega (arith, eqb-true (c .kind) 1 e);
-          atom = ⊎-elim (λ p. omega (arith, ltb-true (c .atom) 32 p)) (λ p. omega (arith, eqb-true (c .atom) 255 p)) (or-cases (ltb (c .atom) dataWidth) (and-0 (ltb (c .atom) dataWidth || eqb (c .atom) noAtom) (named n (c .permit) && named n (c .run)) k));
+          kind = omega (arith, eqb-true (c .kind) fileKind e);
+          atom = ⊎-elim (λ p. omega (arith, ltb-true (c .atom) dataWidth p)) (λ p. omega (arith, eqb-true (c .atom) noAtom p)) (or-cases (ltb (c .atom) dataWidth) (and-0 (ltb (c .atom) dataWidth || eqb (c .atom) noAtom) (named n (c .permit) && named n (c .run)) k));
           permit = named-fits n (c .permit) h (and-0 (named n (c .permit)) (named n (c .run)) g);
           run = named-fits n (c .run) h (and-1 (named n (c .permit)) g);
         }
@@ -53,8 +54,8 @@ container-fits n c h = by (isFile (c .kind)) refl
         let g : (eqb (c .atom) noAtom && (eqb (c .permit) unrestrictedNumber && eqb (c .run) unrestrictedNumber)) ≡ true = and-1 (isVolatile (c .kind) || isProcess (c .kind)) k in
         let f : (eqb (c .permit) unrestrictedNumber && eqb (c .run) unrestrictedNumber) ≡ true = and-1 (eqb (c .atom) noAtom) g in
         record {
-          kind = ⊎-elim (λ p. omega (arith, eqb-true (c .kind) 2 p)) (λ p. omega (arith, eqb-true (c .kind) 3 p)) (or-cases (isVolatile (c .kind)) (and-0 (isVolatile (c .kind) || isProcess (c .kind)) (eqb (c .atom) noAtom && (eqb (c .permit) unrestrictedNumber && eqb (c .run) unrestrictedNumber)) k));
-          atom = omega (arith, eqb-true (c .atom) 255 (and-0 (eqb (c .atom) noAtom) (eqb (c .permit) unrestrictedNumber && eqb (c .run) unrestrictedNumber) g));
+          kind = ⊎-elim (λ p. omega (arith, eqb-true (c .kind) volatileKind p)) (λ p. omega (arith, eqb-true (c .kind) processKind p)) (or-cases (isVolatile (c .kind)) (and-0 (isVolatile (c .kind) || isProcess (c .kind)) (eqb (c .atom) noAtom && (eqb (c .permit) unrestrictedNumber && eqb (c .run) unrestrictedNumber)) k));
+          atom = omega (arith, eqb-true (c .atom) noAtom (and-0 (eqb (c .atom) noAtom) (eqb (c .permit) unrestrictedNumber && eqb (c .run) unrestrictedNumber) g));
           permit = omega (arith, eqb-true (c .permit) unrestrictedNumber (and-0 (eqb (c .permit) unrestrictedNumber) (eqb (c .run) unrestrictedNumber) f));
           run = omega (arith, eqb-true (c .run) unrestrictedNumber (and-1 (eqb (c .permit) unrestrictedNumber) f));
         }
@@ -63,7 +64,7 @@ container-fits n c h = by (isFile (c .kind)) refl
     by true e k = file e k
     by false e k = other k
 
-container-back : (n : ℕ) → n ≤ 256 → (c : Container) → containerGood n c ≡ true → containerIn (containerBytes c) ≡ c
+container-back : (n : ℕ) → n ≤ ruleLimit → (c : Container) → containerGood n c ≡ true → containerIn (containerBytes c) ≡ c
 unfolding containerIn containerBytes field numberIn bytesOf
 container-back n h c k =
     let f : Fits c = container-fits n c h k in
@@ -73,57 +74,57 @@ container-back n h c k =
     let e3 : c .run % 256 + 256 * (c .run / 256 % 256 + 256 * 0) ≡ c .run = omega arith in
     λ i. record { kind = e0 i; atom = e1 i; permit = e2 i; run = e3 i }
 
-container-wide : (c : Container) → length (containerBytes c) ≡ 6
+container-wide : (c : Container) → length (containerBytes c) ≡ containerSize
 unfolding containerBytes bytesOf
 container-wide c = refl
 
-span-wide : (r : Span) → length (spanBytes r) ≡ 4
+span-wide : (r : Span) → length (spanBytes r) ≡ ruleSize
 unfolding spanBytes bytesOf
 span-wide r = refl
 
 spanFits : Span → Bool
-spanFits r = ltb (r .first) 65536 && ltb (r .count) 65536
+spanFits r = ltb (r .first) (256 ^ size16) && ltb (r .count) (256 ^ size16)
 
 span-back : (r : Span) → spanFits r ≡ true → spanIn (spanBytes r) ≡ r
 unfolding spanIn spanBytes field numberIn bytesOf spanFits
 span-back r k =
-    let f : r .first < 65536 = ltb-true (r .first) 65536 (and-0 (ltb (r .first) 65536) (ltb (r .count) 65536) k) in
-    let g : r .count < 65536 = ltb-true (r .count) 65536 (and-1 (ltb (r .first) 65536) k) in
+    let f : r .first < 256 ^ size16 = ltb-true (r .first) (256 ^ size16) (and-0 (ltb (r .first) (256 ^ size16)) (ltb (r .count) (256 ^ size16)) k) in
+    let g : r .count < 256 ^ size16 = ltb-true (r .count) (256 ^ size16) (and-1 (ltb (r .first) (256 ^ size16)) k) in
     let e0 : r .first % 256 + 256 * (r .first / 256 % 256 + 256 * 0) ≡ r .first = omega arith in
     let e1 : r .count % 256 + 256 * (r .count / 256 % 256 + 256 * 0) ≡ r .count = omega arith in
     λ i. record { first = e0 i; count = e1 i }
 
 -- ---- the rules and their mixtures
 
-short : (r : List ℕ) → ruleGood r ≡ true → length r ≤ 8
+short : (r : List ℕ) → ruleGood r ≡ true → length r ≤ mixtureLimit
 unfolding ruleGood
-short r h = leb-true (length r) 8 (and-0 (leb (length r) 8) (every (λ m. ltb m (2 ^ 64)) r) h)
+short r h = leb-true (length r) mixtureLimit (and-0 (leb (length r) mixtureLimit) (every (λ m. ltb m (2 ^ tagWidth)) r) h)
 
-joined-short : (rules : List (List ℕ)) → every ruleGood rules ≡ true → length (joined rules) ≤ 8 * length rules
+joined-short : (rules : List (List ℕ)) → every ruleGood rules ≡ true → length (joined rules) ≤ mixtureLimit * length rules
 unfolding joined
 joined-short [] h = omega arith
 joined-short (r ∷ rules) h =
     let e : length (r ++ joined rules) ≡ length r + length (joined rules) = length-append r (joined rules) in
     omega (arith, short r (every-0 ruleGood r rules h), joined-short rules (every-1 ruleGood r rules h))
 
-joined-words : (rules : List (List ℕ)) → every ruleGood rules ≡ true → every (λ m. ltb m (2 ^ 64)) (joined rules) ≡ true
+joined-words : (rules : List (List ℕ)) → every ruleGood rules ≡ true → every (λ m. ltb m (2 ^ tagWidth)) (joined rules) ≡ true
 unfolding joined ruleGood
-joined-words [] h = every-nil (λ m. ltb m (2 ^ 64))
+joined-words [] h = every-nil (λ m. ltb m (2 ^ tagWidth))
 joined-words (r ∷ rules) h =
-    every-append (λ m. ltb m (2 ^ 64)) r (joined rules) (and-1 (leb (length r) 8) (every-0 ruleGood r rules h)) (joined-words rules (every-1 ruleGood r rules h))
+    every-append (λ m. ltb m (2 ^ tagWidth)) r (joined rules) (and-1 (leb (length r) mixtureLimit) (every-0 ruleGood r rules h)) (joined-words rules (every-1 ruleGood r rules h))
 
 pub spans-length : (first : ℕ) (rules : List (List ℕ)) → length (spansOf first rules) ≡ length rules
 unfolding spansOf
 spans-length first [] = refl
 spans-length first (r ∷ rules) = ap suc (spans-length (first + length r) rules)
 
-spans-fit : (first : ℕ) (rules : List (List ℕ)) → first + length (joined rules) < 65536 → every spanFits (spansOf first rules) ≡ true
+spans-fit : (first : ℕ) (rules : List (List ℕ)) → first + length (joined rules) < 256 ^ size16 → every spanFits (spansOf first rules) ≡ true
 unfolding spansOf joined spanFits
 spans-fit first [] h = every-nil spanFits
 spans-fit first (r ∷ rules) h =
     let e : length (r ++ joined rules) ≡ length r + length (joined rules) = length-append r (joined rules) in
     every-cons spanFits (record { first = first; count = length r }) (spansOf (first + length r) rules)
-    (and-in (lt-ltb first 65536 (omega arith)) (lt-ltb (length r) 65536 (omega arith)))
+    (and-in (lt-ltb first (256 ^ size16) (omega arith)) (lt-ltb (length r) (256 ^ size16) (omega arith)))
     (spans-fit (first + length r) rules (omega arith))
 
 spans-good : (m from first : ℕ) (rules : List (List ℕ)) → from ≤ first → first + length (joined rules) ≤ m → every ruleGood rules ≡ true → spansGood m from (spansOf first rules) ≡ true
@@ -132,7 +133,7 @@ spans-good m from first [] l h k = refl
 spans-good m from first (r ∷ rules) l h k =
     let e : length (r ++ joined rules) ≡ length r + length (joined rules) = length-append r (joined rules) in
     and-in (le-leb from first l)
-    (and-in (le-leb (length r) 8 (short r (every-0 ruleGood r rules k)))
+    (and-in (le-leb (length r) mixtureLimit (short r (every-0 ruleGood r rules k)))
     (and-in (le-leb (first + length r) m (omega arith))
     (spans-good m first (first + length r) rules (omega arith) (omega arith) (every-1 ruleGood r rules k))))
 
@@ -156,55 +157,55 @@ module _ (p : Policy) (h : Sound p) where
   c : List ℕ
   c = joined (map containerBytes (p .containers))
 
-  c-length : length c ≡ length (p .containers) * 6
+  c-length : length c ≡ length (p .containers) * containerSize
   unfolding c
-  c-length = joined-length 6 containerBytes container-wide (p .containers)
+  c-length = joined-length containerSize containerBytes container-wide (p .containers)
 
   c-back : containersIn c ≡ p .containers
   unfolding c containersIn
-  c-back = section-back 6 containerBytes container-wide (omega arith) (containerGood (length (p .rules))) containerIn (container-back (length (p .rules)) (h .fewRules)) (p .containers) (h .containersGood)
+  c-back = section-back containerSize containerBytes container-wide (omega arith) (containerGood (length (p .rules))) containerIn (container-back (length (p .rules)) (h .fewRules)) (p .containers) (h .containersGood)
 
   u : List ℕ
-  u = joined (map (bytesOf 2) (p .users))
+  u = joined (map (bytesOf userSize) (p .users))
 
-  u-length : length u ≡ length (p .users) * 2
+  u-length : length u ≡ length (p .users) * userSize
   unfolding u
-  u-length = joined-length 2 (bytesOf 2) (bytes-length 2) (p .users)
+  u-length = joined-length userSize (bytesOf userSize) (bytes-length userSize) (p .users)
 
   u-back : usersIn u ≡ p .users
   unfolding u usersIn
   u-back =
-      section-back 2 (bytesOf 2) (bytes-length 2) (omega arith) (named (length (p .rules))) numberIn
-      (λ n k. number-bytes 2 n (named-fits (length (p .rules)) n (h .fewRules) k)) (p .users) (h .usersGood)
+      section-back userSize (bytesOf userSize) (bytes-length userSize) (omega arith) (named (length (p .rules))) numberIn
+      (λ n k. number-bytes userSize n (named-fits (length (p .rules)) n (h .fewRules) k)) (p .users) (h .usersGood)
 
   r : List ℕ
   r = joined (map spanBytes (spansOf 0 (p .rules)))
 
-  r-length : length r ≡ length (p .rules) * 4
+  r-length : length r ≡ length (p .rules) * ruleSize
   unfolding r
-  r-length = joined-length 4 spanBytes span-wide (spansOf 0 (p .rules)) ∙ ap (λ (n : ℕ). n * 4) (spans-length 0 (p .rules))
+  r-length = joined-length ruleSize spanBytes span-wide (spansOf 0 (p .rules)) ∙ ap (λ (n : ℕ). n * ruleSize) (spans-length 0 (p .rules))
 
-  all-short : length (joined (p .rules)) ≤ 2048
+  all-short : length (joined (p .rules)) ≤ mixtureTotal
   all-short = omega (arith, joined-short (p .rules) (h .rulesGood), h .fewRules)
 
   r-back : spansIn r ≡ spansOf 0 (p .rules)
   unfolding r spansIn
-  r-back = section-back 4 spanBytes span-wide (omega arith) spanFits spanIn span-back (spansOf 0 (p .rules)) (spans-fit 0 (p .rules) (omega (arith, all-short)))
+  r-back = section-back ruleSize spanBytes span-wide (omega arith) spanFits spanIn span-back (spansOf 0 (p .rules)) (spans-fit 0 (p .rules) (omega (arith, all-short)))
 
   m : List ℕ
-  m = joined (map (bytesOf 8) (joined (p .rules)))
+  m = joined (map (bytesOf mixtureSize) (joined (p .rules)))
 
-  m-length : length m ≡ length (joined (p .rules)) * 8
+  m-length : length m ≡ length (joined (p .rules)) * mixtureSize
   unfolding m
-  m-length = joined-length 8 (bytesOf 8) (bytes-length 8) (joined (p .rules))
+  m-length = joined-length mixtureSize (bytesOf mixtureSize) (bytes-length mixtureSize) (joined (p .rules))
 
   m-back : mixturesIn m ≡ joined (p .rules)
   unfolding m mixturesIn
   m-back =
-      section-back 8 (bytesOf 8) (bytes-length 8) (omega arith) (λ n. ltb n (2 ^ 64)) numberIn
-      (λ n k. number-bytes 8 n (omega (arith, ltb-true n (2 ^ 64) k))) (joined (p .rules)) (joined-words (p .rules) (h .rulesGood))
+      section-back mixtureSize (bytesOf mixtureSize) (bytes-length mixtureSize) (omega arith) (λ n. ltb n (2 ^ tagWidth)) numberIn
+      (λ n k. number-bytes mixtureSize n (omega (arith, ltb-true n (2 ^ tagWidth) k))) (joined (p .rules)) (joined-words (p .rules) (h .rulesGood))
 
-  fits : length c + length u + length r + length m ≤ 20462
+  fits : length c + length u + length r + length m ≤ imageLimit - headerSize
   fits = omega (arith, c-length, u-length, r-length, m-length, all-short, h .fewContainers, h .fewUsers, h .fewRules)
 
   encoded : encode p ≡ framed c u r m
@@ -224,18 +225,18 @@ module _ (p : Policy) (h : Sound p) where
   unfolding sectionsGood
   framed-sections =
       rw (part-0 c u r m fits, part-1 c u r m fits, part-2 c u r m fits, part-3 c u r m fits)
-      (and-in (whole 6 256 (length (p .containers)) c (omega arith) c-length (h .fewContainers))
-      (and-in (whole 2 16 (length (p .users)) u (omega arith) u-length (h .fewUsers))
-      (and-in (whole 4 256 (length (p .rules)) r (omega arith) r-length (h .fewRules))
-      (whole 8 2048 (length (joined (p .rules))) m (omega arith) m-length all-short))))
+      (and-in (whole containerSize containerLimit (length (p .containers)) c (omega arith) c-length (h .fewContainers))
+      (and-in (whole userSize userLimit (length (p .users)) u (omega arith) u-length (h .fewUsers))
+      (and-in (whole ruleSize ruleLimit (length (p .rules)) r (omega arith) r-length (h .fewRules))
+      (whole mixtureSize mixtureTotal (length (joined (p .rules))) m (omega arith) m-length all-short))))
 
   framed-rules : rulesGood (framed c u r m) ≡ true
   unfolding rulesGood
   framed-rules =
       rw (part-3 c u r m fits, part-2 c u r m fits, r-back)
-      (spans-good (length m / 8) 0 0 (p .rules) (omega arith) (omega (arith, m-length)) (h .rulesGood))
+      (spans-good (length m / mixtureSize) 0 0 (p .rules) (omega arith) (omega (arith, m-length)) (h .rulesGood))
 
-  rules-count : length r / 4 ≡ length (p .rules)
+  rules-count : length r / ruleSize ≡ length (p .rules)
   rules-count = omega (arith, r-length)
 
   framed-containers : containersGood (framed c u r m) ≡ true
@@ -247,8 +248,8 @@ module _ (p : Policy) (h : Sound p) where
   framed-users = rw (part-2 c u r m fits, part-1 c u r m fits, rules-count, u-back) (h .usersGood)
 
   framed-check : checkOf (framed c u r m) ≡ 0
-  unfolding checkOf
-  framed-check = simp (frame-long c u r m fits, frame-pairs c u r m fits, framed-sections, framed-rules, framed-containers, framed-users)
+  unfolding imageConditions
+  framed-check = refused-by-none (framed c u r m) .1 (frame-long c u r m fits, (frame-pairs c u r m fits, (framed-sections, (framed-rules, (framed-containers, framed-users)))))
 
   -- DECODE AFTER ENCODE
   pub check-encode : checkOf (encode p) ≡ 0
@@ -257,30 +258,29 @@ module _ (p : Policy) (h : Sound p) where
   pub policy-encode : policyIn (encode p) ≡ p
   policy-encode = ap policyIn encoded ∙ framed-policy
 
-  pub read-encode : readImage (encode p) ≡ accepted p
-  unfolding readImage judged
-  read-encode = rw (check-encode, policy-encode)
+  pub read-encode : (checkOf (encode p) ≡ 0) × (policyIn (encode p) ≡ p)
+  read-encode = (check-encode, policy-encode)
 
-  pub encode-length : length (encode p) ≡ 18 + 6 * length (p .containers) + 2 * length (p .users) + 4 * length (p .rules) + 8 * length (joined (p .rules))
+  pub encode-length : length (encode p) ≡ headerSize + containerSize * length (p .containers) + userSize * length (p .users) + ruleSize * length (p .rules) + mixtureSize * length (joined (p .rules))
   encode-length = ap length encoded ∙ frame-length c u r m fits ∙ omega (arith, c-length, u-length, r-length, m-length)
 
-  pub encode-short : length (encode p) ≤ 18994
+  pub encode-short : length (encode p) ≤ outputBound
   encode-short = omega (arith, encode-length, all-short, h .fewContainers, h .fewUsers, h .fewRules)
 
 -- ---- it is bytes
 
 pair-byte : (o : ℕ) (s : List ℕ) → every byte (pair o s) ≡ true
 unfolding pair
-pair-byte o s = every-append byte (bytesOf 2 o) (bytesOf 2 (length s)) (bytes-byte 2 o) (bytes-byte 2 (length s))
+pair-byte o s = every-append byte (bytesOf size16 o) (bytesOf size16 (length s)) (bytes-byte size16 o) (bytes-byte size16 (length s))
 
 framed-byte : (c u r m : List ℕ) → every byte c ≡ true → every byte u ≡ true → every byte r ≡ true → every byte m ≡ true → every byte (framed c u r m) ≡ true
 unfolding framed header
 framed-byte c u r m hc hu hr hm =
     every-append byte _ (c ++ (u ++ (r ++ m)))
-    (every-append byte (bytesOf 2 4) _ (bytes-byte 2 4)
-    (every-append byte (pair 18 c) _ (pair-byte 18 c)
-    (every-append byte (pair (18 + length c) u) _ (pair-byte (18 + length c) u)
-    (every-append byte (pair (18 + length c + length u) r) _ (pair-byte (18 + length c + length u) r) (pair-byte (18 + length c + length u + length r) m)))))
+    (every-append byte (bytesOf size16 leadingNumber) _ (bytes-byte size16 leadingNumber)
+    (every-append byte (pair headerSize c) _ (pair-byte headerSize c)
+    (every-append byte (pair (headerSize + length c) u) _ (pair-byte (headerSize + length c) u)
+    (every-append byte (pair (headerSize + length c + length u) r) _ (pair-byte (headerSize + length c + length u) r) (pair-byte (headerSize + length c + length u + length r) m)))))
     (every-append byte c (u ++ (r ++ m)) hc (every-append byte u (r ++ m) hu (every-append byte r m hr hm)))
 
 pub encode-bytes : (p : Policy) → Bytes (encode p)
@@ -289,20 +289,20 @@ encode-bytes p =
     every-bytes (encode p)
     (framed-byte
     (joined (map containerBytes (p .containers)))
-    (joined (map (bytesOf 2) (p .users)))
+    (joined (map (bytesOf userSize) (p .users)))
     (joined (map spanBytes (spansOf 0 (p .rules))))
-    (joined (map (bytesOf 8) (joined (p .rules))))
+    (joined (map (bytesOf mixtureSize) (joined (p .rules))))
     (joined-byte containerBytes container-byte (p .containers))
-    (joined-byte (bytesOf 2) (bytes-byte 2) (p .users))
+    (joined-byte (bytesOf userSize) (bytes-byte userSize) (p .users))
     (joined-byte spanBytes span-byte (spansOf 0 (p .rules)))
-    (joined-byte (bytesOf 8) (bytes-byte 8) (joined (p .rules))))
+    (joined-byte (bytesOf mixtureSize) (bytes-byte mixtureSize) (joined (p .rules))))
   where
     container-byte : (c : Container) → every byte (containerBytes c) ≡ true
     container-byte c =
         unfold containerBytes in
-        every-append byte (bytesOf 1 (c .kind)) (bytesOf 1 (c .atom) ++ (bytesOf 2 (c .permit) ++ bytesOf 2 (c .run))) (bytes-byte 1 (c .kind))
-        (every-append byte (bytesOf 1 (c .atom)) (bytesOf 2 (c .permit) ++ bytesOf 2 (c .run)) (bytes-byte 1 (c .atom))
-        (every-append byte (bytesOf 2 (c .permit)) (bytesOf 2 (c .run)) (bytes-byte 2 (c .permit)) (bytes-byte 2 (c .run))))
+        every-append byte (bytesOf size8 (c .kind)) (bytesOf size8 (c .atom) ++ (bytesOf size16 (c .permit) ++ bytesOf size16 (c .run))) (bytes-byte size8 (c .kind))
+        (every-append byte (bytesOf size8 (c .atom)) (bytesOf size16 (c .permit) ++ bytesOf size16 (c .run)) (bytes-byte size8 (c .atom))
+        (every-append byte (bytesOf size16 (c .permit)) (bytesOf size16 (c .run)) (bytes-byte size16 (c .permit)) (bytes-byte size16 (c .run))))
 
     span-byte : (r : Span) → every byte (spanBytes r) ≡ true
-    span-byte r = unfold spanBytes in every-append byte (bytesOf 2 (r .first)) (bytesOf 2 (r .count)) (bytes-byte 2 (r .first)) (bytes-byte 2 (r .count))
+    span-byte r = unfold spanBytes in every-append byte (bytesOf size16 (r .first)) (bytesOf size16 (r .count)) (bytes-byte size16 (r .first)) (bytes-byte size16 (r .count))

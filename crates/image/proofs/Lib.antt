@@ -1,14 +1,16 @@
--- Theorems is the file to read: the laws of this crate, stated and cited. The others prove them.
+-- Theorems is the file to read: what is proved of the policy image, stated and cited. The others prove it.
 pub mod Theorems
-pub mod Frame
-pub mod Encode
+-- other crates cite these
+pub mod AcceptedImage
 pub mod Decode
+pub mod Encode
+pub mod WrittenMeaning
 pub mod Numbering
-pub mod Means
-pub mod Scanning
-pub mod Places
-pub mod RuleReading
-pub mod WordLaws
-pub mod RuleTests
-pub mod Exchange
+pub mod RecordsByPlace
+pub mod RulesByNumber
+-- inside this crate
+pub mod ImageRefusals
+pub mod FramedSections
+pub mod FirstUses
+pub mod RuleRecordScan
 pub mod SpanWords

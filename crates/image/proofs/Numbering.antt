@@ -1,8 +1,8 @@
 -- Rules numbered by first use.
 use Prim.Native.Nat.{ℕ, suc, _+_, _≤_, _<_}
-use mathlib.Core.Path.{_≡_, refl, sym, ap, _∙_}
+use mathlib.Core.Path.{_≡_, refl, sym, ap, ap₂, _∙_}
 use mathlib.Core.Bool.{Bool, true, false, cond, _||_}
-use mathlib.Core.List.{List, [], _∷_, _++_}
+use mathlib.Core.List.{List, [], _∷_, _++_, map}
 use mathlib.Core.Logic.{_⊎_, ⊎-elim}
 use native.Mathlib.Omega.{arith}
 use lib.Dec.{eqb, ltb}
@@ -11,9 +11,11 @@ use borrow.Author.Tests.{ne-eqb, lt-ltb}
 use Rattle.lists.proofs.Bools.{or-0, or-1, or-cases, clash, refuted}
 use Rattle.lists.specs.Lists.{sameList, every}
 use Rattle.lists.proofs.Same.{same-refl, same-eq}
-use Rattle.image.specs.Limits.{unrestrictedNumber}
+use Rattle.image.specs.Limits.{unrestrictedNumber, ruleLimit}
 use Rattle.image.specs.Policy.{unrestrictedRule, ruleAt, named}
 use Rattle.image.specs.Normal.{known, noted, numbered, position, numberOf}
+use Rattle.rule_words.specs.Words.{wordsOf}
+use Rattle.rule_words.proofs.WordLaws.{words-same}
 use Rattle.lists.proofs.Every.{every-0, every-1, every-nil, every-cons, every-append}
 
 -- r needs no number, or has one
@@ -31,14 +33,14 @@ known-append r (x ∷ t) s = by (sameList r x) (known-append r t s)
     by true ih = refl
     by false ih = ih
 
-known-more : (r : List ℕ) (t s : List (List ℕ)) → known r t ≡ true → known r (t ++ s) ≡ true
+pub known-more : (r : List ℕ) (t s : List (List ℕ)) → known r t ≡ true → known r (t ++ s) ≡ true
 known-more r t s h = known-append r t s ∙ or-0 (known r t) (known r s) h
 
-known-last : (r : List ℕ) (t : List (List ℕ)) → known r (t ++ (r ∷ [])) ≡ true
+pub known-last : (r : List ℕ) (t : List (List ℕ)) → known r (t ++ (r ∷ [])) ≡ true
 unfolding known
 known-last r t = known-append r t (r ∷ []) ∙ or-1 (known r t) (sameList r r || false) (or-0 (sameList r r) false (same-refl r))
 
-settled-noted : (t : List (List ℕ)) (r s : List ℕ) → settled t s ≡ true → settled (noted t r) s ≡ true
+pub settled-noted : (t : List (List ℕ)) (r s : List ℕ) → settled t s ≡ true → settled (noted t r) s ≡ true
 unfolding settled noted
 settled-noted t r s h = by (sameList r unrestrictedRule || known r t)
   where
@@ -46,7 +48,7 @@ settled-noted t r s h = by (sameList r unrestrictedRule || known r t)
     by true = h
     by false = ⊎-elim (λ p. or-0 (sameList s unrestrictedRule) (known s (t ++ (r ∷ []))) p) (λ p. or-1 (sameList s unrestrictedRule) (known s (t ++ (r ∷ []))) (known-more s t (r ∷ []) p)) (or-cases (sameList s unrestrictedRule) h)
 
-settled-itself : (t : List (List ℕ)) (r : List ℕ) → settled (noted t r) r ≡ true
+pub settled-itself : (t : List (List ℕ)) (r : List ℕ) → settled (noted t r) r ≡ true
 unfolding settled noted
 settled-itself t r = by (sameList r unrestrictedRule || known r t) refl
   where
@@ -139,7 +141,7 @@ numbered-few rs s h = omega (arith, numbered-count [] rs s h, unseen-length [] s
 
 -- ---- a settled rule's number is that rule's
 
-position-lt : (r : List ℕ) (t : List (List ℕ)) → known r t ≡ true → position r t < length t
+pub position-lt : (r : List ℕ) (t : List (List ℕ)) → known r t ≡ true → position r t < length t
 unfolding known position
 position-lt r [] h = clash h refl
 position-lt r (x ∷ t) h = by (sameList r x) h (position-lt r t)
@@ -157,7 +159,7 @@ position-at r (x ∷ t) h = by (sameList r x) refl h (position-at r t)
     by true e k ih = sym (same-eq r x e)
     by false e k ih = ih k
 
-module _ (t : List (List ℕ)) (few : length t ≤ 256) (r : List ℕ) (h : settled t r ≡ true) where
+module _ (t : List (List ℕ)) (few : length t ≤ ruleLimit) (r : List ℕ) (h : settled t r ≡ true) where
   pub number-rule : ruleAt t (numberOf t r) ≡ r
   unfolding ruleAt numberOf settled
   number-rule = by (sameList r unrestrictedRule) refl h
@@ -175,3 +177,9 @@ module _ (t : List (List ℕ)) (few : length t ≤ 256) (r : List ℕ) (h : sett
       by : (b : Bool) → (b || known r t) ≡ true → (ltb (cond b unrestrictedNumber (position r t)) (length t) || eqb (cond b unrestrictedNumber (position r t)) unrestrictedNumber) ≡ true
       by true k = or-1 (ltb unrestrictedNumber (length t)) true refl
       by false k = or-0 (ltb (position r t) (length t)) (eqb (position r t) unrestrictedNumber) (lt-ltb (position r t) (length t) (position-lt r t k))
+
+-- the place of a rule is the place of its words among their words
+pub position-words : (r : List ℕ) (t : List (List ℕ)) → position (wordsOf r) (map wordsOf t) ≡ position r t
+unfolding position
+position-words r [] = refl
+position-words r (s ∷ t) = ap₂ (λ (b : Bool) (n : ℕ). cond b 0 (suc n)) (words-same r s) (position-words r t)

@@ -1,11 +1,13 @@
 -- The policy image: what it is refused for, and the policy that it spells (the paper, "Policy image" and "Refused because of the input").
-use Prim.Native.Nat.{ℕ, zero, suc, _+_, _*_, _/_, _%_}
-use mathlib.Core.Bool.{Bool, true, cond, _&&_}
+use Prim.Native.Nat.{ℕ, _+_, _/_, _%_}
+use mathlib.Core.Bool.{Bool, true, _&&_}
 use mathlib.Core.List.{List, [], _∷_, map}
 use lib.Dec.{eqb, leb}
 use lib.ListN.{length, take, drop}
 use Rattle.fields.specs.Bytes.{numberIn, field, records}
 use Rattle.lists.specs.Lists.{every}
+use Rattle.lists.specs.Conditions.{Condition, _orRefuse_, firstFailed}
+use Rattle.answers.specs.Refusals.{imageLength, sections, recordCount, ruleRecord, containerRecord, userRule}
 use Rattle.rules.specs.Answers.{mixtureLimit}
 use Rattle.image.specs.Limits.{
   containerLimit,
@@ -16,6 +18,16 @@ use Rattle.image.specs.Limits.{
   userSize,
   ruleSize,
   mixtureSize,
+  size8,
+  size16,
+  kindField,
+  atomField,
+  permitField,
+  runField,
+  firstField,
+  countField,
+  offsetAt,
+  sizeAt,
   leadingNumber,
   headerSize,
   imageLimit,
@@ -25,10 +37,10 @@ use Rattle.image.specs.Policy.{Container, Policy, containerGood, named}
 -- ---- the four pairs and their sections: 0 containers, 1 users, 2 rules, 3 mixtures
 
 unfoldable pub offset : List ℕ → ℕ → ℕ
-offset i k = field i (2 + 4 * k) 2
+offset i k = field i (offsetAt k) size16
 
 unfoldable pub size : List ℕ → ℕ → ℕ
-size i k = field i (4 + 4 * k) 2
+size i k = field i (sizeAt k) size16
 
 unfoldable pub part : List ℕ → ℕ → List ℕ
 part i k = take (size i k) (drop (offset i k) i)
@@ -36,7 +48,13 @@ part i k = take (size i k) (drop (offset i k) i)
 -- ---- the records
 
 unfoldable pub containerIn : List ℕ → Container
-containerIn r = record { kind = field r 0 1; atom = field r 1 1; permit = field r 2 2; run = field r 4 2 }
+containerIn r =
+    record {
+      kind = field r kindField size8;
+      atom = field r atomField size8;
+      permit = field r permitField size16;
+      run = field r runField size16;
+    }
 
 -- a rule record: its first mixture and its count
 pub record Span : Type 0 where
@@ -44,7 +62,7 @@ pub record Span : Type 0 where
   pub count : ℕ
 
 unfoldable pub spanIn : List ℕ → Span
-spanIn r = record { first = field r 0 2; count = field r 2 2 }
+spanIn r = record { first = field r firstField size16; count = field r countField size16 }
 
 unfoldable pub ruleIn : List ℕ → Span → List ℕ
 ruleIn mixtures r = take (r .count) (drop (r .first) mixtures)
@@ -76,8 +94,8 @@ policyIn i =
 -- ---- the tests
 
 -- 1: "image under 18 or over 20,480 bytes"
-unfoldable pub lengthGood : List ℕ → Bool
-lengthGood i = leb headerSize (length i) && leb (length i) imageLimit
+unfoldable pub imageLengthGood : List ℕ → Bool
+imageLengthGood i = leb headerSize (length i) && leb (length i) imageLimit
 
 -- "Each section starts at or after the previous end .. and ends within the image": section k, the previous end being given
 unfoldable pub partGood : List ℕ → ℕ → ℕ → Bool
@@ -86,7 +104,7 @@ partGood i from k = leb from (offset i k) && leb (offset i k + size i k) (length
 -- 2: "the leading 4 or the pairs"
 unfoldable pub pairsGood : List ℕ → Bool
 pairsGood i =
-    eqb (field i 0 2) leadingNumber
+    eqb (field i 0 size16) leadingNumber
     && (partGood i headerSize 0
     && (partGood i (offset i 0 + size i 0) 1
     && (partGood i (offset i 1 + size i 1) 2
@@ -120,30 +138,17 @@ containersGood i = every (containerGood (length (part i 2) / ruleSize)) (contain
 unfoldable pub usersGood : List ℕ → Bool
 usersGood i = every (named (length (part i 2) / ruleSize)) (usersIn (part i 1))
 
--- the refusal of an image, 0 for none; each number is judged for the whole image before the next
+-- "In this order"; each is judged for the whole image before the next
+unfoldable pub imageConditions : List ℕ → List Condition
+imageConditions i =
+    (imageLengthGood i orRefuse imageLength)
+    ∷ (pairsGood i orRefuse sections)
+    ∷ (sectionsGood i orRefuse recordCount)
+    ∷ (rulesGood i orRefuse ruleRecord)
+    ∷ (containersGood i orRefuse containerRecord)
+    ∷ (usersGood i orRefuse userRule)
+    ∷ []
+
+-- the refusal of an image, 0 for none
 unfoldable pub checkOf : List ℕ → ℕ
-checkOf i =
-    cond (lengthGood i)
-    (cond (pairsGood i)
-    (cond (sectionsGood i)
-    (cond (rulesGood i)
-    (cond (containersGood i)
-    (cond (usersGood i)
-    0
-    6)
-    5)
-    4)
-    3)
-    2)
-    1
-
-pub data Reading : Type 0 where
-  refused : ℕ → Reading
-  accepted : Policy → Reading
-
-unfoldable pub judged : ℕ → Policy → Reading
-judged zero p = accepted p
-judged (suc n) p = refused (suc n)
-
-unfoldable pub readImage : List ℕ → Reading
-readImage i = judged (checkOf i) (policyIn i)
+checkOf i = firstFailed (imageConditions i)

@@ -1,5 +1,5 @@
 -- The numbers of the paper's section "Policy image", each named once, and the tests of a container's kind.
-use Prim.Native.Nat.{ℕ}
+use Prim.Native.Nat.{ℕ, _+_, _*_}
 use mathlib.Core.Bool.{Bool, _||_}
 use lib.Dec.{eqb}
 
@@ -34,6 +34,10 @@ isProcess k = eqb k processKind
 unfoldable pub isStore : ℕ → Bool
 isStore k = isFile k || isVolatile k
 
+-- "0 free, else as in the image": a container in use
+unfoldable pub usedKind : ℕ → Bool
+usedKind k = isStore k || isProcess k
+
 -- ---- "atom (8 bits: 0 to 31, 255 none)"; "Rule number 65535 is the unrestricted rule"
 
 abbrev pub noAtom : ℕ
@@ -42,7 +46,10 @@ noAtom = 255
 abbrev pub unrestrictedNumber : ℕ
 unrestrictedNumber = 65535
 
--- ---- the sections: how many records at most, and how many bytes each has
+-- ---- the sections: how many there are, how many records at most, and how many bytes each has
+
+abbrev pub sectionCount : ℕ
+sectionCount = 4
 
 abbrev pub containerLimit : ℕ
 containerLimit = 256
@@ -68,10 +75,47 @@ ruleSize = 4
 abbrev pub mixtureSize : ℕ
 mixtureSize = 8
 
--- ---- "First a 16-bit 4, then four pairs .., so 18 bytes"; "At most 20,480 bytes"; "at most 18,994; the output must hold that many"
+-- ---- fields: the bytes of a number of 8 and of 16 bits; the places in a record of a container, and of a rule
+
+abbrev pub size8 : ℕ
+size8 = 1
+
+abbrev pub size16 : ℕ
+size16 = 2
+
+abbrev pub kindField : ℕ
+kindField = 0
+
+abbrev pub atomField : ℕ
+atomField = 1
+
+abbrev pub permitField : ℕ
+permitField = 2
+
+abbrev pub runField : ℕ
+runField = 4
+
+abbrev pub firstField : ℕ
+firstField = 0
+
+abbrev pub countField : ℕ
+countField = 2
+
+-- ---- "First a 16-bit 4, then four pairs of 16-bit offset and length .., so 18 bytes"; "At most 20,480 bytes"; a normal image
+-- has "at most 18,994; the output must hold that many"
 
 abbrev pub leadingNumber : ℕ
 leadingNumber = 4
+
+abbrev pub pairSize : ℕ
+pairSize = 4
+
+-- where the offset of section k stands, and its length
+abbrev pub offsetAt : ℕ → ℕ
+offsetAt k = 2 + pairSize * k
+
+abbrev pub sizeAt : ℕ → ℕ
+sizeAt k = 4 + pairSize * k
 
 abbrev pub headerSize : ℕ
 headerSize = 18

@@ -5,7 +5,7 @@ use mathlib.Core.List.{List, [], _∷_, _++_, map}
 use lib.ListN.{length}
 use Rattle.rules.specs.Rules.{normal}
 use Rattle.lists.specs.Lists.{sameList, joined}
-use Rattle.image.specs.Limits.{unrestrictedNumber, leadingNumber, headerSize}
+use Rattle.image.specs.Limits.{unrestrictedNumber, userSize, mixtureSize, size8, size16, leadingNumber, headerSize}
 use Rattle.fields.specs.Bytes.{bytesOf}
 use Rattle.image.specs.Policy.{Container, Policy, unrestrictedRule, ruleAt}
 use Rattle.image.specs.Image.{Span}
@@ -83,10 +83,11 @@ normalPolicy p = policyOf (meaning p)
 -- ---- the bytes of a policy: sections without gaps, no mixture shared
 
 unfoldable pub containerBytes : Container → List ℕ
-containerBytes c = bytesOf 1 (c .kind) ++ (bytesOf 1 (c .atom) ++ (bytesOf 2 (c .permit) ++ bytesOf 2 (c .run)))
+containerBytes c =
+    bytesOf size8 (c .kind) ++ (bytesOf size8 (c .atom) ++ (bytesOf size16 (c .permit) ++ bytesOf size16 (c .run)))
 
 unfoldable pub spanBytes : Span → List ℕ
-spanBytes r = bytesOf 2 (r .first) ++ bytesOf 2 (r .count)
+spanBytes r = bytesOf size16 (r .first) ++ bytesOf size16 (r .count)
 
 -- each rule's first mixture is right behind the previous rule's last
 unfoldable pub spansOf : ℕ → List (List ℕ) → List Span
@@ -95,11 +96,11 @@ spansOf first (r ∷ rules) = record { first = first; count = length r } ∷ spa
 
 -- a section's pair
 unfoldable pub pair : ℕ → List ℕ → List ℕ
-pair offset s = bytesOf 2 offset ++ bytesOf 2 (length s)
+pair offset s = bytesOf size16 offset ++ bytesOf size16 (length s)
 
 unfoldable pub header : List ℕ → List ℕ → List ℕ → List ℕ → List ℕ
 header c u r m =
-    bytesOf 2 leadingNumber
+    bytesOf size16 leadingNumber
     ++ (pair headerSize c ++ (pair (headerSize + length c) u ++ (pair (headerSize + length c + length u) r ++ pair (headerSize + length c + length u + length r) m)))
 
 unfoldable pub framed : List ℕ → List ℕ → List ℕ → List ℕ → List ℕ
@@ -109,9 +110,9 @@ unfoldable pub encode : Policy → List ℕ
 encode p =
     framed
     (joined (map containerBytes (p .containers)))
-    (joined (map (bytesOf 2) (p .users)))
+    (joined (map (bytesOf userSize) (p .users)))
     (joined (map spanBytes (spansOf 0 (p .rules))))
-    (joined (map (bytesOf 8) (joined (p .rules))))
+    (joined (map (bytesOf mixtureSize) (joined (p .rules))))
 
 unfoldable pub normalImage : Policy → List ℕ
 normalImage p = encode (normalPolicy p)

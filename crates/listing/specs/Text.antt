@@ -1,8 +1,7 @@
 -- Texts as lists of bytes: quoted words, numbers in decimal, tags in hexadecimal.
 use Prim.Native.Nat.{ℕ, zero, suc, _+_, _*_, _-_, _/_, _%_}
 use Prim.Native.Char.{code}
-use Prim.Native.String.{String}
-use Prim.Native.String.{[] as ε, _∷_ as _◂_}
+use Prim.Native.String.{String, [] as ε, _∷_ as _◂_}
 use mathlib.Core.Bool.{cond}
 use mathlib.Core.List.{List, [], _∷_, _++_}
 use lib.Dec.{ltb}

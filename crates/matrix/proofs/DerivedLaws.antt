@@ -18,10 +18,10 @@ use Rattle.rules.specs.Rules.{normal, unrestricted}
 use Rattle.lists.proofs.Elem.{elem-here, elem-cases, elem-none}
 use Rattle.rules.proofs.RuleLaws.{normal-among}
 use Rattle.image.specs.Policy.{Container, unrestrictedRule, ruleAt, named, containerGood, ruleGood, Sound}
-use Rattle.image.specs.Image.{readImage, accepted}
+use Rattle.image.specs.Image.{policyIn, checkOf}
 use Rattle.image.specs.Normal.{Place, Meaning, normalAt, placeOf, meaning, policyOf, normalPolicy, encode, normalImage}
 use Rattle.image.proofs.Encode.{read-encode, encode-short}
-use Rattle.image.proofs.Means.{Encodable, meaning-encodable, normal-unrestricted, policy-sound, policy-means}
+use Rattle.image.proofs.WrittenMeaning.{Encodable, meaning-encodable, normal-unrestricted, policy-sound, policy-means}
 use Rattle.lists.proofs.Every.{every-0, every-1, every-nil, every-cons, every-imp, every-append}
 use Rattle.matrix.specs.Flows.{has, rowsGood}
 use Rattle.matrix.specs.Derived.{writerMixtures, orAlone, permitOf, countFrom, objectFile, subjectProcess, derivedPolicy, derivedImage}
@@ -187,7 +187,7 @@ module _ (reads writes : List ℕ) (objects : ℕ) (g : Good reads writes object
       user-good = every-cons (named objects) 65535 [] (unfold named in or-1 (ltb 65535 objects) true refl) (every-nil (named objects))
 
   -- the image that spells it plainly is accepted as it
-  pub plain-read : readImage (encode (derivedPolicy reads writes objects)) ≡ accepted (derivedPolicy reads writes objects)
+  pub plain-read : (checkOf (encode (derivedPolicy reads writes objects)) ≡ 0) × (policyIn (encode (derivedPolicy reads writes objects)) ≡ (derivedPolicy reads writes objects))
   plain-read = read-encode (derivedPolicy reads writes objects) derived-sound
 
   -- ---- its normal image
@@ -198,7 +198,7 @@ module _ (reads writes : List ℕ) (objects : ℕ) (g : Good reads writes object
   normal-sound : Sound (normalPolicy (derivedPolicy reads writes objects))
   normal-sound = unfold normalPolicy in policy-sound (meaning (derivedPolicy reads writes objects)) derived-encodable
 
-  pub derived-read : readImage (derivedImage reads writes objects) ≡ accepted (normalPolicy (derivedPolicy reads writes objects))
+  pub derived-read : (checkOf (derivedImage reads writes objects) ≡ 0) × (policyIn (derivedImage reads writes objects) ≡ (normalPolicy (derivedPolicy reads writes objects)))
   derived-read = unfold derivedImage normalImage in read-encode (normalPolicy (derivedPolicy reads writes objects)) normal-sound
 
   same-meaning : meaning (normalPolicy (derivedPolicy reads writes objects)) ≡ meaning (derivedPolicy reads writes objects)

@@ -8,7 +8,7 @@ use lib.ListN.{length, getD, replicate}
 use Rattle.rules.specs.Rules.{normal}
 use Rattle.image.specs.Limits.{fileKind, processKind, noAtom}
 use Rattle.image.specs.Policy.{unrestrictedRule, Sound}
-use Rattle.image.specs.Image.{readImage, accepted}
+use Rattle.image.specs.Image.{policyIn, checkOf}
 use Rattle.image.specs.Normal.{meaning, normalPolicy, encode, normalImage}
 use Rattle.matrix.specs.Flows.{has, granted, Composed, composed, matrixGood}
 use Rattle.matrix.specs.Verdicts.{countBelow, sumBelow, flowCount, firstSource, firstTarget, consistent, verdictOf}
@@ -103,11 +103,11 @@ module _ (reads writes : List ℕ) (objects : ℕ) (good : matrixGood reads writ
   derived-sound = derived.derived-sound reads writes objects (verdicts.good-parts reads writes objects good)
 
   -- the plain image, which the code spells first, is accepted as this policy
-  pub plain-read : readImage (encode (derivedPolicy reads writes objects)) ≡ accepted (derivedPolicy reads writes objects)
+  pub plain-read : (checkOf (encode (derivedPolicy reads writes objects)) ≡ 0) × (policyIn (encode (derivedPolicy reads writes objects)) ≡ (derivedPolicy reads writes objects))
   plain-read = derived.plain-read reads writes objects (verdicts.good-parts reads writes objects good)
 
   -- its normal image is accepted, and decodes to the policy in normal form
-  pub derived-read : readImage (derivedImage reads writes objects) ≡ accepted (normalPolicy (derivedPolicy reads writes objects))
+  pub derived-read : (checkOf (derivedImage reads writes objects) ≡ 0) × (policyIn (derivedImage reads writes objects) ≡ (normalPolicy (derivedPolicy reads writes objects)))
   derived-read = derived.derived-read reads writes objects (verdicts.good-parts reads writes objects good)
 
   -- which means what was stated: files with their atoms and permit rules, then processes; one unrestricted user

@@ -6,27 +6,26 @@ use mathlib.Core.List.{List, [], _∷_, _++_}
 use lib.Bits.{or-zero-r}
 use Rattle.rules.specs.Sets.{holds, dataOf, runningOf}
 use Rattle.rules.specs.Rules.{covers, distinct, heldIn, unheldIn, insert, sort, normal, intersections, meet, unrestricted}
-use Rattle.lists.specs.Lists.{elem, sameList}
+use Rattle.lists.specs.Lists.{elem, sameList, every}
 use Rattle.rules.specs.Answers.{padded}
-use Rattle.image.specs.Limits.{isFree, isFile, isVolatile, isProcess, isStore, fileKind, processKind, noAtom, unrestrictedNumber}
+use Rattle.image.specs.Limits.{isFree, isFile, isVolatile, isProcess, isStore, fileKind, processKind, noAtom, unrestrictedNumber, usedKind}
 use Rattle.fields.specs.Bytes.{numberIn, bytesOf, field}
 use Rattle.image.specs.Policy.{Container, Policy, unrestrictedRule, ruleAt}
 use Rattle.image.specs.Normal.{normalAt, placeOf, meaning}
 use Rattle.chains.proofs.KindLaws.{process-used}
-use Rattle.session.specs.Rows.{Row, allZero, keptWell, rowWords, freeWords, permitWords, runWords, rowOf, usedKind, containerRowGood, userWords, isDeclared, userRuleWords, userRuleOf, userRowGood, containerRow, userRow, putRow}
-use Rattle.image.specs.Words.{ruleOf, wordsOf, isNormal}
-use Rattle.session.specs.Session.{startTag, startRow, placeWords, filled, sessionOf, startOf}
+use Rattle.session.specs.Rows.{Row, rowWords, freeWords, permitWords, runWords, rowOf, containerRowGood, userWords, isDeclared, userRuleWords, userRuleOf, userRowGood, containerRow, userRow, putRow}
+use Rattle.rule_words.specs.Words.{allZero, keptWell, ruleOf, wordsOf, isNormal}
+use Rattle.session.specs.Session.{startTag, startRow, placeWords, filled, sessionOf, startOf, sessionLengthGood}
 use Rattle.answers.specs.Answers.{quiet, alert, refused}
 use Rattle.answers.specs.Refusals.{notFree}
 use Rattle.chains.specs.History.{fork}
 use Rattle.chains.specs.Table.{State, freeRow, readRow, writeRow, appendRow, execRow, forkRow, fitsNeed, entry, processGood, objectGood, kindGood, freeGood, userGood, fits, meetGood, earlyConditions, tableConditions, alerts, verdict}
-use Rattle.lists.specs.Lists.{every}
 use Rattle.lists.specs.Conditions.{firstFailed}
 use Rattle.records.specs.Codes.{readCode, writeCode, appendCode, execCode, forkCode, stepWith, noRows, codeAt, isCode}
 use Rattle.records.specs.Records.{noUser, requestIn, stepIn, userFits, recordGood}
 use Rattle.operations.specs.View.{view}
 use Rattle.operations.specs.Effects.{rowsGood, sessionConditions, acceptedAnswer, acceptedEffect}
-use Rattle.monitor.specs.Steps.{lengthGood, stepAsked, stepConditions, refusalOf, stepAnswer, stepEffect}
+use Rattle.monitor.specs.Steps.{stepAsked, stepConditions, refusalOf, stepAnswer, stepEffect}
 use Rattle.monitor.specs.Runs.{stepOn, runAnswers}
 
 -- the eight bytes of a record
@@ -94,7 +93,7 @@ pub record CheckedRuns : Type 0 where
   pub shortSession : stepAnswer [] (recordOf 9 0 0 0) ≡ refused 9
 
 pub checked-runs : CheckedRuns
-unfolding holds dataOf runningOf covers elem distinct heldIn unheldIn insert sort normal intersections meet unrestricted sameList padded isFree isFile isVolatile isProcess isStore numberIn bytesOf field unrestrictedRule ruleAt normalAt placeOf meaning ruleOf wordsOf allZero isNormal keptWell rowWords freeWords permitWords runWords rowOf usedKind containerRowGood userWords isDeclared userRuleWords userRuleOf userRowGood containerRow userRow putRow startTag startRow placeWords filled sessionOf startOf readRow writeRow appendRow execRow forkRow fits alerts verdict every firstFailed freeRow fitsNeed entry stepWith noRows codeAt isCode stepIn view rowsGood processGood objectGood kindGood freeGood userGood meetGood earlyConditions tableConditions sessionConditions acceptedAnswer acceptedEffect requestIn userFits recordGood lengthGood stepAsked stepConditions refusalOf stepAnswer stepEffect stepOn runAnswers
+unfolding holds dataOf runningOf covers elem distinct heldIn unheldIn insert sort normal intersections meet unrestricted sameList padded isFree isFile isVolatile isProcess isStore numberIn bytesOf field unrestrictedRule ruleAt normalAt placeOf meaning ruleOf wordsOf allZero isNormal keptWell rowWords freeWords permitWords runWords rowOf usedKind containerRowGood userWords isDeclared userRuleWords userRuleOf userRowGood containerRow userRow putRow startTag startRow placeWords filled sessionOf startOf readRow writeRow appendRow execRow forkRow fits alerts verdict every firstFailed freeRow fitsNeed entry stepWith noRows codeAt isCode stepIn view rowsGood processGood objectGood kindGood freeGood userGood meetGood earlyConditions tableConditions sessionConditions acceptedAnswer acceptedEffect requestIn userFits recordGood sessionLengthGood stepAsked stepConditions refusalOf stepAnswer stepEffect stepOn runAnswers
 checked-runs = record { forkItself = refl; execHolding = refl; readHolding = refl; meetOver = refl; listing = refl; shortSession = refl }
 
 -- ---- the same of any rows

@@ -7,10 +7,11 @@ use lib.ListN.{length, replicate}
 use Rattle.image.specs.Limits.{isFile, isVolatile, isProcess}
 use Rattle.fields.specs.Bytes.{numberIn, field, cut, records}
 use Rattle.lists.specs.Lists.{every}
+use Rattle.lists.specs.Conditions.{firstFailed}
 use Rattle.image.specs.Policy.{named, containerGood}
-use Rattle.image.specs.Image.{containerIn, spanIn, ruleIn, containersIn, usersIn, spansIn, mixturesIn, rulesIn, policyIn, offset, size, part, lengthGood, partGood, pairsGood, wholeGood, sectionsGood, spansGood, rulesGood, containersGood, usersGood, checkOf}
+use Rattle.image.specs.Image.{containerIn, spanIn, ruleIn, containersIn, usersIn, spansIn, mixturesIn, rulesIn, policyIn, offset, size, part, imageLengthGood, partGood, pairsGood, wholeGood, sectionsGood, spansGood, rulesGood, containersGood, usersGood, imageConditions}
 use Rattle.session.specs.Limits.{sessionLength}
-use Rattle.session.specs.Session.{startOf, startAnswer, startEffect}
+use Rattle.session.specs.Session.{startOf, sessionLengthGood, startConditions, startAnswer, startEffect}
 use Rattle.session.proofs.Canonical.{effect-start}
 use Rattle.answers.specs.Answers.{quiet, alert, refused}
 use Rattle.monitor.specs.Runs.{runAnswers}
@@ -33,7 +34,7 @@ pub record Read : Type 0 where
   pub spelled : policyIn image ≡ M
 
 pub read-image : Read
-unfolding numberIn field cut records every named containerGood isFile isVolatile isProcess containerIn spanIn ruleIn containersIn usersIn spansIn mixturesIn rulesIn policyIn offset size part lengthGood partGood pairsGood wholeGood sectionsGood spansGood rulesGood containersGood usersGood checkOf startAnswer
+unfolding numberIn field cut records every named containerGood isFile isVolatile isProcess containerIn spanIn ruleIn containersIn usersIn spansIn mixturesIn rulesIn policyIn offset size part imageLengthGood partGood pairsGood wholeGood sectionsGood spansGood rulesGood containersGood usersGood imageConditions firstFailed sessionLengthGood startConditions startAnswer
 read-image = record { long = refl; unrefused = refl; spelled = refl }
 
 -- from the bytes of the image and of the trace, on a buffer of zeros that the start fills

@@ -32,25 +32,26 @@ use Rattle.operations.specs.Parts.{firstConditions, Ready}
 use Rattle.operations.proofs.KeptLaws.{Laid, entry-laid}
 use Rattle.operations.proofs.PlacedRows.{Valid, view-put, valid-put}
 use Rattle.operations.proofs.PerformLaws.{Performed, ready}
-use Rattle.monitor.specs.Steps.{lengthGood, stepAsked, stepConditions, refusalOf, stepAnswer, stepEffect}
+use Rattle.session.specs.Session.{sessionLengthGood}
+use Rattle.monitor.specs.Steps.{stepAsked, stepConditions, refusalOf, stepAnswer, stepEffect}
 use Rattle.monitor.specs.Runs.{stepOn}
 
 -- ---- the tests in their order, as the code makes them
 
 -- 9
 pub step-9 : (s r : List ℕ) → (length s ≡ sessionLength → ⊥) → (refused lentLength ≡ stepAnswer s r) × (s ≡ stepEffect s r)
-unfolding stepAnswer stepEffect refusalOf stepConditions lengthGood firstFailed
+unfolding stepAnswer stepEffect refusalOf stepConditions sessionLengthGood firstFailed
 step-9 s r h = (simp (ne-eqb (length s) sessionLength h), simp (ne-eqb (length s) sessionLength h))
 
 -- 7
 pub step-7 : (s r : List ℕ) → length s ≡ sessionLength → recordGood r ≡ false → (refused operationRecord ≡ stepAnswer s r) × (s ≡ stepEffect s r)
-unfolding stepAnswer stepEffect refusalOf stepConditions lengthGood firstFailed
+unfolding stepAnswer stepEffect refusalOf stepConditions sessionLengthGood firstFailed
 step-7 s r l h = (simp (eq-eqb (length s) sessionLength l, h), simp (eq-eqb (length s) sessionLength l, h))
 
 -- the refusals because of the session, and the effect
 module _ (s r : List ℕ) (l : length s ≡ sessionLength) (h : recordGood r ≡ true) where
   rest : refusalOf s r ≡ sessionRefusal s (stepAsked r)
-  unfolding refusalOf stepConditions lengthGood sessionRefusal
+  unfolding refusalOf stepConditions sessionLengthGood sessionRefusal
   rest = passed _ _ (eq-eqb (length s) sessionLength l) ∙ passed _ _ h
 
   pub named : (q : Request) → q ≡ requestIn r → Named s q
@@ -92,7 +93,7 @@ module _ (s r : List ℕ) (e : refusalOf s r ≡ 0) where
   holds = given-none (stepConditions s r) (numbers s r) .0 e
 
   pub step-long : length s ≡ sessionLength
-  unfolding stepConditions sessionConditions tableConditions earlyConditions lengthGood
+  unfolding stepConditions sessionConditions tableConditions earlyConditions sessionLengthGood
   step-long = eqb-true (length s) sessionLength (holds .0)
 
   pub step-record : recordGood r ≡ true

@@ -24,8 +24,9 @@ use Rattle.image.specs.Limits.{containerLimit, userLimit}
 use Rattle.image.specs.Image.{checkOf, policyIn}
 use Rattle.session.specs.Limits.{sessionLength}
 use Rattle.session.specs.Rows.{rowWords, containerRowGood, userRowGood, containerRow, userRow}
-use Rattle.session.specs.Session.{startOf, startAnswer, startEffect}
-use Rattle.session.proofs.Canonical.{accepted-sound, effect-start}
+use Rattle.session.specs.Session.{startOf, startAnswer, startEffect, sessionLengthGood}
+use Rattle.image.proofs.Decode.{accepted-sound}
+use Rattle.session.proofs.Canonical.{effect-start}
 use Rattle.chains.specs.History.{Step, History, receiver}
 use Rattle.chains.specs.Chains.{Governs, Reaches, Forbidden}
 use Rattle.chains.specs.Demand.{judged, Demand3, TagTold}
@@ -36,7 +37,7 @@ use Rattle.records.proofs.RecordLaws.{record-step}
 use Rattle.operations.specs.View.{view}
 use Rattle.operations.specs.Effects.{rowsGood, sessionConditions}
 use Rattle.operations.proofs.PlacedRows.{Valid, placed-row, placed-other, placed-user, placed-long}
-use Rattle.monitor.specs.Steps.{lengthGood, stepAsked, stepConditions, refusalOf, stepAnswer, stepEffect}
+use Rattle.monitor.specs.Steps.{stepAsked, stepConditions, refusalOf, stepAnswer, stepEffect}
 use Rattle.monitor.specs.Runs.{stepOn, runAnswers, runEffect, historyIn}
 use Rattle.monitor.specs.Traces.{traceRecords, lastOf, runReport, replayReport}
 use Rattle.monitor.proofs.StepLaws.{numbers, refused-at, refused-answer, refused-effect, step-long, step-record, step-receiver, step-laid, accepted-answer, accepted-effect, answered, answered-zero, faithful}
@@ -128,51 +129,51 @@ replay-exactly image trace lent bytes ok rs r t e j =
 -- ---- each refusal has its condition, and is given only under it: of any session and any record (the paper, "Refused ..")
 
 -- the session's length is 5,280
-pub length-good : (s : List ℕ) → (lengthGood s ≡ true) ↔ (length s ≡ 5280)
-unfolding lengthGood
+pub length-good : (s : List ℕ) → (sessionLengthGood s ≡ true) ↔ (length s ≡ 5280)
+unfolding sessionLengthGood
 length-good s = (eqb-true (length s) sessionLength, eq-eqb (length s) sessionLength)
 
 module _ (s r : List ℕ) where
-  pub refused-9 : (refusalOf s r ≡ 9) ↔ (lengthGood s ≡ false)
+  pub refused-9 : (refusalOf s r ≡ 9) ↔ (sessionLengthGood s ≡ false)
   unfolding stepConditions sessionConditions tableConditions earlyConditions numberAt numbersOf
   refused-9 = refused-at s r 0 (omega arith)
 
-  pub refused-7 : (refusalOf s r ≡ 7) ↔ ((lengthGood s ≡ true) × (recordGood r ≡ false))
+  pub refused-7 : (refusalOf s r ≡ 7) ↔ ((sessionLengthGood s ≡ true) × (recordGood r ≡ false))
   unfolding stepConditions sessionConditions tableConditions earlyConditions numberAt numbersOf
   refused-7 = refused-at s r 1 (omega arith)
 
-  pub refused-10 : (refusalOf s r ≡ 10) ↔ ((lengthGood s ≡ true) × ((recordGood r ≡ true) × (rowsGood s (stepAsked r) ≡ false)))
+  pub refused-10 : (refusalOf s r ≡ 10) ↔ ((sessionLengthGood s ≡ true) × ((recordGood r ≡ true) × (rowsGood s (stepAsked r) ≡ false)))
   unfolding stepConditions sessionConditions tableConditions earlyConditions numberAt numbersOf
   refused-10 = refused-at s r 2 (omega arith)
 
   pub refused-11 : (refusalOf s r ≡ 11)
-      ↔ ((lengthGood s ≡ true) × ((recordGood r ≡ true) × ((rowsGood s (stepAsked r) ≡ true)
+      ↔ ((sessionLengthGood s ≡ true) × ((recordGood r ≡ true) × ((rowsGood s (stepAsked r) ≡ true)
       × (processGood (view s) (stepAsked r) ≡ false))))
   unfolding stepConditions sessionConditions tableConditions earlyConditions numberAt numbersOf
   refused-11 = refused-at s r 3 (omega arith)
 
   pub refused-12 : (refusalOf s r ≡ 12)
-      ↔ ((lengthGood s ≡ true) × ((recordGood r ≡ true) × ((rowsGood s (stepAsked r) ≡ true)
+      ↔ ((sessionLengthGood s ≡ true) × ((recordGood r ≡ true) × ((rowsGood s (stepAsked r) ≡ true)
       × ((processGood (view s) (stepAsked r) ≡ true) × (kindGood (view s) (stepAsked r) ≡ false)))))
   unfolding stepConditions sessionConditions tableConditions earlyConditions numberAt numbersOf
   refused-12 = refused-at s r 4 (omega arith)
 
   pub refused-13 : (refusalOf s r ≡ 13)
-      ↔ ((lengthGood s ≡ true) × ((recordGood r ≡ true) × ((rowsGood s (stepAsked r) ≡ true)
+      ↔ ((sessionLengthGood s ≡ true) × ((recordGood r ≡ true) × ((rowsGood s (stepAsked r) ≡ true)
       × ((processGood (view s) (stepAsked r) ≡ true) × ((kindGood (view s) (stepAsked r) ≡ true)
       × (freeGood (view s) (stepAsked r) ≡ false))))))
   unfolding stepConditions sessionConditions tableConditions earlyConditions numberAt numbersOf
   refused-13 = refused-at s r 5 (omega arith)
 
   pub refused-14 : (refusalOf s r ≡ 14)
-      ↔ ((lengthGood s ≡ true) × ((recordGood r ≡ true) × ((rowsGood s (stepAsked r) ≡ true)
+      ↔ ((sessionLengthGood s ≡ true) × ((recordGood r ≡ true) × ((rowsGood s (stepAsked r) ≡ true)
       × ((processGood (view s) (stepAsked r) ≡ true) × ((kindGood (view s) (stepAsked r) ≡ true)
       × ((freeGood (view s) (stepAsked r) ≡ true) × (userGood (view s) (stepAsked r) ≡ false)))))))
   unfolding stepConditions sessionConditions tableConditions earlyConditions numberAt numbersOf
   refused-14 = refused-at s r 6 (omega arith)
 
   pub refused-15 : (refusalOf s r ≡ 15)
-      ↔ ((lengthGood s ≡ true) × ((recordGood r ≡ true) × ((rowsGood s (stepAsked r) ≡ true)
+      ↔ ((sessionLengthGood s ≡ true) × ((recordGood r ≡ true) × ((rowsGood s (stepAsked r) ≡ true)
       × ((processGood (view s) (stepAsked r) ≡ true) × ((kindGood (view s) (stepAsked r) ≡ true)
       × ((freeGood (view s) (stepAsked r) ≡ true) × ((userGood (view s) (stepAsked r) ≡ true)
       × (meetGood (view s) (stepAsked r) ≡ false))))))))
@@ -180,7 +181,7 @@ module _ (s r : List ℕ) where
   refused-15 = refused-at s r 7 (omega arith)
 
   pub not-refused : (refusalOf s r ≡ 0)
-      ↔ ((lengthGood s ≡ true) × ((recordGood r ≡ true) × ((rowsGood s (stepAsked r) ≡ true)
+      ↔ ((sessionLengthGood s ≡ true) × ((recordGood r ≡ true) × ((rowsGood s (stepAsked r) ≡ true)
       × ((processGood (view s) (stepAsked r) ≡ true) × ((kindGood (view s) (stepAsked r) ≡ true)
       × ((freeGood (view s) (stepAsked r) ≡ true) × ((userGood (view s) (stepAsked r) ≡ true)
       × (meetGood (view s) (stepAsked r) ≡ true))))))))

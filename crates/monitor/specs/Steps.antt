@@ -1,21 +1,16 @@
 -- One step of the monitor on the session's numbers and the record's bytes: the answer, and every number afterwards.
 use Prim.Native.Nat.{ℕ}
-use mathlib.Core.Bool.{Bool, cond}
+use mathlib.Core.Bool.{cond}
 use mathlib.Core.List.{List, _∷_}
 use lib.Dec.{eqb}
-use lib.ListN.{length}
 use Rattle.lists.specs.Conditions.{Condition, _orRefuse_, firstFailed}
 use Rattle.answers.specs.Refusals.{operationRecord, lentLength}
 use Rattle.answers.specs.declared.Answer.{Answer}
 use Rattle.answers.specs.Answers.{refused}
-use Rattle.session.specs.Limits.{sessionLength}
+use Rattle.session.specs.Session.{sessionLengthGood}
 use Rattle.chains.specs.History.{Step}
 use Rattle.records.specs.Records.{requestIn, stepIn, recordGood}
 use Rattle.operations.specs.Effects.{sessionConditions, acceptedAnswer, acceptedEffect}
-
--- 9: "session of wrong length"
-unfoldable pub lengthGood : List ℕ → Bool
-lengthGood s = eqb (length s) sessionLength
 
 -- the step that the bytes of a record ask for
 unfoldable pub stepAsked : List ℕ → Step
@@ -24,7 +19,7 @@ stepAsked r = stepIn (requestIn r)
 -- 9, then 7, then those because of the session, 10 to 15
 unfoldable pub stepConditions : List ℕ → List ℕ → List Condition
 stepConditions s r =
-    (lengthGood s orRefuse lentLength) ∷ (recordGood r orRefuse operationRecord) ∷ sessionConditions s (stepAsked r)
+    (sessionLengthGood s orRefuse lentLength) ∷ (recordGood r orRefuse operationRecord) ∷ sessionConditions s (stepAsked r)
 
 -- the refusal, 0 if there is none
 unfoldable pub refusalOf : List ℕ → List ℕ → ℕ

@@ -17,17 +17,18 @@ use Rattle.image.specs.Limits.{unrestrictedNumber}
 use Rattle.fields.specs.Bytes.{bytesOf, field, records, Bytes}
 use Rattle.lists.specs.Lists.{joined, every}
 use Rattle.image.specs.Policy.{Container, Policy, unrestrictedRule, ruleAt, ruleGood, Sound}
-use Rattle.image.specs.Image.{containersIn, usersIn, spanIn, ruleIn, spansIn, mixturesIn, rulesIn, spansGood, part, policyIn, lengthGood, pairsGood, rulesGood, checkOf}
+use Rattle.image.specs.Image.{containersIn, usersIn, spanIn, ruleIn, spansIn, mixturesIn, rulesIn, spansGood, part, policyIn, imageLengthGood, pairsGood, rulesGood, checkOf}
 use Rattle.image.specs.Normal.{Meaning, normalAt, placeOf, meaning, numberOf, containerOf, writtenBy, policyOf, normalPolicy, containerBytes, spanBytes, spansOf, framed, encode, normalImage}
-use Rattle.image.specs.Words.{ruleOf, wordsOf}
+use Rattle.rule_words.specs.Words.{ruleOf, wordsOf}
 use Rattle.lists.proofs.Every.{every-nil, every-cons, every-left, every-right, every-map}
-use Rattle.image.proofs.Decode.{passes, sound}
+use Rattle.image.proofs.AcceptedImage.{passes}
+use Rattle.image.proofs.Decode.{accepted-sound as image-sound}
 use Rattle.image.proofs.Encode.{encode-length, encode-short}
-use Rattle.image.proofs.Means.{meaning-encodable, policy-sound, normal-good, form-rule}
-use Rattle.image.proofs.WordLaws.{words-rule, words-nine}
+use Rattle.image.proofs.WrittenMeaning.{meaning-encodable, policy-sound, normal-good, form-rule}
+use Rattle.rule_words.proofs.WordLaws.{words-rule, words-nine}
 use Rattle.lists.proofs.Places.{map-at}
 use Rattle.fields.proofs.RecordLaws.{records-count}
-use Rattle.image.proofs.Places.{rule-at, rule-fits}
+use Rattle.image.proofs.RecordsByPlace.{rule-at, rule-fits}
 use borrow.Rule.Slice.PartMut.{putMid}
 use Rattle.normaliser.specs.Tables.{formAt, formsIn, wordsGood, policyAt, policyFrom, Classified, classAt, classNamed, containerUses, placedAll, Ordered, found, containerBytesAt, userBytes, spanBytesAt, mixtureBytes, recordSize, Writable, Written, Tabled}
 use Rattle.normaliser.proofs.Laying.{wide, rows-length, records-rows, Laid, laid-start, laid-next, laid-end}
@@ -384,7 +385,7 @@ module _ (i : List ℕ) (e : checkOf i ≡ 0) where
   accepted-pairs = passes i e .pairs
 
   pub accepted-long : 18 ≤ length i
-  unfolding lengthGood
+  unfolding imageLengthGood
   accepted-long = leb-true 18 (length i) (and-0 (leb 18 (length i)) _ (passes i e .long))
 
   pub accepted-spans : spansGood (length (part i 3) / 8) 0 (spansIn (part i 2)) ≡ true
@@ -393,7 +394,7 @@ module _ (i : List ℕ) (e : checkOf i ≡ 0) where
 
   module _ (b : Bytes i) where
     pub accepted-sound : Sound (policyFrom (part i 0) (part i 1) (part i 2) (part i 3))
-    accepted-sound = rw (parts-policy i) (sound i b (passes i e))
+    accepted-sound = rw (parts-policy i) (image-sound i b e)
 
     pub written-small : (before after : List ℕ) (n : ℕ) → Written (normalImage (policyFrom (part i 0) (part i 1) (part i 2) (part i 3))) before after n → n ≤ 18994
     unfolding normalImage normalPolicy

@@ -17,7 +17,7 @@ use Rattle.image.specs.Image.{containersIn, usersIn}
 use Rattle.image.specs.Normal.{normalAt, placeOf, meaning, placeUses, uses, known, numbered, position, numberOf, containerOf}
 use Rattle.lists.proofs.Every.{every-0, every-1, every-nil, every-cons, every-imp, every-append, every-left, every-right, every-both, every-getD, every-map}
 use Rattle.image.proofs.Numbering.{settled, all-settled, numbered-every, numbered-few, number-named, number-rule}
-use Rattle.image.proofs.Means.{container-named}
+use Rattle.image.proofs.WrittenMeaning.{container-named}
 use Rattle.normaliser.specs.Tables.{formAt, formsIn, wordsGood, formGood, policyAt, Classified, classAt, classNamed, containerUses, placedAll, placeIn, Ordered, numberAt, found, renumbered}
 use Rattle.normaliser.proofs.Ordering.{named-some, all-append}
 use Rattle.normaliser.proofs.Classes.{settled-at, number-unrestricted, place-number, all-numbered, restricted, numbered-restricted}

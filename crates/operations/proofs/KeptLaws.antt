@@ -11,11 +11,11 @@ use Rattle.rules.specs.Rules.{normal, meet, intersections, unrestricted}
 use Rattle.rules.specs.Answers.{mixtureLimit, padded}
 use Rattle.rules.proofs.RuleLaws.{normal-normal}
 use Rattle.rules.proofs.MeetAll.{normal-one}
-use Rattle.image.specs.Limits.{isFree, isFile, isVolatile, isStore}
+use Rattle.image.specs.Limits.{isFree, isFile, isVolatile, isStore, usedKind}
 use Rattle.image.specs.Policy.{unrestrictedRule}
-use Rattle.image.specs.Words.{ruleOf, wordsOf}
+use Rattle.rule_words.specs.Words.{ruleOf, wordsOf, allZero}
 use Rattle.session.specs.Limits.{rowWidth}
-use Rattle.session.specs.Rows.{Row, allZero, rowOf, rowWords, permitWords, runWords, usedKind, containerRowGood, InUse, userRow}
+use Rattle.session.specs.Rows.{Row, rowOf, rowWords, permitWords, runWords, containerRowGood, InUse, userRow}
 use Rattle.session.proofs.RowLaws.{row-length, row-words, row-good, good-declared}
 use Rattle.chains.specs.History.{Step, read, write, append, exec, fork, newFile, newVolatile}
 use Rattle.chains.specs.Table.{freeRow, readRow, writeRow, appendRow, execRow, forkRow, newFileRow, newVolatileRow, ruleOr, entry, fits, meetGood}

@@ -18,16 +18,15 @@ use Rattle.rules.proofs.RuleLaws.{meet-comm}
 use Rattle.rules.proofs.RefineLaws.{refines-meet}
 use Rattle.rules.proofs.MeetLaws.{meet-one}
 use Rattle.session.specs.Limits.{rowWidth, userWidth, usersAt, kindAt, tagAt, permitAt, runAt, userRuleAt}
-use Rattle.image.specs.Words.{ruleWidth, ruleOf, wordsOf}
+use Rattle.rule_words.specs.Words.{ruleWidth, ruleOf, wordsOf}
 use Rattle.session.specs.Rows.{Row, InUse, rowOf, rowWords, permitWords, runWords, containerRow, userRow, userRuleWords, userRuleOf}
-use Rattle.image.proofs.WordLaws.{bounded-words}
-use Rattle.session.proofs.RuleWords.{kept-count, kept-normal, kept-words, rule-length}
+use Rattle.rule_words.proofs.WordLaws.{bounded-words}
+use Rattle.rule_words.proofs.KeptWords.{kept-count, kept-normal, kept-words, rule-length}
 use Rattle.session.proofs.RowLaws.{row-permit, good-counts, good-used, good-words, good-permit, good-run, user-kept, good-declared}
 use Rattle.session.proofs.PutLaws.{container-row-length, user-row-length}
-use Rattle.chains.specs.Table.{fits}
+use Rattle.chains.specs.Table.{fits, ruleOr}
 use Rattle.answers.specs.declared.Answer.{Answer}
 use Rattle.answers.specs.Answers.{quiet, alert}
-use Rattle.chains.specs.Table.{ruleOr}
 use Rattle.operations.specs.View.{view}
 use Rattle.operations.specs.Parts.{Kept, KeptAt, UsedAt, DeclaredAt, wordsFrom, boundedWords, contentWords, newWords, coverAnswer}
 use Rattle.operations.proofs.ViewLaws.{view-row, view-user}

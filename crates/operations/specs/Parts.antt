@@ -13,9 +13,9 @@ use Rattle.answers.specs.Answers.{refused, quiet, alert}
 use Rattle.rules.specs.Rules.{covers, meet}
 use Rattle.rules.specs.declared.Bounded.{Bounded}
 use Rattle.image.specs.Limits.{containerLimit, userLimit, isFree}
-use Rattle.image.specs.Words.{ruleWidth}
+use Rattle.rule_words.specs.Words.{ruleWidth, keptWell}
 use Rattle.session.specs.Limits.{sessionLength, kindAt}
-use Rattle.session.specs.Rows.{keptWell, Row, rowWords, permitWords, containerRow, containerRowGood, putRow, userRow, userRowGood, isDeclared}
+use Rattle.session.specs.Rows.{Row, rowWords, permitWords, containerRow, containerRowGood, putRow, userRow, userRowGood, isDeclared}
 use Rattle.chains.specs.History.{Step}
 use Rattle.chains.specs.Table.{entry, fits, meetGood, earlyConditions}
 use Rattle.operations.specs.View.{view}

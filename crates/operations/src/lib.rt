@@ -6,8 +6,8 @@ ghost use lib.ListN.{length, getD, take};
 ghost use Rattle.lists.specs.Conditions.{firstFailed};
 ghost use Rattle.rules.specs.Rules.{meet};
 ghost use Rattle.rules.specs.Answers.{mixtureLimit, boundedOf};
-ghost use Rattle.image.specs.Limits.{isStore, containerLimit, processKind};
-ghost use Rattle.image.specs.Words.{ruleOf};
+ghost use Rattle.image.specs.Limits.{containerLimit, processKind};
+ghost use Rattle.rule_words.specs.Words.{ruleOf};
 ghost use Rattle.session.specs.Limits.{sessionLength, rowWidth};
 ghost use Rattle.session.specs.Rows.{rowOf, permitWords};
 ghost use Rattle.chains.specs.History.{read, write, append, exec, fork, newFile, newVolatile};
@@ -21,9 +21,9 @@ use answers::Received;
 use answers::Verdict;
 use image::FILE_KIND;
 use image::PROCESS_KIND;
-use image::RULE_WIDTH;
 use image::VOLATILE_KIND;
 use records::Request;
+use rule_words::RULE_WIDTH;
 use rules::Bounded;
 use session::DECLARED;
 use session::KIND_AT;
@@ -37,28 +37,18 @@ use session::USERS_AT;
 
 // ---- the refusals that come before a meet
 
-// A file or a volatile.
-fn is_store(kind: u64) -> bool
-    ensures { λ r. ⌜ r ≡ isStore kind ⌝ }
-{
-    if image::is_file(kind) {
-        return true;
-    }
-    image::is_volatile(kind)
-}
-
 // A container of the kind serves as the object.
 fn object_fits(need: u8, kind: u64) -> bool
     ensures { λ r. ⌜ r ≡ objectFits need kind ⌝ }
 {
     if need == records::NEEDS_STORE {
-        return is_store(kind);
+        return image::is_store(kind);
     }
     if need == records::NEEDS_FILE {
         return image::is_file(kind);
     }
     if need == records::NEEDS_FREE {
-        return kind == session::FREE_KIND;
+        return kind == image::FREE_KIND;
     }
     false
 }
@@ -149,8 +139,8 @@ fn meet_kept(a: &[u64], b: &[u64]) -> Bounded
     requires { ⌜ (Kept (now a)) × (Kept (now b)) ⌝ }
     ensures { λ r. ⌜ r ≡ boundedOf (meet (ruleOf (now (a .entry))) (ruleOf (now (b .entry)))) ⌝ }
 {
-    let r = session::rule_of(a);
-    let v = session::rule_of(b);
+    let r = rule_words::rule_of(a);
+    let v = rule_words::rule_of(b);
     if rules::refines(r, v) {
         return rule_copy(a);
     }
@@ -181,7 +171,7 @@ fn set_content(row: &mut [u64], tag: u64, run: Bounded)
     ensures { λ _. ⌜ now (row .exit) ≡ contentWords (now (row .entry)) tag run ⌝ }
 {
     row[TAG_AT] = tag;
-    image::put_rule(&mut row[RUN_AT..RUN_AT + RULE_WIDTH], run);
+    rule_words::put_rule(&mut row[RUN_AT..RUN_AT + RULE_WIDTH], run);
 }
 
 // Whether the row's permit rule covers its tag.
@@ -191,7 +181,7 @@ fn judged(row: &[u64], receiver: usize) -> Answer
 {
     let tag = row[TAG_AT];
     if rules::covers(
-        session::rule_of(&row[PERMIT_AT..PERMIT_AT + RULE_WIDTH]),
+        rule_words::rule_of(&row[PERMIT_AT..PERMIT_AT + RULE_WIDTH]),
         tag,
     ) {
         return Answer::Given(Verdict::Quiet, Received { receiver, tag });

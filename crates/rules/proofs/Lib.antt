@@ -1,12 +1,14 @@
--- Theorems is the file to read: the laws of this crate, stated and cited. The others prove them.
+-- Theorems is the file to read: what is proved of sets and rules, stated and cited. The others prove it.
 pub mod Theorems
+-- other crates cite these
 pub mod SetLaws
 pub mod RuleLaws
 pub mod MeetAll
-pub mod BoundedLaws
-pub mod KeptLaws
-pub mod SieveLaws
-pub mod Rounds
-pub mod ListLaws
 pub mod MeetLaws
 pub mod RefineLaws
+pub mod BoundedLaws
+-- inside this crate: how the normal form is made
+pub mod KeptMixtures
+pub mod SieveLaws
+pub mod SieveRounds
+pub mod ListedPairs

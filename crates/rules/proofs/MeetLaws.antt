@@ -12,7 +12,7 @@ use Rattle.lists.proofs.Elem.{elem-none, elem-cases}
 use Rattle.rules.proofs.RuleLaws.{normal-unique, meet-comm, meet-none, meet-unrestricted}
 use Rattle.rules.specs.Order.{Within}
 use Rattle.rules.specs.Rules.{normal, meet, intersections, unrestricted}
-use Rattle.rules.specs.Answers.{boundedOf}
+use Rattle.rules.specs.Answers.{tagWidth, boundedOf}
 use Rattle.rules.specs.declared.Bounded.{Bounded}
 use Rattle.rules.specs.Sieve.{Candidates}
 
@@ -45,7 +45,6 @@ within-getD w [] h m e = elem-none m e
 within-getD w (n ∷ r) h m e =
     ⊎-elim (λ q. rw q (h 0)) (λ q. within-getD w r (λ k. h (suc k)) m q) (elem-cases m n r e)
 
--- the normal form, as the meet with the rule of all 64 atoms
-pub meet-all-atoms : (r : List ℕ) → ((k : ℕ) → getD r k 0 < 2 ^ 64) → meet (18446744073709551615 ∷ []) r ≡ normal r
-unfolding unrestricted
-meet-all-atoms r h = meet-comm (18446744073709551615 ∷ []) r ∙ meet-unrestricted 64 r (within-getD 64 r h)
+-- the normal form, as the meet with the unrestricted rule
+pub meet-all-atoms : (r : List ℕ) → ((k : ℕ) → getD r k 0 < 2 ^ tagWidth) → meet (unrestricted tagWidth) r ≡ normal r
+meet-all-atoms r h = meet-comm (unrestricted tagWidth) r ∙ meet-unrestricted tagWidth r (within-getD tagWidth r h)

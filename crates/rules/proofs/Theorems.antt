@@ -92,6 +92,10 @@ normal-antichain = rules.normal-antichain
 pub normal-unique : (r s : List ℕ) → ((t : ℕ) → covers r t ≡ covers s t) → normal r ≡ normal s
 normal-unique = rules.normal-unique
 
+-- for rules on the first w atoms the tags of these atoms are enough
+pub normal-unique-within : (w : ℕ) (r s : List ℕ) → Within w r → Within w s → ((t : ℕ) → t < 2 ^ w → covers r t ≡ covers s t) → normal r ≡ normal s
+normal-unique-within = rules.normal-unique-within
+
 pub normal-idempotent : (r : List ℕ) → normal (normal r) ≡ normal r
 normal-idempotent = rules.normal-normal
 

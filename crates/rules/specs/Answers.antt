@@ -18,6 +18,10 @@ tagWidth = 64
 abbrev pub mixtureLimit : ℕ
 mixtureLimit = 8
 
+-- and two rules have at most 64 pairs of mixtures
+abbrev pub pairLimit : ℕ
+pairLimit = 64
+
 -- the mixtures of a rule at the 8 places for them: unused ones are 0
 unfoldable pub padded : List ℕ → List ℕ
 padded r = r ++ replicate (mixtureLimit - length r) 0

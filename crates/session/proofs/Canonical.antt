@@ -1,26 +1,19 @@
 -- The normal image and the session that is started tell the same of a policy: what it means.
 use Prim.Native.Nat.{ℕ}
 use mathlib.Core.Path.{_≡_, sym, ap, _∙_}
-use mathlib.Core.Bool.{Bool, true, false, cond}
 use mathlib.Core.List.{List}
-use lib.Dec.{eqb}
 use lib.ListN.{length}
 use native.Mathlib.Omega.{arith}
 use borrow.Author.Tests.{eq-eqb}
-use Rattle.fields.specs.Bytes.{Bytes}
 use Rattle.image.specs.Policy.{Policy, Sound}
 use Rattle.image.specs.Image.{checkOf, policyIn}
 use Rattle.image.specs.Normal.{Meaning, meaning, policyOf, normalPolicy, encode, normalImage}
-use Rattle.image.proofs.Decode.{passes, sound}
 use Rattle.image.proofs.Encode.{check-encode, policy-encode}
-use Rattle.image.proofs.Means.{Encodable, meaning-encodable, policy-sound, policy-means}
+use Rattle.image.proofs.WrittenMeaning.{Encodable, meaning-encodable, policy-sound, policy-means}
 use Rattle.session.specs.Limits.{sessionLength}
 use Rattle.session.specs.Session.{sessionOf, startOf, startAnswer, startEffect}
+use Rattle.session.proofs.StartRefusals.{length-good, given-by-image}
 use Rattle.session.proofs.SessionLaws.{session-apart}
-
--- what an image that is not refused spells
-pub accepted-sound : (i : List ℕ) → Bytes i → checkOf i ≡ 0 → Sound (policyIn i)
-accepted-sound i b e = sound i b (passes i e)
 
 module _ (p : Policy) (h : Sound p) where
   encodable : Encodable (meaning p)
@@ -56,11 +49,7 @@ module _ (p q : Policy) (h : Sound p) (k : Sound q) where
 -- what a start that is not refused leaves
 pub effect-start : (i s : List ℕ) → startAnswer i s ≡ 0 → (checkOf i ≡ 0) × (startEffect i s ≡ startOf (policyIn i))
 unfolding startEffect
-effect-start i s e = (judged i s e, rw (eq-eqb (startAnswer i s) 0 e))
-  where
-    judged : (i s : List ℕ) → startAnswer i s ≡ 0 → checkOf i ≡ 0
-    judged i s e = by (eqb (length s) sessionLength) (unfold startAnswer in e)
-      where
-        by : (b : Bool) → cond b (checkOf i) 9 ≡ 0 → checkOf i ≡ 0
-        by true h = h
-        by false h = absurd (omega arith)
+effect-start i s e = (given-by-image i s 0 (λ z. omega arith) .0 e .1, rw (eq-eqb (startAnswer i s) 0 e))
+
+pub started-effect : (i s : List ℕ) → checkOf i ≡ 0 → length s ≡ sessionLength → startEffect i s ≡ startOf (policyIn i)
+started-effect i s e l = effect-start i s (given-by-image i s 0 (λ z. omega arith) .1 (length-good s .1 l, e)) .1

@@ -1,14 +1,16 @@
 -- Theorems is the file to read: what is proved of the session, stated and cited. The others prove it.
-pub mod RuleWords
-pub mod TestLaws
-pub mod RowLaws
-pub mod RowCases
-pub mod PutLaws
-pub mod Filled
-pub mod SessionLaws
-pub mod StartLaws
-pub mod Canonical
 pub mod Theorems
-pub mod WriteLaws
+-- other crates cite these
+pub mod RowLaws
+pub mod PutLaws
+pub mod StartLaws
+pub mod StartRefusals
+pub mod Canonical
+-- inside this crate
+pub mod RowTests
+pub mod GoodRows
+pub mod RowsOfOneWidth
+pub mod SessionLaws
+pub mod WrittenRows
 pub mod RecordRows
 pub mod StartSteps

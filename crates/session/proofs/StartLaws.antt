@@ -12,7 +12,7 @@ use Rattle.image.specs.Policy.{Container, Policy, Sound}
 use Rattle.image.specs.Normal.{Place, normalAt, placeOf, meaning}
 use Rattle.lists.proofs.Every.{every-getD}
 use Rattle.lists.proofs.Places.{map-at}
-use Rattle.image.proofs.Means.{formGood, placeGood, Encodable, form-normal, meaning-encodable}
+use Rattle.image.proofs.WrittenMeaning.{formGood, placeGood, Encodable, form-normal, meaning-encodable}
 use Rattle.session.specs.Limits.{sessionLength, rowWidth, userWidth}
 use Rattle.session.specs.Rows.{rowOf, freeWords, containerRowGood, InUse, userWords, undeclaredWords, userRowGood, containerRow, userRow}
 use Rattle.session.specs.Session.{startRow, placeWords, startOf}

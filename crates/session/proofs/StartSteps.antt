@@ -4,70 +4,24 @@ use mathlib.Core.Path.{_≡_, refl, sym, ap, ap₂, _∙_}
 use mathlib.Core.Bool.{true}
 use mathlib.Core.List.{List, [], _∷_, _++_, map, append-nil}
 use native.Mathlib.Omega.{arith}
-use lib.Dec.{leb}
 use lib.ListN.{length, take, drop, replicate, length-replicate, drop-of-length-le}
 use lib.Seq.{take-at, drop-at, drop-drop}
-use borrow.Author.Tests.{eq-eqb, ne-eqb, leb-true}
+use borrow.Author.Tests.{eq-eqb, ne-eqb}
 use borrow.Rule.Slice.PartMut.{putMid}
-use Rattle.lists.proofs.Bools.{and-0, and-1}
-use Rattle.image.specs.Limits.{containerLimit, userLimit, containerSize, userSize, ruleSize, mixtureSize, headerSize, imageLimit}
-use Rattle.lists.specs.Lists.{every}
-use Rattle.image.specs.Policy.{named, containerGood}
-use Rattle.image.specs.Image.{offset, size, part, containersIn, usersIn, spansIn, rulesIn, spansGood, policyIn, checkOf, lengthGood, wholeGood, sectionsGood, rulesGood, containersGood, usersGood}
+use Rattle.image.specs.Limits.{containerLimit, userLimit, containerSize, userSize, ruleSize, mixtureSize}
+use Rattle.image.specs.Image.{part, containersIn, usersIn, spansIn, rulesIn, spansGood, policyIn, checkOf}
 use Rattle.image.specs.Normal.{placeOf, normalAt, meaning}
-use Rattle.image.proofs.Decode.{Passes, passes, few}
-use Rattle.fields.proofs.RecordLaws.{records-count}
-use Rattle.image.proofs.SpanWords.{drop-zeros}
-use Rattle.image.proofs.Scanning.{part-ends-0, part-ends-1, part-ends-2, part-ends-3}
+use Rattle.rule_words.proofs.ZeroLaws.{drop-zeros}
 use Rattle.session.specs.Limits.{sessionLength, rowWidth, userWidth, usersAt}
 use Rattle.session.specs.Rows.{userWords}
-use Rattle.session.specs.Session.{filled, placeWords, sessionOf, startOf, startAnswer, startEffect}
-use Rattle.session.proofs.Filled.{filled-length}
+use Rattle.session.specs.Session.{filled, placeWords, sessionOf, startOf, sessionLengthGood, startAnswer, startEffect}
+use Rattle.answers.specs.Refusals.{lentLength}
+use Rattle.lists.specs.Lists.{every}
+use Rattle.image.specs.Policy.{named, containerGood}
+use Rattle.image.proofs.AcceptedImage.{accepted-spans, accepted-containers, accepted-users, few-containers, few-users}
+use Rattle.session.proofs.StartRefusals.{length-good, refused-9, length-passed}
+use Rattle.session.proofs.RowsOfOneWidth.{filled-length}
 use Rattle.session.proofs.RecordRows.{containers-wide}
-
--- ---- an image that is not refused
-
-module _ (i : List ℕ) (h : checkOf i ≡ 0) where
-  tests : Passes i
-  tests = passes i h
-
-  pub long-image : headerSize ≤ length i
-  unfolding lengthGood
-  long-image = leb-true headerSize (length i) (and-0 (leb headerSize (length i)) (leb (length i) imageLimit) (tests .long))
-
-  pub ends-0 : offset i 0 + size i 0 ≤ length i
-  ends-0 = part-ends-0 i (tests .pairs)
-
-  pub ends-1 : offset i 1 + size i 1 ≤ length i
-  ends-1 = part-ends-1 i (tests .pairs)
-
-  pub ends-2 : offset i 2 + size i 2 ≤ length i
-  ends-2 = part-ends-2 i (tests .pairs)
-
-  pub ends-3 : offset i 3 + size i 3 ≤ length i
-  ends-3 = part-ends-3 i (tests .pairs)
-
-  pub good-spans : spansGood (length (part i 3) / mixtureSize) 0 (spansIn (part i 2)) ≡ true
-  unfolding rulesGood
-  good-spans = tests .rules
-
-  pub good-containers : every (containerGood (length (part i 2) / ruleSize)) (containersIn (part i 0)) ≡ true
-  unfolding containersGood
-  good-containers = tests .containers
-
-  pub good-users : every (named (length (part i 2) / ruleSize)) (usersIn (part i 1)) ≡ true
-  unfolding usersGood
-  good-users = tests .users
-
-  pub few-containers : length (part i 0) / containerSize ≤ containerLimit
-  unfolding sectionsGood
-  few-containers =
-      omega (arith, records-count containerSize (part i 0), few containerSize containerLimit (part i 0) (and-0 (wholeGood containerSize containerLimit (part i 0)) _ (tests .sections)))
-
-  pub few-users : length (part i 1) / userSize ≤ userLimit
-  unfolding sectionsGood
-  few-users =
-      omega (arith, records-count userSize (part i 1), few userSize userLimit (part i 1) (and-0 (wholeGood userSize userLimit (part i 1)) _ (and-1 (wholeGood containerSize containerLimit (part i 0)) (tests .sections))))
 
 -- ---- the container rows and the user rows of an image
 
@@ -81,10 +35,20 @@ pub rows-part-length : (i : List ℕ) → checkOf i ≡ 0 → length (rowsPart i
 unfolding rowsPart
 rows-part-length i h =
     filled-length rowWidth containerLimit (map placeWords (map (placeOf (rulesIn (part i 2) (part i 3))) (containersIn (part i 0))))
-    (containers-wide (part i 0) (part i 2) (part i 3) (good-containers i h) (good-spans i h))
+    (containers-wide (part i 0) (part i 2) (part i 3) (accepted-containers i h) (accepted-spans i h))
 
--- as they are read from the sections
+-- the sections as they are lent: s holds the containers or users, r the rules, m the mixtures
 module _ (i r m : List ℕ) (e : r ≡ part i 2) (f : m ≡ part i 3) where
+  module _ (h : checkOf i ≡ 0) where
+    pub spans-lent : spansGood (length m / mixtureSize) 0 (spansIn r) ≡ true
+    spans-lent = rw (e, f) (accepted-spans i h)
+
+    pub containers-lent : (s : List ℕ) → s ≡ part i 0 → (length s / containerSize ≤ containerLimit) × (every (containerGood (length r / ruleSize)) (containersIn s) ≡ true)
+    containers-lent s g = rw (e, g) (few-containers i h, accepted-containers i h)
+
+    pub users-lent : (s : List ℕ) → s ≡ part i 1 → (length s / userSize ≤ userLimit) × (every (named (length r / ruleSize)) (usersIn s) ≡ true)
+    users-lent s g = rw (e, g) (few-users i h, accepted-users i h)
+
   pub rows-read : (s a : List ℕ) → s ≡ part i 0 → a ≡ filled rowWidth containerLimit (map placeWords (map (placeOf (rulesIn r m)) (containersIn s))) → a ≡ rowsPart i
   unfolding rowsPart
   rows-read s a g h = rw (e, f, g) at h
@@ -132,14 +96,21 @@ both-parts i s a b h l e f = two-parts s a b l (ap length e ∙ rows-part-length
 -- ---- the answers
 
 module _ (i s : List ℕ) where
-  pub wrong-length : (length s ≡ sessionLength → ⊥) → (9 ≡ startAnswer i s) × (s ≡ startEffect i s)
-  unfolding startAnswer startEffect
-  wrong-length h = (rw (ne-eqb (length s) sessionLength h), rw (ne-eqb (length s) sessionLength h))
+  unchanged : (n : ℕ) → startAnswer i s ≡ n → (n ≡ 0 → ⊥) → (n ≡ startAnswer i s) × (s ≡ startEffect i s)
+  unfolding startEffect
+  unchanged n e d = (sym e, rw (e, ne-eqb n 0 d))
 
-  pub refused-image : length s ≡ sessionLength → (r : ℕ) → r ≡ checkOf i → (r ≡ 0 → ⊥) → (r ≡ startAnswer i s) × (s ≡ startEffect i s)
-  unfolding startAnswer startEffect
-  refused-image h r e d = (rw (eq-eqb (length s) sessionLength h) e, rw (eq-eqb (length s) sessionLength h, ← e, ne-eqb r 0 d))
+  pub wrong-length : (length s ≡ sessionLength → ⊥) → (lentLength ≡ startAnswer i s) × (s ≡ startEffect i s)
+  unfolding sessionLengthGood
+  wrong-length h = unchanged lentLength (refused-9 i s .1 (ne-eqb (length s) sessionLength h)) (λ e. omega arith)
 
-  pub started : length s ≡ sessionLength → checkOf i ≡ 0 → (t : List ℕ) → t ≡ startOf (policyIn i) → (0 ≡ startAnswer i s) × (t ≡ startEffect i s)
-  unfolding startAnswer startEffect
-  started h e t f = (rw (eq-eqb (length s) sessionLength h) (sym e), rw (eq-eqb (length s) sessionLength h, e) f)
+  module _ (l : length s ≡ sessionLength) where
+    judged : startAnswer i s ≡ checkOf i
+    judged = length-passed i s (length-good s .1 l)
+
+    pub refused-image : (r : ℕ) → r ≡ checkOf i → (r ≡ 0 → ⊥) → (r ≡ startAnswer i s) × (s ≡ startEffect i s)
+    refused-image r e d = unchanged r (judged ∙ sym e) d
+
+    pub started : checkOf i ≡ 0 → (t : List ℕ) → t ≡ startOf (policyIn i) → (0 ≡ startAnswer i s) × (t ≡ startEffect i s)
+    unfolding startEffect
+    started e t f = (sym (judged ∙ e), rw (eq-eqb (startAnswer i s) 0 (judged ∙ e)) f)

@@ -1,12 +1,14 @@
 -- The session that a policy starts, and what the start answers (the paper, "Session").
 use Prim.Native.Nat.{ℕ, zero, suc, _^_}
-use mathlib.Core.Bool.{cond}
+use mathlib.Core.Bool.{Bool, cond}
 use mathlib.Core.List.{List, [], _∷_, _++_, map}
 use lib.Dec.{eqb}
 use lib.ListN.{length, replicate}
+use Rattle.lists.specs.Conditions.{Condition, _orRefuse_, firstFailed}
+use Rattle.answers.specs.Refusals.{lentLength}
 use Rattle.image.specs.Limits.{noAtom, containerLimit, userLimit}
 use Rattle.image.specs.Policy.{Policy}
-use Rattle.image.specs.Image.{checkOf, policyIn}
+use Rattle.image.specs.Image.{policyIn, imageConditions}
 use Rattle.image.specs.Normal.{Place, Meaning, meaning}
 use Rattle.session.specs.Limits.{sessionLength, rowWidth, userWidth}
 use Rattle.session.specs.Rows.{Row, rowWords, userWords}
@@ -37,9 +39,17 @@ sessionOf m =
 unfoldable pub startOf : Policy → List ℕ
 startOf p = sessionOf (meaning p)
 
--- "9 session of wrong length", then the image's refusals; 0 if accepted
+-- "9 session of wrong length"
+unfoldable pub sessionLengthGood : List ℕ → Bool
+sessionLengthGood session = eqb (length session) sessionLength
+
+-- "In this order: 9 .. 1 .."
+unfoldable pub startConditions : List ℕ → List ℕ → List Condition
+startConditions image session = (sessionLengthGood session orRefuse lentLength) ∷ imageConditions image
+
+-- the refusal of a start; 0 if accepted
 unfoldable pub startAnswer : List ℕ → List ℕ → ℕ
-startAnswer image session = cond (eqb (length session) sessionLength) (checkOf image) 9
+startAnswer image session = firstFailed (startConditions image session)
 
 -- the session afterwards, whatever stood there; "A refusal .. changes no lent memory"
 unfoldable pub startEffect : List ℕ → List ℕ → List ℕ

@@ -1,6 +1,8 @@
+-- The records passed are good.
 use Rattle.fields.proofs.RecordLaws.{Scanned, scan-start, scan-next, scan-stop, scan-end}
 use Rattle.lists.proofs.Bools.{passes-test, fails-test}
 use Rattle.image.specs.Policy.{containerGood}
+use Rattle.image.specs.Limits.{containerSize}
 use Rattle.image.specs.Image.{containerIn, containersIn}
 use lib.ListN.{length-take, length-drop}
 use native.Mathlib.Nat.{add-sub-cancel-left}
@@ -12,13 +14,13 @@ use Rattle.image.proofs.containers_good.Statement.{statement}
 use Rattle.image.proofs.containers_good.Tie as tie
 
 abbrev Inv-loop : tie.InvT-loop
-Inv-loop s n count i₀ i = Scanned (containerGood n) containerIn 6 s count i
+Inv-loop s n count i₀ i = Scanned (containerGood n) containerIn containerSize s count i
 
 abbrev μ-loop : tie.MeasureT-loop
 μ-loop s n count i₀ i = count - i
 
 loop-holds : tie.Need-loop-holds Inv-loop μ-loop
-loop-holds c = scan-start (containerGood (c .before .args .n)) containerIn 6 (c .before .args .s .now)
+loop-holds c = scan-start (containerGood (c .before .args .n)) containerIn containerSize (c .before .args .s .now)
 
 mul-at : tie.Need-mul-at Inv-loop μ-loop
 mul-at c = search needs
@@ -40,7 +42,10 @@ container-good-requires c κs = simp (length-take, length-drop, add-sub-cancel-l
 
 returns : tie.Need-returns Inv-loop μ-loop
 unfolding containersIn
-returns c = scan-stop (containerGood (c .before .before .before .before .before .before .args .n)) containerIn 6 (c .before .before .before .before .before .before .args .s .now) _ _ (c .before .before .before .before .loop .inv) (omega arith) (sym (fails-test (rw add-sub-cancel-left at (c .before .container-good .ensures)) (c .if1 .taken)))
+returns c =
+    let start = c .before .before .before .before .before .before in
+    scan-stop (containerGood (start .args .n)) containerIn containerSize (start .args .s .now) _ _ (c .before .before .before .before .loop .inv) (omega arith)
+    (sym (fails-test (rw add-sub-cancel-left at (c .before .container-good .ensures)) (c .if1 .taken)))
 
 add-i : tie.Need-add-i Inv-loop μ-loop
 add-i c = search needs
@@ -49,11 +54,14 @@ loop-less : tie.Need-loop-less Inv-loop μ-loop
 loop-less c = search needs
 
 loop-again : tie.Need-loop-again Inv-loop μ-loop
-loop-again c = scan-next (containerGood (c .before .before .before .before .before .before .args .n)) containerIn 6 (c .before .before .before .before .before .before .args .s .now) _ _ (c .before .before .before .before .loop .inv) (omega arith) (sym (passes-test (rw add-sub-cancel-left at (c .before .container-good .ensures)) (c .if1 .left)))
+loop-again c =
+    let start = c .before .before .before .before .before .before in
+    scan-next (containerGood (start .args .n)) containerIn containerSize (start .args .s .now) _ _ (c .before .before .before .before .loop .inv) (omega arith)
+    (sym (passes-test (rw add-sub-cancel-left at (c .before .container-good .ensures)) (c .if1 .left)))
 
 returns-2 : tie.Need-returns-2 Inv-loop μ-loop
 unfolding containersIn
-returns-2 c = scan-end (containerGood (c .before .before .before .args .n)) containerIn 6 (c .before .before .before .args .s .now) _ _ (c .before .loop .inv) (omega arith)
+returns-2 c = scan-end (containerGood (c .before .before .before .args .n)) containerIn containerSize (c .before .before .before .args .s .now) _ _ (c .before .loop .inv) (omega arith)
 
 pub containers-good-spec : {M : Type 1} → statement M
 containers-good-spec =

@@ -1,3 +1,4 @@
+-- The definition computes.
 use mathlib.Core.Path.{refl}
 use Rattle.image.specs.Limits.{isFile}
 use Rattle.image.proofs.is_file.Statement.{statement}

@@ -1,3 +1,4 @@
+-- The definition computes.
 use mathlib.Core.Path.{refl}
 use Rattle.image.specs.Limits.{isProcess}
 use Rattle.image.proofs.is_process.Statement.{statement}

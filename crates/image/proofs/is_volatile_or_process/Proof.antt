@@ -1,3 +1,4 @@
+-- The tests, one after the other, are those of the disjunction.
 use mathlib.Core.Path.{sym, _∙_}
 use borrow.Author.Needs.{needs}
 use Rattle.image.proofs.is_volatile_or_process.Statement.{statement}

@@ -1,4 +1,5 @@
-use Rattle.image.proofs.Places.{mixture-at}
+-- A field of 8 bytes at its place is a mixture of the section.
+use Rattle.image.proofs.RecordsByPlace.{mixture-at}
 use mathlib.Core.Path.{_∙_}
 use borrow.Author.Needs.{needs}
 use Rattle.image.proofs.mixture.Statement.{statement}

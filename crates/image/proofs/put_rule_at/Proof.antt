@@ -1,5 +1,6 @@
-use Rattle.image.proofs.RuleReading.{named-own, own-normal, unrestricted-words}
-use Rattle.image.specs.Words.{wordsOf}
+-- The unrestricted rule, or a rule of the section.
+use Rattle.image.proofs.RulesByNumber.{named-own, own-normal, unrestricted-words}
+use Rattle.rule_words.specs.Words.{wordsOf}
 use mathlib.Core.Path.{ap, _∙_}
 use borrow.Author.Needs.{needs}
 use Rattle.image.proofs.put_rule_at.Statement.{statement}
@@ -12,19 +13,26 @@ put-rule-requires : tie.Need-put-rule-requires
 put-rule-requires c κs = search needs
 
 put-own-rule-requires : tie.Need-put-own-rule-requires
-put-own-rule-requires c κs = (c .before .before .before .before .before .pre .0, named-own _ (c .before .before .before .before .before .args .n) (c .before .before .before .before .before .pre .1) (c .before .if1 .left), c .before .before .before .before .before .pre .2)
+put-own-rule-requires c κs =
+    let start = c .before .before .before .before .before in
+    (start .pre .0, named-own _ (start .args .n) (start .pre .1) (c .before .if1 .left), start .pre .2)
 
 same-length : tie.Need-same-length
 same-length c = search needs
 
 returns : tie.Need-returns
-returns c = unrestricted-words _ (c .before .before .before .before .before .before .before .before .before .args .n) _ _ (c .before .before .before .before .before .if1 .taken) (c .before .before .before .unrestricted .ensures) (c .before .before .put-rule .ensures)
+returns c =
+    let start = c .before .before .before .before .before .before .before .before .before in
+    unrestricted-words _ (start .args .n) _ _ (c .before .before .before .before .before .if1 .taken)
+    (c .before .before .before .unrestricted .ensures) (c .before .before .put-rule .ensures)
 
 same-length-2 : tie.Need-same-length-2
 same-length-2 c = search needs
 
 returns-2 : tie.Need-returns-2
-returns-2 c = c .before .before .put-own-rule .ensures ∙ ap wordsOf (own-normal _ (c .before .before .before .before .before .before .before .before .args .n) (c .before .before .before .before .if1 .left))
+returns-2 c =
+    let start = c .before .before .before .before .before .before .before .before in
+    c .before .before .put-own-rule .ensures ∙ ap wordsOf (own-normal _ (start .args .n) (c .before .before .before .before .if1 .left))
 
 pub put-rule-at-spec : {M : Type 1} → statement M
 put-rule-at-spec =

@@ -1,5 +1,6 @@
+-- The mixtures are laid over zeros.
 use Rattle.image.proofs.SpanWords.{span-clear-length, span-lent-length, span-words, span-long}
-use Rattle.image.proofs.RuleReading.{from-length}
+use Rattle.image.proofs.RulesByNumber.{from-length}
 use Rattle.image.specs.Image.{mixturesIn}
 use native.Mathlib.Omega.{arith}
 use lib.ListN.{length-set}
@@ -32,16 +33,40 @@ part-gather-start : tie.Need-part-gather-start
 part-gather-start c = search needs
 
 part-gather-end : tie.Need-part-gather-end
-part-gather-end c = omega (arith, span-clear-length (c .before .before .before .before .before .before .args .words .now) (c .before .before .clear .last .0) (c .before .before .before .before .before .before .args .count) (c .before .before .before .before .before .before .pre .0) (c .before .before .clear .ensures), c .before .before .before .before .before .before .pre .1)
+part-gather-end c =
+    let start = c .before .before .before .before .before .before in
+    omega (
+      arith,
+      span-clear-length (start .args .words .now) (c .before .before .clear .last .0) (start .args .count) (start .pre .0)
+          (c .before .before .clear .ensures),
+      start .pre .1,
+    )
 
 gather-requires : tie.Need-gather-requires
-gather-requires c κs = omega (arith, span-lent-length (c .before .before .before .before .before .before .before .args .words .now) (c .before .before .before .clear .last .0) (c .before .before .before .before .before .before .before .args .count) (c .before .before .before .before .before .before .before .pre .0) (c .before .before .before .clear .ensures) (c .before .before .before .before .before .before .before .pre .1), c .before .before .before .before .before .before .before .pre .2)
+gather-requires c κs =
+    let start = c .before .before .before .before .before .before .before in
+    omega (
+      arith,
+      span-lent-length (start .args .words .now) (c .before .before .before .clear .last .0) (start .args .count) (start .pre .0)
+          (c .before .before .before .clear .ensures) (start .pre .1),
+      start .pre .2,
+    )
 
 same-length : tie.Need-same-length
-same-length c = span-long (c .before .before .before .before .before .before .before .before .before .before .args .words .now) (c .before .before .before .before .before .before .clear .last .0) (c .before .before .gather .last .0) (mixturesIn (c .before .before .before .before .before .before .before .before .before .before .args .m .now)) (c .before .before .before .before .before .before .before .before .before .before .args .first) (c .before .before .before .before .before .before .before .before .before .before .args .count) (c .before .before .before .before .before .before .before .before .before .before .pre .0) (c .before .before .before .before .before .before .clear .ensures) (c .before .before .before .before .before .before .before .before .before .before .pre .1) (from-length (c .before .before .before .before .before .before .before .before .before .before .args .m .now) (c .before .before .before .before .before .before .before .before .before .before .args .first) (c .before .before .before .before .before .before .before .before .before .before .args .count) (c .before .before .before .before .before .before .before .before .before .before .pre .2)) (c .before .before .gather .ensures)
+same-length c =
+    let start = c .before .before .before .before .before .before .before .before .before .before in
+    span-long (start .args .words .now) (c .before .before .before .before .before .before .clear .last .0) (c .before .before .gather .last .0)
+    (mixturesIn (start .args .m .now)) (start .args .first) (start .args .count) (start .pre .0)
+    (c .before .before .before .before .before .before .clear .ensures) (start .pre .1)
+    (from-length (start .args .m .now) (start .args .first) (start .args .count) (start .pre .2)) (c .before .before .gather .ensures)
 
 returns : tie.Need-returns
-returns c = span-words (c .before .before .before .before .before .before .before .before .before .before .args .words .now) (c .before .before .before .before .before .before .clear .last .0) (c .before .before .gather .last .0) (mixturesIn (c .before .before .before .before .before .before .before .before .before .before .args .m .now)) (c .before .before .before .before .before .before .before .before .before .before .args .first) (c .before .before .before .before .before .before .before .before .before .before .args .count) (c .before .before .before .before .before .before .before .before .before .before .pre .0) (c .before .before .before .before .before .before .clear .ensures) (c .before .before .before .before .before .before .before .before .before .before .pre .1) (from-length (c .before .before .before .before .before .before .before .before .before .before .args .m .now) (c .before .before .before .before .before .before .before .before .before .before .args .first) (c .before .before .before .before .before .before .before .before .before .before .args .count) (c .before .before .before .before .before .before .before .before .before .before .pre .2)) (c .before .before .gather .ensures)
+returns c =
+    let start = c .before .before .before .before .before .before .before .before .before .before in
+    span-words (start .args .words .now) (c .before .before .before .before .before .before .clear .last .0) (c .before .before .gather .last .0)
+    (mixturesIn (start .args .m .now)) (start .args .first) (start .args .count) (start .pre .0)
+    (c .before .before .before .before .before .before .clear .ensures) (start .pre .1)
+    (from-length (start .args .m .now) (start .args .first) (start .args .count) (start .pre .2)) (c .before .before .gather .ensures)
 
 pub put-span-spec : {M : Type 1} → statement M
 put-span-spec =

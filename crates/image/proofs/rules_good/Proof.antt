@@ -1,4 +1,5 @@
-use Rattle.image.proofs.Scanning.{SpansScanned, spans-start, spans-first, spans-count, spans-over, spans-next, spans-end}
+-- The records passed are good, and the first of the last one is carried along.
+use Rattle.image.proofs.RuleRecordScan.{SpansScanned, spans-start, spans-first, spans-count, spans-over, spans-next, spans-end}
 use Prim.Native.Nat.{_-_}
 use native.Mathlib.Omega.{arith}
 use borrow.Author.Needs.{needs}
@@ -33,22 +34,40 @@ add-i : tie.Need-add-i Inv-loop μ-loop
 add-i c = search needs
 
 returns : tie.Need-returns Inv-loop μ-loop
-returns c = (spans-first (c .before .before .before .before .before .before .args .m) (c .before .before .before .before .before .before .args .s .now) _ _ _ (c .before .before .before .before .loop .inv) (omega arith) (rw ((c .before .before .read16 .ensures .0)) at (c .if1 .taken)))
+returns c =
+    let start = c .before .before .before .before .before .before in
+    (spans-first (start .args .m) (start .args .s .now) _ _ _ (c .before .before .before .before .loop .inv) (omega arith)
+    (rw ((c .before .before .read16 .ensures .0)) at (c .if1 .taken)))
 
 returns-2 : tie.Need-returns-2 Inv-loop μ-loop
-returns-2 c = (spans-count (c .before .before .before .before .before .before .before .args .m) (c .before .before .before .before .before .before .before .args .s .now) _ _ _ (c .before .before .before .before .before .loop .inv) (omega arith) (rw ((c .before .before .before .read16 .ensures .0)) at (c .before .if1 .left)) (rw ((c .before .before .read162 .ensures .0)) at (c .if2 .taken)))
+returns-2 c =
+    let start = c .before .before .before .before .before .before .before in
+    (spans-count (start .args .m) (start .args .s .now) _ _ _ (c .before .before .before .before .before .loop .inv) (omega arith)
+    (rw ((c .before .before .before .read16 .ensures .0)) at (c .before .if1 .left))
+    (rw ((c .before .before .read162 .ensures .0)) at (c .if2 .taken)))
 
 add-if3 : tie.Need-add-if3 Inv-loop μ-loop
 add-if3 c = search needs
 
 returns-3 : tie.Need-returns-3 Inv-loop μ-loop
-returns-3 c = (spans-over (c .before .before .before .before .before .before .before .before .args .m) (c .before .before .before .before .before .before .before .before .args .s .now) _ _ _ (c .before .before .before .before .before .before .loop .inv) (omega arith) (rw ((c .before .before .before .before .read16 .ensures .0)) at (c .before .before .if1 .left)) (rw ((c .before .before .before .read162 .ensures .0)) at (c .before .if2 .left)) (rw ((c .before .before .before .before .read16 .ensures .0), (c .before .before .before .read162 .ensures .0)) at (c .if3 .taken)))
+returns-3 c =
+    let start = c .before .before .before .before .before .before .before .before in
+    (spans-over (start .args .m) (start .args .s .now) _ _ _ (c .before .before .before .before .before .before .loop .inv) (omega arith)
+    (rw ((c .before .before .before .before .read16 .ensures .0)) at (c .before .before .if1 .left))
+    (rw ((c .before .before .before .read162 .ensures .0)) at (c .before .if2 .left))
+    (rw ((c .before .before .before .before .read16 .ensures .0), (c .before .before .before .read162 .ensures .0)) at (c .if3 .taken)))
 
 loop-less : tie.Need-loop-less Inv-loop μ-loop
 loop-less c = search needs
 
 loop-again : tie.Need-loop-again Inv-loop μ-loop
-loop-again c = rw (c .before .before .before .before .read16 .ensures .0) (spans-next (c .before .before .before .before .before .before .before .before .args .m) (c .before .before .before .before .before .before .before .before .args .s .now) _ _ _ (c .before .before .before .before .before .before .loop .inv) (omega arith) (rw ((c .before .before .before .before .read16 .ensures .0)) at (c .before .before .if1 .left)) (rw ((c .before .before .before .read162 .ensures .0)) at (c .before .if2 .left)) (rw ((c .before .before .before .before .read16 .ensures .0), (c .before .before .before .read162 .ensures .0)) at (c .if3 .left)))
+loop-again c =
+    let start = c .before .before .before .before .before .before .before .before in
+    rw (c .before .before .before .before .read16 .ensures .0)
+    (spans-next (start .args .m) (start .args .s .now) _ _ _ (c .before .before .before .before .before .before .loop .inv) (omega arith)
+    (rw ((c .before .before .before .before .read16 .ensures .0)) at (c .before .before .if1 .left))
+    (rw ((c .before .before .before .read162 .ensures .0)) at (c .before .if2 .left))
+    (rw ((c .before .before .before .before .read16 .ensures .0), (c .before .before .before .read162 .ensures .0)) at (c .if3 .left)))
 
 returns-4 : tie.Need-returns-4 Inv-loop μ-loop
 returns-4 c = spans-end (c .before .before .before .args .m) (c .before .before .before .args .s .now) _ _ _ (c .before .loop .inv) (omega arith)

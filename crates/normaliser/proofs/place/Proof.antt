@@ -1,7 +1,5 @@
 use Rattle.normaliser.proofs.Ordering.{place-old, place-room, place-taken, place-ordered, class-small, placed-none, class-none, class-some, named-some}
 use mathlib.Core.Path.{sym, _∙_}
-use Rattle.normaliser.proofs.Ordering.{placed-none, class-none, class-some, named-some}
-use mathlib.Core.Path.{sym, _∙_}
 use native.Mathlib.Omega.{arith}
 use borrow.Author.Needs.{needs}
 use Rattle.normaliser.proofs.place.Statement.{statement}

@@ -1,6 +1,5 @@
-use Rattle.normaliser.specs.Tables.{containerBytesAt}
+use Rattle.normaliser.specs.Tables.{containerBytesAt, found}
 use borrow.Author.Needs.{needs}
-use Rattle.normaliser.specs.Tables.{found}
 use Rattle.normaliser.proofs.Laying.{Laid, laid-start, laid-next, laid-end, part-wide}
 use Rattle.normaliser.proofs.Reading.{containerRows, container-rows, container-row, containers-wide, both-at}
 use mathlib.Core.Path.{_≡_, refl, _∙_}

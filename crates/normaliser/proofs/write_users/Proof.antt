@@ -1,15 +1,11 @@
-use Rattle.normaliser.specs.Tables.{userBytes}
+use Rattle.normaliser.specs.Tables.{userBytes, found}
 use Rattle.normaliser.proofs.Reading.{userRows, user-rows, user-row, users-wide, one-at}
 use borrow.Author.Needs.{needs}
-use Rattle.normaliser.specs.Tables.{found}
 use Rattle.normaliser.proofs.Laying.{Laid, laid-start, laid-next, laid-end, part-wide}
-use Rattle.normaliser.proofs.Reading.{userRows, user-rows, user-row, one-at}
-use mathlib.Core.Path.{_∙_}
+use mathlib.Core.Path.{_∙_, _≡_, refl}
 use native.Mathlib.Nat.{add-sub-cancel-left}
-use Prim.Native.Nat.{_-_, _*_}
+use Prim.Native.Nat.{_-_, _*_, _/_}
 use native.Mathlib.Omega.{arith}
-use Prim.Native.Nat.{_/_}
-use mathlib.Core.Path.{_≡_, refl}
 use lib.ListN.{length}
 use Rattle.normaliser.proofs.write_users.Statement.{statement}
 use Rattle.normaliser.proofs.write_users.Tie as tie

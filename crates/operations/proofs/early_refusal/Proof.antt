@@ -1,6 +1,5 @@
 use native.Mathlib.Omega.{arith}
-use Rattle.operations.proofs.RefusalTests.{user-low}
-use Rattle.operations.proofs.RefusalTests.{early-10, early-11, early-12, early-13, early-14, early-none, early-passed}
+use Rattle.operations.proofs.RefusalTests.{user-low, early-10, early-11, early-12, early-13, early-14, early-none, early-passed}
 use borrow.Author.Needs.{needs}
 use Rattle.operations.proofs.early_refusal.Statement.{statement}
 use Rattle.operations.proofs.early_refusal.Tie as tie

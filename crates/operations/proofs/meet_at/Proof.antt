@@ -4,7 +4,7 @@ use mathlib.Core.List.{List}
 use Prim.Native.Nat.{ℕ}
 use Rattle.rules.specs.Answers.{boundedOf}
 use Rattle.rules.specs.Rules.{meet}
-use Rattle.image.specs.Words.{ruleOf}
+use Rattle.rule_words.specs.Words.{ruleOf}
 use borrow.Author.Needs.{needs}
 use Rattle.operations.proofs.meet_at.Statement.{statement}
 use Rattle.operations.proofs.meet_at.Tie as tie

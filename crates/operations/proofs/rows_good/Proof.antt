@@ -1,6 +1,5 @@
 use native.Mathlib.Omega.{arith}
-use Rattle.operations.proofs.RefusalTests.{user-low}
-use Rattle.operations.proofs.RefusalTests.{process-row-bad, object-row-bad, no-user-row, by-user-row}
+use Rattle.operations.proofs.RefusalTests.{user-low, process-row-bad, object-row-bad, no-user-row, by-user-row}
 use borrow.Author.Needs.{needs}
 use Rattle.operations.proofs.rows_good.Statement.{statement}
 use Rattle.operations.proofs.rows_good.Tie as tie

@@ -1,7 +1,7 @@
 use Rattle.operations.proofs.RowSteps.{words-lent}
 use mathlib.Core.Path.{ap, _∙_}
 use Rattle.rules.specs.Answers.{boundedOf}
-use Rattle.image.specs.Words.{ruleOf}
+use Rattle.rule_words.specs.Words.{ruleOf}
 use borrow.Author.Needs.{needs}
 use Rattle.operations.proofs.rule_at.Statement.{statement}
 use Rattle.operations.proofs.rule_at.Tie as tie

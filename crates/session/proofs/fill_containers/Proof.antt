@@ -1,10 +1,11 @@
+-- Row by row over zeros.
 use borrow.Author.Needs.{needs}
 use Prim.Native.Nat.{ℕ, _-_, _*_}
 use mathlib.Core.Path.{ap, _∙_}
 use native.Mathlib.Omega.{arith}
 use native.Mathlib.Nat.{add-sub-cancel-left}
 use lib.ListN.{length, length-replicate, length-take, length-drop}
-use Rattle.session.proofs.Filled.{Rowed, rowed-start}
+use Rattle.session.proofs.RowsOfOneWidth.{Rowed, rowed-start}
 use Rattle.image.specs.Limits.{containerLimit}
 use Rattle.session.specs.Limits.{rowWidth}
 use Rattle.session.proofs.RecordRows.{containerRows, container-good, containers-next, containers-end}
@@ -18,7 +19,10 @@ abbrev μ-loop : tie.MeasureT-loop
 μ-loop out₀ cs rules m n i₀ out i = n - i
 
 loop-holds : tie.Need-loop-holds Inv-loop μ-loop
-loop-holds c = rowed-start rowWidth containerLimit (containerRows (c .before .before .before .before .args .cs .now) (c .before .before .before .before .args .rules .now) (c .before .before .before .before .args .m .now)) (c .before .before .before .before .args .out .now) (ap length (c .before .before .before .before .pre .0) ∙ length-replicate {A = ℕ} (containerLimit * rowWidth) 0)
+loop-holds c =
+    let start = c .before .before .before .before in
+    rowed-start rowWidth containerLimit (containerRows (start .args .cs .now) (start .args .rules .now) (start .args .m .now)) (start .args .out .now)
+    (ap length (start .pre .0) ∙ length-replicate {A = ℕ} (containerLimit * rowWidth) 0)
 
 mul-at : tie.Need-mul-at Inv-loop μ-loop
 mul-at c = search needs
@@ -54,7 +58,15 @@ part-put-container-end-2 : tie.Need-part-put-container-end-2 Inv-loop μ-loop
 part-put-container-end-2 c = search needs
 
 put-container-requires : tie.Need-put-container-requires Inv-loop μ-loop
-put-container-requires c κs = (simp (length-take, length-drop, add-sub-cancel-left) (omega (arith, c .before .before .before .loop .inv .long, c .before .before .before .before .before .before .before .before .pre .1)), simp (length-take, length-drop, add-sub-cancel-left) (omega arith), rw add-sub-cancel-left (container-good (c .before .before .before .before .before .before .before .before .args .cs .now) (c .before .before .before .before .before .before .before .before .args .rules .now) (c .before .before .before .before .before .before .before .before .args .m .now) (c .before .before .before .before .before .before .before .before .pre .2) (c .before .before .before .before .before .before .before .before .pre .3) (c .before .before .before .loop .i) (c .before .before .loop-test .taken)), c .before .before .before .before .before .before .before .before .pre .3)
+put-container-requires c κs =
+    let start = c .before .before .before .before .before .before .before .before in (
+      simp (length-take, length-drop, add-sub-cancel-left) (omega (arith, c .before .before .before .loop .inv .long, start .pre .1)),
+      simp (length-take, length-drop, add-sub-cancel-left) (omega arith),
+      rw add-sub-cancel-left
+          (container-good (start .args .cs .now) (start .args .rules .now) (start .args .m .now) (start .pre .2) (start .pre .3)
+          (c .before .before .before .loop .i) (c .before .before .loop-test .taken)),
+      start .pre .3,
+    )
 
 add-i : tie.Need-add-i Inv-loop μ-loop
 add-i c = search needs
@@ -63,13 +75,22 @@ loop-less : tie.Need-loop-less Inv-loop μ-loop
 loop-less c = search needs
 
 loop-again : tie.Need-loop-again Inv-loop μ-loop
-loop-again c = containers-next (c .before .before .before .before .before .before .before .before .before .before .before .args .cs .now) (c .before .before .before .before .before .before .before .before .before .before .before .args .rules .now) (c .before .before .before .before .before .before .before .before .before .before .before .args .m .now) (c .before .before .before .before .before .before .before .before .before .before .before .pre .2) (c .before .before .before .before .before .before .before .before .before .before .before .pre .3) (c .before .before .before .before .before .before .before .before .before .before .before .args .out .now) (c .before .before .before .before .before .before .loop .out) (c .before .before .before .before .before .before .loop .i) (c .before .before .before .before .before .before .loop .inv) (omega (arith, c .before .before .before .before .before .loop-test .taken, c .before .before .before .before .before .before .before .before .before .before .before .pre .1)) (c .before .before .before .before .before .loop-test .taken) _ (rw add-sub-cancel-left at (c .before .before .put-container .ensures))
+loop-again c =
+    let start = c .before .before .before .before .before .before .before .before .before .before .before in
+    containers-next (start .args .cs .now) (start .args .rules .now) (start .args .m .now) (start .pre .2) (start .pre .3) (start .args .out .now)
+    (c .before .before .before .before .before .before .loop .out) (c .before .before .before .before .before .before .loop .i)
+    (c .before .before .before .before .before .before .loop .inv)
+    (omega (arith, c .before .before .before .before .before .loop-test .taken, start .pre .1))
+    (c .before .before .before .before .before .loop-test .taken) _ (rw add-sub-cancel-left at (c .before .before .put-container .ensures))
 
 same-length : tie.Need-same-length Inv-loop μ-loop
 same-length c = c .before .loop .inv .same
 
 returns : tie.Need-returns Inv-loop μ-loop
-returns c = containers-end (c .before .before .before .before .before .before .args .cs .now) (c .before .before .before .before .before .before .args .rules .now) (c .before .before .before .before .before .before .args .m .now) (c .before .before .before .before .before .before .pre .2) (c .before .before .before .before .before .before .pre .3) (c .before .before .before .before .before .before .args .out .now) (c .before .loop .out) (c .before .loop .i) (c .before .loop .inv) (c .loop-test .left) (c .before .before .before .before .before .before .pre .0)
+returns c =
+    let start = c .before .before .before .before .before .before in
+    containers-end (start .args .cs .now) (start .args .rules .now) (start .args .m .now) (start .pre .2) (start .pre .3) (start .args .out .now)
+    (c .before .loop .out) (c .before .loop .i) (c .before .loop .inv) (c .loop-test .left) (start .pre .0)
 
 pub fill-containers-spec : {M : Type 1} → statement M
 fill-containers-spec =

@@ -1,7 +1,8 @@
+-- The fields are read, and the row is kind, tag and the words of two rules.
 use mathlib.Core.Path.{ap, _∙_}
 use native.Mathlib.Omega.{arith}
 use lib.ListN.{length-set}
-use Rattle.session.proofs.WriteLaws.{lent-permit, lent-run, row-mid, row-put, row-long}
+use Rattle.session.proofs.WrittenRows.{lent-permit, lent-run, row-mid, row-put, row-long}
 use Rattle.session.proofs.RecordRows.{permit-named, run-named, atom-good, container-row}
 use Rattle.session.specs.Session.{startTag}
 use borrow.Author.Needs.{needs}
@@ -18,7 +19,9 @@ read8-requires-2 : tie.Need-read8-requires-2
 read8-requires-2 c κs = search needs
 
 tag-of-requires : tie.Need-tag-of-requires
-tag-of-requires c κs = rw (c .read82 .ensures .0) (atom-good (c .before .before .before .before .before .before .args .r .now) (c .before .before .before .before .before .before .args .rules .now) (c .before .before .before .before .before .before .args .m .now) (c .before .before .before .before .before .before .pre .2) (c .before .before .before .before .before .before .pre .3))
+tag-of-requires c κs =
+    let start = c .before .before .before .before .before .before in
+    rw (c .read82 .ensures .0) (atom-good (start .args .r .now) (start .args .rules .now) (start .args .m .now) (start .pre .2) (start .pre .3))
 
 slice-write-row-2 : tie.Need-slice-write-row-2
 slice-write-row-2 c = search needs
@@ -39,7 +42,12 @@ read16-requires : tie.Need-read16-requires
 read16-requires c κs = search needs
 
 put-rule-at-requires : tie.Need-put-rule-at-requires
-put-rule-at-requires c κs = (lent-permit (c .before .before .before .before .before .before .before .before .before .args .row .now) (c .before .before .before .before .read8 .result) (c .before .before .tag-of .result) (c .before .before .before .before .before .before .before .before .before .pre .0), rw (c .read16 .ensures .0) (permit-named (c .before .before .before .before .before .before .before .before .before .args .r .now) (c .before .before .before .before .before .before .before .before .before .args .rules .now) (c .before .before .before .before .before .before .before .before .before .args .m .now) (c .before .before .before .before .before .before .before .before .before .pre .2) (c .before .before .before .before .before .before .before .before .before .pre .3)), c .before .before .before .before .before .before .before .before .before .pre .3)
+put-rule-at-requires c κs =
+    let start = c .before .before .before .before .before .before .before .before .before in (
+      lent-permit (start .args .row .now) (c .before .before .before .before .read8 .result) (c .before .before .tag-of .result) (start .pre .0),
+      rw (c .read16 .ensures .0) (permit-named (start .args .r .now) (start .args .rules .now) (start .args .m .now) (start .pre .2) (start .pre .3)),
+      start .pre .3,
+    )
 
 add-put-rule-at-2 : tie.Need-add-put-rule-at-2
 add-put-rule-at-2 c = search needs
@@ -51,19 +59,72 @@ part-put-rule-at-start-2 : tie.Need-part-put-rule-at-start-2
 part-put-rule-at-start-2 c = search needs
 
 part-put-rule-at-end-2 : tie.Need-part-put-rule-at-end-2
-part-put-rule-at-end-2 c = omega (arith, row-mid (c .before .before .before .before .before .before .before .before .before .before .before .before .args .row .now) (c .before .before .put-rule-at .last .0) (c .before .before .before .before .before .before .before .read8 .result) (c .before .before .before .before .before .tag-of .result) (c .before .before .before .before .before .before .before .before .before .before .before .before .pre .0) (c .before .row .given .0 ∙ lent-permit (c .before .before .before .before .before .before .before .before .before .before .before .before .args .row .now) (c .before .before .before .before .before .before .before .read8 .result) (c .before .before .before .before .before .tag-of .result) (c .before .before .before .before .before .before .before .before .before .before .before .before .pre .0)))
+part-put-rule-at-end-2 c =
+    let start = c .before .before .before .before .before .before .before .before .before .before .before .before in
+    omega (
+      arith,
+      row-mid (start .args .row .now) (c .before .before .put-rule-at .last .0)
+          (c .before .before .before .before .before .before .before .read8 .result) (c .before .before .before .before .before .tag-of .result)
+          (start .pre .0)
+          (c .before .row .given .0
+          ∙ lent-permit (start .args .row .now) (c .before .before .before .before .before .before .before .read8 .result)
+          (c .before .before .before .before .before .tag-of .result) (start .pre .0)),
+    )
 
 read16-requires-2 : tie.Need-read16-requires-2
 read16-requires-2 c κs = search needs
 
 put-rule-at-requires-2 : tie.Need-put-rule-at-requires-2
-put-rule-at-requires-2 c κs = (lent-run (c .before .before .before .before .before .before .before .before .before .before .before .before .before .before .args .row .now) (c .before .before .before .before .put-rule-at .last .0) (c .before .before .before .before .before .before .before .before .before .read8 .result) (c .before .before .before .before .before .before .before .tag-of .result) (c .before .before .before .before .before .before .before .before .before .before .before .before .before .before .pre .0) (c .before .before .before .row .given .0 ∙ lent-permit (c .before .before .before .before .before .before .before .before .before .before .before .before .before .before .args .row .now) (c .before .before .before .before .before .before .before .before .before .read8 .result) (c .before .before .before .before .before .before .before .tag-of .result) (c .before .before .before .before .before .before .before .before .before .before .before .before .before .before .pre .0)), rw (c .read162 .ensures .0) (run-named (c .before .before .before .before .before .before .before .before .before .before .before .before .before .before .args .r .now) (c .before .before .before .before .before .before .before .before .before .before .before .before .before .before .args .rules .now) (c .before .before .before .before .before .before .before .before .before .before .before .before .before .before .args .m .now) (c .before .before .before .before .before .before .before .before .before .before .before .before .before .before .pre .2) (c .before .before .before .before .before .before .before .before .before .before .before .before .before .before .pre .3)), c .before .before .before .before .before .before .before .before .before .before .before .before .before .before .pre .3)
+put-rule-at-requires-2 c κs =
+    let start = c .before .before .before .before .before .before .before .before .before .before .before .before .before .before in (
+      lent-run (start .args .row .now) (c .before .before .before .before .put-rule-at .last .0)
+          (c .before .before .before .before .before .before .before .before .before .read8 .result)
+          (c .before .before .before .before .before .before .before .tag-of .result) (start .pre .0)
+          (c .before .before .before .row .given .0
+          ∙ lent-permit (start .args .row .now) (c .before .before .before .before .before .before .before .before .before .read8 .result)
+          (c .before .before .before .before .before .before .before .tag-of .result) (start .pre .0)),
+      rw (c .read162 .ensures .0) (run-named (start .args .r .now) (start .args .rules .now) (start .args .m .now) (start .pre .2) (start .pre .3)),
+      start .pre .3,
+    )
 
 same-length : tie.Need-same-length
-same-length c = row-long (c .before .before .before .before .before .before .before .before .before .before .before .before .before .before .before .before .before .args .row .now) (c .before .before .before .before .before .before .before .put-rule-at .last .0) (c .before .before .before .before .before .before .before .before .before .before .before .before .read8 .result) (c .before .before .before .before .before .before .before .before .before .before .tag-of .result) (c .before .before .before .before .before .before .before .before .before .before .before .before .before .before .before .before .before .pre .0) (c .before .before .before .before .before .before .row .given .0 ∙ lent-permit (c .before .before .before .before .before .before .before .before .before .before .before .before .before .before .before .before .before .args .row .now) (c .before .before .before .before .before .before .before .before .before .before .before .before .read8 .result) (c .before .before .before .before .before .before .before .before .before .before .tag-of .result) (c .before .before .before .before .before .before .before .before .before .before .before .before .before .before .before .before .before .pre .0)) (c .before .before .put-rule-at2 .last .0) (c .before .row2 .given .0 ∙ lent-run (c .before .before .before .before .before .before .before .before .before .before .before .before .before .before .before .before .before .args .row .now) (c .before .before .before .before .before .before .before .put-rule-at .last .0) (c .before .before .before .before .before .before .before .before .before .before .before .before .read8 .result) (c .before .before .before .before .before .before .before .before .before .before .tag-of .result) (c .before .before .before .before .before .before .before .before .before .before .before .before .before .before .before .before .before .pre .0) (c .before .before .before .before .before .before .row .given .0 ∙ lent-permit (c .before .before .before .before .before .before .before .before .before .before .before .before .before .before .before .before .before .args .row .now) (c .before .before .before .before .before .before .before .before .before .before .before .before .read8 .result) (c .before .before .before .before .before .before .before .before .before .before .tag-of .result) (c .before .before .before .before .before .before .before .before .before .before .before .before .before .before .before .before .before .pre .0)))
+same-length c =
+    let start = c .before .before .before .before .before .before .before .before .before .before .before .before .before .before .before .before .before in
+    row-long (start .args .row .now) (c .before .before .before .before .before .before .before .put-rule-at .last .0)
+    (c .before .before .before .before .before .before .before .before .before .before .before .before .read8 .result)
+    (c .before .before .before .before .before .before .before .before .before .before .tag-of .result) (start .pre .0)
+    (c .before .before .before .before .before .before .row .given .0
+    ∙ lent-permit (start .args .row .now)
+    (c .before .before .before .before .before .before .before .before .before .before .before .before .read8 .result)
+    (c .before .before .before .before .before .before .before .before .before .before .tag-of .result) (start .pre .0))
+    (c .before .before .put-rule-at2 .last .0)
+    (c .before .row2 .given .0
+    ∙ lent-run (start .args .row .now) (c .before .before .before .before .before .before .before .put-rule-at .last .0)
+    (c .before .before .before .before .before .before .before .before .before .before .before .before .read8 .result)
+    (c .before .before .before .before .before .before .before .before .before .before .tag-of .result) (start .pre .0)
+    (c .before .before .before .before .before .before .row .given .0
+    ∙ lent-permit (start .args .row .now)
+    (c .before .before .before .before .before .before .before .before .before .before .before .before .read8 .result)
+    (c .before .before .before .before .before .before .before .before .before .before .tag-of .result) (start .pre .0)))
 
 returns : tie.Need-returns
-returns c = row-put (c .before .before .before .before .before .before .before .before .before .before .before .before .before .before .before .before .before .args .row .now) (c .before .before .before .before .before .before .before .put-rule-at .last .0) (c .before .before .before .before .before .before .before .before .before .before .before .before .read8 .result) (c .before .before .before .before .before .before .before .before .before .before .tag-of .result) (c .before .before .before .before .before .before .before .before .before .before .before .before .before .before .before .before .before .pre .0) (c .before .before .before .before .before .before .row .given .0 ∙ lent-permit (c .before .before .before .before .before .before .before .before .before .before .before .before .before .before .before .before .before .args .row .now) (c .before .before .before .before .before .before .before .before .before .before .before .before .read8 .result) (c .before .before .before .before .before .before .before .before .before .before .tag-of .result) (c .before .before .before .before .before .before .before .before .before .before .before .before .before .before .before .before .before .pre .0)) (c .before .before .put-rule-at2 .last .0) ∙ container-row (c .before .before .before .before .before .before .before .before .before .before .before .before .before .before .before .before .before .args .r .now) (c .before .before .before .before .before .before .before .before .before .before .before .before .before .before .before .before .before .args .rules .now) (c .before .before .before .before .before .before .before .before .before .before .before .before .before .before .before .before .before .args .m .now) (c .before .before .before .before .before .before .before .before .before .before .before .before .before .before .before .before .before .pre .2) (c .before .before .before .before .before .before .before .before .before .before .before .before .before .before .before .before .before .pre .3) _ _ _ _ (c .before .before .before .before .before .before .before .before .before .before .before .before .read8 .ensures .0) (c .before .before .before .before .before .before .before .before .before .before .tag-of .ensures ∙ ap startTag (c .before .before .before .before .before .before .before .before .before .before .before .read82 .ensures .0)) (rw (c .before .before .before .before .before .before .before .before .read16 .ensures .0) at (c .before .before .before .before .before .before .before .put-rule-at .ensures)) (rw (c .before .before .before .read162 .ensures .0) at (c .before .before .put-rule-at2 .ensures))
+returns c =
+    let start = c .before .before .before .before .before .before .before .before .before .before .before .before .before .before .before .before .before in
+    row-put (start .args .row .now) (c .before .before .before .before .before .before .before .put-rule-at .last .0)
+    (c .before .before .before .before .before .before .before .before .before .before .before .before .read8 .result)
+    (c .before .before .before .before .before .before .before .before .before .before .tag-of .result) (start .pre .0)
+    (c .before .before .before .before .before .before .row .given .0
+    ∙ lent-permit (start .args .row .now)
+    (c .before .before .before .before .before .before .before .before .before .before .before .before .read8 .result)
+    (c .before .before .before .before .before .before .before .before .before .before .tag-of .result) (start .pre .0))
+    (c .before .before .put-rule-at2 .last .0)
+    ∙ container-row (start .args .r .now) (start .args .rules .now) (start .args .m .now) (start .pre .2) (start .pre .3) _ _ _ _
+    (c .before .before .before .before .before .before .before .before .before .before .before .before .read8 .ensures .0)
+    (c .before .before .before .before .before .before .before .before .before .before .tag-of .ensures
+    ∙ ap startTag (c .before .before .before .before .before .before .before .before .before .before .before .read82 .ensures .0))
+    (rw (c .before .before .before .before .before .before .before .before .read16 .ensures .0) at
+    (c .before .before .before .before .before .before .before .put-rule-at .ensures))
+    (rw (c .before .before .before .read162 .ensures .0) at (c .before .before .put-rule-at2 .ensures))
 
 pub put-container-spec : {M : Type 1} → statement M
 put-container-spec =

@@ -1,9 +1,10 @@
+-- A container row is kind, tag and the words of two rules.
 use Prim.Native.Nat.{ℕ, suc}
 use mathlib.Core.Path.{ap, ap₂, _∙_}
 use mathlib.Core.List.{List, _∷_, _++_}
 use lib.ListN.{length, length-set}
 use native.Mathlib.Omega.{arith}
-use Rattle.session.proofs.WriteLaws.{row-mid, row-put, row-long}
+use Rattle.session.proofs.WrittenRows.{row-mid, row-put, row-long}
 use borrow.Author.Needs.{needs}
 use Rattle.session.proofs.put_row.Statement.{statement}
 use Rattle.session.proofs.put_row.Tie as tie
@@ -39,16 +40,31 @@ part-put-rule-start-2 : tie.Need-part-put-rule-start-2
 part-put-rule-start-2 c = search needs
 
 part-put-rule-end-2 : tie.Need-part-put-rule-end-2
-part-put-rule-end-2 c = omega (arith, row-mid (c .before .before .before .before .before .args .row .now) (c .before .before .put-rule .last .0) (c .before .before .before .before .before .args .kind) (c .before .before .before .before .before .args .tag) (c .before .before .before .before .before .pre) (ap length (c .before .before .put-rule .ensures) ∙ ap suc (search needs)))
+part-put-rule-end-2 c =
+    let start = c .before .before .before .before .before in
+    omega (
+      arith,
+      row-mid (start .args .row .now) (c .before .before .put-rule .last .0) (start .args .kind) (start .args .tag) (start .pre)
+          (ap length (c .before .before .put-rule .ensures) ∙ ap suc (search needs)),
+    )
 
 put-rule-requires-2 : tie.Need-put-rule-requires-2
 put-rule-requires-2 c κs = search needs
 
 same-length : tie.Need-same-length
-same-length c = row-long (c .before .before .before .before .before .before .before .before .before .args .row .now) (c .before .before .before .before .before .before .put-rule .last .0) (c .before .before .before .before .before .before .before .before .before .args .kind) (c .before .before .before .before .before .before .before .before .before .args .tag) (c .before .before .before .before .before .before .before .before .before .pre) (ap length (c .before .before .before .before .before .before .put-rule .ensures) ∙ ap suc (search needs)) (c .before .before .put-rule2 .last .0) (ap length (c .before .before .put-rule2 .ensures) ∙ ap suc (search needs))
+same-length c =
+    let start = c .before .before .before .before .before .before .before .before .before in
+    row-long (start .args .row .now) (c .before .before .before .before .before .before .put-rule .last .0) (start .args .kind) (start .args .tag)
+    (start .pre) (ap length (c .before .before .before .before .before .before .put-rule .ensures) ∙ ap suc (search needs))
+    (c .before .before .put-rule2 .last .0) (ap length (c .before .before .put-rule2 .ensures) ∙ ap suc (search needs))
 
 returns : tie.Need-returns
-returns c = row-put (c .before .before .before .before .before .before .before .before .before .args .row .now) (c .before .before .before .before .before .before .put-rule .last .0) (c .before .before .before .before .before .before .before .before .before .args .kind) (c .before .before .before .before .before .before .before .before .before .args .tag) (c .before .before .before .before .before .before .before .before .before .pre) (ap length (c .before .before .before .before .before .before .put-rule .ensures) ∙ ap suc (search needs)) _ ∙ ap₂ (λ (x y : List ℕ). (c .before .before .before .before .before .before .before .before .before .args .kind) ∷ (c .before .before .before .before .before .before .before .before .before .args .tag) ∷ (x ++ y)) (c .before .before .before .before .before .before .put-rule .ensures) (c .before .before .put-rule2 .ensures)
+returns c =
+    let start = c .before .before .before .before .before .before .before .before .before in
+    row-put (start .args .row .now) (c .before .before .before .before .before .before .put-rule .last .0) (start .args .kind) (start .args .tag)
+    (start .pre) (ap length (c .before .before .before .before .before .before .put-rule .ensures) ∙ ap suc (search needs)) _
+    ∙ ap₂ (λ (x y : List ℕ). (start .args .kind) ∷ (start .args .tag) ∷ (x ++ y))
+    (c .before .before .before .before .before .before .put-rule .ensures) (c .before .before .put-rule2 .ensures)
 
 pub put-row-spec : {M : Type 1} → statement M
 put-row-spec =

@@ -1,7 +1,8 @@
+-- A user row is 1 and the words of the rule.
 use lib.ListN.{length-set}
 use native.Mathlib.Omega.{arith}
-use Rattle.image.proofs.RuleReading.{normal-short}
-use Rattle.session.proofs.WriteLaws.{user-put, user-long}
+use Rattle.image.proofs.RulesByNumber.{normal-short}
+use Rattle.session.proofs.WrittenRows.{user-put, user-long}
 use borrow.Author.Needs.{needs}
 use Rattle.session.proofs.put_user.Statement.{statement}
 use Rattle.session.proofs.put_user.Tie as tie
@@ -25,10 +26,15 @@ put-rule-at-requires : tie.Need-put-rule-at-requires
 put-rule-at-requires c κs = search needs
 
 same-length : tie.Need-same-length
-same-length c = user-long (c .before .before .before .before .before .before .before .args .row .now) _ _ (c .before .before .before .before .before .before .before .pre .0) (c .before .before .put-rule-at .ensures) (normal-short (c .before .before .before .before .before .before .before .args .rules .now) (c .before .before .before .before .before .before .before .args .m .now) (c .before .before .before .before .before .before .before .args .n) (c .before .before .before .before .before .before .before .pre .2) (c .before .before .before .before .before .before .before .pre .1))
+same-length c =
+    let start = c .before .before .before .before .before .before .before in
+    user-long (start .args .row .now) _ _ (start .pre .0) (c .before .before .put-rule-at .ensures)
+    (normal-short (start .args .rules .now) (start .args .m .now) (start .args .n) (start .pre .2) (start .pre .1))
 
 returns : tie.Need-returns
-returns c = user-put (c .before .before .before .before .before .before .before .args .row .now) _ _ (c .before .before .before .before .before .before .before .pre .0) (c .before .before .put-rule-at .ensures)
+returns c =
+    let start = c .before .before .before .before .before .before .before in
+    user-put (start .args .row .now) _ _ (start .pre .0) (c .before .before .put-rule-at .ensures)
 
 pub put-user-spec : {M : Type 1} → statement M
 put-user-spec =

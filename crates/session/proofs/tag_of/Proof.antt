@@ -1,5 +1,6 @@
+-- No atom is the empty tag, an atom the set of it alone.
 use native.Mathlib.Omega.{arith}
-use Rattle.session.proofs.WriteLaws.{tag-none, atom-small, tag-some}
+use Rattle.session.proofs.WrittenRows.{tag-none, atom-small, tag-some}
 use Rattle.session.proofs.tag_of.Statement.{statement}
 use Rattle.session.proofs.tag_of.Tie as tie
 

@@ -1,0 +1,66 @@
+-- One record of a section, by its place.
+use Prim.Native.Nat.{ℕ, zero, suc, _+_, _-_, _*_, _/_, _≤_, _<_}
+use mathlib.Core.Path.{_≡_, refl, sym, ap, _∙_}
+use mathlib.Core.Bool.{true, _&&_}
+use mathlib.Core.List.{List, [], _∷_}
+use native.Mathlib.Omega.{arith}
+use lib.Dec.{leb}
+use lib.ListN.{length, getD, take, drop, length-map}
+use borrow.Author.Tests.{leb-true}
+use Rattle.lists.proofs.Bools.{and-0, and-1}
+use Rattle.fields.specs.Bytes.{numberIn, field, records}
+use Rattle.image.specs.Image.{Span, spanIn, spansIn, ruleIn, rulesIn, mixturesIn, spansGood}
+use Rattle.fields.proofs.FieldLaws.{field-record}
+use Rattle.fields.proofs.RecordLaws.{records-count, record-at}
+use Rattle.lists.proofs.Places.{map-at}
+use Rattle.image.specs.Limits.{ruleSize, mixtureSize, size16, firstField, countField}
+use Rattle.rules.specs.Answers.{mixtureLimit}
+
+-- ---- mixtures and rules
+
+pub mixtures-count : (m : List ℕ) → length (mixturesIn m) ≡ length m / mixtureSize
+unfolding mixturesIn
+mixtures-count m = length-map (records mixtureSize m) numberIn ∙ records-count mixtureSize m
+
+pub mixture-at : (m : List ℕ) (k : ℕ) → k < length m / mixtureSize → field m (k * mixtureSize) mixtureSize ≡ getD (mixturesIn m) k 0
+unfolding mixturesIn field
+mixture-at m k h = sym (record-at numberIn mixtureSize k m 0 h)
+
+span-zero : Span
+span-zero = record { first = 0; count = 0 }
+
+span-at : (r : List ℕ) (n : ℕ) → n < length r / ruleSize → getD (spansIn r) n span-zero ≡ record { first = field r (n * ruleSize) size16; count = field r (n * ruleSize + countField) size16 }
+unfolding spansIn spanIn
+span-at r n h = record-at spanIn ruleSize n r span-zero h ∙ parts
+  where
+    z : n * ruleSize + 0 ≡ n * ruleSize
+    z = omega arith
+
+    parts : spanIn (take ruleSize (drop (n * ruleSize) r)) ≡ record { first = field r (n * ruleSize) size16; count = field r (n * ruleSize + countField) size16 }
+    parts =
+        let e : field (take ruleSize (drop (n * ruleSize) r)) firstField size16 ≡ field r (n * ruleSize) size16 = field-record r (n * ruleSize) ruleSize firstField size16 (omega arith) ∙ ap (λ (x : ℕ). field r x size16) z in
+        let f : field (take ruleSize (drop (n * ruleSize) r)) countField size16 ≡ field r (n * ruleSize + countField) size16 = field-record r (n * ruleSize) ruleSize countField size16 (omega arith) in
+        λ i. record { first = e i; count = f i }
+
+good-at : (m from : ℕ) (rs : List Span) (n : ℕ) (d : Span) → spansGood m from rs ≡ true → n < length rs → (getD rs n d .count ≤ mixtureLimit) × (getD rs n d .first + getD rs n d .count ≤ m)
+unfolding spansGood
+good-at m from [] n d h l = absurd (omega arith)
+good-at m from (r ∷ rs) zero d h l =
+    let g : (leb (r .count) mixtureLimit && (leb (r .first + r .count) m && spansGood m (r .first) rs)) ≡ true = and-1 (leb from (r .first)) h in
+    (leb-true (r .count) mixtureLimit (and-0 (leb (r .count) mixtureLimit) _ g), leb-true (r .first + r .count) m (and-0 (leb (r .first + r .count) m) _ (and-1 (leb (r .count) mixtureLimit) g)))
+good-at m from (r ∷ rs) (suc n) d h l =
+    good-at m (r .first) rs n d (and-1 (leb (r .first + r .count) m) (and-1 (leb (r .count) mixtureLimit) (and-1 (leb from (r .first)) h))) (omega arith)
+
+module _ (r m : List ℕ) (h : spansGood (length m / mixtureSize) 0 (spansIn r) ≡ true) (n : ℕ) (l : n < length r / ruleSize) where
+  spans-count : n < length (spansIn r)
+  unfolding spansIn
+  spans-count = omega (arith, length-map (records ruleSize r) spanIn, records-count ruleSize r)
+
+  pub rule-fits : (field r (n * ruleSize + countField) size16 ≤ mixtureLimit) × (field r (n * ruleSize) size16 + field r (n * ruleSize + countField) size16 ≤ length m / mixtureSize)
+  rule-fits =
+      let g = good-at (length m / mixtureSize) 0 (spansIn r) n span-zero h spans-count in
+      (rw (span-at r n l) at (g .0), rw (span-at r n l) at (g .1))
+
+  pub rule-at : getD (rulesIn r m) n [] ≡ take (field r (n * ruleSize + countField) size16) (drop (field r (n * ruleSize) size16) (mixturesIn m))
+  unfolding rulesIn
+  rule-at = map-at (ruleIn (mixturesIn m)) (spansIn r) n span-zero [] spans-count ∙ ap (ruleIn (mixturesIn m)) (span-at r n l) ∙ (unfold ruleIn in refl)
