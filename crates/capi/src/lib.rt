@@ -49,7 +49,11 @@ pub extern "C" fn yaslaurel_step(
     receiver: &mut u64,
     tag: &mut u64,
 ) -> u32
-    ensures { λ r. ⌜ (r ≡ answerNumber (stepAnswer (now (session .entry)) (now (bytes .entry)))) × (now (session .exit) ≡ stepEffect (now (session .entry)) (now (bytes .entry))) × (now (receiver .exit) ≡ receiverAfter (stepAnswer (now (session .entry)) (now (bytes .entry))) (now (receiver .entry))) × (now (tag .exit) ≡ tagAfter (stepAnswer (now (session .entry)) (now (bytes .entry))) (now (tag .entry))) ⌝ }
+    ensures { λ r. ⌜
+        (r ≡ answerNumber (stepAnswer (now (session .entry)) (now (bytes .entry))))
+        × (now (session .exit) ≡ stepEffect (now (session .entry)) (now (bytes .entry)))
+        × (now (receiver .exit) ≡ receiverAfter (stepAnswer (now (session .entry)) (now (bytes .entry))) (now (receiver .entry)))
+        × (now (tag .exit) ≡ tagAfter (stepAnswer (now (session .entry)) (now (bytes .entry))) (now (tag .entry))) ⌝ }
 {
     let answer = monitor::step(session, bytes);
     match answer {
@@ -75,7 +79,11 @@ pub extern "C" fn yaslaurel_matrix_verdict(
     source: &mut u32,
     target: &mut u32,
 ) -> u32
-    ensures { λ r. ⌜ (r ≡ verdictOf (now (reads .entry)) (now (writes .entry)) objects .number) × (now (count .exit) ≡ valueAfter (verdictOf (now (reads .entry)) (now (writes .entry)) objects .number) (verdictOf (now (reads .entry)) (now (writes .entry)) objects .count) (now (count .entry))) × (now (source .exit) ≡ valueAfter (verdictOf (now (reads .entry)) (now (writes .entry)) objects .number) (verdictOf (now (reads .entry)) (now (writes .entry)) objects .source) (now (source .entry))) × (now (target .exit) ≡ valueAfter (verdictOf (now (reads .entry)) (now (writes .entry)) objects .number) (verdictOf (now (reads .entry)) (now (writes .entry)) objects .target) (now (target .entry))) ⌝ }
+    ensures { λ r. ⌜
+        (r ≡ verdictOf (now (reads .entry)) (now (writes .entry)) objects .number)
+        × (now (count .exit) ≡ valueAfter (verdictOf (now (reads .entry)) (now (writes .entry)) objects .number) (verdictOf (now (reads .entry)) (now (writes .entry)) objects .count) (now (count .entry)))
+        × (now (source .exit) ≡ valueAfter (verdictOf (now (reads .entry)) (now (writes .entry)) objects .number) (verdictOf (now (reads .entry)) (now (writes .entry)) objects .source) (now (source .entry)))
+        × (now (target .exit) ≡ valueAfter (verdictOf (now (reads .entry)) (now (writes .entry)) objects .number) (verdictOf (now (reads .entry)) (now (writes .entry)) objects .target) (now (target .entry))) ⌝ }
 {
     let v = matrix::verdict(reads, writes, objects);
     match v {
@@ -107,7 +115,9 @@ pub extern "C" fn yaslaurel_matrix_policy(
     objects: u32,
     out: &mut [u8],
 ) -> u32
-    ensures { λ r. ⌜ (r ≡ derivedAnswer (now (reads .entry)) (now (writes .entry)) objects (now (out .entry))) × (now (out .exit) ≡ derivedEffect (now (reads .entry)) (now (writes .entry)) objects (now (out .entry))) ⌝ }
+    ensures { λ r. ⌜
+        (r ≡ derivedAnswer (now (reads .entry)) (now (writes .entry)) objects (now (out .entry)))
+        × (now (out .exit) ≡ derivedEffect (now (reads .entry)) (now (writes .entry)) objects (now (out .entry))) ⌝ }
 {
     matrix::derive(reads, writes, objects, out)
 }

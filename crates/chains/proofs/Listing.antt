@@ -49,7 +49,10 @@ pub record Run : Type 0 where
   pub whole : historyOf operate some (begin P) steps ≡ four ▸ write 6 1
 
 listing : Run
-unfolding operate entry fitsNeed processGood objectGood kindGood freeGood userGood meetGood earlyConditions tableConditions firstFailed every alerts verdict placed fits readRow writeRow appendRow freeRow begin startRow startTag meaning placeOf normalAt ruleAt unrestrictedRule unrestricted isFree isFile isVolatile isProcess isStore covers holds dataOf elem distinct heldIn unheldIn insert sort normal intersections meet
+unfolding operate entry fitsNeed processGood objectGood kindGood freeGood userGood meetGood earlyConditions tableConditions
+    firstFailed every alerts verdict placed fits readRow writeRow appendRow freeRow begin startRow startTag meaning
+    placeOf normalAt ruleAt unrestrictedRule unrestricted isFree isFile isVolatile isProcess isStore covers holds
+    dataOf elem distinct heldIn unheldIn insert sort normal intersections meet
 listing = record { told = refl; upToWrite = refl; whole = refl }
 
 -- the chain of the alert: atom 2 by steps 0, 1, 2 and 3 from file 2 into file 1

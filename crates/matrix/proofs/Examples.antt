@@ -35,13 +35,22 @@ abbrev image : List ℕ
 image = derivedImage reads writes 4
 
 pub image-length : length image ≡ 110
-unfolding derivedImage derivedPolicy countFrom objectFile subjectProcess permitOf writerMixtures orAlone has atom normalImage encode framed header pair containerBytes spanBytes spansOf bytesOf joined normalPolicy policyOf writtenBy containerOf numberOf position numbered noted known uses placeUses meaning placeOf normalAt ruleAt unrestrictedRule unrestricted sameList normal sort insert distinct elem unheldIn heldIn holds
+unfolding derivedImage derivedPolicy countFrom objectFile subjectProcess permitOf writerMixtures orAlone has atom normalImage
+    encode framed header pair containerBytes spanBytes spansOf bytesOf joined normalPolicy policyOf writtenBy
+    containerOf numberOf position numbered noted known uses placeUses meaning placeOf normalAt ruleAt unrestrictedRule
+    unrestricted sameList normal sort insert distinct elem unheldIn heldIn holds
 image-length = refl
 
 pub image-offsets : map (offset image) (0 ∷ 1 ∷ 2 ∷ 3 ∷ []) ≡ 18 ∷ 60 ∷ 62 ∷ 78 ∷ []
-unfolding derivedImage derivedPolicy countFrom objectFile subjectProcess permitOf writerMixtures orAlone has atom normalImage encode framed header pair containerBytes spanBytes spansOf bytesOf joined normalPolicy policyOf writtenBy containerOf numberOf position numbered noted known uses placeUses meaning placeOf normalAt ruleAt unrestrictedRule unrestricted sameList normal sort insert distinct elem unheldIn heldIn holds offset field numberIn
+unfolding derivedImage derivedPolicy countFrom objectFile subjectProcess permitOf writerMixtures orAlone has atom normalImage
+    encode framed header pair containerBytes spanBytes spansOf bytesOf joined normalPolicy policyOf writtenBy
+    containerOf numberOf position numbered noted known uses placeUses meaning placeOf normalAt ruleAt unrestrictedRule
+    unrestricted sameList normal sort insert distinct elem unheldIn heldIn holds offset field numberIn
 image-offsets = refl
 
 pub image-sizes : map (size image) (0 ∷ 1 ∷ 2 ∷ 3 ∷ []) ≡ 42 ∷ 2 ∷ 16 ∷ 32 ∷ []
-unfolding derivedImage derivedPolicy countFrom objectFile subjectProcess permitOf writerMixtures orAlone has atom normalImage encode framed header pair containerBytes spanBytes spansOf bytesOf joined normalPolicy policyOf writtenBy containerOf numberOf position numbered noted known uses placeUses meaning placeOf normalAt ruleAt unrestrictedRule unrestricted sameList normal sort insert distinct elem unheldIn heldIn holds size field numberIn
+unfolding derivedImage derivedPolicy countFrom objectFile subjectProcess permitOf writerMixtures orAlone has atom normalImage
+    encode framed header pair containerBytes spanBytes spansOf bytesOf joined normalPolicy policyOf writtenBy
+    containerOf numberOf position numbered noted known uses placeUses meaning placeOf normalAt ruleAt unrestrictedRule
+    unrestricted sameList normal sort insert distinct elem unheldIn heldIn holds size field numberIn
 image-sizes = refl

@@ -93,7 +93,15 @@ pub record CheckedRuns : Type 0 where
   pub shortSession : stepAnswer [] (recordOf 9 0 0 0) ≡ refused 9
 
 pub checked-runs : CheckedRuns
-unfolding holds dataOf runningOf covers elem distinct heldIn unheldIn insert sort normal intersections meet unrestricted sameList padded isFree isFile isVolatile isProcess isStore numberIn bytesOf field unrestrictedRule ruleAt normalAt placeOf meaning ruleOf wordsOf allZero isNormal keptWell rowWords freeWords permitWords runWords rowOf usedKind containerRowGood userWords isDeclared userRuleWords userRuleOf userRowGood containerRow userRow putRow startTag startRow placeWords filled sessionOf startOf readRow writeRow appendRow execRow forkRow fits alerts verdict every firstFailed freeRow fitsNeed entry stepWith noRows codeAt isCode stepIn view rowsGood processGood objectGood kindGood freeGood userGood meetGood earlyConditions tableConditions sessionConditions acceptedAnswer acceptedEffect requestIn userFits recordGood sessionLengthGood stepAsked stepConditions refusalOf stepAnswer stepEffect stepOn runAnswers
+unfolding holds dataOf runningOf covers elem distinct heldIn unheldIn insert sort normal intersections meet unrestricted
+    sameList padded isFree isFile isVolatile isProcess isStore numberIn bytesOf field unrestrictedRule ruleAt
+    normalAt placeOf meaning ruleOf wordsOf allZero isNormal keptWell rowWords freeWords permitWords runWords
+    rowOf usedKind containerRowGood userWords isDeclared userRuleWords userRuleOf userRowGood containerRow userRow
+    putRow startTag startRow placeWords filled sessionOf startOf readRow writeRow appendRow execRow forkRow fits
+    alerts verdict every firstFailed freeRow fitsNeed entry stepWith noRows codeAt isCode stepIn view rowsGood
+    processGood objectGood kindGood freeGood userGood meetGood earlyConditions tableConditions sessionConditions
+    acceptedAnswer acceptedEffect requestIn userFits recordGood sessionLengthGood stepAsked stepConditions refusalOf
+    stepAnswer stepEffect stepOn runAnswers
 checked-runs = record { forkItself = refl; execHolding = refl; readHolding = refl; meetOver = refl; listing = refl; shortSession = refl }
 
 -- ---- the same of any rows

@@ -1,3 +1,4 @@
+-- `answers::count`. Case by case of the answer.
 use Rattle.answers.specs.Tallies.{counted}
 use borrow.Author.Needs.{needs}
 use Rattle.answers.proofs.count.Statement.{statement}

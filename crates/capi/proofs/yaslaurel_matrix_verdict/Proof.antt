@@ -1,3 +1,4 @@
+-- `capi::yaslaurel_matrix_verdict`. Each case of the verdict gives the number and what is written.
 use mathlib.Core.Path.{sym, ap, _∙_}
 use Rattle.matrix.specs.Verdicts.{valuesOf}
 use borrow.Author.Needs.{needs}

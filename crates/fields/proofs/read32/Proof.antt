@@ -1,3 +1,4 @@
+-- `fields::read32`. Two fields of 16 bits.
 use Rattle.fields.proofs.FieldLaws.{field-split}
 use native.Mathlib.Omega.{arith}
 use borrow.Author.Needs.{needs}

@@ -1,3 +1,4 @@
+-- `fields::read64`. Two fields of 32 bits.
 use Rattle.fields.proofs.FieldLaws.{field-split}
 use native.Mathlib.Omega.{arith}
 use borrow.Author.Needs.{needs}

@@ -1,3 +1,4 @@
+-- `monitor::replay`. The start refuses, or the run follows.
 use Rattle.monitor.proofs.Replaying.{not-started, started}
 use borrow.Author.Needs.{needs}
 use Rattle.monitor.proofs.replay.Statement.{statement}

@@ -1,3 +1,4 @@
+-- `monitor::run`. The invariant: what is told behind the records so far is what is told of the whole trace (`Running`).
 use Prim.Native.Nat.{_-_}
 use native.Mathlib.Omega.{arith}
 use lib.ListN.{length}

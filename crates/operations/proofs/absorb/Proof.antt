@@ -1,3 +1,4 @@
+-- `operations::absorb`. The meet of both run rules fits or not (`absorb-over`, `absorb-done`).
 use Rattle.operations.proofs.RowSteps.{run-kept, met}
 use Rattle.operations.proofs.EffectLaws.{lent-fit, absorb-over, absorb-done}
 use borrow.Author.Tests.{not-true, not-false}
@@ -48,7 +49,14 @@ same-length-2 : tie.Need-same-length-2
 same-length-2 c = search needs
 
 returns-2 : tie.Need-returns-2
-returns-2 c = let start = c .before .before .before .before .before .before .before .before .before in let s = start .args .s .now in absorb-done s (start .args .receiver) (start .args .giver) (start .args .tag) (start .pre .0) _ (met s _ _ _ _ _ (run-kept s (start .args .receiver) (start .pre .0)) (run-kept s (start .args .giver) (start .pre .1)) (c .before .before .before .before .before .before .meet-at .ensures)) (not-false _ (c .before .before .before .before .if1 .left)) _ _ (c .before .before .update .ensures .0) (c .before .before .update .ensures .1)
+returns-2 c =
+    let start = c .before .before .before .before .before .before .before .before .before in
+    let s = start .args .s .now in
+    absorb-done s (start .args .receiver) (start .args .giver) (start .args .tag) (start .pre .0) _ (met s _ _ _ _ _
+    (run-kept s (start .args .receiver) (start .pre .0)) (run-kept s (start .args .giver) (start .pre .1))
+    (c .before .before .before .before .before .before .meet-at .ensures)) (not-false _
+    (c .before .before .before .before .if1 .left)) _ _ (c .before .before .update .ensures .0)
+    (c .before .before .update .ensures .1)
 
 pub absorb-spec : {M : Type 1} → statement M
 absorb-spec =

@@ -1,3 +1,4 @@
+-- `operations::append`. The object absorbs all that the process has.
 use Rattle.operations.proofs.ReadyLaws.{ready-process, ready-object}
 use Rattle.operations.proofs.EffectLaws.{append-done}
 use mathlib.Core.Path.{refl, ap₂}

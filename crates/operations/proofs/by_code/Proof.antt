@@ -1,3 +1,4 @@
+-- `operations::by_code`. The code decides which step the request asks for.
 use Rattle.operations.proofs.PerformLaws.{ready-as, done-as}
 use Rattle.records.proofs.CodeLaws.{step-read, step-write, step-append, step-exec, step-fork, step-file, step-volatile}
 use Rattle.chains.specs.History.{read, write, append, exec, fork, newFile, newVolatile}
@@ -60,13 +61,28 @@ returns-6 : tie.Need-returns-6
 returns-6 c = let start = c .before .before .before .before .before .before .before .before .before .before .before in let q = start .args .q in done-as (start .args .s .now) q (newFile (q .p) (q .o) (q .u)) (step-file q (c .before .before .before .before .if6 .taken)) _ _ (c .before .before .new-file .ensures)
 
 new-volatile-requires : tie.Need-new-volatile-requires
-new-volatile-requires c κs = let start = c .before .before .before .before .before .before .before .before in let q = start .args .q in ready-as (start .args .s .now) q (newVolatile (q .p) (q .o)) (step-volatile q (start .pre .0 .asked) (c .before .before .before .before .before .before .if1 .left) (c .before .before .before .before .before .if2 .left) (c .before .before .before .before .if3 .left) (c .before .before .before .if4 .left) (c .before .before .if5 .left) (c .before .if6 .left)) (start .pre .1)
+new-volatile-requires c κs =
+    let start = c .before .before .before .before .before .before .before .before in
+    let q = start .args .q in
+    ready-as (start .args .s .now) q (newVolatile (q .p) (q .o)) (step-volatile q (start .pre .0 .asked)
+    (c .before .before .before .before .before .before .if1 .left)
+    (c .before .before .before .before .before .if2 .left) (c .before .before .before .before .if3 .left)
+    (c .before .before .before .if4 .left) (c .before .before .if5 .left) (c .before .if6 .left)) (start .pre .1)
 
 same-length-7 : tie.Need-same-length-7
 same-length-7 c = search needs
 
 returns-7 : tie.Need-returns-7
-returns-7 c = let start = c .before .before .before .before .before .before .before .before .before .before .before in let q = start .args .q in done-as (start .args .s .now) q (newVolatile (q .p) (q .o)) (step-volatile q (start .pre .0 .asked) (c .before .before .before .before .before .before .before .before .before .if1 .left) (c .before .before .before .before .before .before .before .before .if2 .left) (c .before .before .before .before .before .before .before .if3 .left) (c .before .before .before .before .before .before .if4 .left) (c .before .before .before .before .before .if5 .left) (c .before .before .before .before .if6 .left)) _ _ (c .before .before .new-volatile .ensures)
+returns-7 c =
+    let start = c .before .before .before .before .before .before .before .before .before .before .before in
+    let q = start .args .q in
+    done-as (start .args .s .now) q (newVolatile (q .p) (q .o)) (step-volatile q (start .pre .0 .asked)
+    (c .before .before .before .before .before .before .before .before .before .if1 .left)
+    (c .before .before .before .before .before .before .before .before .if2 .left)
+    (c .before .before .before .before .before .before .before .if3 .left)
+    (c .before .before .before .before .before .before .if4 .left)
+    (c .before .before .before .before .before .if5 .left) (c .before .before .before .before .if6 .left)) _ _
+    (c .before .before .new-volatile .ensures)
 
 pub by-code-spec : {M : Type 1} → statement M
 by-code-spec =

@@ -1,3 +1,4 @@
+-- `operations::early_refusal`. Condition by condition: the first that fails gives its number.
 use native.Mathlib.Omega.{arith}
 use Rattle.operations.proofs.RefusalTests.{user-low, early-10, early-11, early-12, early-13, early-14, early-none, early-passed}
 use borrow.Author.Needs.{needs}
@@ -47,13 +48,37 @@ object-fits-requires : tie.Need-object-fits-requires
 object-fits-requires c κs = search needs
 
 returns-3 : tie.Need-returns-3
-returns-3 c = early-13 _ _ (c .before .before .before .before .before .before .before .before .before .before .before .before .before .before .pre .asked) _ (c .before .before .before .before .before .before .before .before .before .before .before .before .rows-good .ensures) (c .before .before .before .before .before .before .before .before .before .before .before .if1 .left) _ (c .before .before .before .before .before .before .before .before .is-process .ensures) (c .before .before .before .before .before .before .before .if2 .left) _ (c .before .before .before .before .before .before .code-at .ensures) _ (c .before .before .before .object-fits .ensures) (c .before .before .if3 .taken) (c .if4 .taken)
+returns-3 c =
+    early-13 _ _ (c .before .before .before .before .before .before .before .before .before .before .before .before
+    .before .before .pre .asked) _
+    (c .before .before .before .before .before .before .before .before .before .before .before .before .rows-good
+    .ensures) (c .before .before .before .before .before .before .before .before .before .before .before .if1 .left) _
+    (c .before .before .before .before .before .before .before .before .is-process .ensures)
+    (c .before .before .before .before .before .before .before .if2 .left) _
+    (c .before .before .before .before .before .before .code-at .ensures) _
+    (c .before .before .before .object-fits .ensures) (c .before .before .if3 .taken) (c .if4 .taken)
 
 returns-4 : tie.Need-returns-4
-returns-4 c = early-12 _ _ (c .before .before .before .before .before .before .before .before .before .before .before .before .before .before .pre .asked) _ (c .before .before .before .before .before .before .before .before .before .before .before .before .rows-good .ensures) (c .before .before .before .before .before .before .before .before .before .before .before .if1 .left) _ (c .before .before .before .before .before .before .before .before .is-process .ensures) (c .before .before .before .before .before .before .before .if2 .left) _ (c .before .before .before .before .before .before .code-at .ensures) _ (c .before .before .before .object-fits .ensures) (c .before .before .if3 .taken) (c .if4 .left)
+returns-4 c =
+    early-12 _ _ (c .before .before .before .before .before .before .before .before .before .before .before .before
+    .before .before .pre .asked) _
+    (c .before .before .before .before .before .before .before .before .before .before .before .before .rows-good
+    .ensures) (c .before .before .before .before .before .before .before .before .before .before .before .if1 .left) _
+    (c .before .before .before .before .before .before .before .before .is-process .ensures)
+    (c .before .before .before .before .before .before .before .if2 .left) _
+    (c .before .before .before .before .before .before .code-at .ensures) _
+    (c .before .before .before .object-fits .ensures) (c .before .before .if3 .taken) (c .if4 .left)
 
 returns-5 : tie.Need-returns-5
-returns-5 c = early-none _ _ (c .before .before .before .before .before .before .before .before .before .before .before .before .before .before .pre .asked) _ (c .before .before .before .before .before .before .before .before .before .before .before .before .rows-good .ensures) (c .before .before .before .before .before .before .before .before .before .before .before .if1 .left) _ (c .before .before .before .before .before .before .before .before .is-process .ensures) (c .before .before .before .before .before .before .before .if2 .left) _ (c .before .before .before .before .before .before .code-at .ensures) _ (c .before .before .before .object-fits .ensures) (c .before .before .if3 .left) (c .if5 .taken)
+returns-5 c =
+    early-none _ _ (c .before .before .before .before .before .before .before .before .before .before .before .before
+    .before .before .pre .asked) _
+    (c .before .before .before .before .before .before .before .before .before .before .before .before .rows-good
+    .ensures) (c .before .before .before .before .before .before .before .before .before .before .before .if1 .left) _
+    (c .before .before .before .before .before .before .before .before .is-process .ensures)
+    (c .before .before .before .before .before .before .before .if2 .left) _
+    (c .before .before .before .before .before .before .code-at .ensures) _
+    (c .before .before .before .object-fits .ensures) (c .before .before .if3 .left) (c .if5 .taken)
 
 mul-c : tie.Need-mul-c
 mul-c c = omega (arith, user-low _ _ _ (c .before .before .before .before .before .before .before .before .before .before .before .before .before .before .before .pre) (c .before .before .before .before .before .before .before .code-at .ensures) (c .before .if5 .left))
@@ -68,10 +93,32 @@ shared-slice-read-if6 : tie.Need-shared-slice-read-if6
 shared-slice-read-if6 c = omega (arith, user-low _ _ _ (c .before .before .before .before .before .before .before .before .before .before .before .before .before .before .before .before .pre) (c .before .before .before .before .before .before .before .before .code-at .ensures) (c .before .before .if5 .left))
 
 returns-6 : tie.Need-returns-6
-returns-6 c = early-14 _ _ (c .before .before .before .before .before .before .before .before .before .before .before .before .before .before .before .before .before .pre .asked) _ (c .before .before .before .before .before .before .before .before .before .before .before .before .before .before .before .rows-good .ensures) (c .before .before .before .before .before .before .before .before .before .before .before .before .before .before .if1 .left) _ (c .before .before .before .before .before .before .before .before .before .before .before .is-process .ensures) (c .before .before .before .before .before .before .before .before .before .before .if2 .left) _ (c .before .before .before .before .before .before .before .before .before .code-at .ensures) _ (c .before .before .before .before .before .before .object-fits .ensures) (c .before .before .before .before .before .if3 .left) (c .before .before .before .if5 .left) (c .if6 .taken)
+returns-6 c =
+    early-14 _ _ (c .before .before .before .before .before .before .before .before .before .before .before .before
+    .before .before .before .before .before .pre .asked) _
+    (c .before .before .before .before .before .before .before .before .before .before .before .before .before .before
+    .before .rows-good .ensures)
+    (c .before .before .before .before .before .before .before .before .before .before .before .before .before .before
+    .if1 .left) _ (c .before .before .before .before .before .before .before .before .before .before .before
+    .is-process .ensures)
+    (c .before .before .before .before .before .before .before .before .before .before .if2 .left) _
+    (c .before .before .before .before .before .before .before .before .before .code-at .ensures) _
+    (c .before .before .before .before .before .before .object-fits .ensures)
+    (c .before .before .before .before .before .if3 .left) (c .before .before .before .if5 .left) (c .if6 .taken)
 
 returns-7 : tie.Need-returns-7
-returns-7 c = early-passed _ _ (c .before .before .before .before .before .before .before .before .before .before .before .before .before .before .before .before .before .pre .asked) _ (c .before .before .before .before .before .before .before .before .before .before .before .before .before .before .before .rows-good .ensures) (c .before .before .before .before .before .before .before .before .before .before .before .before .before .before .if1 .left) _ (c .before .before .before .before .before .before .before .before .before .before .before .is-process .ensures) (c .before .before .before .before .before .before .before .before .before .before .if2 .left) _ (c .before .before .before .before .before .before .before .before .before .code-at .ensures) _ (c .before .before .before .before .before .before .object-fits .ensures) (c .before .before .before .before .before .if3 .left) (c .before .before .before .if5 .left) (c .if6 .left)
+returns-7 c =
+    early-passed _ _ (c .before .before .before .before .before .before .before .before .before .before .before .before
+    .before .before .before .before .before .pre .asked) _
+    (c .before .before .before .before .before .before .before .before .before .before .before .before .before .before
+    .before .rows-good .ensures)
+    (c .before .before .before .before .before .before .before .before .before .before .before .before .before .before
+    .if1 .left) _ (c .before .before .before .before .before .before .before .before .before .before .before
+    .is-process .ensures)
+    (c .before .before .before .before .before .before .before .before .before .before .if2 .left) _
+    (c .before .before .before .before .before .before .before .before .before .code-at .ensures) _
+    (c .before .before .before .before .before .before .object-fits .ensures)
+    (c .before .before .before .before .before .if3 .left) (c .before .before .before .if5 .left) (c .if6 .left)
 
 pub early-refusal-spec : {M : Type 1} → statement M
 early-refusal-spec =

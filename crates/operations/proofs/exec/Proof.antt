@@ -1,3 +1,4 @@
+-- `operations::exec`. The meet of o's run rule and u's rule fits or not (`exec-over`, `exec-done`).
 use Rattle.operations.proofs.ReadyLaws.{ready-object, ready-user}
 use Rattle.operations.proofs.RowSteps.{run-kept, user-kept-as, copied, met}
 use Rattle.operations.proofs.EffectLaws.{exec-over, exec-fit, exec-done}
@@ -41,7 +42,13 @@ same-length c = search needs
 
 returns : tie.Need-returns
 unfolding entry
-returns c = let start = c .before .before .before .before .before in let s = start .args .s .now in exec-over s (start .args .p) (start .args .o) (start .args .u) (start .pre) _ (met s _ _ _ _ _ (run-kept s (start .args .o) (ready-object s (exec (start .args .p) (start .args .o) (start .args .u)) (start .pre) refl)) (user-kept-as s (start .args .u) (ready-user s (exec (start .args .p) (start .args .o) (start .args .u)) (start .pre) (start .args .u) refl)) (c .before .before .meet-at .ensures)) (not-true _ (c .if1 .taken))
+returns c =
+    let start = c .before .before .before .before .before in
+    let s = start .args .s .now in
+    exec-over s (start .args .p) (start .args .o) (start .args .u) (start .pre) _ (met s _ _ _ _ _ (run-kept s
+    (start .args .o) (ready-object s (exec (start .args .p) (start .args .o) (start .args .u)) (start .pre) refl))
+    (user-kept-as s (start .args .u) (ready-user s (exec (start .args .p) (start .args .o) (start .args .u))
+    (start .pre) (start .args .u) refl)) (c .before .before .meet-at .ensures)) (not-true _ (c .if1 .taken))
 
 rule-at-requires : tie.Need-rule-at-requires
 unfolding entry
@@ -78,14 +85,36 @@ part-replace-end c = search needs
 
 replace-requires : tie.Need-replace-requires
 unfolding entry
-replace-requires c κs = let start = c .before .before .before .before .before .before .before .before .before .before .before in let s = start .args .s .now in exec-fit s (start .args .p) (start .args .o) (start .args .u) (start .pre) _ (met s _ _ _ _ _ (run-kept s (start .args .o) (ready-object s (exec (start .args .p) (start .args .o) (start .args .u)) (start .pre) refl)) (user-kept-as s (start .args .u) (ready-user s (exec (start .args .p) (start .args .o) (start .args .u)) (start .pre) (start .args .u) refl)) (c .before .before .before .before .before .before .before .before .meet-at .ensures)) (not-false _ (c .before .before .before .before .before .before .if1 .left))
+replace-requires c κs =
+    let start = c .before .before .before .before .before .before .before .before .before .before .before in
+    let s = start .args .s .now in
+    exec-fit s (start .args .p) (start .args .o) (start .args .u) (start .pre) _ (met s _ _ _ _ _ (run-kept s
+    (start .args .o) (ready-object s (exec (start .args .p) (start .args .o) (start .args .u)) (start .pre) refl))
+    (user-kept-as s (start .args .u) (ready-user s (exec (start .args .p) (start .args .o) (start .args .u))
+    (start .pre) (start .args .u) refl))
+    (c .before .before .before .before .before .before .before .before .meet-at .ensures)) (not-false _
+    (c .before .before .before .before .before .before .if1 .left))
 
 same-length-2 : tie.Need-same-length-2
 same-length-2 c = search needs
 
 returns-2 : tie.Need-returns-2
 unfolding entry
-returns-2 c = let start = c .before .before .before .before .before .before .before .before .before .before .before .before .before .before in let s = start .args .s .now in exec-done s (start .args .p) (start .args .o) (start .args .u) (start .pre) _ (met s _ _ _ _ _ (run-kept s (start .args .o) (ready-object s (exec (start .args .p) (start .args .o) (start .args .u)) (start .pre) refl)) (user-kept-as s (start .args .u) (ready-user s (exec (start .args .p) (start .args .o) (start .args .u)) (start .pre) (start .args .u) refl)) (c .before .before .before .before .before .before .before .before .before .before .before .meet-at .ensures)) (not-false _ (c .before .before .before .before .before .before .before .before .before .if1 .left)) _ (copied s _ _ _ (run-kept s (start .args .o) (ready-object s (exec (start .args .p) (start .args .o) (start .args .u)) (start .pre) refl)) (c .before .before .before .before .before .before .before .rule-at .ensures)) _ (c .before .before .before .before .running-atoms .ensures ∙ ap (runningOf dataWidth) (c .before .before .before .before .before .tag-of .ensures)) _ _ (c .before .before .replace .ensures .0) (c .before .before .replace .ensures .1)
+returns-2 c =
+    let start = c .before .before .before .before .before .before .before .before .before .before .before .before .before .before in
+    let s = start .args .s .now in
+    exec-done s (start .args .p) (start .args .o) (start .args .u) (start .pre) _ (met s _ _ _ _ _ (run-kept s
+    (start .args .o) (ready-object s (exec (start .args .p) (start .args .o) (start .args .u)) (start .pre) refl))
+    (user-kept-as s (start .args .u) (ready-user s (exec (start .args .p) (start .args .o) (start .args .u))
+    (start .pre) (start .args .u) refl))
+    (c .before .before .before .before .before .before .before .before .before .before .before .meet-at .ensures))
+    (not-false _ (c .before .before .before .before .before .before .before .before .before .if1 .left)) _
+    (copied s _ _ _ (run-kept s (start .args .o) (ready-object s (exec (start .args .p) (start .args .o)
+    (start .args .u)) (start .pre) refl))
+    (c .before .before .before .before .before .before .before .rule-at .ensures)) _
+    (c .before .before .before .before .running-atoms .ensures ∙ ap (runningOf dataWidth)
+    (c .before .before .before .before .before .tag-of .ensures)) _ _ (c .before .before .replace .ensures .0)
+    (c .before .before .replace .ensures .1)
 
 pub exec-spec : {M : Type 1} → statement M
 exec-spec =

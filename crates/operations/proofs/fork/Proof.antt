@@ -1,3 +1,4 @@
+-- `operations::fork`. Both rules and the tag are copied (`fork-done`).
 use Rattle.operations.proofs.ReadyLaws.{ready-process}
 use Rattle.operations.proofs.RowSteps.{permit-kept, run-kept, copied}
 use Rattle.operations.proofs.EffectLaws.{fork-fit, fork-done}
@@ -66,7 +67,16 @@ same-length c = search needs
 
 returns : tie.Need-returns
 unfolding entry
-returns c = let start = c .before .before .before .before .before .before .before .before .before .before .before in let s = start .args .s .now in fork-done s (start .args .p) (start .args .o) (start .pre) _ (copied s _ _ _ (permit-kept s (start .args .p) (ready-process s (fork (start .args .p) (start .args .o)) (start .pre))) (c .before .before .before .before .before .before .before .before .rule-at .ensures)) _ (copied s _ _ _ (run-kept s (start .args .p) (ready-process s (fork (start .args .p) (start .args .o)) (start .pre))) (c .before .before .before .before .before .before .rule-at2 .ensures)) _ (c .before .before .before .before .tag-of .ensures) _ _ (c .before .before .replace .ensures .0) (c .before .before .replace .ensures .1)
+returns c =
+    let start = c .before .before .before .before .before .before .before .before .before .before .before in
+    let s = start .args .s .now in
+    fork-done s (start .args .p) (start .args .o) (start .pre) _ (copied s _ _ _ (permit-kept s (start .args .p)
+    (ready-process s (fork (start .args .p) (start .args .o)) (start .pre)))
+    (c .before .before .before .before .before .before .before .before .rule-at .ensures)) _ (copied s _ _ _
+    (run-kept s (start .args .p) (ready-process s (fork (start .args .p) (start .args .o)) (start .pre)))
+    (c .before .before .before .before .before .before .rule-at2 .ensures)) _
+    (c .before .before .before .before .tag-of .ensures) _ _ (c .before .before .replace .ensures .0)
+    (c .before .before .replace .ensures .1)
 
 pub fork-spec : {M : Type 1} → statement M
 fork-spec =

@@ -1,3 +1,4 @@
+-- `operations::judged`. The rule that is read is the row's permit rule, and the cover test decides.
 use Rattle.session.specs.Rows.{permitWords}
 use Rattle.operations.proofs.RowSteps.{row-readable, judged-quiet, judged-alert}
 use borrow.Author.Needs.{needs}

@@ -1,3 +1,4 @@
+-- `operations::meet_at`. Rules of one mixture meet in one mixture; else the parts that are lent are the two rules.
 use Rattle.operations.proofs.RowSteps.{words-lent, meet-single}
 use mathlib.Core.Path.{ap, ap₂, _∙_}
 use mathlib.Core.List.{List}
@@ -43,7 +44,10 @@ one-requires : tie.Need-one-requires
 one-requires c κs = search needs
 
 returns : tie.Need-returns
-returns c = c .one .ensures ∙ ap boundedOf (meet-single (c .before .before .before .before .before .before .before .before .args .s .now) (c .before .before .before .before .before .before .before .before .args .x) (c .before .before .before .before .before .before .before .before .args .y) (c .before .before .before .before .before .before .before .before .pre .0) (c .before .before .before .before .before .before .before .before .pre .1) (c .before .before .before .before .before .if1 .taken) (c .before .before .before .if2 .taken))
+returns c =
+    let start = c .before .before .before .before .before .before .before .before in
+    c .one .ensures ∙ ap boundedOf (meet-single (start .args .s .now) (start .args .x) (start .args .y) (start .pre .0)
+    (start .pre .1) (c .before .before .before .before .before .if1 .taken) (c .before .before .before .if2 .taken))
 
 add-meet-kept : tie.Need-add-meet-kept
 add-meet-kept c = search needs

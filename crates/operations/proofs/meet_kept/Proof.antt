@@ -1,3 +1,4 @@
+-- `operations::meet_kept`. A rule that refines the other is their meet; else the meet is formed.
 use Prim.Native.Nat.{ℕ}
 use mathlib.Core.Path.{sym, ap, ap₂, _∙_}
 use mathlib.Core.List.{List}
@@ -22,7 +23,11 @@ rule-copy-requires : tie.Need-rule-copy-requires
 rule-copy-requires c κs = search needs
 
 returns : tie.Need-returns
-returns c = c .rule-copy .ensures ∙ ap boundedOf (meet-first (c .before .before .before .before .before .before .before .args .a .now) (c .before .before .before .before .before .before .before .args .b .now) (c .before .before .before .before .before .before .before .pre .0) (sym (c .before .before .refines .ensures ∙ ap₂ refines (c .before .before .before .before .rule-of .ensures) (c .before .before .before .rule-of2 .ensures)) ∙ c .before .if1 .taken))
+returns c =
+    let start = c .before .before .before .before .before .before .before in
+    c .rule-copy .ensures ∙ ap boundedOf (meet-first (start .args .a .now) (start .args .b .now) (start .pre .0) (sym
+    (c .before .before .refines .ensures ∙ ap₂ refines (c .before .before .before .before .rule-of .ensures)
+    (c .before .before .before .rule-of2 .ensures)) ∙ c .before .if1 .taken))
 
 refines-requires-2 : tie.Need-refines-requires-2
 refines-requires-2 c κs = search needs
@@ -31,10 +36,20 @@ rule-copy-requires-2 : tie.Need-rule-copy-requires-2
 rule-copy-requires-2 c κs = search needs
 
 returns-2 : tie.Need-returns-2
-returns-2 c = c .rule-copy2 .ensures ∙ ap boundedOf (meet-second (c .before .before .before .before .before .before .before .before .before .args .b .now) (c .before .before .before .before .before .before .before .before .before .args .a .now) (c .before .before .before .before .before .before .before .before .before .pre .1) (sym (c .before .before .refines2 .ensures ∙ ap₂ refines (c .before .before .before .before .before .rule-of2 .ensures) (c .before .before .before .before .before .before .rule-of .ensures)) ∙ c .before .if2 .taken))
+returns-2 c =
+    let start = c .before .before .before .before .before .before .before .before .before in
+    c .rule-copy2 .ensures ∙ ap boundedOf (meet-second (start .args .b .now) (start .args .a .now) (start .pre .1) (sym
+    (c .before .before .refines2 .ensures ∙ ap₂ refines (c .before .before .before .before .before .rule-of2 .ensures)
+    (c .before .before .before .before .before .before .rule-of .ensures)) ∙ c .before .if2 .taken))
 
 meet-requires : tie.Need-meet-requires
-meet-requires c κs = (rw (c .before .before .before .before .before .rule-of .ensures) (kept-short (c .before .before .before .before .before .before .before .before .args .a .now) (c .before .before .before .before .before .before .before .before .pre .0 .well)), rw (c .before .before .before .before .rule-of2 .ensures) (kept-short (c .before .before .before .before .before .before .before .before .args .b .now) (c .before .before .before .before .before .before .before .before .pre .1 .well)))
+meet-requires c κs =
+    let start = c .before .before .before .before .before .before .before .before in (
+      rw (c .before .before .before .before .before .rule-of .ensures) (kept-short (start .args .a .now)
+          (start .pre .0 .well)),
+      rw (c .before .before .before .before .rule-of2 .ensures) (kept-short
+          (start .args .b .now) (start .pre .1 .well)),
+    )
 
 returns-3 : tie.Need-returns-3
 returns-3 c = c .meet .ensures ∙ ap₂ (λ (x y : List ℕ). boundedOf (meet x y)) (c .before .before .before .before .before .before .rule-of .ensures) (c .before .before .before .before .before .rule-of2 .ensures)

@@ -1,3 +1,4 @@
+-- `operations::new_file`. The row is made new, and a new file is not judged (`file-done`).
 use Rattle.operations.proofs.ReadyLaws.{ready-user}
 use Rattle.operations.proofs.RowSteps.{user-kept-as, copied}
 use Rattle.operations.proofs.EffectLaws.{file-done}
@@ -59,7 +60,13 @@ same-length c = search needs
 
 returns : tie.Need-returns
 unfolding entry newWords boundedWords
-returns c = let start = c .before .before .before .before .before .before .before .before in let s = start .args .s .now in file-done s (start .args .p) (start .args .o) (start .args .u) (start .pre) _ (copied s _ _ _ (user-kept-as s (start .args .u) (ready-user s (newFile (start .args .p) (start .args .o) (start .args .u)) (start .pre) (start .args .u) refl)) (c .before .before .before .before .before .rule-at .ensures)) _ (c .before .before .before .before .unrestricted .ensures) _ (c .before .before .put-row .ensures)
+returns c =
+    let start = c .before .before .before .before .before .before .before .before in
+    let s = start .args .s .now in
+    file-done s (start .args .p) (start .args .o) (start .args .u) (start .pre) _ (copied s _ _ _ (user-kept-as s
+    (start .args .u) (ready-user s (newFile (start .args .p) (start .args .o) (start .args .u)) (start .pre)
+    (start .args .u) refl)) (c .before .before .before .before .before .rule-at .ensures)) _
+    (c .before .before .before .before .unrestricted .ensures) _ (c .before .before .put-row .ensures)
 
 pub new-file-spec : {M : Type 1} → statement M
 new-file-spec =

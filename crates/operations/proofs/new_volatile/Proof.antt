@@ -1,3 +1,4 @@
+-- `operations::new_volatile`. The row is made new, and a new volatile is not judged (`volatile-done`).
 use Rattle.operations.proofs.EffectLaws.{volatile-done}
 use Rattle.operations.specs.Parts.{newWords, boundedWords}
 use Rattle.chains.specs.Table.{entry}

@@ -1,3 +1,4 @@
+-- `operations::object_fits`. Each need is one test of a kind.
 use Rattle.image.specs.Limits.{isFree}
 use Rattle.records.specs.Codes.{objectFits}
 use borrow.Author.Tests.{eq-eqb, ne-eqb}

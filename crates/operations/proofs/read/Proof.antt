@@ -1,3 +1,4 @@
+-- `operations::read`. The process absorbs the object's data atoms.
 use Rattle.operations.proofs.ReadyLaws.{ready-process, ready-object}
 use Rattle.operations.proofs.EffectLaws.{read-done}
 use Prim.Native.Nat.{ℕ}
@@ -30,7 +31,12 @@ same-length : tie.Need-same-length
 same-length c = search needs
 
 returns : tie.Need-returns
-returns c = let start = c .before .before .before .before .before .before .before .before .before .before in read-done (start .args .s .now) (start .args .p) (start .args .o) _ (c .before .before .before .before .add-data-atoms .ensures ∙ ap₂ (λ (x y : ℕ). bitOr x (dataOf dataWidth y)) (c .before .before .before .before .before .before .before .tag-of .ensures) (c .before .before .before .before .before .tag-of2 .ensures)) _ _ (c .before .before .absorb .ensures)
+returns c =
+    let start = c .before .before .before .before .before .before .before .before .before .before in
+    read-done (start .args .s .now) (start .args .p) (start .args .o) _
+    (c .before .before .before .before .add-data-atoms .ensures ∙ ap₂ (λ (x y : ℕ). bitOr x (dataOf dataWidth y))
+    (c .before .before .before .before .before .before .before .tag-of .ensures)
+    (c .before .before .before .before .before .tag-of2 .ensures)) _ _ (c .before .before .absorb .ensures)
 
 pub read-spec : {M : Type 1} → statement M
 read-spec =

@@ -1,3 +1,4 @@
+-- `operations::replace`. What `put_row` wrote is read back by the judgement.
 use Rattle.image.specs.Limits.{processKind}
 use Rattle.operations.specs.Parts.{boundedWords, newWords}
 use Rattle.operations.proofs.RowSteps.{new-judged, new-answer}
@@ -17,7 +18,13 @@ same-length c = search needs
 
 returns : tie.Need-returns
 unfolding newWords boundedWords
-returns c = (new-answer processKind (c .before .before .before .before .before .before .before .args .tag) (c .before .before .before .before .before .before .before .args .permit) (c .before .before .before .before .before .before .before .args .run) (search needs) _ (c .before .before .before .before .put-row .ensures) (c .before .before .before .before .before .before .before .args .receiver) _ (c .judged .ensures), c .before .before .before .before .put-row .ensures)
+returns c =
+    let start = c .before .before .before .before .before .before .before in (
+      new-answer processKind (start .args .tag) (start .args .permit) (start .args .run) (search needs) _
+          (c .before .before .before .before .put-row .ensures) (start .args .receiver) _
+          (c .judged .ensures),
+      c .before .before .before .before .put-row .ensures,
+    )
 
 pub replace-spec : {M : Type 1} → statement M
 replace-spec = tie.close (tie.spec put-row-requires judged-requires same-length returns)

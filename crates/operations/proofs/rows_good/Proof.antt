@@ -1,3 +1,4 @@
+-- `operations::rows_good`. Row by row, each test decides `rowsGood` or leaves it to the next.
 use native.Mathlib.Omega.{arith}
 use Rattle.operations.proofs.RefusalTests.{user-low, process-row-bad, object-row-bad, no-user-row, by-user-row}
 use borrow.Author.Needs.{needs}
@@ -56,7 +57,12 @@ code-at-requires : tie.Need-code-at-requires
 code-at-requires c κs = search needs
 
 returns-3 : tie.Need-returns-3
-returns-3 c = no-user-row _ _ (c .before .before .before .before .before .before .before .before .before .before .before .before .pre .asked) _ (c .before .before .before .before .before .before .before .before .container-row-good .ensures) (c .before .before .before .before .before .before .before .if1 .left) _ (c .before .before .before .before .container-row-good2 .ensures) (c .before .before .before .if2 .left) _ (c .before .before .code-at .ensures) (c .if3 .taken)
+returns-3 c =
+    no-user-row _ _ (c .before .before .before .before .before .before .before .before .before .before .before .before
+    .pre .asked) _ (c .before .before .before .before .before .before .before .before .container-row-good .ensures)
+    (c .before .before .before .before .before .before .before .if1 .left) _
+    (c .before .before .before .before .container-row-good2 .ensures) (c .before .before .before .if2 .left) _
+    (c .before .before .code-at .ensures) (c .if3 .taken)
 
 mul-c : tie.Need-mul-c
 mul-c c = omega (arith, user-low _ _ _ (c .before .before .before .before .before .before .before .before .before .before .before .before .before .pre) (c .before .before .before .code-at .ensures) (c .before .if3 .left))
@@ -83,7 +89,15 @@ user-row-good-requires : tie.Need-user-row-good-requires
 user-row-good-requires c κs = search needs
 
 returns-4 : tie.Need-returns-4
-returns-4 c = by-user-row _ _ (c .before .before .before .before .before .before .before .before .before .before .before .before .before .before .before .pre .asked) _ (c .before .before .before .before .before .before .before .before .before .before .before .container-row-good .ensures) (c .before .before .before .before .before .before .before .before .before .before .if1 .left) _ (c .before .before .before .before .before .before .before .container-row-good2 .ensures) (c .before .before .before .before .before .before .if2 .left) _ (c .before .before .before .before .before .code-at .ensures) (c .before .before .before .if3 .left) _ (c .user-row-good .ensures)
+returns-4 c =
+    by-user-row _ _ (c .before .before .before .before .before .before .before .before .before .before .before .before
+    .before .before .before .pre .asked) _
+    (c .before .before .before .before .before .before .before .before .before .before .before .container-row-good
+    .ensures) (c .before .before .before .before .before .before .before .before .before .before .if1 .left) _
+    (c .before .before .before .before .before .before .before .container-row-good2 .ensures)
+    (c .before .before .before .before .before .before .if2 .left) _
+    (c .before .before .before .before .before .code-at .ensures) (c .before .before .before .if3 .left) _
+    (c .user-row-good .ensures)
 
 pub rows-good-spec : {M : Type 1} → statement M
 rows-good-spec =

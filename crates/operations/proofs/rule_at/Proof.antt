@@ -1,3 +1,4 @@
+-- `operations::rule_at`. The part that is lent is the words from the place on.
 use Rattle.operations.proofs.RowSteps.{words-lent}
 use mathlib.Core.Path.{ap, _∙_}
 use Rattle.rules.specs.Answers.{boundedOf}

@@ -1,3 +1,4 @@
+-- `operations::rule_copy`. The words behind the count are the mixtures, and the unused ones are 0 (`words-copied`).
 use Rattle.operations.proofs.RowSteps.{words-copied}
 use borrow.Author.Needs.{needs}
 use Rattle.operations.proofs.rule_copy.Statement.{statement}

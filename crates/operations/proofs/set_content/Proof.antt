@@ -1,3 +1,4 @@
+-- `operations::set_content`. Two stores leave the row's kind and permit rule (`content-put`).
 use mathlib.Core.Path.{refl, ap, _∙_}
 use lib.ListN.{length, length-set}
 use native.Mathlib.Omega.{arith}
@@ -25,7 +26,11 @@ put-rule-requires : tie.Need-put-rule-requires
 put-rule-requires c κs = search needs
 
 same-length : tie.Need-same-length
-same-length c = ap length (content-put (c .before .before .before .before .before .args .row .now) (c .before .before .before .before .before .args .tag) (c .before .before .before .before .before .pre) (c .before .before .put-rule .last .0) (c .before .before .before .before .before .args .run) (c .before .before .put-rule .ensures)) ∙ content-long (c .before .before .before .before .before .args .row .now) (c .before .before .before .before .before .args .tag) (c .before .before .before .before .before .pre) (c .before .before .before .before .before .args .run) _ refl (search needs)
+same-length c =
+    let start = c .before .before .before .before .before in
+    ap length (content-put (start .args .row .now) (start .args .tag) (start .pre) (c .before .before .put-rule .last .0)
+    (start .args .run) (c .before .before .put-rule .ensures)) ∙ content-long (start .args .row .now)
+    (start .args .tag) (start .pre) (start .args .run) _ refl (search needs)
 
 returns : tie.Need-returns
 returns c = content-put (c .before .before .before .before .before .args .row .now) (c .before .before .before .before .before .args .tag) (c .before .before .before .before .before .pre) (c .before .before .put-rule .last .0) (c .before .before .before .before .before .args .run) (c .before .before .put-rule .ensures)

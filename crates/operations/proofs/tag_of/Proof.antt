@@ -1,3 +1,4 @@
+-- `operations::tag_of`. The tag is the second number of the row that the view has.
 use Rattle.operations.proofs.RowSteps.{tag-seen}
 use borrow.Author.Needs.{needs}
 use Rattle.operations.proofs.tag_of.Statement.{statement}

@@ -1,3 +1,4 @@
+-- `operations::update`. What `set_content` wrote is read back by the judgement.
 use Rattle.operations.proofs.RowSteps.{content-judged, content-answer}
 use borrow.Author.Needs.{needs}
 use Rattle.operations.proofs.update.Statement.{statement}
@@ -7,13 +8,22 @@ set-content-requires : tie.Need-set-content-requires
 set-content-requires c κs = search needs
 
 judged-requires : tie.Need-judged-requires
-judged-requires c κs = content-judged (c .before .before .before .before .before .before .args .row .now) (c .before .before .before .before .before .before .args .tag) (c .before .before .before .before .before .before .pre .0) (c .before .before .before .before .before .before .args .run) _ (c .before .before .before .set-content .ensures) (search needs) (c .before .before .before .before .before .before .pre .1)
+judged-requires c κs =
+    let start = c .before .before .before .before .before .before in
+    content-judged (start .args .row .now) (start .args .tag) (start .pre .0) (start .args .run) _
+    (c .before .before .before .set-content .ensures) (search needs) (start .pre .1)
 
 same-length : tie.Need-same-length
 same-length c = search needs
 
 returns : tie.Need-returns
-returns c = (content-answer (c .before .before .before .before .before .before .before .args .row .now) (c .before .before .before .before .before .before .before .args .tag) (c .before .before .before .before .before .before .before .pre .0) (c .before .before .before .before .before .before .before .args .run) _ (c .before .before .before .before .set-content .ensures) (c .before .before .before .before .before .before .before .args .receiver) _ (c .judged .ensures), c .before .before .before .before .set-content .ensures)
+returns c =
+    let start = c .before .before .before .before .before .before .before in (
+      content-answer (start .args .row .now) (start .args .tag) (start .pre .0) (start .args .run) _
+          (c .before .before .before .before .set-content .ensures) (start .args .receiver) _
+          (c .judged .ensures),
+      c .before .before .before .before .set-content .ensures,
+    )
 
 pub update-spec : {M : Type 1} → statement M
 update-spec = tie.close (tie.spec set-content-requires judged-requires same-length returns)

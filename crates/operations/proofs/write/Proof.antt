@@ -1,3 +1,4 @@
+-- `operations::write`. The process's tag and run rule replace the object's (`write-done`).
 use Rattle.operations.proofs.ReadyLaws.{ready-process, ready-object}
 use Rattle.operations.proofs.RowSteps.{run-kept, copied}
 use Rattle.operations.proofs.EffectLaws.{lent-fit, write-done}
@@ -55,7 +56,14 @@ same-length c = search needs
 
 returns : tie.Need-returns
 unfolding entry
-returns c = let start = c .before .before .before .before .before .before .before .before .before in let s = start .args .s .now in write-done s (start .args .p) (start .args .o) (start .pre) _ (copied s _ _ _ (run-kept s (start .args .p) (ready-process s (write (start .args .p) (start .args .o)) (start .pre))) (c .before .before .before .before .before .before .rule-at .ensures)) _ (c .before .before .before .before .tag-of .ensures) _ _ (c .before .before .update .ensures .0) (c .before .before .update .ensures .1)
+returns c =
+    let start = c .before .before .before .before .before .before .before .before .before in
+    let s = start .args .s .now in
+    write-done s (start .args .p) (start .args .o) (start .pre) _ (copied s _ _ _ (run-kept s (start .args .p)
+    (ready-process s (write (start .args .p) (start .args .o)) (start .pre)))
+    (c .before .before .before .before .before .before .rule-at .ensures)) _
+    (c .before .before .before .before .tag-of .ensures) _ _ (c .before .before .update .ensures .0)
+    (c .before .before .update .ensures .1)
 
 pub write-spec : {M : Type 1} → statement M
 write-spec =

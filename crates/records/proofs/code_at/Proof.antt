@@ -1,3 +1,4 @@
+-- `records::code_at`. The constant table is the paper's, row by row (`row-at`).
 use Rattle.records.proofs.CodeLaws.{row-at}
 use borrow.Author.Needs.{needs}
 use Rattle.records.proofs.code_at.Statement.{statement}

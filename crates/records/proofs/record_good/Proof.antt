@@ -1,3 +1,4 @@
+-- `records::record_good`. Condition by condition: the first that fails decides `recordGood`.
 use mathlib.Core.Path.{sym, _∙_}
 use native.Mathlib.Omega.{arith}
 use Rattle.fields.proofs.FieldLaws.{field-one}
@@ -29,13 +30,30 @@ user-fits-requires : tie.Need-user-fits-requires
 user-fits-requires c κs = search needs
 
 returns-5 : tie.Need-returns-5
-returns-5 c = user-wrong _ _ (c .before .before .before .before .before .before .before .before .request-of .ensures) (c .before .before .before .before .before .before .before .before .before .if1 .left) (c .before .before .before .before .before .before .if2 .left) (c .before .before .before .before .if3 .left) (sym (field-one _ 1 (omega arith)) ∙ (c .before .before .if4 .left)) (fails-test (c .before .user-fits .ensures) (c .if5 .taken))
+returns-5 c =
+    user-wrong _ _ (c .before .before .before .before .before .before .before .before .request-of .ensures)
+    (c .before .before .before .before .before .before .before .before .before .if1 .left)
+    (c .before .before .before .before .before .before .if2 .left) (c .before .before .before .before .if3 .left) (sym
+    (field-one _ 1 (omega arith)) ∙ (c .before .before .if4 .left)) (fails-test (c .before .user-fits .ensures)
+    (c .if5 .taken))
 
 returns-6 : tie.Need-returns-6
-returns-6 c = process-over _ _ (c .before .before .before .before .before .before .before .before .before .before .request-of .ensures) (c .before .before .before .before .before .before .before .before .before .before .before .if1 .left) (c .before .before .before .before .before .before .before .before .if2 .left) (c .before .before .before .before .before .before .if3 .left) (sym (field-one _ 1 (omega arith)) ∙ (c .before .before .before .before .if4 .left)) (passes-test (c .before .before .before .user-fits .ensures) (c .before .before .if5 .left)) (c .if6 .taken)
+returns-6 c =
+    process-over _ _ (c .before .before .before .before .before .before .before .before .before .before .request-of
+    .ensures) (c .before .before .before .before .before .before .before .before .before .before .before .if1 .left)
+    (c .before .before .before .before .before .before .before .before .if2 .left)
+    (c .before .before .before .before .before .before .if3 .left) (sym (field-one _ 1 (omega arith)) ∙
+    (c .before .before .before .before .if4 .left)) (passes-test (c .before .before .before .user-fits .ensures)
+    (c .before .before .if5 .left)) (c .if6 .taken)
 
 returns-7 : tie.Need-returns-7
-returns-7 c = by-object _ _ (c .before .before .before .before .before .before .before .before .before .before .before .request-of .ensures) (c .before .before .before .before .before .before .before .before .before .before .before .before .if1 .left) (c .before .before .before .before .before .before .before .before .before .if2 .left) (c .before .before .before .before .before .before .before .if3 .left) (sym (field-one _ 1 (omega arith)) ∙ (c .before .before .before .before .before .if4 .left)) (passes-test (c .before .before .before .before .user-fits .ensures) (c .before .before .before .if5 .left)) (c .before .if6 .left)
+returns-7 c =
+    by-object _ _ (c .before .before .before .before .before .before .before .before .before .before .before .request-of
+    .ensures) (c .before .before .before .before .before .before .before .before .before .before .before .before .if1
+    .left) (c .before .before .before .before .before .before .before .before .before .if2 .left)
+    (c .before .before .before .before .before .before .before .if3 .left) (sym (field-one _ 1 (omega arith)) ∙
+    (c .before .before .before .before .before .if4 .left)) (passes-test
+    (c .before .before .before .before .user-fits .ensures) (c .before .before .before .if5 .left)) (c .before .if6 .left)
 
 pub record-good-spec : {M : Type 1} → statement M
 record-good-spec =

@@ -1,3 +1,4 @@
+-- `records::request_of`. Field by field.
 use Rattle.records.proofs.TestLaws.{request-is}
 use borrow.Author.Needs.{needs}
 use Rattle.records.proofs.request_of.Statement.{statement}

@@ -1,3 +1,4 @@
+-- `records::user_fits`. By whether the code names a user.
 use Rattle.records.proofs.TestLaws.{user-named, user-unnamed}
 use borrow.Author.Needs.{needs}
 use Rattle.records.proofs.user_fits.Statement.{statement}
