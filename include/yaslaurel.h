@@ -9,18 +9,18 @@
  *
  *   0          accepted; for yaslaurel_step: quiet; for yaslaurel_matrix_verdict: consistent
  *   1          yaslaurel_matrix_verdict alone: not consistent
- *   18 or more the length of the image written, from the two functions that write one
+ *   a length   YASLAUREL_HEADER_LENGTH or more: of the image written, from the two functions that write one
  *   256        yaslaurel_step alone: alert
  *   1 to 15    otherwise: refused, with the number of the first condition that fails, in this order
  *
- *        9  the session is not 5,280 numbers, or the output is under 18,994 bytes
- *        1  the image is under 18 or over 20,480 bytes
- *        2  the image's leading 4, or the offsets and lengths of its four sections
+ *        9  the session is not YASLAUREL_SESSION_LENGTH numbers, or the output is under YASLAUREL_OUTPUT_LENGTH bytes
+ *        1  the image is under YASLAUREL_HEADER_LENGTH or over YASLAUREL_IMAGE_LIMIT bytes
+ *        2  the image's leading number, or the offsets and lengths of its four sections
  *        3  a section's length is no multiple of its record, or it has too many records
  *        4  a rule record of the image
  *        5  a container record of the image
  *        6  a user's rule number in the image
- *        7  the operation record: not 8 bytes, code, zero byte, user set wrongly, container over 255, user over 15
+ *        7  the operation record: length, code, zero byte, user set wrongly, container over 255, user over 15
  *        8  the matrix: row counts differ, 0 or over 8 subjects, 0 or over 32 objects, a bit beyond the objects
  *       10  a session row that the record names is not well formed
  *       11  p is no process
@@ -57,11 +57,53 @@
 extern "C" {
 #endif
 
-/* Lengths in elements. */
-#define YASLAUREL_SESSION_LENGTH 5280u /* numbers of 64 bits of a session */
-#define YASLAUREL_OUTPUT_LENGTH 18994u /* bytes that an output for an image must hold */
-#define YASLAUREL_IMAGE_LIMIT 20480u   /* bytes of the longest image */
-#define YASLAUREL_RECORD_LENGTH 8u     /* bytes of an operation record */
+/* The sizes of the formats and the places in them. Names that end in _AT are places, counted from 0. */
+
+/* A policy image, in bytes: the header, then the sections, counted from 0. */
+#define YASLAUREL_LEADING 4u         /* the number that an image begins with */
+#define YASLAUREL_HEADER_LENGTH 18u  /* also of the smallest image */
+#define YASLAUREL_IMAGE_LIMIT 20480u /* of the longest image */
+#define YASLAUREL_SECTIONS 4u
+#define YASLAUREL_OFFSET_AT(section) (2u + 4u * (section)) /* of a section, in the header */
+#define YASLAUREL_LENGTH_AT(section) (4u + 4u * (section))
+
+/* A record of each section, and how many there are at most. */
+#define YASLAUREL_CONTAINER_LENGTH 6u /* kind, atom, permit rule, run rule */
+#define YASLAUREL_USER_LENGTH 2u      /* rule */
+#define YASLAUREL_RULE_LENGTH 4u      /* first mixture, count */
+#define YASLAUREL_MIXTURE_LENGTH 8u
+#define YASLAUREL_CONTAINERS 256u
+#define YASLAUREL_USERS 16u
+#define YASLAUREL_RULES 256u
+#define YASLAUREL_MIXTURES 2048u
+#define YASLAUREL_RULE_MIXTURES 8u /* mixtures of one rule at most */
+
+/* What stands for none: no atom of a container, the unrestricted rule, no user of an operation. */
+#define YASLAUREL_NO_ATOM 255u
+#define YASLAUREL_UNRESTRICTED 65535u
+#define YASLAUREL_NO_USER 65535u
+
+/* Bytes that an output for an image must hold. */
+#define YASLAUREL_OUTPUT_LENGTH                                                                                        \
+    (YASLAUREL_HEADER_LENGTH + YASLAUREL_CONTAINERS * YASLAUREL_CONTAINER_LENGTH +                                     \
+     YASLAUREL_USERS * YASLAUREL_USER_LENGTH + YASLAUREL_RULES * YASLAUREL_RULE_LENGTH +                               \
+     YASLAUREL_MIXTURES * YASLAUREL_MIXTURE_LENGTH)
+
+/* An operation record, in bytes. */
+#define YASLAUREL_RECORD_LENGTH 8u
+#define YASLAUREL_CODE_AT 0u
+#define YASLAUREL_ZERO_AT 1u
+#define YASLAUREL_PROCESS_AT 2u
+#define YASLAUREL_OBJECT_AT 4u
+#define YASLAUREL_USER_AT 6u
+
+/* A session, in numbers of 64 bits: a row for each container, then one for each user. */
+#define YASLAUREL_CONTAINER_ROW 20u
+#define YASLAUREL_USER_ROW 10u
+#define YASLAUREL_USERS_AT (YASLAUREL_CONTAINERS * YASLAUREL_CONTAINER_ROW) /* the first user's row */
+#define YASLAUREL_SESSION_LENGTH (YASLAUREL_USERS_AT + YASLAUREL_USERS * YASLAUREL_USER_ROW)
+#define YASLAUREL_KIND_AT 0u /* in a container's row */
+#define YASLAUREL_TAG_AT 1u
 
 /* Answers that are no refusals. */
 #define YASLAUREL_ACCEPTED 0u
@@ -95,12 +137,13 @@ uint32_t yaslaurel_image_check(const uint8_t *image, size_t image_len);
 /*
  * Writes the normal image of a policy image to the front of `out`; the bytes behind it stay. Two accepted images have
  * the same normal image exactly when they start equal sessions.
- * The length of the normal image (18 to 18,994), else 9, then 1 to 6. The two ranges do not meet.
+ * The length of the normal image (YASLAUREL_HEADER_LENGTH to YASLAUREL_OUTPUT_LENGTH), else 9, then 1 to 6. The two
+ * ranges do not meet.
  */
 uint32_t yaslaurel_image_normalise(const uint8_t *image, size_t image_len, uint8_t *out, size_t out_len);
 
 /*
- * Starts a session: fills all 5,280 numbers from the policy image, whatever stood there.
+ * Starts a session: fills all its numbers from the policy image, whatever stood there.
  * 0 if the image is accepted, else 9, then 1 to 6.
  */
 uint32_t yaslaurel_session_start(const uint8_t *image, size_t image_len, uint64_t *session, size_t session_len);
@@ -124,7 +167,7 @@ uint32_t yaslaurel_matrix_verdict(const uint32_t *reads, size_t reads_len, const
 
 /*
  * Writes the policy image that an access matrix stands for to the front of `out`; the bytes behind it stay.
- * The length of the image (18 or more), else 9, then 8.
+ * The length of the image (YASLAUREL_HEADER_LENGTH or more), else 9, then 8.
  */
 uint32_t yaslaurel_matrix_policy(const uint32_t *reads, size_t reads_len, const uint32_t *writes, size_t writes_len,
                                  uint32_t objects, uint8_t *out, size_t out_len);

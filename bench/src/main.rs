@@ -22,7 +22,10 @@ use std::{env, fs};
 
 use plain::{Natural, Tuned};
 use race::{median, race, Outcome, Variant};
-use yaslaurel::ffi;
+use yaslaurel::layout::image::{CONTAINERS, HEADER};
+use yaslaurel::layout::record;
+use yaslaurel::layout::session::{container, rule, KIND, PERMIT, RULE_MIXTURES, RUN};
+use yaslaurel::{ffi, OUTPUT_LENGTH, SESSION_LENGTH};
 
 const ROUNDS: usize = 31;
 
@@ -82,11 +85,11 @@ const STEPS: [(&str, Step); 4] = [
 
 /// A race over records, each variant on its own copy of the session. All of them are refused with that number, or none
 /// for 0.
-fn steps(session: &[u64], records: &[[u8; 8]], refusal: u32) -> Outcome {
+fn steps(session: &[u64], records: &[[u8; record::LENGTH]], refusal: u32) -> Outcome {
     let mut trial = session.to_vec();
     for record in records {
         let (number, ..) = judge_step(&mut trial, record);
-        let refused = if number == 256 { 0 } else { number };
+        let refused = if number == ffi::ALERT { 0 } else { number };
         assert_eq!(refused, refusal, "the records are what the table says");
     }
     let mut copies: Vec<std::cell::RefCell<Vec<u64>>> = Vec::new();
@@ -110,7 +113,7 @@ fn steps(session: &[u64], records: &[[u8; 8]], refusal: u32) -> Outcome {
 }
 
 fn started(image: &[u8]) -> Vec<u64> {
-    let mut session = vec![0; 5_280];
+    let mut session = vec![0; SESSION_LENGTH];
     assert_eq!(judge::session::start(image, &mut session), 0, "the policy is accepted");
     session
 }
@@ -129,19 +132,19 @@ fn operations() {
         let session = started(&work::policy(mixtures, variants));
         line(name, &steps(&session, &work::records(&[1, 1, 2, 3, 4], 1_024), 0));
     }
-    let refused = |change: fn(&mut [u8; 8])| {
+    let refused = |change: fn(&mut [u8; record::LENGTH])| {
         let mut records = work::records(&[1], 1_024);
         records.iter_mut().for_each(change);
         records
     };
-    line("refused with 7", &steps(&one, &refused(|record| record[0] = 9), 7));
-    line("refused with 11", &steps(&one, &refused(|record| record[2] = record[4]), 11));
-    line("refused with 12", &steps(&one, &refused(|record| record[4] = record[2]), 12));
+    line("refused with 7", &steps(&one, &refused(|bytes| bytes[record::CODE] = 200), 7));
+    line("refused with 11", &steps(&one, &refused(|bytes| bytes[record::PROCESS] = bytes[record::OBJECT]), 11));
+    line("refused with 12", &steps(&one, &refused(|bytes| bytes[record::OBJECT] = bytes[record::PROCESS]), 12));
     let mut damaged = one.clone();
-    (0..256).for_each(|row| damaged[20 * row] = 7);
+    (0..CONTAINERS.most).for_each(|number| damaged[container(number)][KIND] = 7);
     line("refused with 10", &steps(&damaged, &work::records(&[1], 1_024), 10));
     let wide: Vec<u64> = over_eight();
-    let reads: Vec<[u8; 8]> = (0..1_024).map(|_| work::record(1, 1, 0, 65535)).collect();
+    let reads = vec![work::record(1, 1, 0, record::NO_USER); 1_024];
     line("refused with 15", &steps(&wide, &reads, 15));
 
     head("One read, by the mixtures of its rules", "mixtures");
@@ -153,15 +156,14 @@ fn operations() {
 
 /// A session whose process 1 and file 0 have run rules that meet in more than 8 mixtures.
 fn over_eight() -> Vec<u64> {
-    let all_but = |from: usize| (from..from + 8).map(|k| !(1u64 << k)).rev().collect::<Vec<u64>>();
-    let mut session = vec![0; 5_280];
-    for (row, kind, rule) in [(0, 1, all_but(8)), (1, 3, all_but(16))] {
-        let words = &mut session[20 * row..20 * row + 20];
-        words[0] = kind;
-        words[2] = 1;
-        words[3] = u64::MAX;
-        words[11] = 8;
-        words[12..20].copy_from_slice(&rule);
+    let all_but = |from: usize| (from..from + RULE_MIXTURES).map(|k| !(1u64 << k)).rev().collect::<Vec<u64>>();
+    let mut session = vec![0; SESSION_LENGTH];
+    for (number, kind, run) in [(0, 1, all_but(8)), (1, 3, all_but(16))] {
+        let row = &mut session[container(number)];
+        row[KIND] = kind;
+        row[rule(PERMIT)][..2].copy_from_slice(&[1, u64::MAX]);
+        row[RUN] = run.len() as u64;
+        row[rule(RUN)][1..].copy_from_slice(&run);
     }
     session
 }
@@ -198,16 +200,16 @@ fn images(list: &[(String, Vec<u8>)]) {
     }
     head("Session start", "image");
     for (name, image) in list {
-        let mut sessions = vec![vec![0u64; 5_280]; 4];
+        let mut sessions = vec![vec![0u64; SESSION_LENGTH]; 4];
         let [a, b, c, d] = &mut sessions[..] else { unreachable!() };
         let outcome = on_image(
             image,
             200_000 / (image.len() + 200),
             vec![
-                ("library", Box::new(|i| u64::from(library_start(i, a)) ^ a[3])),
-                ("judge", Box::new(|i| u64::from(judge::session::start(i, b)) ^ b[3])),
-                ("natural", Box::new(|i| u64::from(plain::start::<Natural>(i, c)) ^ c[3])),
-                ("tuned", Box::new(|i| u64::from(plain::start::<Tuned>(i, d)) ^ d[3])),
+                ("library", Box::new(|i| u64::from(library_start(i, a)) ^ a[PERMIT + 1])),
+                ("judge", Box::new(|i| u64::from(judge::session::start(i, b)) ^ b[PERMIT + 1])),
+                ("natural", Box::new(|i| u64::from(plain::start::<Natural>(i, c)) ^ c[PERMIT + 1])),
+                ("tuned", Box::new(|i| u64::from(plain::start::<Tuned>(i, d)) ^ d[PERMIT + 1])),
             ],
         );
         line(name, &outcome);
@@ -215,7 +217,7 @@ fn images(list: &[(String, Vec<u8>)]) {
     }
     head("Normaliser", "image");
     for (name, image) in list {
-        let mut outs = vec![vec![0u8; 18_994]; 4];
+        let mut outs = vec![vec![0u8; OUTPUT_LENGTH]; 4];
         let [a, b, c, d] = &mut outs[..] else { unreachable!() };
         let outcome = on_image(
             image,
@@ -271,7 +273,7 @@ fn matrices() {
     }
     head("Derived policy", "matrix");
     for (name, reads, writes, objects) in &list {
-        let mut outs = vec![vec![0u8; 18_994]; 2];
+        let mut outs = vec![vec![0u8; OUTPUT_LENGTH]; 2];
         let [a, b] = &mut outs[..] else { unreachable!() };
         let length = |refused: Result<usize, yaslaurel::Refusal>| refused.map_or(0, |length| length as u64);
         let outcome = on_image(
@@ -290,9 +292,9 @@ fn matrices() {
 /// Records for whole runs: all codes, one in ten refused.
 fn whole_trace(count: usize) -> Vec<u8> {
     let mut records = work::records(&[1, 1, 2, 3, 4], count);
-    for (i, record) in records.iter_mut().enumerate() {
+    for (i, bytes) in records.iter_mut().enumerate() {
         if i % 10 == 0 {
-            record[0] = [9, 5, 1][i / 10 % 3];
+            bytes[record::CODE] = [200, 5, 1][i / 10 % 3];
         }
     }
     records.concat()
@@ -308,7 +310,10 @@ fn growth() {
             .map(|_| {
                 let mut words = session.clone();
                 let begun = Instant::now();
-                let alerts = trace.chunks(8).filter(|record| library_step(&mut words, record).0 == 256).count();
+                let alerts = trace
+                    .chunks(record::LENGTH)
+                    .filter(|bytes| library_step(&mut words, bytes).0 == ffi::ALERT)
+                    .count();
                 std::hint::black_box(alerts);
                 begun.elapsed().as_nanos() as f64 / count as f64
             })
@@ -320,7 +325,7 @@ fn growth() {
 /// The watch program in natural Rust.
 fn listing() -> io::Result<()> {
     let policy = fs::read("policy.bin").unwrap_or_default();
-    let mut session = vec![0; 5_280];
+    let mut session = vec![0; SESSION_LENGTH];
     let mut out = BufWriter::with_capacity(1 << 16, io::stdout().lock());
     let refused = plain::start::<Natural>(&policy, &mut session);
     if refused != 0 {
@@ -333,7 +338,7 @@ fn listing() -> io::Result<()> {
     writeln!(out, "step op p o verdict at tag")?;
     let words = ["other", "read", "write", "append", "exec", "fork", "file", "volatile"];
     let (mut step, mut alerts, mut refusals) = (0u64, 0u64, 0u64);
-    for record in trace.chunks(8) {
+    for record in trace.chunks(record::LENGTH) {
         step += 1;
         let (number, receiver, tag) = plain::step::<Natural>(&mut session, record);
         let (word, p, o) = match *record {
@@ -344,8 +349,8 @@ fn listing() -> io::Result<()> {
             _ => ("other", 0, 0),
         };
         match number {
-            0 => writeln!(out, "{step} {word} {p} {o} quiet {receiver} {tag:016x}")?,
-            256 => {
+            ffi::QUIET => writeln!(out, "{step} {word} {p} {o} quiet {receiver} {tag:016x}")?,
+            ffi::ALERT => {
                 alerts += 1;
                 writeln!(out, "{step} {word} {p} {o} alert {receiver} {tag:016x}")?;
             }
@@ -408,10 +413,10 @@ fn main() -> io::Result<()> {
     println!("Ratios are the library's time by the other's, medians of {ROUNDS} rounds in which all run by turns.");
     operations();
     images(&[
-        ("smallest, 18 bytes".into(), work::image(&[], &[], &[])),
+        (format!("smallest, {HEADER} bytes"), work::image(&[], &[], &[])),
         ("typical, 160 containers, rules of 1".into(), work::policy(1, 6)),
         ("typical, 160 containers, rules of 8".into(), work::policy(8, 6)),
-        ("largest, 18,994 bytes".into(), work::policy_of_files(256, 8, 5)),
+        (format!("largest, {OUTPUT_LENGTH} bytes"), work::policy_of_files(CONTAINERS.most, RULE_MIXTURES, 5)),
     ]);
     println!("\nBy the number of files, each with rules of 2 mixtures of its own:");
     let sizes = [1, 4, 16, 64, 256];

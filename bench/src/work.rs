@@ -1,5 +1,8 @@
 //! What is timed: sessions, records, images and matrices of several sizes.
 
+use yaslaurel::layout::image::{HEADER, LEADING, NO_ATOM, UNRESTRICTED, USERS};
+use yaslaurel::layout::record;
+
 /// A small generator of random numbers.
 pub struct Random(pub u64);
 
@@ -33,23 +36,24 @@ pub fn rule(mixtures: usize, variant: usize) -> Vec<u64> {
 /// An image: containers as (kind, atom, permit, run), users, rules.
 pub fn image(containers: &[(u8, u8, u16, u16)], users: &[u16], rules: &[Vec<u64>]) -> Vec<u8> {
     let mut sections: [Vec<u8>; 4] = Default::default();
+    let [for_containers, for_users, for_rules, for_mixtures] = &mut sections;
     for (kind, atom, permit, run) in containers {
-        sections[0].extend([*kind, *atom]);
-        sections[0].extend(permit.to_le_bytes());
-        sections[0].extend(run.to_le_bytes());
+        for_containers.extend([*kind, *atom]);
+        for_containers.extend(permit.to_le_bytes());
+        for_containers.extend(run.to_le_bytes());
     }
     for user in users {
-        sections[1].extend(user.to_le_bytes());
+        for_users.extend(user.to_le_bytes());
     }
     let mut first = 0u16;
     for rule in rules {
-        sections[2].extend(first.to_le_bytes());
-        sections[2].extend((rule.len() as u16).to_le_bytes());
-        sections[3].extend(rule.iter().flat_map(|mixture| mixture.to_le_bytes()));
+        for_rules.extend(first.to_le_bytes());
+        for_rules.extend((rule.len() as u16).to_le_bytes());
+        for_mixtures.extend(rule.iter().flat_map(|mixture| mixture.to_le_bytes()));
         first += rule.len() as u16;
     }
-    let mut bytes = vec![4, 0];
-    let mut offset = 18;
+    let mut bytes = LEADING.to_le_bytes().to_vec();
+    let mut offset = HEADER;
     for section in &sections {
         bytes.extend((offset as u16).to_le_bytes());
         bytes.extend((section.len() as u16).to_le_bytes());
@@ -66,8 +70,8 @@ pub fn policy(mixtures: usize, variants: usize) -> Vec<u8> {
         let number = (i % variants) as u16;
         containers.push((1, (i % 32) as u8, number, number));
     }
-    containers.extend([(2, 255, 65535, 65535); 20]);
-    containers.extend([(3, 255, 65535, 65535); 40]);
+    containers.extend([(2, NO_ATOM, UNRESTRICTED, UNRESTRICTED); 20]);
+    containers.extend([(3, NO_ATOM, UNRESTRICTED, UNRESTRICTED); 40]);
     let rules: Vec<Vec<u64>> = (0..variants).map(|v| rule(mixtures, if variants == 1 { 0 } else { v + 1 })).collect();
     image(&containers, &[0, 0, 0, 0], &rules)
 }
@@ -78,24 +82,24 @@ pub fn policy_of_files(files: usize, mixtures: usize, seed: u64) -> Vec<u8> {
     let rules: Vec<Vec<u64>> = (0..files).map(|_| (0..mixtures).map(|_| r.word()).collect()).collect();
     let number = |i: usize| i as u16;
     let containers: Vec<_> = (0..files).map(|i| (1, (i % 32) as u8, number(i), number(files - 1 - i))).collect();
-    let users: Vec<u16> = (0..files.min(16)).map(number).collect();
+    let users: Vec<u16> = (0..files.min(USERS.most)).map(number).collect();
     image(&containers, &users, &rules)
 }
 
 /// The bytes of a record.
-pub fn record(code: u8, p: usize, o: usize, u: u16) -> [u8; 8] {
+pub fn record(code: u8, p: usize, o: usize, u: u16) -> [u8; record::LENGTH] {
     let [u0, u1] = u.to_le_bytes();
     [code, 0, p as u8, 0, o as u8, 0, u0, u1]
 }
 
 /// Records of the given codes on a session of [`policy`], none of them refused.
-pub fn records(codes: &[u8], count: usize) -> Vec<[u8; 8]> {
+pub fn records(codes: &[u8], count: usize) -> Vec<[u8; record::LENGTH]> {
     let mut r = Random(7);
     (0..count)
         .map(|_| {
             let code = codes[r.below(codes.len())];
             let o = if code == 4 { r.below(100) } else { r.below(120) };
-            let u = if code == 4 { r.below(4) as u16 } else { 65535 };
+            let u = if code == 4 { r.below(4) as u16 } else { record::NO_USER };
             record(code, 120 + r.below(40), o, u)
         })
         .collect()

@@ -1,6 +1,10 @@
 //! The functions of `include/yaslaurel.h` as they are. What a caller owes stands there; a Rust slice, even an empty
 //! one, always keeps it.
 
+/// Answers of [`yaslaurel_step`] that are no refusals.
+pub const QUIET: u32 = 0;
+pub const ALERT: u32 = 256;
+
 extern "C" {
     pub fn yaslaurel_image_check(image: *const u8, image_len: usize) -> u32;
     pub fn yaslaurel_image_normalise(image: *const u8, image_len: usize, out: *mut u8, out_len: usize) -> u32;

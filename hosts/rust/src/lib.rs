@@ -1,7 +1,7 @@
 //! Safe Rust interface of Yaslaurel, a proved information-flow monitor.
 //!
 //! A policy says which mixtures of sources each file, user and program may take in. The host reports each operation as
-//! a record of 8 bytes; the monitor keeps, for every container, the set of sources that its content came from, and
+//! a record of a few bytes; the monitor keeps, for every container, the set of sources that its content came from, and
 //! answers [`Verdict::Alert`] when a mixture lands where the policy forbids it.
 //!
 //! ```
@@ -26,6 +26,7 @@
 //! is a [`Refusal`]. The others bring their own.
 
 pub mod ffi;
+pub mod layout;
 mod operation;
 mod refusal;
 
@@ -35,10 +36,10 @@ pub use operation::Operation;
 pub use refusal::Refusal;
 
 /// Numbers of 64 bits in a session.
-pub const SESSION_LENGTH: usize = 5_280;
+pub const SESSION_LENGTH: usize = layout::session::LENGTH;
 
 /// Bytes that an output for an image must hold.
-pub const OUTPUT_LENGTH: usize = 18_994;
+pub const OUTPUT_LENGTH: usize = layout::image::LONGEST_NORMAL;
 
 /// What the monitor says of an accepted operation.
 #[derive(Clone, Copy, Debug, PartialEq, Eq, Hash)]
@@ -89,10 +90,10 @@ fn refusal(number: u32) -> Refusal {
     Refusal::from_number(number).expect("the library's contract gives no other number")
 }
 
-/// An image's length, or a refusal: every image has 18 bytes or more.
+/// An image's length, or a refusal: no number of a refusal is as large as a header is long.
 #[inline]
 fn length(number: u32) -> Result<usize, Refusal> {
-    if number < 18 {
+    if (number as usize) < layout::image::HEADER {
         Err(refusal(number))
     } else {
         Ok(number as usize)
@@ -102,11 +103,12 @@ fn length(number: u32) -> Result<usize, Refusal> {
 /// Checks a policy image.
 ///
 /// ```
-/// use yaslaurel::{check, Refusal};
-/// let empty = [4, 0, 18, 0, 0, 0, 18, 0, 0, 0, 18, 0, 0, 0, 18, 0, 0, 0];
-/// assert_eq!(check(&empty), Ok(()));
-/// assert_eq!(check(&empty[..17]), Err(Refusal::ImageLength));
+/// use yaslaurel::{check, matrix_policy, Refusal};
+/// let image = matrix_policy(&[1], &[1], 1)?;
+/// assert_eq!(check(&image), Ok(()));
+/// assert_eq!(check(&image[1..]), Err(Refusal::Sections));
 /// assert_eq!(check(&[]), Err(Refusal::ImageLength));
+/// # Ok::<(), Refusal>(())
 /// ```
 #[inline]
 pub fn check(image: &[u8]) -> Result<(), Refusal> {
@@ -121,8 +123,8 @@ pub fn check(image: &[u8]) -> Result<(), Refusal> {
 ///
 /// ```
 /// // One byte behind the last section is ignored.
-/// let image = [4, 0, 18, 0, 0, 0, 18, 0, 0, 0, 18, 0, 0, 0, 18, 0, 0, 0, 99];
-/// assert_eq!(yaslaurel::normalise(&image)?, image[..18]);
+/// let image = yaslaurel::matrix_policy(&[1], &[1], 1)?;
+/// assert_eq!(yaslaurel::normalise(&[&image[..], &[99]].concat())?, image);
 /// # Ok::<(), yaslaurel::Refusal>(())
 /// ```
 pub fn normalise(image: &[u8]) -> Result<Vec<u8>, Refusal> {
@@ -136,10 +138,11 @@ pub fn normalise(image: &[u8]) -> Result<Vec<u8>, Refusal> {
 /// length. The bytes behind it stay; a refusal changes none.
 ///
 /// ```
-/// use yaslaurel::{normalise_into, Refusal};
-/// let empty = [4, 0, 18, 0, 0, 0, 18, 0, 0, 0, 18, 0, 0, 0, 18, 0, 0, 0];
-/// assert_eq!(normalise_into(&empty, &mut vec![0; 18_994]), Ok(18));
-/// assert_eq!(normalise_into(&empty, &mut vec![0; 18_993]), Err(Refusal::LentLength));
+/// use yaslaurel::{matrix_policy, normalise_into, Refusal, OUTPUT_LENGTH};
+/// let image = matrix_policy(&[1], &[1], 1)?;
+/// assert_eq!(normalise_into(&image, &mut vec![0; OUTPUT_LENGTH]), Ok(image.len()));
+/// assert_eq!(normalise_into(&image, &mut vec![0; OUTPUT_LENGTH - 1]), Err(Refusal::LentLength));
+/// # Ok::<(), Refusal>(())
 /// ```
 #[inline]
 pub fn normalise_into(image: &[u8], out: &mut [u8]) -> Result<usize, Refusal> {
@@ -167,8 +170,8 @@ pub fn step_in(session: &mut [u64], record: &[u8]) -> Result<Answer, Refusal> {
         ffi::yaslaurel_step(session.as_mut_ptr(), session.len(), record.as_ptr(), record.len(), &mut receiver, &mut tag)
     };
     let verdict = match number {
-        0 => Verdict::Quiet,
-        256 => Verdict::Alert,
+        ffi::QUIET => Verdict::Quiet,
+        ffi::ALERT => Verdict::Alert,
         number => return Err(refusal(number)),
     };
     Ok(Answer { verdict, receiver: receiver as u8, tag })
@@ -184,11 +187,11 @@ impl Session {
     /// Starts a session from a policy image.
     ///
     /// ```
-    /// use yaslaurel::{Refusal, Session};
-    /// let empty = [4, 0, 18, 0, 0, 0, 18, 0, 0, 0, 18, 0, 0, 0, 18, 0, 0, 0];
-    /// let session = Session::start(&empty)?;
-    /// assert!(session.words().iter().all(|&word| word == 0));
-    /// assert_eq!(Session::start(&empty[1..]), Err(Refusal::ImageLength));
+    /// use yaslaurel::{layout, matrix_policy, Refusal, Session};
+    /// let session = Session::start(&matrix_policy(&[0b11], &[0b10], 2)?)?;
+    /// let row = &session.words()[layout::session::container(1)];
+    /// assert_eq!(row[layout::session::TAG], 0b10, "file 1 holds its own atom");
+    /// assert_eq!(Session::start(&[]), Err(Refusal::ImageLength));
     /// # Ok::<(), Refusal>(())
     /// ```
     pub fn start(image: &[u8]) -> Result<Session, Refusal> {
@@ -214,7 +217,8 @@ impl Session {
         step_in(&mut self.words[..], record)
     }
 
-    /// The numbers of the session: 256 container rows of 20, then 16 user rows of 10.
+    /// The numbers of the session: the rows of the containers, then those of the users, as [`layout::session`] has
+    /// them.
     pub fn words(&self) -> &[u64; SESSION_LENGTH] {
         &self.words
     }
@@ -223,9 +227,9 @@ impl Session {
     /// names a row that is not well formed is refused with [`Refusal::Row`].
     ///
     /// ```
-    /// use yaslaurel::{Operation, Refusal, Session};
-    /// let mut words = vec![0; 5_280];
-    /// words[0] = 7;
+    /// use yaslaurel::{layout, Operation, Refusal, Session, SESSION_LENGTH};
+    /// let mut words = vec![0; SESSION_LENGTH];
+    /// words[layout::session::KIND] = 7;
     /// let mut session = Session::from_words(words.try_into().unwrap());
     /// let record = Operation::Read { process: 0, object: 1 }.record();
     /// assert_eq!(session.step(&record), Err(Refusal::Row));
@@ -237,8 +241,10 @@ impl Session {
 
 impl fmt::Debug for Session {
     fn fmt(&self, f: &mut fmt::Formatter<'_>) -> fmt::Result {
-        let taken = self.words[..5_120].chunks(20).filter(|row| row[0] != 0).count();
-        let declared = self.words[5_120..].chunks(10).filter(|row| row[0] != 0).count();
+        let (containers, users) = self.words.split_at(layout::session::USERS_AT);
+        let taken = containers.chunks(layout::session::CONTAINER_ROW).filter(|row| row[layout::session::KIND] != 0);
+        let declared = users.chunks(layout::session::USER_ROW).filter(|row| row[layout::session::DECLARED] != 0);
+        let (taken, declared) = (taken.count(), declared.count());
         write!(f, "Session {{ {taken} containers, {declared} users }}")
     }
 }

@@ -1,3 +1,5 @@
+use crate::layout::record;
+
 /// One operation that a host reports, with the numbers of its containers and, where there is one, of its user.
 ///
 /// ```
@@ -27,9 +29,9 @@ pub enum Operation {
 }
 
 impl Operation {
-    /// The record of 8 bytes that [`Session::step`](crate::Session::step) takes.
+    /// The record that [`Session::step`](crate::Session::step) takes.
     #[inline]
-    pub fn record(self) -> [u8; 8] {
+    pub fn record(self) -> [u8; record::LENGTH] {
         let (code, process, object, user) = match self {
             Operation::Read { process, object } => (1, process, object, None),
             Operation::Write { process, object } => (2, process, object, None),
@@ -39,7 +41,7 @@ impl Operation {
             Operation::NewFile { process, file, user } => (6, process, file, Some(user)),
             Operation::NewVolatile { process, volatile } => (7, process, volatile, None),
         };
-        let [low, high] = user.map_or(u16::MAX, u16::from).to_le_bytes();
+        let [low, high] = user.map_or(record::NO_USER, u16::from).to_le_bytes();
         [code, 0, process, 0, object, 0, low, high]
     }
 }

@@ -7,17 +7,17 @@ use std::fmt;
 ///
 /// ```
 /// use yaslaurel::Refusal;
-/// assert_eq!(yaslaurel::check(&[4, 0]), Err(Refusal::ImageLength));
+/// assert_eq!(yaslaurel::check(&[]), Err(Refusal::ImageLength));
 /// assert_eq!(Refusal::ImageLength.number(), 1);
-/// assert_eq!(Refusal::ImageLength.to_string(), "refused 1: the image is under 18 or over 20,480 bytes");
+/// assert_eq!(Refusal::ImageLength.to_string(), "refused 1: the image is too short or too long");
 /// ```
 #[derive(Clone, Copy, Debug, PartialEq, Eq, Hash, PartialOrd, Ord)]
 #[non_exhaustive]
 #[repr(u32)]
 pub enum Refusal {
-    /// The image is under 18 or over 20,480 bytes.
+    /// The image is under [`HEADER`](crate::layout::image::HEADER) or over [`LIMIT`](crate::layout::image::LIMIT) bytes.
     ImageLength = 1,
-    /// The image's leading 4, or the offsets and lengths of its four sections.
+    /// The image's leading number, or the offsets and lengths of its four sections.
     Sections = 2,
     /// A section's length is no multiple of its record's size, or it has too many records.
     RecordCount = 3,
@@ -27,12 +27,13 @@ pub enum Refusal {
     ContainerRecord = 5,
     /// A user's rule number in the image.
     UserRule = 6,
-    /// The operation record: not 8 bytes, unknown code, second byte not 0, user set wrongly, container over 255 or
+    /// The operation record: its length, unknown code, second byte not 0, user set wrongly, container over 255 or
     /// user over 15.
     OperationRecord = 7,
     /// The matrix: row counts differ, 0 or over 8 subjects, 0 or over 32 objects, or a bit beyond the objects.
     Matrix = 8,
-    /// The session is not 5,280 numbers, or the output is under 18,994 bytes.
+    /// The session is not [`SESSION_LENGTH`](crate::SESSION_LENGTH) numbers, or the output is under
+    /// [`OUTPUT_LENGTH`](crate::OUTPUT_LENGTH) bytes.
     LentLength = 9,
     /// A session row that the record names is not well formed.
     Row = 10,
@@ -92,15 +93,15 @@ impl Refusal {
     /// What the number means, in a few words.
     pub fn meaning(self) -> &'static str {
         match self {
-            Refusal::ImageLength => "the image is under 18 or over 20,480 bytes",
-            Refusal::Sections => "the image's leading 4 or the offsets and lengths of its sections",
+            Refusal::ImageLength => "the image is too short or too long",
+            Refusal::Sections => "the image's leading number or the offsets and lengths of its sections",
             Refusal::RecordCount => "a section's length is no multiple of its record, or it has too many records",
             Refusal::RuleRecord => "a rule record of the image",
             Refusal::ContainerRecord => "a container record of the image",
             Refusal::UserRule => "a user's rule number in the image",
             Refusal::OperationRecord => "the operation record",
             Refusal::Matrix => "the matrix",
-            Refusal::LentLength => "the session is not 5,280 numbers or the output under 18,994 bytes",
+            Refusal::LentLength => "the session has a wrong length or the output is too short",
             Refusal::Row => "a session row that the record names is not well formed",
             Refusal::NoProcess => "p is no process",
             Refusal::WrongKind => "o is of the wrong kind",

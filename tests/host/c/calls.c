@@ -20,7 +20,13 @@ static void check(int good, const char *text)
     }
 }
 
-enum { SESSION = YASLAUREL_SESSION_LENGTH, OUTPUT = YASLAUREL_OUTPUT_LENGTH, MARK = 0x5a };
+enum {
+    SESSION = YASLAUREL_SESSION_LENGTH,
+    OUTPUT = YASLAUREL_OUTPUT_LENGTH,
+    HEADER = YASLAUREL_HEADER_LENGTH,
+    RECORD = YASLAUREL_RECORD_LENGTH,
+    MARK = 0x5a
+};
 
 static uint64_t session[SESSION + 1];
 static uint64_t before[SESSION + 1];
@@ -48,8 +54,14 @@ static int out_stayed_from(size_t from)
     return 1;
 }
 
-/* The empty policy: 4, then four empty sections at 18. */
-static const uint8_t empty[18] = {4, 0, 18, 0, 0, 0, 18, 0, 0, 0, 18, 0, 0, 0, 18, 0, 0, 0};
+/* The empty policy: four empty sections behind the header. */
+static const uint8_t empty[HEADER] = {
+    [0] = YASLAUREL_LEADING,
+    [YASLAUREL_OFFSET_AT(0)] = HEADER,
+    [YASLAUREL_OFFSET_AT(1)] = HEADER,
+    [YASLAUREL_OFFSET_AT(2)] = HEADER,
+    [YASLAUREL_OFFSET_AT(3)] = HEADER,
+};
 
 /* The matrix of the paper's example. */
 static const uint32_t reads[3] = {5, 3, 2};
@@ -58,34 +70,34 @@ static const uint32_t writes[3] = {1, 2, 10};
 static void lengths(void)
 {
     uint64_t receiver = 11, tag = 22;
-    const uint8_t record[9] = {4, 0, 0, 0, 0, 0, 0, 0, 0};
+    const uint8_t record[RECORD + 1] = {4};
 
     mark_session();
-    check(yaslaurel_session_start(empty, 18, session, SESSION - 1) == 9, "start: session one short");
-    check(yaslaurel_session_start(empty, 18, session, SESSION + 1) == 9, "start: session one long");
-    check(yaslaurel_session_start(empty, 18, session, 0) == 9, "start: session of length 0");
-    check(yaslaurel_session_start(empty, 17, session, SESSION) == 1, "start: image one short");
-    check(yaslaurel_session_start(empty, 17, session, SESSION - 1) == 9, "start: 9 comes before 1");
-    check(yaslaurel_step(session, SESSION - 1, record, 8, &receiver, &tag) == 9, "step: session one short");
-    check(yaslaurel_step(session, SESSION, record, 7, &receiver, &tag) == 7, "step: record one short");
-    check(yaslaurel_step(session, SESSION, record, 9, &receiver, &tag) == 7, "step: record one long");
+    check(yaslaurel_session_start(empty, HEADER, session, SESSION - 1) == 9, "start: session one short");
+    check(yaslaurel_session_start(empty, HEADER, session, SESSION + 1) == 9, "start: session one long");
+    check(yaslaurel_session_start(empty, HEADER, session, 0) == 9, "start: session of length 0");
+    check(yaslaurel_session_start(empty, HEADER - 1, session, SESSION) == 1, "start: image one short");
+    check(yaslaurel_session_start(empty, HEADER - 1, session, SESSION - 1) == 9, "start: 9 comes before 1");
+    check(yaslaurel_step(session, SESSION - 1, record, RECORD, &receiver, &tag) == 9, "step: session one short");
+    check(yaslaurel_step(session, SESSION, record, RECORD - 1, &receiver, &tag) == 7, "step: record one short");
+    check(yaslaurel_step(session, SESSION, record, RECORD + 1, &receiver, &tag) == 7, "step: record one long");
     check(yaslaurel_step(session, SESSION, record, 0, &receiver, &tag) == 7, "step: record of length 0");
     check(yaslaurel_step(session, 0, record, 0, &receiver, &tag) == 9, "step: 9 comes before 7");
-    check(yaslaurel_step(session, SESSION, record, 8, &receiver, &tag) == 10, "step: rows that are not well formed");
+    check(yaslaurel_step(session, SESSION, record, RECORD, &receiver, &tag) == 10, "step: rows not well formed");
     check(session_stayed(), "refused calls leave the session");
     check(receiver == 11 && tag == 22, "refused calls leave receiver and tag");
 
     mark_out();
-    check(yaslaurel_image_normalise(empty, 18, out, OUTPUT - 1) == 9, "normalise: output one short");
-    check(yaslaurel_image_normalise(empty, 18, out, 0) == 9, "normalise: output of length 0");
+    check(yaslaurel_image_normalise(empty, HEADER, out, OUTPUT - 1) == 9, "normalise: output one short");
+    check(yaslaurel_image_normalise(empty, HEADER, out, 0) == 9, "normalise: output of length 0");
     check(yaslaurel_image_normalise(empty, 0, out, OUTPUT) == 1, "normalise: image of length 0");
     check(yaslaurel_matrix_policy(reads, 3, writes, 3, 4, out, OUTPUT - 1) == 9, "matrix policy: output one short");
     check(yaslaurel_matrix_policy(reads, 3, writes, 2, 4, out, OUTPUT) == 8, "matrix policy: row counts differ");
     check(yaslaurel_matrix_policy(reads, 3, writes, 2, 4, out, 0) == 9, "matrix policy: 9 comes before 8");
     check(out_stayed_from(0), "refused calls leave the output");
-    check(yaslaurel_image_normalise(empty, 18, out, OUTPUT + 1) == 18, "normalise: the empty policy has 18 bytes");
-    check(memcmp(out, empty, 18) == 0, "normalise: the empty policy is its own normal image");
-    check(out_stayed_from(18), "normalise: the bytes behind the image stay");
+    check(yaslaurel_image_normalise(empty, HEADER, out, OUTPUT + 1) == HEADER, "normalise: the empty policy's length");
+    check(memcmp(out, empty, HEADER) == 0, "normalise: the empty policy is its own normal image");
+    check(out_stayed_from(HEADER), "normalise: the bytes behind the image stay");
 }
 
 /* The header lets a host turn a null with length 0 into an address. */
@@ -108,14 +120,14 @@ static void nulls(void)
 static void example(void)
 {
     uint32_t count = 9, source = 9, target = 9;
-    static const uint8_t steps[6][8] = {
+    static const uint8_t steps[6][RECORD] = {
         {1, 0, 4, 0, 2, 0, 255, 255}, {3, 0, 4, 0, 0, 0, 255, 255}, {1, 0, 5, 0, 0, 0, 255, 255},
         {3, 0, 5, 0, 1, 0, 255, 255}, {2, 0, 6, 0, 1, 0, 255, 255}, {1, 0, 6, 0, 9, 0, 255, 255},
     };
     static const uint32_t answers[6] = {0, 0, 0, YASLAUREL_ALERT, 0, 12};
     static const uint64_t receivers[5] = {4, 0, 5, 1, 1};
     static const uint64_t tags[5] = {4, 5, 5, 7, 0};
-    uint8_t trace[49];
+    uint8_t trace[1 + sizeof steps];
     int good = 1;
 
     check(yaslaurel_matrix_verdict(reads, 3, writes, 3, 4, &count, &source, &target) == 1, "verdict: not consistent");
@@ -131,10 +143,10 @@ static void example(void)
     check(session[SESSION] == before[SESSION], "the start leaves the number behind the session");
 
     /* The records lie at odd addresses. */
-    memcpy(trace + 1, steps, 48);
+    memcpy(trace + 1, steps, sizeof steps);
     for (int i = 0; i < 6; i++) {
         uint64_t receiver = 77, tag = 88;
-        uint32_t answer = yaslaurel_step(session, SESSION, trace + 1 + 8 * i, 8, &receiver, &tag);
+        uint32_t answer = yaslaurel_step(session, SESSION, trace + 1 + RECORD * i, RECORD, &receiver, &tag);
         good = good && answer == answers[i];
         if (i < 5) {
             good = good && receiver == receivers[i] && tag == tags[i];
@@ -155,6 +167,7 @@ static uint32_t draw(uint64_t *state)
 /* Random bytes and numbers everywhere: every answer is one that the function can give. */
 static void random_bytes(void)
 {
+    static const uint8_t codes[] = {0, 1, 2, 3, 4, 5, 6, 7, 200, 255};
     static uint8_t image[YASLAUREL_IMAGE_LIMIT + 100];
     uint32_t rows[10];
     int good = 1;
@@ -164,7 +177,7 @@ static void random_bytes(void)
         size_t length = (size_t)draw(&seed) % sizeof image;
         uint64_t receiver = 0, tag = 0;
         uint32_t answer, count, source, target;
-        uint8_t record[8];
+        uint8_t record[RECORD];
         if (round % 4 != 0) {
             length %= 64;
         }
@@ -172,15 +185,14 @@ static void random_bytes(void)
             image[i] = (uint8_t)(draw(&seed));
         }
         if (round % 3 == 0 && length >= 2) {
-            image[0] = 4;
+            image[0] = YASLAUREL_LEADING;
             image[1] = 0;
         }
-        for (int i = 0; i < 8; i++) {
-            record[i] = (uint8_t)(draw(&seed));
-        }
-        record[0] %= 9;
-        record[1] = record[3] = record[5] = 0;
-        record[6] = record[7] = 255;
+        memset(record, 0, sizeof record);
+        record[YASLAUREL_CODE_AT] = codes[draw(&seed) % sizeof codes];
+        record[YASLAUREL_PROCESS_AT] = (uint8_t)draw(&seed);
+        record[YASLAUREL_OBJECT_AT] = (uint8_t)draw(&seed);
+        memset(record + YASLAUREL_USER_AT, 255, 2);
         if (round % 8 == 0) {
             for (size_t i = 0; i < SESSION; i++) {
                 session[i] = (uint64_t)draw(&seed) % 4;
@@ -190,16 +202,17 @@ static void random_bytes(void)
         good = good && answer <= 6;
         good = good && yaslaurel_session_start(image, length, session, SESSION) == answer;
         count = yaslaurel_image_normalise(image, length, out, OUTPUT);
-        good = good && (answer == 0 ? count >= 18 && count <= OUTPUT : count == answer);
-        answer = yaslaurel_step(session, SESSION, record, 8, &receiver, &tag);
+        good = good && (answer == 0 ? count >= HEADER && count <= OUTPUT : count == answer);
+        answer = yaslaurel_step(session, SESSION, record, RECORD, &receiver, &tag);
         good = good && (answer == 0 || answer == 256 || answer == 7 || (answer >= 10 && answer <= 15));
         good = good && (answer == 0 || answer == 256 || (receiver == 0 && tag == 0));
-        good = good && receiver < 256;
+        good = good && receiver < YASLAUREL_CONTAINERS;
         for (int i = 0; i < 10; i++) {
             rows[i] = draw(&seed) & draw(&seed) & (round % 2 ? 0xffu : 0xffffffffu);
         }
-        answer = yaslaurel_matrix_verdict(rows, record[2] % 6u, rows + 5, record[2] % 6u, 4u * record[0], &count,
-                                          &source, &target);
+        size_t subjects = draw(&seed) % 6;
+        answer = yaslaurel_matrix_verdict(rows, subjects, rows + 5, subjects, 4 * (draw(&seed) % 9), &count, &source,
+                                          &target);
         good = good && (answer <= 1 || answer == 8);
     }
     check(good, "random bytes: every answer is one that the function can give");

@@ -19,7 +19,24 @@
 
 #include "yaslaurel.h"
 
-enum { MARK = 0xc3, SESSION = YASLAUREL_SESSION_LENGTH, OUTPUT = YASLAUREL_OUTPUT_LENGTH, ANSWERS = 257 };
+enum {
+    MARK = 0xc3,
+    SESSION = YASLAUREL_SESSION_LENGTH,
+    OUTPUT = YASLAUREL_OUTPUT_LENGTH,
+    HEADER = YASLAUREL_HEADER_LENGTH,
+    RECORD = YASLAUREL_RECORD_LENGTH,
+    CONTAINER_ROW = YASLAUREL_CONTAINER_ROW,
+    SECTIONS = YASLAUREL_SECTIONS,
+    WORD = sizeof(uint64_t),
+    /* Numbers of answers; a length is counted as the last. */
+    ANSWERS = 257,
+    LENGTH = ANSWERS - 1
+};
+
+/* The bytes of a record of each section, and how many there are at most. */
+static const size_t sizes[SECTIONS] = {YASLAUREL_CONTAINER_LENGTH, YASLAUREL_USER_LENGTH, YASLAUREL_RULE_LENGTH,
+                                       YASLAUREL_MIXTURE_LENGTH};
+static const size_t most[SECTIONS] = {YASLAUREL_CONTAINERS, YASLAUREL_USERS, YASLAUREL_RULES, YASLAUREL_MIXTURES};
 
 static uint64_t state;
 static uint64_t seed;
@@ -98,59 +115,63 @@ static int stayed(const struct region *region, size_t written)
            memcmp(region->slice + written, region->copy + from + written, region->size - from - written) == 0;
 }
 
-/* How often each function gave each answer; for a length, index 256. */
+/* How often each function gave each answer. */
 static unsigned long checks[ANSWERS], normals[ANSWERS], starts[ANSWERS], steps[ANSWERS], verdicts[ANSWERS],
     policies[ANSWERS];
 
-static void put16(uint8_t *at, size_t value)
+/* Writes a number of so many bytes; gives the place behind it. */
+static uint8_t *put(uint8_t *at, uint64_t value, size_t bytes)
 {
-    at[0] = (uint8_t)value;
-    at[1] = (uint8_t)(value >> 8);
+    for (size_t i = 0; i < bytes; i++) {
+        at[i] = (uint8_t)(value >> 8 * i);
+    }
+    return at + bytes;
 }
 
-static uint8_t image[24000];
+static uint8_t *put16(uint8_t *at, size_t value) { return put(at, value, 2); }
+
+static size_t get16(const uint8_t *at) { return at[0] + 256u * at[1]; }
+
+static uint8_t image[YASLAUREL_IMAGE_LIMIT + 100];
 static uint8_t blank[OUTPUT + 40];
 
 /* An image that is accepted, of small or largest size. Its length. */
 static size_t make_image(void)
 {
-    static const size_t sizes[4] = {6, 2, 4, 8};
+    static const size_t few[SECTIONS] = {14, 6, 8, 20};
     int large = percent(2);
-    size_t counts[4], at = 18;
-    counts[0] = large ? 256 : below(14);
-    counts[1] = large ? 16 : below(6);
-    counts[2] = large ? 256 : below(8);
-    counts[3] = large ? 2048 : below(20);
-    put16(image, 4);
-    for (int section = 0; section < 4; section++) {
+    size_t counts[SECTIONS], at = HEADER;
+    for (int section = 0; section < SECTIONS; section++) {
+        counts[section] = large ? most[section] : below(few[section]);
+    }
+    put16(image, YASLAUREL_LEADING);
+    for (size_t section = 0; section < SECTIONS; section++) {
         at += percent(10) ? below(5) : 0;
-        put16(image + 2 + 4 * section, at);
-        put16(image + 4 + 4 * section, sizes[section] * counts[section]);
+        put16(image + YASLAUREL_OFFSET_AT(section), at);
+        put16(image + YASLAUREL_LENGTH_AT(section), sizes[section] * counts[section]);
         for (size_t i = 0; i < counts[section]; i++) {
             uint8_t *record = image + at + sizes[section] * i;
             size_t first = counts[3] * i / (counts[2] + 1), left = counts[3] - first;
             int file = i > 0 && percent(60);
-            size_t rule = counts[2] == 0 || percent(20) ? 65535 : below(counts[2]);
-            size_t run = counts[2] == 0 || percent(40) ? 65535 : below(counts[2]);
+            size_t rule = counts[2] == 0 || percent(20) ? YASLAUREL_UNRESTRICTED : below(counts[2]);
+            size_t run = counts[2] == 0 || percent(40) ? YASLAUREL_UNRESTRICTED : below(counts[2]);
             uint64_t mixture = percent(50) ? draw() : draw() & 0x3f0000003fu;
             switch (section) {
             case 0:
-                record[0] = (uint8_t)(file ? 1 : i == 0 ? 3 : 2 + below(2));
-                record[1] = (uint8_t)(file ? below(32) : 255);
-                put16(record + 2, file ? rule : 65535);
-                put16(record + 4, file ? run : 65535);
+                *record++ = (uint8_t)(file ? 1 : i == 0 ? 3 : 2 + below(2));
+                *record++ = (uint8_t)(file ? below(32) : YASLAUREL_NO_ATOM);
+                record = put16(record, file ? rule : YASLAUREL_UNRESTRICTED);
+                put16(record, file ? run : YASLAUREL_UNRESTRICTED);
                 break;
             case 1:
                 put16(record, rule);
                 break;
             case 2:
-                put16(record, first);
-                put16(record + 2, below(left < 8 ? left + 1 : 9));
+                record = put16(record, first);
+                put16(record, below(1 + (left < YASLAUREL_RULE_MIXTURES ? left : YASLAUREL_RULE_MIXTURES)));
                 break;
             default:
-                for (int k = 0; k < 8; k++) {
-                    record[k] = (uint8_t)(mixture >> 8 * k);
-                }
+                put(record, mixture, YASLAUREL_MIXTURE_LENGTH);
             }
         }
         at += sizes[section] * counts[section];
@@ -161,9 +182,9 @@ static size_t make_image(void)
 /* Breaks an image in a few places, or makes it any bytes. Its new length. */
 static size_t damage(size_t length)
 {
-    size_t section = below(4), size = (size_t[]){6, 2, 4, 8}[section];
-    size_t at = image[2 + 4 * section] + 256u * image[3 + 4 * section];
-    size_t count = (image[4 + 4 * section] + 256u * image[5 + 4 * section]) / size;
+    size_t section = below(SECTIONS), size = sizes[section];
+    size_t at = get16(image + YASLAUREL_OFFSET_AT(section));
+    size_t count = get16(image + YASLAUREL_LENGTH_AT(section)) / size;
 
     for (size_t times = below(4); times > 0; times--) {
         switch (below(9)) {
@@ -171,14 +192,14 @@ static size_t damage(size_t length)
             length = below(length + 1);
             break;
         case 1:
-            image[below(18)] = (uint8_t)draw();
+            image[below(HEADER)] = (uint8_t)draw();
             break;
         case 2:
-            put16(image + 2 * (1 + below(8)), below(300));
+            put16(image + (percent(50) ? YASLAUREL_OFFSET_AT(section) : YASLAUREL_LENGTH_AT(section)), below(300));
             break;
         case 3:
             memset(image + length, 9, sizeof image - length);
-            length = 20475 + below(10);
+            length = YASLAUREL_IMAGE_LIMIT - 5 + below(10);
             break;
         case 4:
         case 5:
@@ -186,12 +207,12 @@ static size_t damage(size_t length)
             /* A field of a record: a little off, or at an end of its range. */
             if (count > 0 && length >= at + size * count) {
                 uint8_t *field = image + at + size * below(count) + 2 * below(size / 2);
-                put16(field, percent(50) ? field[0] + 256u * field[1] + 1 : (size_t[]){0, 9, 65534, 65535}[below(4)]);
+                put16(field, percent(50) ? get16(field) + 1 : (size_t[]){0, 9, 65534, 65535}[below(4)]);
             }
             break;
         case 7:
             /* A section one byte or one record longer. */
-            put16(image + 4 + 4 * section, size * count + (percent(50) ? 1 : size));
+            put16(image + YASLAUREL_LENGTH_AT(section), size * count + (percent(50) ? 1 : size));
             break;
         default:
             image[below(length + 1)] = (uint8_t)(percent(50) ? draw() : 255 * below(2));
@@ -210,7 +231,7 @@ static int try_image(size_t length)
 
     lend(&image_at, image, length);
     lend(&out_at, blank, out_length);
-    lend(&session_at, session, 8 * session_length);
+    lend(&session_at, session, WORD * session_length);
     read_only(&image_at, 1);
     uint32_t answer = yaslaurel_image_check(image_at.slice, length);
     uint32_t normal = yaslaurel_image_normalise(image_at.slice, length, out_at.slice, out_length);
@@ -221,21 +242,21 @@ static int try_image(size_t length)
     require(answer <= 6, "the image check gives 0 to 6");
     require(stayed(&image_at, 0), "the image stays");
     checks[answer]++;
-    normals[normal < 18 ? normal : 256]++;
+    normals[normal < HEADER ? normal : LENGTH]++;
     starts[start < ANSWERS ? start : 0]++;
     if (out_length < OUTPUT) {
         require(normal == 9, "the normaliser gives 9 for a short output");
     } else if (answer != 0) {
         require(normal == answer, "the normaliser refuses as the check does");
     } else {
-        require(normal >= 18 && normal <= OUTPUT, "the normaliser gives a length");
+        require(normal >= HEADER && normal <= OUTPUT, "the normaliser gives a length");
         require(yaslaurel_image_check(out_at.slice, normal) == 0, "a normal image is accepted");
     }
-    require(stayed(&out_at, normal < 18 ? 0 : normal), "the output stays, but for the normal image");
+    require(stayed(&out_at, normal < HEADER ? 0 : normal), "the output stays, but for the normal image");
     require(start == (session_length != SESSION ? 9 : answer), "the start refuses as the check does, 9 first");
-    require(stayed(&session_at, start == 0 ? 8 * SESSION : 0), "the session stays, but for an accepted start");
+    require(stayed(&session_at, start == 0 ? WORD * SESSION : 0), "the session stays, but for an accepted start");
     if (start == 0) {
-        memcpy(session, session_at.slice, 8 * SESSION);
+        memcpy(session, session_at.slice, WORD * SESSION);
     }
     return start == 0;
 }
@@ -244,9 +265,10 @@ static int try_image(size_t length)
 static size_t container_of(uint64_t kind)
 {
     size_t from = below(40);
-    for (size_t i = 0; i < 256; i++) {
-        if (session[20 * ((from + i) % 256)] == kind) {
-            return (from + i) % 256;
+    for (size_t i = 0; i < YASLAUREL_CONTAINERS; i++) {
+        size_t container = (from + i) % YASLAUREL_CONTAINERS;
+        if (session[CONTAINER_ROW * container + YASLAUREL_KIND_AT] == kind) {
+            return container;
         }
     }
     return from;
@@ -256,7 +278,7 @@ static size_t container_of(uint64_t kind)
 static void try_step(int damaged)
 {
     uint8_t record[24];
-    size_t length = 8, session_length = percent(98) ? SESSION : below(SESSION + 8);
+    size_t length = RECORD, session_length = percent(98) ? SESSION : below(SESSION + 8);
     unsigned code = 1 + (unsigned)below(7);
     size_t o = container_of(code <= 4 ? 1 + (code < 4 ? below(2) : 0) : 0);
     uint64_t before[2] = {77, 88};
@@ -265,23 +287,26 @@ static void try_step(int damaged)
         record[i] = (uint8_t)draw();
     }
     if (percent(95)) {
-        record[0] = (uint8_t)code;
-        record[1] = 0;
-        put16(record + 2, percent(96) ? container_of(3) : below(256));
-        put16(record + 4, percent(94) ? o : below(256));
-        put16(record + 6, code == 4 || code == 6 ? below(percent(90) ? 3 : 16) : 65535);
+        record[YASLAUREL_CODE_AT] = (uint8_t)code;
+        record[YASLAUREL_ZERO_AT] = 0;
+        put16(record + YASLAUREL_PROCESS_AT, percent(96) ? container_of(3) : below(YASLAUREL_CONTAINERS));
+        put16(record + YASLAUREL_OBJECT_AT, percent(94) ? o : below(YASLAUREL_CONTAINERS));
+        put16(record + YASLAUREL_USER_AT,
+              code == 4 || code == 6 ? below(percent(90) ? 3 : YASLAUREL_USERS) : YASLAUREL_NO_USER);
     }
     if (percent(3)) {
         length = below(sizeof record);
     }
     if (damaged) {
-        size_t row = 20 * (percent(50) ? (size_t)record[2] : (size_t)record[4]);
+        size_t width = CONTAINER_ROW;
+        size_t row = width * record[percent(50) ? YASLAUREL_PROCESS_AT : YASLAUREL_OBJECT_AT];
         if (code == 4 && percent(30)) {
-            row = 5120 + 10 * (size_t)(record[6] % 16);
+            width = YASLAUREL_USER_ROW;
+            row = YASLAUREL_USERS_AT + width * (record[YASLAUREL_USER_AT] % YASLAUREL_USERS);
         }
-        session[row + below(10)] ^= (uint64_t)1 << below(64);
+        session[row + below(width)] ^= (uint64_t)1 << below(64);
     }
-    lend(&session_at, session, 8 * session_length);
+    lend(&session_at, session, WORD * session_length);
     lend(&record_at, record, length);
     lend(&numbers_at, before, sizeof before);
     read_only(&record_at, 1);
@@ -301,12 +326,14 @@ static void try_step(int damaged)
         require(stayed(&session_at, 0), "the session stays in a refusal");
         return;
     }
-    require(stayed(&session_at, 8 * SESSION), "memory beside the session stays");
-    require(numbers[0] == record[2] || numbers[0] == record[4], "the receiver is p or o");
+    require(stayed(&session_at, WORD * SESSION), "memory beside the session stays");
+    require(numbers[0] == record[YASLAUREL_PROCESS_AT] || numbers[0] == record[YASLAUREL_OBJECT_AT],
+            "the receiver is p or o");
     uint64_t *after = (uint64_t *)(void *)session_at.slice;
-    require(after[20 * numbers[0] + 1] == numbers[1], "the tag is the receiver's");
-    memcpy(session + 20 * numbers[0], after + 20 * numbers[0], 8 * 20);
-    require(memcmp(session, after, 8 * SESSION) == 0, "the other rows stay");
+    size_t row = CONTAINER_ROW * numbers[0];
+    require(after[row + YASLAUREL_TAG_AT] == numbers[1], "the tag is the receiver's");
+    memcpy(session + row, after + row, WORD * CONTAINER_ROW);
+    require(memcmp(session, after, WORD * SESSION) == 0, "the other rows stay");
 }
 
 static void try_matrix(void)
@@ -336,7 +363,7 @@ static void try_matrix(void)
     read_only(&writes_at, 0);
 
     verdicts[verdict < ANSWERS ? verdict : 0]++;
-    policies[length < 18 ? length : 256]++;
+    policies[length < HEADER ? length : LENGTH]++;
     require(verdict <= 1 || verdict == 8, "the verdict gives 0, 1 or 8");
     require(stayed(&reads_at, 0) && stayed(&writes_at, 0), "the rows stay");
     require(stayed(&numbers_at, verdict == 8 ? 0 : sizeof before), "the three numbers stay in a refusal");
@@ -346,11 +373,11 @@ static void try_matrix(void)
         require(numbers[0] >= 1 && numbers[1] < objects && numbers[2] < objects && numbers[1] != numbers[2],
                 "the flow is between two objects");
     }
-    require(length == 9 || length >= 18 || length == 8, "the derived policy gives a length, 8 or 9");
+    require(length == 9 || length >= HEADER || length == 8, "the derived policy gives a length, 8 or 9");
     require((length == 9) == (out_length < OUTPUT), "the derived policy gives 9 for a short output");
     require(length == 9 || (length == 8) == (verdict == 8), "the derived policy refuses as the verdict does");
-    require(stayed(&out_at, length < 18 ? 0 : length), "the output stays, but for the image");
-    require(length < 18 || yaslaurel_image_check(out_at.slice, length) == 0, "the derived policy is accepted");
+    require(stayed(&out_at, length < HEADER ? 0 : length), "the output stays, but for the image");
+    require(length < HEADER || yaslaurel_image_check(out_at.slice, length) == 0, "the derived policy is accepted");
 }
 
 /* Whether a function gave each of the wanted answers; prints the counts if asked. */
@@ -373,11 +400,11 @@ static int reached(int print, const char *name, const unsigned long *counts, con
 static int all_reached(int print)
 {
     int all = REACHED(print, checks, 0, 1, 2, 3, 4, 5, 6);
-    all &= REACHED(print, normals, 256, 1, 2, 3, 4, 5, 6, 9);
+    all &= REACHED(print, normals, LENGTH, 1, 2, 3, 4, 5, 6, 9);
     all &= REACHED(print, starts, 0, 1, 2, 3, 4, 5, 6, 9);
-    all &= REACHED(print, steps, 0, 256, 7, 9, 10, 11, 12, 13, 14, 15);
+    all &= REACHED(print, steps, YASLAUREL_QUIET, YASLAUREL_ALERT, 7, 9, 10, 11, 12, 13, 14, 15);
     all &= REACHED(print, verdicts, 0, 1, 8);
-    all &= REACHED(print, policies, 256, 8, 9);
+    all &= REACHED(print, policies, LENGTH, 8, 9);
     return all;
 }
 

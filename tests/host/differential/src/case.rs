@@ -4,7 +4,9 @@ use std::fmt::Write as _;
 
 use judge::session::Record;
 use judge::{chains, image, matrix, normal, session};
-use yaslaurel::{MatrixVerdict, Refusal, Session, Verdict};
+use yaslaurel::layout::image::HEADER;
+use yaslaurel::layout::session::{container, user, CONTAINER_ROW, USER_ROW};
+use yaslaurel::{MatrixVerdict, Refusal, Session, Verdict, SESSION_LENGTH};
 
 use crate::counters::Counters;
 use crate::lent::{self, Guarded};
@@ -12,8 +14,8 @@ use crate::lent::{self, Guarded};
 /// Container rows and user rows that a session holds at these numbers.
 #[derive(Clone, Debug, Default, PartialEq, Eq)]
 pub struct Rows {
-    pub containers: Vec<(usize, [u64; 20])>,
-    pub users: Vec<(usize, [u64; 10])>,
+    pub containers: Vec<(usize, [u64; CONTAINER_ROW])>,
+    pub users: Vec<(usize, [u64; USER_ROW])>,
 }
 
 /// One operation on a session made for it.
@@ -77,6 +79,11 @@ fn differ_at<T: PartialEq + std::fmt::Debug>(what: &str, library: &[T], judge: &
         Some(at) => format!("{what}: at {at} library {:?}, judge {:?}", library[at], judge[at]),
         None => format!("{what}: library has {} elements, judge {}", library.len(), judge.len()),
     })
+}
+
+/// The length of the image that a function wrote; nothing if its answer is a refusal.
+fn image_length(answer: u32) -> Option<usize> {
+    Some(answer as usize).filter(|&length| length >= HEADER)
 }
 
 /// Buffers that are used again and again.
@@ -150,18 +157,19 @@ impl Bench {
         self.out.fill(&self.judge_out);
         let number = lent::normalise(&self.image, &mut self.out);
         let expected = normal::normalise(image, &mut self.judge_out);
-        match expected {
-            0..=17 => c.normalised[expected as usize] += 1,
-            length => {
+        let length = image_length(expected);
+        match length {
+            None => c.normalised[expected as usize] += 1,
+            Some(length) => {
                 c.normalised[0] += 1;
-                c.longest_normal = c.longest_normal.max(length as usize);
-                let same = self.judge_out[..length as usize] == *image;
+                c.longest_normal = c.longest_normal.max(length);
+                let same = self.judge_out[..length] == *image;
                 *if same { &mut c.already_normal } else { &mut c.changed_by_normal } += 1;
             }
         }
         differ("normaliser", number, expected)
             .or_else(|| differ_at("output of the normaliser", self.out.content(), &self.judge_out))
-            .or_else(|| if expected >= 18 { self.normal_again(expected as usize) } else { None })
+            .or_else(|| length.and_then(|length| self.normal_again(length)))
     }
 
     /// A normal image is its own normal image.
@@ -234,12 +242,12 @@ impl Bench {
         self.judge_session.clear();
         self.judge_session.resize(case.length, case.background);
         for (number, row) in &case.rows.containers {
-            if let Some(place) = self.judge_session.get_mut(20 * number..20 * number + 20) {
+            if let Some(place) = self.judge_session.get_mut(container(*number)) {
                 place.copy_from_slice(row);
             }
         }
         for (number, row) in &case.rows.users {
-            if let Some(place) = self.judge_session.get_mut(5_120 + 10 * number..5_130 + 10 * number) {
+            if let Some(place) = self.judge_session.get_mut(user(*number)) {
                 place.copy_from_slice(row);
             }
         }
@@ -249,7 +257,7 @@ impl Bench {
 
     fn trace_case(&mut self, image: &[u8], records: &[Vec<u8>], listed: bool, c: &mut Counters) -> Difference {
         self.image.fill(image);
-        if let Some(difference) = self.start_of(image, 5_280, c) {
+        if let Some(difference) = self.start_of(image, SESSION_LENGTH, c) {
             return Some(difference);
         }
         let Ok(policy) = image::read(image) else { return None };
@@ -317,7 +325,7 @@ impl Bench {
         self.out.fill(&self.judge_out);
         let length = lent::matrix_policy(&self.reads, &self.writes, objects, &mut self.out);
         let expected_length = matrix::policy(reads, writes, objects, &mut self.judge_out);
-        c.derived[if expected_length < 18 { expected_length as usize } else { 0 }] += 1;
+        c.derived[image_length(expected_length).map_or(expected_length as usize, |_| 0)] += 1;
         differ("matrix verdict", library, (expected.number, count, source, target))
             .or_else(|| {
                 let judge = (expected.number, expected.count, expected.source, expected.target);

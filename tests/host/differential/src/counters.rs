@@ -2,6 +2,8 @@
 
 use std::fmt::Write as _;
 
+use yaslaurel::OUTPUT_LENGTH;
+
 #[derive(Default)]
 pub struct Counters {
     pub images: u64,
@@ -61,7 +63,7 @@ impl Counters {
         for code in 1..=5 {
             need(self.alert[code], format!("code {code} answers alert"));
         }
-        need(u64::from(self.longest_normal == 18_994), "a normal image of 18,994 bytes".into());
+        need(u64::from(self.longest_normal == OUTPUT_LENGTH), format!("a normal image of {OUTPUT_LENGTH} bytes"));
         need(self.already_normal, "an accepted image is its own normal image".into());
         need(self.changed_by_normal, "an accepted image is not its own normal image".into());
         need(self.pairs_equal, "two images start equal sessions".into());

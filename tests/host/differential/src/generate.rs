@@ -1,10 +1,21 @@
 //! Random policies, damaged images, sessions, records and matrices.
 
 use judge::rules::normal;
+use yaslaurel::layout::image::{
+    CONTAINERS, HEADER, LEADING, LIMIT, MIXTURES, NO_ATOM, RULES, SECTIONS, UNRESTRICTED, USERS,
+};
+use yaslaurel::layout::record::{CODE, NO_USER, OBJECT, PROCESS, USER, ZERO};
+use yaslaurel::layout::session::{
+    container, rule, user, CONTAINER_ROW, DECLARED, KIND, PERMIT, RULE, RULE_MIXTURES, RUN, TAG, USER_ROW, USER_RULE,
+};
+use yaslaurel::SESSION_LENGTH;
 
 use crate::case::{Rows, StepCase};
 use crate::random::Random;
-use crate::spec::Spec;
+use crate::spec::{number_at, put_number, Spec, GAPS};
+
+/// The record of a process.
+pub const PROCESS_RECORD: (u8, u8, u16, u16) = (3, NO_ATOM, UNRESTRICTED, UNRESTRICTED);
 
 /// A set of mixtures to draw from: few enough that rules repeat, hold one another and meet in many ways.
 fn pool(r: &mut Random) -> Vec<u64> {
@@ -40,7 +51,7 @@ fn count(r: &mut Random, class: usize, limit: usize) -> usize {
 
 fn rule_number(r: &mut Random, rules: usize) -> u16 {
     if rules == 0 || r.percent(20) {
-        65535
+        UNRESTRICTED
     } else {
         r.below(rules) as u16
     }
@@ -52,13 +63,13 @@ fn rules(r: &mut Random, class: usize, spec: &mut Spec) {
     if r.percent(30) {
         pool.extend(self::pool(r));
     }
-    let wanted = count(r, class, 256);
-    let most = r.pick(&[1, 2, 8, 8]);
+    let wanted = count(r, class, RULES.most);
+    let most = r.pick(&[1, 2, RULE_MIXTURES, RULE_MIXTURES]);
     let least = if r.percent(30) { 0 } else { 1 };
     if r.percent(60) {
         for _ in 0..wanted {
             let count = r.between(least, most);
-            if spec.mixtures.len() + count > 2048 {
+            if spec.mixtures.len() + count > MIXTURES.most {
                 break;
             }
             spec.rules.push((spec.mixtures.len() as u16, count as u16));
@@ -67,7 +78,7 @@ fn rules(r: &mut Random, class: usize, spec: &mut Spec) {
             }
         }
     } else {
-        let mixtures = count(r, class, 2048).max(least);
+        let mixtures = count(r, class, MIXTURES.most).max(least);
         spec.mixtures = (0..mixtures).map(|_| r.pick(&pool)).collect();
         let mut firsts: Vec<usize> = (0..wanted).map(|_| r.below(mixtures + 1)).collect();
         firsts.sort_unstable();
@@ -80,22 +91,22 @@ fn rules(r: &mut Random, class: usize, spec: &mut Spec) {
 
 /// A policy that is accepted. `class` 0 to 3: tiny, small, middle, largest.
 pub fn policy(r: &mut Random, class: usize) -> Spec {
-    let mut spec = Spec { containers: vec![], users: vec![], rules: vec![], mixtures: vec![], gaps: [0; 5] };
+    let mut spec = Spec { containers: vec![], users: vec![], rules: vec![], mixtures: vec![], gaps: [0; GAPS] };
     rules(r, class, &mut spec);
     let rules = spec.rules.len();
     let atoms = r.pick(&[2, 4, 32]);
-    for _ in 0..count(r, class, 256) {
+    for _ in 0..count(r, class, CONTAINERS.most) {
         spec.containers.push(match r.below(20) {
             0..=10 => {
-                let atom = if r.percent(10) { 255 } else { r.below(atoms) as u8 };
-                let run = if r.percent(40) { 65535 } else { rule_number(r, rules) };
+                let atom = if r.percent(10) { NO_ATOM } else { r.below(atoms) as u8 };
+                let run = if r.percent(40) { UNRESTRICTED } else { rule_number(r, rules) };
                 (1, atom, rule_number(r, rules), run)
             }
-            11..=13 => (2, 255, 65535, 65535),
-            _ => (3, 255, 65535, 65535),
+            11..=13 => (2, NO_ATOM, UNRESTRICTED, UNRESTRICTED),
+            _ => PROCESS_RECORD,
         });
     }
-    for _ in 0..count(r, class.max(1), 16) {
+    for _ in 0..count(r, class.max(1), USERS.most) {
         spec.users.push(rule_number(r, rules));
     }
     if r.percent(30) {
@@ -108,11 +119,12 @@ pub fn policy(r: &mut Random, class: usize) -> Spec {
 
 /// A policy whose normal image is the longest: every record that there can be, and no two rules alike.
 pub fn largest(r: &mut Random) -> Spec {
+    let (rules, mixtures) = (RULES.most as u16, RULE_MIXTURES as u16);
     Spec {
-        containers: (0..256).map(|i| (1, r.below(32) as u8, i, 255 - i)).collect(),
-        users: (0..16).map(|_| r.below(256) as u16).collect(),
-        rules: (0..256).map(|i| (8 * i, 8)).collect(),
-        mixtures: (0..2048).map(|_| r.word()).collect(),
+        containers: (0..CONTAINERS.most as u16).map(|i| (1, r.below(32) as u8, i, rules - 1 - i)).collect(),
+        users: (0..USERS.most).map(|_| r.below(RULES.most) as u16).collect(),
+        rules: (0..rules).map(|i| (mixtures * i, mixtures)).collect(),
+        mixtures: (0..MIXTURES.most).map(|_| r.word()).collect(),
         gaps: [0, r.below(200), r.below(200), r.below(200), r.below(200)],
     }
 }
@@ -128,7 +140,7 @@ pub fn respelled(r: &mut Random, spec: &Spec) -> Spec {
             other.mixtures.push(r.word());
         }
         let mut own: Vec<u64> = spec.mixtures[usize::from(first)..usize::from(first + count)].to_vec();
-        if let (true, Some(&some)) = (own.len() < 8 && r.percent(50), own.first()) {
+        if let (true, Some(&some)) = (own.len() < RULE_MIXTURES && r.percent(50), own.first()) {
             own.push(some & r.word());
         }
         for i in (1..own.len()).rev() {
@@ -139,7 +151,7 @@ pub fn respelled(r: &mut Random, spec: &Spec) -> Spec {
         other.mixtures.extend(own);
     }
     let renumber = |number: &mut u16| {
-        if *number != 65535 {
+        if *number != UNRESTRICTED {
             *number = moved[usize::from(*number)];
         }
     };
@@ -181,34 +193,39 @@ fn damage_spec(r: &mut Random, spec: &mut Spec) {
             let at = r.below(spec.users.len());
             spec.users[at] = r.pick(&[rules, rules + 1, 65534]);
         }
-        6 => spec.users.resize(r.between(15, 18), 65535),
-        7 => spec.containers.resize(r.between(255, 258), (3, 255, 65535, 65535)),
-        8 => spec.rules.resize(r.between(255, 258), (mixtures, 0)),
-        _ => spec.mixtures.resize(r.between(2046, 2051), 1),
+        6 => spec.users.resize(r.about(USERS.most), UNRESTRICTED),
+        7 => spec.containers.resize(r.about(CONTAINERS.most), PROCESS_RECORD),
+        8 => spec.rules.resize(r.about(RULES.most), (mixtures, 0)),
+        _ => spec.mixtures.resize(r.about(MIXTURES.most), 1),
     }
+}
+
+/// Where the header has the offset or the length of some section.
+fn header_field(r: &mut Random) -> usize {
+    let section = r.pick(&SECTIONS);
+    r.pick(&[section.offset_at(), section.length_at()])
 }
 
 /// Breaks the bytes of an image.
 fn damage_bytes(r: &mut Random, image: &mut Vec<u8>) {
     match r.below(8) {
-        0 => image[r.below(18)] = r.word() as u8,
+        0 => image[r.below(HEADER)] = r.word() as u8,
         1 => {
             // One of the offsets and lengths, a little off or anything.
-            let at = 2 * r.between(1, 8);
-            let old = u16::from_le_bytes([image[at], image[at + 1]]);
+            let at = header_field(r);
             let new = match r.below(4) {
-                0 => old.wrapping_add(1),
-                1 => old.wrapping_sub(1),
-                2 => r.pick(&[0, 17, 18, 65535]),
-                _ => r.word() as u16,
+                0 => number_at(image, at).wrapping_add(1),
+                1 => number_at(image, at).wrapping_sub(1),
+                2 => r.pick(&[0, HEADER - 1, HEADER, 65535]),
+                _ => r.word() as usize,
             };
-            image[at..at + 2].copy_from_slice(&new.to_le_bytes());
+            put_number(image, at, new);
         }
         2 => image.truncate(r.below(image.len() + 1)),
         3 => image.truncate(image.len() - 1),
-        4 => image.resize(r.pick(&[20_479, 20_480, 20_481, 21_000]), 7),
+        4 => image.resize(r.about(LIMIT), 7),
         5 => {
-            let at = 2 * r.between(1, 8) + 1;
+            let at = header_field(r) + 1;
             image[at] = image[at].wrapping_add(r.pick(&[1, 255]));
         }
         _ => {
@@ -237,10 +254,10 @@ pub fn class(r: &mut Random) -> usize {
 /// An image: accepted, or damaged in one or several places, or any bytes at all.
 pub fn image(r: &mut Random) -> Vec<u8> {
     if r.percent(3) {
-        let length = r.pick(&[0, 1, 17, 18, 19, 40]);
+        let length = r.pick(&[0, 1, HEADER - 1, HEADER, HEADER + 1, 40]);
         let mut bytes: Vec<u8> = (0..length).map(|_| r.word() as u8).collect();
         if length > 2 && r.percent(70) {
-            bytes[..2].copy_from_slice(&[4, 0]);
+            put_number(&mut bytes, 0, usize::from(LEADING));
         }
         return bytes;
     }
@@ -255,7 +272,7 @@ pub fn image(r: &mut Random) -> Vec<u8> {
     let mut image = spec.encode(r.word() as u8);
     if damaged {
         for _ in 0..r.pick(&[0, 0, 1, 1, 2]) {
-            if image.len() >= 18 {
+            if image.len() >= HEADER {
                 damage_bytes(r, &mut image);
             }
         }
@@ -287,8 +304,9 @@ fn normal_rule(r: &mut Random, pool: &[u64]) -> Vec<u64> {
     rule
 }
 
-fn nine(rule: &[u64]) -> [u64; 9] {
-    let mut words = [0; 9];
+/// A rule as the numbers of a row.
+fn rule_words(rule: &[u64]) -> [u64; RULE] {
+    let mut words = [0; RULE];
     words[0] = rule.len() as u64;
     words[1..1 + rule.len()].copy_from_slice(rule);
     words
@@ -303,49 +321,50 @@ fn tag(r: &mut Random) -> u64 {
     }
 }
 
-fn container_row(r: &mut Random, kind: u64, pool: &[u64]) -> [u64; 20] {
-    let mut row = [0; 20];
+fn container_row(r: &mut Random, kind: u64, pool: &[u64]) -> [u64; CONTAINER_ROW] {
+    let mut row = [0; CONTAINER_ROW];
     if kind == 0 {
         return row;
     }
-    row[0] = kind;
-    row[1] = tag(r);
-    row[2..11].copy_from_slice(&nine(&normal_rule(r, pool)));
-    row[11..20].copy_from_slice(&nine(&normal_rule(r, pool)));
+    row[KIND] = kind;
+    row[TAG] = tag(r);
+    row[rule(PERMIT)].copy_from_slice(&rule_words(&normal_rule(r, pool)));
+    row[rule(RUN)].copy_from_slice(&rule_words(&normal_rule(r, pool)));
     row
 }
 
-/// Breaks the nine words of a rule in a way that refusal 10 looks at.
+/// Breaks the numbers of a rule in a way that refusal 10 looks at.
 fn damage_rule(r: &mut Random, words: &mut [u64]) {
-    let count = words[0].min(8) as usize;
+    let most = RULE_MIXTURES as u64;
+    let count = words[0].min(most) as usize;
     match r.below(6) {
-        0 => words[0] = r.pick(&[9, 1 << 32, (1 << 32) + 1, u64::MAX, words[0] + 1]),
-        1 => words[8] ^= 1 << r.below(64),
+        0 => words[0] = r.pick(&[most + 1, 1 << 32, (1 << 32) + 1, u64::MAX, words[0] + 1]),
+        1 => words[RULE_MIXTURES] ^= 1 << r.below(64),
         2 if count >= 2 => words.swap(1, count),
-        3 if (1..8).contains(&count) => {
+        3 if (1..RULE_MIXTURES).contains(&count) => {
             // A repeat, or a mixture that the last one holds.
             words[count + 1] = words[count] & r.pick(&[u64::MAX, 0xff, 0]);
             words[0] += 1;
         }
         4 if count >= 1 => words[0] -= 1,
-        _ => words[1 + r.below(8)] ^= 1 << r.below(64),
+        _ => words[1 + r.below(RULE_MIXTURES)] ^= 1 << r.below(64),
     }
 }
 
 fn damage_row(r: &mut Random, row: &mut [u64]) {
     match r.below(4) {
-        0 => row[0] = r.pick(&[0, 4, 1 << 32, (1 << 32) + 1, u64::MAX, 2, 3]),
-        1 => row[r.below(20)] ^= 1 << r.below(64),
-        2 => damage_rule(r, &mut row[2..11]),
-        _ => damage_rule(r, &mut row[11..20]),
+        0 => row[KIND] = r.pick(&[0, 4, 1 << 32, (1 << 32) + 1, u64::MAX, 2, 3]),
+        1 => row[r.below(CONTAINER_ROW)] ^= 1 << r.below(64),
+        2 => damage_rule(r, &mut row[rule(PERMIT)]),
+        _ => damage_rule(r, &mut row[rule(RUN)]),
     }
 }
 
 fn damage_user(r: &mut Random, row: &mut [u64]) {
     match r.below(3) {
-        0 => row[0] = r.pick(&[0, 2, (1 << 32) + 1, u64::MAX]),
-        1 => row[r.below(10)] ^= 1 << r.below(64),
-        _ => damage_rule(r, &mut row[1..10]),
+        0 => row[DECLARED] = r.pick(&[0, 2, (1 << 32) + 1, u64::MAX]),
+        1 => row[r.below(USER_ROW)] ^= 1 << r.below(64),
+        _ => damage_rule(r, &mut row[rule(USER_RULE)]),
     }
 }
 
@@ -366,13 +385,13 @@ pub fn damage_record(r: &mut Random, record: &mut Vec<u8>) {
             record.resize(length, 0);
         }
         1 => *record = (0..r.below(21)).map(|_| r.word() as u8).collect(),
-        2 => record[0] = r.pick(&[0, 8, 9, 255]),
-        3 => record[1] = r.pick(&[1, 128, 255]),
+        2 => record[CODE] = r.pick(&[0, 200, 255]),
+        3 => record[ZERO] = r.pick(&[1, 128, 255]),
         4 => {
-            let at = r.pick(&[2, 4]);
-            record[at..at + 2].copy_from_slice(&r.pick(&[256u16, 257, 65535, 0x0100]).to_le_bytes());
+            let at = r.pick(&[PROCESS, OBJECT]);
+            put_number(record, at, r.pick(&[256, 257, 65535]));
         }
-        _ => record[6..8].copy_from_slice(&r.pick(&[0u16, 15, 16, 65534, 65535]).to_le_bytes()),
+        _ => put_number(record, USER, r.pick(&[0, 15, 16, 65534, 65535])),
     }
 }
 
@@ -402,13 +421,13 @@ fn about_eight(r: &mut Random, rows: &mut Rows) {
     let (few, more) = r.pick(&[(1, 8), (2, 4), (3, 3), (2, 5), (2, 3), (3, 2), (4, 2), (8, 1), (8, 8)]);
     let rules = [all_but_one(universe, 0, few), all_but_one(universe, 8, more)];
     for (i, (_, row)) in rows.containers.iter_mut().enumerate() {
-        if row[0] != 0 {
-            row[11..20].copy_from_slice(&nine(&rules[i]));
+        if row[KIND] != 0 {
+            row[rule(RUN)].copy_from_slice(&rule_words(&rules[i]));
         }
     }
     for (_, row) in &mut rows.users {
-        if row[0] == 1 {
-            row[1..10].copy_from_slice(&nine(&rules[0]));
+        if row[DECLARED] == 1 {
+            row[rule(USER_RULE)].copy_from_slice(&rule_words(&rules[0]));
         }
     }
 }
@@ -417,7 +436,7 @@ fn about_eight(r: &mut Random, rows: &mut Rows) {
 pub fn step(r: &mut Random) -> StepCase {
     let code = r.between(1, 7) as u8;
     let pool = pool(r);
-    let (p, o, u) = (r.below(256), r.below(256), r.below(16));
+    let (p, o, u) = (r.below(CONTAINERS.most), r.below(CONTAINERS.most), r.below(USERS.most));
     let o = if r.percent(4) { p } else { o };
     let kind = if r.percent(6) { r.below(4) as u64 } else { 3 };
     let mut rows = Rows::default();
@@ -429,12 +448,12 @@ pub fn step(r: &mut Random) -> StepCase {
         rows.containers.push((o, container_row(r, kind, &pool)));
     }
     if r.percent(94) {
-        let mut row = [0; 10];
-        row[0] = 1;
-        row[1..10].copy_from_slice(&nine(&normal_rule(r, &pool)));
+        let mut row = [0; USER_ROW];
+        row[DECLARED] = 1;
+        row[rule(USER_RULE)].copy_from_slice(&rule_words(&normal_rule(r, &pool)));
         rows.users.push((u, row));
     } else {
-        rows.users.push((u, [0; 10]));
+        rows.users.push((u, [0; USER_ROW]));
     }
     if r.percent(12) {
         about_eight(r, &mut rows);
@@ -448,14 +467,14 @@ pub fn step(r: &mut Random) -> StepCase {
             }
         }
     }
-    let user = if code == 4 || code == 6 { u as u16 } else { 65535 };
+    let user = if code == 4 || code == 6 { u as u16 } else { NO_USER };
     let mut record = record_bytes(code, p as u16, o as u16, user);
     if r.percent(8) {
         damage_record(r, &mut record);
     }
     // What the other rows hold must not matter.
     let background = if r.percent(50) { 0 } else { r.word() };
-    StepCase { rows, background, length: length(r, 5_280, false), record }
+    StepCase { rows, background, length: length(r, SESSION_LENGTH, false), record }
 }
 
 /// A record that suits the session in most ways.
@@ -464,7 +483,7 @@ pub fn record(r: &mut Random, session: &[u64], containers: usize) -> Vec<u8> {
     // The first container from a random place on whose kind will do.
     let find = |r: &mut Random, wanted: &[u64], bound: usize| {
         let from = r.below(bound.max(1));
-        let turn = (from..bound).chain(0..from).find(|&c| wanted.contains(&session[20 * c]));
+        let turn = (from..bound).chain(0..from).find(|&c| wanted.contains(&session[container(c)][KIND]));
         turn.unwrap_or(from) as u16
     };
     let any = |r: &mut Random| r.below(containers.max(1)) as u16;
@@ -474,13 +493,13 @@ pub fn record(r: &mut Random, session: &[u64], containers: usize) -> Vec<u8> {
         4 => &[1],
         _ => &[0],
     };
-    let bound = if code >= 5 { 256 } else { containers };
+    let bound = if code >= 5 { CONTAINERS.most } else { containers };
     let o = if r.percent(94) { find(r, kinds, bound) } else { any(r) };
-    let declared = (0..16).filter(|u| session[5_120 + 10 * u] == 1).count();
+    let declared = (0..USERS.most).filter(|&u| session[user(u)][DECLARED] == 1).count();
     let u = match code {
         4 | 6 if declared > 0 && r.percent(95) => r.below(declared) as u16,
-        4 | 6 => r.below(16) as u16,
-        _ => 65535,
+        4 | 6 => r.below(USERS.most) as u16,
+        _ => NO_USER,
     };
     let mut record = record_bytes(code, p, o, u);
     if r.percent(3) {

@@ -24,6 +24,9 @@ use std::{env, fmt, fs, io};
 use case::{show, Bench, Case};
 use counters::Counters;
 use random::Random;
+use yaslaurel::layout::image::{CONTAINERS, UNRESTRICTED};
+use yaslaurel::layout::record;
+use yaslaurel::{OUTPUT_LENGTH, SESSION_LENGTH};
 
 /// One part of the run: its name, how many cases it has at factor 1, and how one is made.
 struct Part {
@@ -46,8 +49,8 @@ fn image(r: &mut Random) -> Case {
     let image = generate::image(r);
     Case::Image {
         image,
-        out_length: generate::length(r, 18_994, true),
-        session_length: generate::length(r, 5_280, false),
+        out_length: generate::length(r, OUTPUT_LENGTH, true),
+        session_length: generate::length(r, SESSION_LENGTH, false),
     }
 }
 
@@ -63,11 +66,11 @@ fn pair(r: &mut Random) -> Case {
         }
         1 if !other.users.is_empty() => {
             let at = r.below(other.users.len());
-            other.users[at] = 65535;
+            other.users[at] = UNRESTRICTED;
         }
         2 if !other.containers.is_empty() => {
             let at = r.below(other.containers.len());
-            other.containers[at] = (1, 3, 65535, 65535);
+            other.containers[at] = (1, 3, UNRESTRICTED, UNRESTRICTED);
         }
         _ => {}
     }
@@ -82,20 +85,20 @@ fn step(r: &mut Random) -> Case {
 fn trace(r: &mut Random, class: usize, length: usize, chains: bool) -> Case {
     let mut spec = generate::policy(r, class);
     // At least two files, a process and a user, or most records are refused.
-    while spec.containers.len() < 256 && spec.containers.iter().filter(|c| c.0 == 1).count() < 2 {
-        let rule = if spec.rules.is_empty() { 65535 } else { r.below(spec.rules.len()) as u16 };
-        spec.containers.push((1, r.below(3) as u8, rule, if r.percent(50) { 65535 } else { rule }));
+    while spec.containers.len() < CONTAINERS.most && spec.containers.iter().filter(|c| c.0 == 1).count() < 2 {
+        let rule = if spec.rules.is_empty() { UNRESTRICTED } else { r.below(spec.rules.len()) as u16 };
+        spec.containers.push((1, r.below(3) as u8, rule, if r.percent(50) { UNRESTRICTED } else { rule }));
     }
-    while spec.containers.len() < 256 && spec.containers.iter().filter(|c| c.0 == 3).count() < 1 {
-        spec.containers.push((3, 255, 65535, 65535));
+    while spec.containers.len() < CONTAINERS.most && spec.containers.iter().filter(|c| c.0 == 3).count() < 1 {
+        spec.containers.push(generate::PROCESS_RECORD);
     }
     if spec.users.is_empty() {
-        spec.users.push(65535);
+        spec.users.push(UNRESTRICTED);
     }
     let image = spec.encode(0);
-    let mut session = vec![0; 5_280];
+    let mut session = vec![0; SESSION_LENGTH];
     judge::session::start(&image, &mut session);
-    let near = (spec.containers.len() + length / 4).min(256);
+    let near = (spec.containers.len() + length / 4).min(CONTAINERS.most);
     let mut records = Vec::new();
     for _ in 0..length {
         let record = generate::record(r, &session, near);
@@ -123,7 +126,7 @@ fn long_trace(r: &mut Random) -> Case {
 
 fn matrix(r: &mut Random) -> Case {
     let (reads, writes, objects) = generate::matrix(r);
-    Case::Matrix { reads, writes, objects, out_length: generate::length(r, 18_994, true) }
+    Case::Matrix { reads, writes, objects, out_length: generate::length(r, OUTPUT_LENGTH, true) }
 }
 
 /// The counts of the last line.
@@ -170,8 +173,8 @@ fn write_files(seed: u64, count: usize, folder: &Path) -> io::Result<()> {
         // A record of another length moves all that follow it: in few traces alone.
         let moved = r.percent(10);
         let mut bytes: Vec<u8> =
-            records.iter().filter(|record| moved || record.len() == 8).flatten().copied().collect();
-        bytes.truncate(bytes.len() - r.below(9).min(bytes.len()));
+            records.iter().filter(|record| moved || record.len() == record::LENGTH).flatten().copied().collect();
+        bytes.truncate(bytes.len() - r.below(record::LENGTH + 1).min(bytes.len()));
         let place = folder.join(number.to_string());
         fs::create_dir_all(&place)?;
         fs::write(place.join("listing.txt"), judge::listing::listing(&image, &bytes))?;

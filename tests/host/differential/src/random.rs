@@ -30,6 +30,11 @@ impl Random {
         low + self.below(high - low + 1)
     }
 
+    /// A number at a limit or a little off.
+    pub fn about(&mut self, limit: usize) -> usize {
+        self.between(limit - 2, limit + 2)
+    }
+
     /// True `percent` times in a hundred.
     pub fn percent(&mut self, percent: usize) -> bool {
         self.below(100) < percent

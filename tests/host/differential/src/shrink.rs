@@ -2,9 +2,13 @@
 
 use std::time::{Duration, Instant};
 
+use yaslaurel::layout::image::{HEADER, SECTIONS};
+use yaslaurel::layout::session::{rule, PERMIT, RULE, RULE_MIXTURES, RUN, TAG};
+use yaslaurel::{OUTPUT_LENGTH, SESSION_LENGTH};
+
 use crate::case::{Bench, Case, Rows, StepCase};
 use crate::counters::Counters;
-use crate::spec::Spec;
+use crate::spec::{number_at, put_number, Spec};
 
 /// The smallest case found within the time, and its difference.
 pub fn shrink(bench: &mut Bench, case: Case, difference: String, time: Duration) -> (Case, String) {
@@ -37,8 +41,9 @@ fn simpler(case: &Case) -> Vec<Case> {
                 .into_iter()
                 .map(|image| Case::Image { image, out_length: out, session_length: session })
                 .collect();
-            if (out, session) != (18_994, 5_280) {
-                found.insert(0, Case::Image { image: image.clone(), out_length: 18_994, session_length: 5_280 });
+            if (out, session) != (OUTPUT_LENGTH, SESSION_LENGTH) {
+                let (out_length, session_length) = (OUTPUT_LENGTH, SESSION_LENGTH);
+                found.insert(0, Case::Image { image: image.clone(), out_length, session_length });
             }
             found
         }
@@ -97,17 +102,16 @@ fn images(image: &[u8]) -> Vec<Vec<u8>> {
         }
     }
     // One record less in one section, the bytes behind it moved up.
-    if image.len() >= 18 {
-        for (place, size) in [6usize, 2, 4, 8].into_iter().enumerate() {
-            let at = |field: usize| usize::from(u16::from_le_bytes([image[field], image[field + 1]]));
-            let (offset, length) = (at(2 + 4 * place), at(4 + 4 * place));
-            if length >= size && offset + length <= image.len() {
+    if image.len() >= HEADER {
+        for (place, section) in SECTIONS.into_iter().enumerate() {
+            let (offset, length) = (number_at(image, section.offset_at()), number_at(image, section.length_at()));
+            if length >= section.record && offset + length <= image.len() {
                 let mut less = image.to_vec();
-                less.drain(offset + length - size..offset + length);
-                less[4 + 4 * place..6 + 4 * place].copy_from_slice(&((length - size) as u16).to_le_bytes());
-                for later in place + 1..4 {
-                    let moved = at(2 + 4 * later).saturating_sub(size) as u16;
-                    less[2 + 4 * later..4 + 4 * later].copy_from_slice(&moved.to_le_bytes());
+                less.drain(offset + length - section.record..offset + length);
+                put_number(&mut less, section.length_at(), length - section.record);
+                for later in &SECTIONS[place + 1..] {
+                    let moved = number_at(image, later.offset_at()).saturating_sub(section.record);
+                    put_number(&mut less, later.offset_at(), moved);
                 }
                 found.push(less);
             }
@@ -132,7 +136,7 @@ fn steps(step: &StepCase) -> Vec<StepCase> {
     };
     add(&|s| s.rows = Rows::default());
     add(&|s| s.background = 0);
-    add(&|s| s.length = 5_280);
+    add(&|s| s.length = SESSION_LENGTH);
     for i in 0..step.rows.containers.len() {
         add(&|s| {
             s.rows.containers.remove(i);
@@ -151,18 +155,19 @@ fn steps(step: &StepCase) -> Vec<StepCase> {
         for (at, &word) in row.iter().enumerate() {
             add(&|s| s.rows.containers[i].1[at] = 0);
             let lowest = word & word.wrapping_neg();
-            if at == 1 {
+            if at == TAG {
                 add(&|s| s.rows.containers[i].1[at] = lowest);
             }
             add(&|s| s.rows.containers[i].1[at] &= !lowest);
         }
         // The unrestricted rule in place of another, then one mixture less.
-        for at in [2, 11] {
-            let plain = [1, u64::MAX, 0, 0, 0, 0, 0, 0, 0];
+        for at in [PERMIT, RUN] {
+            let mut plain = [0; RULE];
+            plain[..2].copy_from_slice(&[1, u64::MAX]);
             if row[at] > 1 {
-                add(&|s| s.rows.containers[i].1[at..at + 9].copy_from_slice(&plain));
+                add(&|s| s.rows.containers[i].1[rule(at)].copy_from_slice(&plain));
             }
-            let last = at + row[at].min(8) as usize;
+            let last = at + row[at].min(RULE_MIXTURES as u64) as usize;
             if last > at {
                 add(&|s| {
                     s.rows.containers[i].1[last] = 0;
@@ -185,8 +190,8 @@ fn matrices(reads: &[u32], writes: &[u32], objects: u32, out_length: usize) -> V
     let mut add = |reads: Vec<u32>, writes: Vec<u32>, objects: u32, out_length: usize| {
         found.push(Case::Matrix { reads, writes, objects, out_length });
     };
-    if out_length != 18_994 {
-        add(reads.to_vec(), writes.to_vec(), objects, 18_994);
+    if out_length != OUTPUT_LENGTH {
+        add(reads.to_vec(), writes.to_vec(), objects, OUTPUT_LENGTH);
     }
     for at in 0..reads.len().min(writes.len()) {
         let (mut r, mut w) = (reads.to_vec(), writes.to_vec());

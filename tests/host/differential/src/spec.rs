@@ -1,5 +1,23 @@
 //! A policy image before it is spelled in bytes. Nothing here keeps to the limits: a spec can spell refused images.
 
+use yaslaurel::layout::image::{
+    Section, ATOM, CONTAINERS, COUNT, FIRST, HEADER, KIND, LEADING, MIXTURES, NO_ATOM, PERMIT, RULES, RUN, SECTIONS,
+    UNRESTRICTED, USERS,
+};
+
+/// A 16-bit number of an image.
+pub fn number_at(image: &[u8], at: usize) -> usize {
+    usize::from(u16::from_le_bytes([image[at], image[at + 1]]))
+}
+
+/// Writes a 16-bit number into an image.
+pub fn put_number(image: &mut [u8], at: usize, number: usize) {
+    image[at..at + 2].copy_from_slice(&(number as u16).to_le_bytes());
+}
+
+/// Before each section and behind the last.
+pub const GAPS: usize = SECTIONS.len() + 1;
+
 #[derive(Clone, Debug, PartialEq, Eq)]
 pub struct Spec {
     /// kind, atom, permit, run
@@ -9,58 +27,55 @@ pub struct Spec {
     pub rules: Vec<(u16, u16)>,
     pub mixtures: Vec<u64>,
     /// Bytes before each section and behind the last.
-    pub gaps: [usize; 5],
+    pub gaps: [usize; GAPS],
 }
 
 impl Spec {
     /// The image; the bytes of its gaps are `filler`.
     pub fn encode(&self, filler: u8) -> Vec<u8> {
-        let mut sections: [Vec<u8>; 4] = Default::default();
+        let (mut containers, mut users, mut rules, mut mixtures) = (vec![], vec![], vec![], vec![]);
         for &(kind, atom, permit, run) in &self.containers {
-            sections[0].extend([kind, atom]);
-            sections[0].extend(permit.to_le_bytes());
-            sections[0].extend(run.to_le_bytes());
+            containers.extend([kind, atom]);
+            containers.extend(permit.to_le_bytes());
+            containers.extend(run.to_le_bytes());
         }
         for user in &self.users {
-            sections[1].extend(user.to_le_bytes());
+            users.extend(user.to_le_bytes());
         }
         for (first, count) in &self.rules {
-            sections[2].extend(first.to_le_bytes());
-            sections[2].extend(count.to_le_bytes());
+            rules.extend(first.to_le_bytes());
+            rules.extend(count.to_le_bytes());
         }
         for mixture in &self.mixtures {
-            sections[3].extend(mixture.to_le_bytes());
+            mixtures.extend(mixture.to_le_bytes());
         }
-        let mut image = vec![4, 0];
-        let mut offset = 18;
-        for (section, gap) in sections.iter().zip(self.gaps) {
-            offset += gap;
-            image.extend((offset as u16).to_le_bytes());
-            image.extend((section.len() as u16).to_le_bytes());
-            offset += section.len();
-        }
-        for (section, gap) in sections.iter().zip(self.gaps) {
+        let mut image = vec![0; HEADER];
+        put_number(&mut image, 0, usize::from(LEADING));
+        for ((section, bytes), gap) in SECTIONS.iter().zip([containers, users, rules, mixtures]).zip(self.gaps) {
             image.resize(image.len() + gap, filler);
-            image.extend(section);
+            let offset = image.len();
+            put_number(&mut image, section.offset_at(), offset);
+            put_number(&mut image, section.length_at(), bytes.len());
+            image.extend(bytes);
         }
-        image.resize(image.len() + self.gaps[4], filler);
+        image.resize(image.len() + self.gaps[GAPS - 1], filler);
         image
     }
 
     /// The spec that an accepted image spells, without its gaps.
     pub fn of_accepted(image: &[u8]) -> Spec {
-        let at = |place: usize| u16::from_le_bytes([image[place], image[place + 1]]);
-        let section = |number: usize| {
-            let (offset, length) = (usize::from(at(2 + 4 * number)), usize::from(at(4 + 4 * number)));
-            &image[offset..offset + length]
+        let records = |section: Section| {
+            let (offset, length) = (number_at(image, section.offset_at()), number_at(image, section.length_at()));
+            image[offset..offset + length].chunks(section.record)
         };
-        let pair = |bytes: &[u8]| u16::from_le_bytes([bytes[0], bytes[1]]);
+        let number = |record: &[u8], at: usize| number_at(record, at) as u16;
+        let container = |r: &[u8]| (r[KIND], r[ATOM], number(r, PERMIT), number(r, RUN));
         Spec {
-            containers: section(0).chunks(6).map(|r| (r[0], r[1], pair(&r[2..]), pair(&r[4..]))).collect(),
-            users: section(1).chunks(2).map(pair).collect(),
-            rules: section(2).chunks(4).map(|r| (pair(r), pair(&r[2..]))).collect(),
-            mixtures: section(3).chunks(8).map(|r| u64::from_le_bytes(r.try_into().unwrap())).collect(),
-            gaps: [0; 5],
+            containers: records(CONTAINERS).map(container).collect(),
+            users: records(USERS).map(|r| number(r, 0)).collect(),
+            rules: records(RULES).map(|r| (number(r, FIRST), number(r, COUNT))).collect(),
+            mixtures: records(MIXTURES).map(|r| u64::from_le_bytes(r.try_into().unwrap())).collect(),
+            gaps: [0; GAPS],
         }
     }
 
@@ -74,7 +89,7 @@ impl Spec {
                 found.push(simpler);
             }
         };
-        add(&|s| s.gaps = [0; 5]);
+        add(&|s| s.gaps = [0; GAPS]);
         for keep in [0, self.containers.len() / 2, self.containers.len().saturating_sub(1)] {
             add(&|s| s.containers.truncate(keep));
         }
@@ -88,12 +103,12 @@ impl Spec {
             add(&|s| s.mixtures.truncate(keep));
         }
         for i in 0..self.containers.len() {
-            add(&|s| s.containers[i].1 = 255);
-            add(&|s| s.containers[i].2 = 65535);
-            add(&|s| s.containers[i].3 = 65535);
+            add(&|s| s.containers[i].1 = NO_ATOM);
+            add(&|s| s.containers[i].2 = UNRESTRICTED);
+            add(&|s| s.containers[i].3 = UNRESTRICTED);
         }
         for i in 0..self.users.len() {
-            add(&|s| s.users[i] = 65535);
+            add(&|s| s.users[i] = UNRESTRICTED);
         }
         for i in 0..self.rules.len() {
             add(&|s| s.rules[i].1 = s.rules[i].1.saturating_sub(1));

@@ -2,6 +2,7 @@
 //! session. The number of chains can double with each step, so it is for short traces.
 
 use crate::image::{Kind, Policy};
+use crate::numbers::DATA_ATOMS;
 use crate::rules::{covers, Rule};
 use crate::session::Record;
 
@@ -113,7 +114,7 @@ fn into(chains: &[Chain], container: usize, after: usize) -> impl Iterator<Item 
 pub fn information(chains: &[Chain], container: usize, after: usize) -> u64 {
     into(chains, container, after).fold(0, |atoms, chain| match chain.carried {
         Carried::Data(atom) => atoms | 1 << atom,
-        Carried::Running(atom) => atoms | 1 << (atom + 32),
+        Carried::Running(atom) => atoms | 1 << (atom + DATA_ATOMS),
         Carried::RunRule(_) => atoms,
     })
 }
@@ -182,7 +183,8 @@ pub fn judge(policy: &Policy, history: &[Record]) -> Vec<Judged> {
 #[cfg(test)]
 mod tests {
     use super::*;
-    use crate::image::{Container, UNRESTRICTED};
+    use crate::image::Container;
+    use crate::numbers::UNRESTRICTED;
 
     fn file(atom: u8) -> Container {
         Container { kind: Kind::File, atom: Some(atom), permit: UNRESTRICTED, run: UNRESTRICTED }

@@ -1,5 +1,9 @@
 //! "Policy image".
 
+use crate::numbers::{
+    Section, CONTAINERS, CONTAINER_ATOM, CONTAINER_KIND, CONTAINER_PERMIT, CONTAINER_RUN, DATA_ATOMS, HEADER, LEADING,
+    LONGEST_IMAGE, MIXTURES, NO_ATOM, RULES, RULE_COUNT, RULE_FIRST, RULE_MIXTURES, SECTIONS, UNRESTRICTED, USERS,
+};
 use crate::rules::{unrestricted, Rule};
 
 /// The three kinds of container, "1 file, 2 volatile, 3 process".
@@ -30,12 +34,6 @@ impl Kind {
         }
     }
 }
-
-/// "Rule number 65535 is the unrestricted rule."
-pub const UNRESTRICTED: u16 = 65535;
-
-/// "atom (8 bits: 0 to 31, 255 none)".
-pub const NO_ATOM: u8 = 255;
 
 /// One container record, as written.
 #[derive(Clone, Copy, Debug, PartialEq, Eq)]
@@ -70,39 +68,33 @@ fn u16_at(bytes: &[u8], at: usize) -> u16 {
     u16::from_le_bytes([bytes[at], bytes[at + 1]])
 }
 
-fn u64_at(bytes: &[u8], at: usize) -> u64 {
-    let mut eight = [0; 8];
-    eight.copy_from_slice(&bytes[at..at + 8]);
-    u64::from_le_bytes(eight)
-}
-
 /// The four sections of an image that passes "2 the leading 4 or the pairs".
-fn sections(image: &[u8]) -> Result<[&[u8]; 4], u32> {
+fn sections(image: &[u8]) -> Result<[&[u8]; SECTIONS.len()], u32> {
     // "1 image under 18 or over 20,480 bytes"
-    if image.len() < 18 || image.len() > 20_480 {
+    if image.len() < HEADER || image.len() > LONGEST_IMAGE {
         return Err(1);
     }
     // "First a 16-bit 4, then four pairs of 16-bit offset and length, sorted by offset, so 18 bytes."
-    if u16_at(image, 0) != 4 {
+    if u16_at(image, 0) != LEADING {
         return Err(2);
     }
     // "Each section starts at or after the previous end (the first at 18 or later) and ends within the image."
-    let mut previous_end = 18;
-    let mut found: [&[u8]; 4] = [&[]; 4];
-    for (place, section) in found.iter_mut().enumerate() {
-        let offset = usize::from(u16_at(image, 2 + 4 * place));
-        let length = usize::from(u16_at(image, 4 + 4 * place));
+    let mut previous_end = HEADER;
+    let mut found: [&[u8]; SECTIONS.len()] = [&[]; SECTIONS.len()];
+    for (found, section) in found.iter_mut().zip(SECTIONS) {
+        let offset = usize::from(u16_at(image, section.offset_at));
+        let length = usize::from(u16_at(image, section.length_at));
         if offset < previous_end || offset + length > image.len() {
             return Err(2);
         }
-        *section = &image[offset..offset + length];
+        *found = &image[offset..offset + length];
         previous_end = offset + length;
     }
     Ok(found)
 }
 
 /// "3 section length no multiple, or too many records".
-fn records(section: &[u8], size: usize, most: usize) -> Result<Vec<&[u8]>, u32> {
+fn records(section: &[u8], Section { size, most, .. }: Section) -> Result<Vec<&[u8]>, u32> {
     if !section.len().is_multiple_of(size) || section.len() / size > most {
         return Err(3);
     }
@@ -116,13 +108,13 @@ fn names_a_rule(number: u16, rules: usize) -> bool {
 
 /// One container record, "5 container record".
 fn container(record: &[u8], rules: usize) -> Result<Container, u32> {
-    let (kind, atom) = (record[0], record[1]);
-    let (permit, run) = (u16_at(record, 2), u16_at(record, 4));
+    let (kind, atom) = (record[CONTAINER_KIND], record[CONTAINER_ATOM]);
+    let (permit, run) = (u16_at(record, CONTAINER_PERMIT), u16_at(record, CONTAINER_RUN));
     match Kind::of(u64::from(kind)) {
         None => Err(5),
         // "atom (8 bits: 0 to 31, 255 none)"
         Some(Kind::File) => {
-            if (atom > 31 && atom != NO_ATOM) || !names_a_rule(permit, rules) || !names_a_rule(run, rules) {
+            if (atom >= DATA_ATOMS && atom != NO_ATOM) || !names_a_rule(permit, rules) || !names_a_rule(run, rules) {
                 return Err(5);
             }
             let atom = if atom == NO_ATOM { None } else { Some(atom) };
@@ -142,20 +134,21 @@ fn container(record: &[u8], rules: usize) -> Result<Container, u32> {
 pub fn read(image: &[u8]) -> Result<Policy, u32> {
     let [containers, users, rules, mixtures] = sections(image)?;
 
-    // "Containers, at most 256, 6 bytes", "Users, at most 16: one 16-bit rule number", "Rules, at most 256: 16-bit
-    // first mixture and 16-bit count", "Mixtures, at most 2,048, 64 bits each"
-    let containers = records(containers, 6, 256)?;
-    let users = records(users, 2, 16)?;
-    let rules = records(rules, 4, 256)?;
-    let mixtures: Vec<u64> = records(mixtures, 8, 2048)?.iter().map(|r| u64_at(r, 0)).collect();
+    let containers = records(containers, CONTAINERS)?;
+    let users = records(users, USERS)?;
+    let rules = records(rules, RULES)?;
+    let mixtures: Vec<u64> = records(mixtures, MIXTURES)?
+        .into_iter()
+        .map(|record| u64::from_le_bytes(record.try_into().expect("a mixture has 64 bits")))
+        .collect();
 
     // "at most 8; firsts never fall, ranges may overlap, first plus count is at most the number of mixtures"
     let mut written: Vec<Rule> = Vec::new();
     let mut previous_first = 0;
     for record in &rules {
-        let first = usize::from(u16_at(record, 0));
-        let count = usize::from(u16_at(record, 2));
-        if count > 8 || first < previous_first || first + count > mixtures.len() {
+        let first = usize::from(u16_at(record, RULE_FIRST));
+        let count = usize::from(u16_at(record, RULE_COUNT));
+        if count > RULE_MIXTURES || first < previous_first || first + count > mixtures.len() {
             return Err(4);
         }
         written.push(mixtures[first..first + count].to_vec());

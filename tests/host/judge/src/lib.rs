@@ -2,7 +2,8 @@
 //!
 //! It was written from the paper ("The flow monitor: containers, mixtures and chains") and from nothing else: it
 //! shares no code, no constants and no generated data with the library. Every part quotes the sentences of the paper
-//! that it renders. It is made to be read against the paper, not to be fast.
+//! that it renders; the sizes, limits and places of the formats are in [`numbers`]. It is made to be read against the
+//! paper, not to be fast.
 //!
 //! [`chains`] is a second judge of its own: it finds the alerts from the history of accepted steps, by listing the
 //! chains, and holds no tags.
@@ -12,5 +13,6 @@ pub mod image;
 pub mod listing;
 pub mod matrix;
 pub mod normal;
+pub mod numbers;
 pub mod rules;
 pub mod session;

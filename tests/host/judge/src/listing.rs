@@ -2,7 +2,8 @@
 
 use std::fmt::Write as _;
 
-use crate::session::{start, step, ALERT, LENGTH, QUIET};
+use crate::numbers::{RECORD, SESSION};
+use crate::session::{start, step, ALERT, QUIET};
 
 /// "Words: read, write, append, exec, fork, file, volatile, other (unknown code)."
 fn word(code: u8) -> &'static str {
@@ -22,7 +23,7 @@ fn word(code: u8) -> &'static str {
 pub fn listing(policy: &[u8], trace: &[u8]) -> String {
     let mut text = String::new();
     // "Its buffer of 5,280 zeros is filled by the start."
-    let mut session = vec![0; LENGTH];
+    let mut session = vec![0; SESSION];
     let refusal = start(policy, &mut session);
     if refusal != 0 {
         // "A refused policy prints only `policy refused` and its number."
@@ -32,7 +33,7 @@ pub fn listing(policy: &[u8], trace: &[u8]) -> String {
     // "The first line names the fields"
     text.push_str("step op p o verdict at tag\n");
     let (mut records, mut alerts, mut refusals) = (0u64, 0u64, 0u64);
-    for record in trace.chunks(8) {
+    for record in trace.chunks(RECORD) {
         records += 1;
         let answer = step(&mut session, record);
         // "a short last record counts as a step and is listed, behind its step number, as `other 0 0 refused 7`"
@@ -67,7 +68,7 @@ mod tests {
     /// The listing that the paper prints, of `policy.bin` from document 000's matrix.
     #[test]
     fn paper_listing() {
-        let mut out = vec![0; crate::normal::LONGEST];
+        let mut out = vec![0; crate::numbers::LONGEST_NORMAL];
         let length = crate::matrix::policy(&[5, 3, 2], &[1, 2, 10], 4, &mut out) as usize;
         let steps: [(u8, u16, u16); 6] = [(1, 4, 2), (3, 4, 0), (1, 5, 0), (3, 5, 1), (2, 6, 1), (1, 6, 9)];
         let mut trace = Vec::new();

@@ -1,7 +1,8 @@
 //! "Matrix".
 
-use crate::image::{Container, Kind, Policy, UNRESTRICTED};
-use crate::normal::{encode, put, LONGEST};
+use crate::image::{Container, Kind, Policy};
+use crate::normal::{encode, put};
+use crate::numbers::{LONGEST_NORMAL, UNRESTRICTED};
 
 /// A matrix that passes refusal 8.
 struct Matrix<'a> {
@@ -111,7 +112,7 @@ pub fn verdict(reads: &[u32], writes: &[u32], objects: u32) -> Verdict {
 /// The derived policy: the length of its image, or the number of the refusal, 9 before 8.
 pub fn policy(reads: &[u32], writes: &[u32], objects: u32, out: &mut [u8]) -> u32 {
     // "9 session of wrong length or output (of normaliser or derived policy) under 18,994 bytes"
-    if out.len() < LONGEST {
+    if out.len() < LONGEST_NORMAL {
         return 9;
     }
     match read(reads, writes, objects) {
@@ -123,6 +124,7 @@ pub fn policy(reads: &[u32], writes: &[u32], objects: u32, out: &mut [u8]) -> u3
 #[cfg(test)]
 mod tests {
     use super::*;
+    use crate::numbers::{CONTAINERS, HEADER};
 
     /// "Document 000's matrix: read rows 5, 3, 2, write rows 1, 2, 10, 4 objects: 3 flows, first 0 to 3. Permit rules
     /// 5; 3; 4; 10. Image of 110 bytes, pairs (18,42), (60,2), (62,16), (78,32)."
@@ -130,9 +132,10 @@ mod tests {
     fn document_000() {
         let (reads, writes) = ([5, 3, 2], [1, 2, 10]);
         assert_eq!(verdict(&reads, &writes, 4), Verdict { number: 1, count: 3, source: 0, target: 3 });
-        let mut out = vec![0; LONGEST];
+        let mut out = vec![0; LONGEST_NORMAL];
         assert_eq!(policy(&reads, &writes, 4, &mut out), 110);
-        let pairs: Vec<u16> = out[2..18].chunks(2).map(|b| u16::from_le_bytes([b[0], b[1]])).collect();
+        let pairs: Vec<u16> =
+            out[CONTAINERS.offset_at..HEADER].chunks(2).map(|b| u16::from_le_bytes([b[0], b[1]])).collect();
         assert_eq!(pairs, [18, 42, 60, 2, 62, 16, 78, 32]);
         let read = crate::image::read(&out[..110]).unwrap();
         assert_eq!(read.rules, [vec![5], vec![3], vec![4], vec![10]]);

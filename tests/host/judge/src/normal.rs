@@ -2,11 +2,9 @@
 
 use std::collections::HashMap;
 
-use crate::image::{read, Policy, NO_ATOM, UNRESTRICTED};
+use crate::image::{read, Policy};
+use crate::numbers::{HEADER, LEADING, LONGEST_NORMAL, NO_ATOM, UNRESTRICTED};
 use crate::rules::{normal, unrestricted, Rule};
-
-/// "Its length is at most 18,994; the output must hold that many bytes".
-pub const LONGEST: usize = 18_994;
 
 /// Numbers the rules "by first use", "equal rules written once, unused rules dropped, unrestricted rules written as
 /// 65535".
@@ -63,8 +61,8 @@ pub fn encode(policy: &Policy) -> Vec<u8> {
     }
 
     // "sections without gaps"
-    let mut image = Vec::from(4u16.to_le_bytes());
-    let mut offset = 18;
+    let mut image = Vec::from(LEADING.to_le_bytes());
+    let mut offset = HEADER;
     for section in [&containers, &users, &rules, &mixtures] {
         image.extend((offset as u16).to_le_bytes());
         image.extend((section.len() as u16).to_le_bytes());
@@ -85,7 +83,7 @@ pub fn put(image: &[u8], out: &mut [u8]) -> u32 {
 /// The normaliser: the length of the normal image (18 or more), or the number of the refusal, 9 before 1 to 6.
 pub fn normalise(image: &[u8], out: &mut [u8]) -> u32 {
     // "9 session of wrong length or output (of normaliser or derived policy) under 18,994 bytes"
-    if out.len() < LONGEST {
+    if out.len() < LONGEST_NORMAL {
         return 9;
     }
     match read(image) {

@@ -1,20 +1,19 @@
 //! "Information and rules".
 
+use crate::numbers::DATA_ATOMS;
+
 /// "A rule is 0 to 8 mixtures." "A tag or a mixture is a set of these 64, kept as one 64-bit number, atom k being
 /// worth 2 to the k."
 pub type Rule = Vec<u64>;
 
-/// "A rule is 0 to 8 mixtures."
-pub const MOST_MIXTURES: usize = 8;
-
 /// "There are 32 data atoms, 0 to 31."
 pub fn data_atoms(tag: u64) -> u64 {
-    tag & 0x0000_0000_ffff_ffff
+    tag & ((1 << DATA_ATOMS) - 1)
 }
 
 /// "The running twin of atom d is d + 32: the same content, executed."
 pub fn running_atoms(tag: u64) -> u64 {
-    data_atoms(tag) << 32
+    data_atoms(tag) << DATA_ATOMS
 }
 
 /// Whether the set `mixture` holds all of the set `tag`.

@@ -1,10 +1,11 @@
 //! "Session" and "Operations".
 
 use crate::image::{read, Kind};
-use crate::rules::{covers, data_atoms, meet, normal, running_atoms, unrestricted, Rule, MOST_MIXTURES};
-
-/// "The session is a lent slice of exactly 5,280 numbers of 64 bits: 256 rows of 20, then 16 user rows of 10."
-pub const LENGTH: usize = 5_280;
+use crate::numbers::{
+    container_row, user_row, CONTAINERS, NO_USER, ROW_DECLARED, ROW_KIND, ROW_PERMIT, ROW_RULE, ROW_RUN, ROW_TAG,
+    RULE_MIXTURES, RULE_WORDS, SESSION, USERS,
+};
+use crate::rules::{covers, data_atoms, meet, normal, running_atoms, unrestricted, Rule};
 
 /// The number of an answer that is quiet and of one that is an alert.
 pub const QUIET: u32 = 0;
@@ -47,20 +48,10 @@ impl Place {
     }
 }
 
-/// "256 rows of 20".
-fn container_row(session: &[u64], number: usize) -> &[u64] {
-    &session[20 * number..20 * number + 20]
-}
-
-/// "then 16 user rows of 10".
-fn user_row(session: &[u64], number: usize) -> &[u64] {
-    &session[256 * 20 + 10 * number..256 * 20 + 10 * number + 10]
-}
-
 /// A rule in nine words: "permit count, 8 mixtures". "Unused words are 0, rules in normal form".
 fn read_rule(words: &[u64]) -> Option<Rule> {
-    let (count, places) = (words[0], &words[1..9]);
-    if count > 8 {
+    let (&count, places) = words.split_first()?;
+    if count > RULE_MIXTURES as u64 {
         return None;
     }
     let (mixtures, unused) = places.split_at(count as usize);
@@ -71,51 +62,51 @@ fn read_rule(words: &[u64]) -> Option<Rule> {
 /// "A container row: kind (0 free, else as in the image), information tag, permit count, 8 mixtures, run count,
 /// 8 mixtures." "a free or undeclared row is all 0". Nothing for a row that is not as "Session" says.
 fn read_container(words: &[u64]) -> Option<Place> {
-    if words[0] == 0 {
+    if words[ROW_KIND] == 0 {
         return words.iter().all(|&word| word == 0).then_some(Place::Free);
     }
-    let kind = Kind::of(words[0])?;
-    let permit = read_rule(&words[2..11])?;
-    let run = read_rule(&words[11..20])?;
-    Some(Place::Taken(Row { kind, tag: words[1], permit, run }))
+    let kind = Kind::of(words[ROW_KIND])?;
+    let permit = read_rule(&words[ROW_PERMIT])?;
+    let run = read_rule(&words[ROW_RUN])?;
+    Some(Place::Taken(Row { kind, tag: words[ROW_TAG], permit, run }))
 }
 
 /// "A user row: 1 if declared, count, 8 mixtures." Nothing for a row that is not as "Session" says, an empty
 /// inner option for a user that is not declared.
 fn read_user(words: &[u64]) -> Option<Option<Rule>> {
-    match words[0] {
+    match words[ROW_DECLARED] {
         0 => words.iter().all(|&word| word == 0).then_some(None),
-        1 => read_rule(&words[1..10]).map(Some),
+        1 => read_rule(&words[ROW_RULE]).map(Some),
         _ => None,
     }
 }
 
 /// A rule as nine words.
-fn rule_words(rule: &[u64]) -> [u64; 9] {
-    let mut words = [0; 9];
+fn rule_words(rule: &[u64]) -> [u64; RULE_WORDS] {
+    let mut words = [0; RULE_WORDS];
     words[0] = rule.len() as u64;
     words[1..1 + rule.len()].copy_from_slice(rule);
     words
 }
 
 fn write_container(session: &mut [u64], number: usize, row: &Row) {
-    let words = &mut session[20 * number..20 * number + 20];
-    words[0] = u64::from(row.kind.number());
-    words[1] = row.tag;
-    words[2..11].copy_from_slice(&rule_words(&row.permit));
-    words[11..20].copy_from_slice(&rule_words(&row.run));
+    let words = &mut session[container_row(number)];
+    words[ROW_KIND] = u64::from(row.kind.number());
+    words[ROW_TAG] = row.tag;
+    words[ROW_PERMIT].copy_from_slice(&rule_words(&row.permit));
+    words[ROW_RUN].copy_from_slice(&rule_words(&row.run));
 }
 
 fn write_user(session: &mut [u64], number: usize, rule: &[u64]) {
-    let words = &mut session[5_120 + 10 * number..5_120 + 10 * number + 10];
-    words[0] = 1;
-    words[1..10].copy_from_slice(&rule_words(rule));
+    let words = &mut session[user_row(number)];
+    words[ROW_DECLARED] = 1;
+    words[ROW_RULE].copy_from_slice(&rule_words(rule));
 }
 
 /// The session start: 0 if the image is accepted, else the number of the refusal, 9 before 1 to 6.
 pub fn start(image: &[u8], session: &mut [u64]) -> u32 {
     // "9 session of wrong length"
-    if session.len() != LENGTH {
+    if session.len() != SESSION {
         return 9;
     }
     let policy = match read(image) {
@@ -156,16 +147,17 @@ pub fn read_record(bytes: &[u8]) -> Option<Record> {
         return None;
     };
     let (p, o, u) = (u16::from_le_bytes([p0, p1]), u16::from_le_bytes([o0, o1]), u16::from_le_bytes([u0, u1]));
-    if !(1..=7).contains(&code) || zero != 0 || p > 255 || o > 255 {
+    let (p, o) = (usize::from(p), usize::from(o));
+    if !(1..=7).contains(&code) || zero != 0 || p >= CONTAINERS.most || o >= CONTAINERS.most {
         return None;
     }
     let u = match code {
-        4 | 6 if u <= 15 => Some(usize::from(u)),
+        4 | 6 if usize::from(u) < USERS.most => Some(usize::from(u)),
         4 | 6 => return None,
-        _ if u == 65535 => None,
+        _ if u == NO_USER => None,
         _ => return None,
     };
-    Some(Record { code, p: usize::from(p), o: usize::from(o), u })
+    Some(Record { code, p, o, u })
 }
 
 /// What an accepted operation changes: one row, the receiver's.
@@ -176,7 +168,7 @@ struct Effect {
 
 /// "15 a meet has over 8 mixtures".
 fn bounded(rule: Rule) -> Result<Rule, u32> {
-    if rule.len() > MOST_MIXTURES {
+    if rule.len() > RULE_MIXTURES {
         Err(15)
     } else {
         Ok(rule)
@@ -221,11 +213,11 @@ fn effect(record: Record, p: &Row, o: Option<&Row>, user: Option<&Rule>) -> Resu
 /// Reads the named rows and goes through "Refused because of the session" in order.
 fn judged(session: &[u64], record: Record) -> Result<Effect, u32> {
     // "10 a named row (p, o, and u for 4 and 6) is not as "Session" says"
-    let p = read_container(container_row(session, record.p)).ok_or(10u32)?;
-    let o = read_container(container_row(session, record.o)).ok_or(10u32)?;
+    let p = read_container(&session[container_row(record.p)]).ok_or(10u32)?;
+    let o = read_container(&session[container_row(record.o)]).ok_or(10u32)?;
     let user = match record.u {
         None => None,
-        Some(u) => read_user(user_row(session, u)).ok_or(10u32)?,
+        Some(u) => read_user(&session[user_row(u)]).ok_or(10u32)?,
     };
     // "11 p is no process"
     let p = p.row().filter(|row| row.kind == Kind::Process).ok_or(11u32)?;
@@ -253,7 +245,7 @@ fn judged(session: &[u64], record: Record) -> Result<Effect, u32> {
 /// One operation on the session, "9" first, then "7", then the refusals because of the session.
 pub fn step(session: &mut [u64], record: &[u8]) -> Answer {
     // "9 session of wrong length"
-    if session.len() != LENGTH {
+    if session.len() != SESSION {
         return refused(9);
     }
     let Some(record) = read_record(record) else {
@@ -277,7 +269,7 @@ mod tests {
     use super::*;
 
     fn session_with(rows: &[(usize, Row)], users: &[(usize, Rule)]) -> Vec<u64> {
-        let mut session = vec![0; LENGTH];
+        let mut session = vec![0; SESSION];
         for (number, row) in rows {
             write_container(&mut session, *number, row);
         }

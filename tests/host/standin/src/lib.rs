@@ -6,7 +6,11 @@ use std::env;
 use std::slice::{from_raw_parts, from_raw_parts_mut};
 use std::sync::OnceLock;
 
-use judge::rules::{holds, meet};
+use judge::numbers::{
+    container_row, user_row, CONTAINERS, HEADER, LONGEST_NORMAL, MIXTURES, RECORD, ROW_PERMIT, ROW_RUN, ROW_TAG, RULES,
+    RULE_MIXTURES, UNRESTRICTED, USERS,
+};
+use judge::rules::{covers, holds, meet};
 use judge::{image, matrix, normal, session};
 
 /// The planted faults, each a mistake that a reviewer would try.
@@ -59,11 +63,17 @@ pub unsafe extern "C" fn yaslaurel_image_check(bytes: *const u8, length: usize) 
     number
 }
 
+/// The 16-bit number at a place of an image.
+fn number_at(bytes: &[u8], place: usize) -> usize {
+    usize::from(u16::from_le_bytes([bytes[place], bytes[place + 1]]))
+}
+
 /// Whether a user's rule number is wrong in an image that is refused with 5.
 fn users_wrong(bytes: &[u8]) -> bool {
-    let at = |place: usize| usize::from(bytes[place]) + 256 * usize::from(bytes[place + 1]);
-    let (offset, length, rules) = (at(6), at(8), at(12) / 4);
-    (offset..offset + length).step_by(2).any(|place| at(place) != 65535 && at(place) >= rules)
+    let (offset, length) = (number_at(bytes, USERS.offset_at), number_at(bytes, USERS.length_at));
+    let rules = number_at(bytes, RULES.length_at) / RULES.size;
+    let mut numbers = (offset..offset + length).step_by(USERS.size).map(|place| number_at(bytes, place));
+    numbers.any(|number| number != usize::from(UNRESTRICTED) && number >= rules)
 }
 
 /// # Safety
@@ -77,11 +87,11 @@ pub unsafe extern "C" fn yaslaurel_image_normalise(
 ) -> u32 {
     let bytes = from_raw_parts(bytes, length);
     let out = from_raw_parts_mut(out, out_length);
-    if fault(7) && out.len() >= bytes.len() && out.len() >= normal::LONGEST && image::check(bytes) == 0 {
+    if fault(7) && out.len() >= bytes.len() && out.len() >= LONGEST_NORMAL && image::check(bytes) == 0 {
         return normal::put(bytes, out);
     }
     let number = normal::normalise(bytes, out);
-    if fault(12) && number >= 18 && (number as usize) < out.len() {
+    if fault(12) && number as usize >= HEADER && (number as usize) < out.len() {
         out[number as usize] = 0;
     }
     number
@@ -97,13 +107,14 @@ pub unsafe extern "C" fn yaslaurel_session_start(
     words_length: usize,
 ) -> u32 {
     let words = from_raw_parts_mut(words, words_length);
-    let last_user: Option<Vec<u64>> = words.get(5_270..5_280).map(<[u64]>::to_vec);
+    let last = user_row(USERS.most - 1);
+    let last_before: Option<Vec<u64>> = words.get(last.clone()).map(<[u64]>::to_vec);
     let number = session::start(from_raw_parts(bytes, length), words);
     if fault(10) && number != 0 {
         words.fill(0);
     }
-    if let (true, 0, Some(last)) = (fault(16), number, last_user) {
-        words[5_270..5_280].copy_from_slice(&last);
+    if let (true, 0, Some(before)) = (fault(16), number, last_before) {
+        words[last].copy_from_slice(&before);
     }
     number
 }
@@ -142,8 +153,8 @@ fn step(session: &mut [u64], bytes: &[u8]) -> session::Answer {
         return session::step(session, bytes);
     }
     let padded: Vec<u8>;
-    let bytes = if fault(20) && bytes.len() < 8 {
-        padded = bytes.iter().copied().chain([0; 8]).take(8).collect();
+    let bytes = if fault(20) && bytes.len() < RECORD {
+        padded = bytes.iter().copied().chain([0; RECORD]).take(RECORD).collect();
         &padded
     } else {
         bytes
@@ -152,10 +163,12 @@ fn step(session: &mut [u64], bytes: &[u8]) -> session::Answer {
     let mut answer = session::step(session, bytes);
     if fault(13) && answer.number == 10 {
         let mut cleared = before.clone();
-        for row in cleared[..5_120].chunks_mut(20) {
-            let (permit, run) = (row[2].min(8) as usize, row[11].min(8) as usize);
-            row[3 + permit..11].fill(0);
-            row[12 + run..20].fill(0);
+        for number in 0..CONTAINERS.most {
+            for place in [ROW_PERMIT, ROW_RUN] {
+                let words = &mut cleared[container_row(number)][place];
+                let count = words[0].min(RULE_MIXTURES as u64) as usize;
+                words[1 + count..].fill(0);
+            }
         }
         let again = session::step(&mut cleared, bytes);
         if again.number == 0 {
@@ -169,39 +182,38 @@ fn step(session: &mut [u64], bytes: &[u8]) -> session::Answer {
     if fault(19) {
         session.copy_from_slice(&before);
     }
-    let code = bytes[0];
-    let (p, o) = (20 * usize::from(bytes[2]), 20 * usize::from(bytes[4]));
-    let at = 20 * answer.receiver as usize;
-    if fault(2) && code == 1 {
-        session[p + 1] |= before[o + 1];
-    }
-    if fault(4) && code == 2 {
-        session[o + 1] |= before[o + 1];
+    let record = session::read_record(bytes).expect("the record was accepted");
+    let code = record.code;
+    let (p, o) = (&before[container_row(record.p)], &before[container_row(record.o)]);
+    let row = &mut session[container_row(answer.receiver as usize)];
+    if fault(2) && code == 1 || fault(4) && code == 2 {
+        row[ROW_TAG] |= o[ROW_TAG];
     }
     if fault(14) && code == 4 {
-        session[p + 1] |= before[p + 1];
+        row[ROW_TAG] |= p[ROW_TAG];
     }
     if fault(5) && code == 1 {
-        let narrowed = meet(rule(&before[p + 2..p + 11]), rule(&before[o + 11..o + 20]));
-        if narrowed.len() <= 8 {
-            session[p + 2..p + 11].fill(0);
-            session[p + 2] = narrowed.len() as u64;
-            session[p + 3..p + 3 + narrowed.len()].copy_from_slice(&narrowed);
+        let narrowed = meet(rule(&p[ROW_PERMIT]), rule(&o[ROW_RUN]));
+        if narrowed.len() <= RULE_MIXTURES {
+            let permit = &mut row[ROW_PERMIT];
+            permit.fill(0);
+            permit[0] = narrowed.len() as u64;
+            permit[1..1 + narrowed.len()].copy_from_slice(&narrowed);
         }
     }
-    if fault(6) && [1, 3].contains(&code) && session[at + 11] == 8 && before[p + 11..p + 20] != before[o + 11..o + 20] {
+    if fault(6) && [1, 3].contains(&code) && rule(&row[ROW_RUN]).len() == RULE_MIXTURES && p[ROW_RUN] != o[ROW_RUN] {
         session.copy_from_slice(&before);
         return session::Answer { number: 15, receiver: 0, tag: 0 };
     }
     if fault(19) {
         return answer;
     }
-    answer.tag = session[at + 1];
-    let permit = rule(&session[at + 2..at + 11]).to_vec();
+    answer.tag = row[ROW_TAG];
+    let permit = rule(&row[ROW_PERMIT]);
     let covered = if fault(3) {
         (0..64).filter(|k| answer.tag >> k & 1 == 1).all(|k| permit.iter().any(|&m| holds(m, 1 << k)))
     } else {
-        judge::rules::covers(&permit, answer.tag)
+        covers(permit, answer.tag)
     };
     answer.number = if fault(1) || code > 5 || covered { session::QUIET } else { session::ALERT };
     answer
@@ -274,10 +286,9 @@ pub unsafe extern "C" fn yaslaurel_matrix_policy(
     let (reads, writes) = (from_raw_parts(reads, reads_length), from_raw_parts(writes, writes_length));
     let out = from_raw_parts_mut(out, out_length);
     let number = matrix::policy(reads, writes, objects, out);
-    if fault(15) && number >= 18 {
+    if fault(15) && number as usize >= HEADER {
         // Takes object 0 out of the first mixture, which is object 0's own.
-        let first = usize::from(out[14]) + 256 * usize::from(out[15]);
-        out[first] &= 0xfe;
+        out[number_at(out, MIXTURES.offset_at)] &= 0xfe;
     }
     number
 }

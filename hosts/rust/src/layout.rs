@@ -1,0 +1,140 @@
+//! The sizes of the formats and the places in them, for hosts that make images or look into a session. The formats
+//! themselves are in `docs/FORMATS.md`.
+
+/// A policy image, in bytes.
+pub mod image {
+    /// The number that an image begins with.
+    pub const LEADING: u16 = 4;
+
+    /// Bytes of the leading number and of the offsets and lengths of the sections, and so of the smallest image.
+    pub const HEADER: usize = 2 + 4 * SECTIONS.len();
+
+    /// Bytes of the longest image.
+    pub const LIMIT: usize = 20_480;
+
+    /// Bytes of the longest normal image.
+    pub const LONGEST_NORMAL: usize =
+        HEADER + CONTAINERS.longest() + USERS.longest() + RULES.longest() + MIXTURES.longest();
+
+    /// A section of the image.
+    #[derive(Clone, Copy, Debug)]
+    pub struct Section {
+        place: usize,
+        /// Bytes of a record.
+        pub record: usize,
+        /// How many records there are at most.
+        pub most: usize,
+    }
+
+    impl Section {
+        const fn longest(self) -> usize {
+            self.record * self.most
+        }
+
+        /// Where the header has the offset of the section.
+        pub const fn offset_at(self) -> usize {
+            2 + 4 * self.place
+        }
+
+        /// Where the header has the length of the section.
+        pub const fn length_at(self) -> usize {
+            self.offset_at() + 2
+        }
+    }
+
+    /// A record: kind, atom, permit rule, run rule.
+    pub const CONTAINERS: Section = Section { place: 0, record: 6, most: 256 };
+    /// A record: the number of a rule.
+    pub const USERS: Section = Section { place: 1, record: 2, most: 16 };
+    /// A record: first mixture, count.
+    pub const RULES: Section = Section { place: 2, record: 4, most: 256 };
+    /// A record: a mixture.
+    pub const MIXTURES: Section = Section { place: 3, record: 8, most: 2_048 };
+
+    /// The sections in their order.
+    pub const SECTIONS: [Section; 4] = [CONTAINERS, USERS, RULES, MIXTURES];
+
+    /// Places in the record of a container.
+    pub const KIND: usize = 0;
+    pub const ATOM: usize = 1;
+    pub const PERMIT: usize = 2;
+    pub const RUN: usize = 4;
+
+    /// Places in the record of a rule.
+    pub const FIRST: usize = 0;
+    pub const COUNT: usize = 2;
+
+    /// The atom of a container that has none.
+    pub const NO_ATOM: u8 = 255;
+
+    /// The number of the unrestricted rule.
+    pub const UNRESTRICTED: u16 = 65535;
+}
+
+/// An operation record, in bytes.
+pub mod record {
+    /// Bytes of a record.
+    pub const LENGTH: usize = 8;
+
+    /// Places in a record.
+    pub const CODE: usize = 0;
+    pub const ZERO: usize = 1;
+    pub const PROCESS: usize = 2;
+    pub const OBJECT: usize = 4;
+    pub const USER: usize = 6;
+
+    /// The user of an operation that names none.
+    pub const NO_USER: u16 = 65535;
+}
+
+/// A session, in numbers of 64 bits.
+pub mod session {
+    use super::image::{CONTAINERS, USERS};
+    use std::ops::Range;
+
+    /// Mixtures of a rule at most.
+    pub const RULE_MIXTURES: usize = 8;
+
+    /// Numbers of a rule: its count, then a place for each mixture.
+    pub const RULE: usize = 1 + RULE_MIXTURES;
+
+    /// Numbers of a container's row.
+    pub const CONTAINER_ROW: usize = 20;
+
+    /// Places in a container's row.
+    pub const KIND: usize = 0;
+    pub const TAG: usize = 1;
+    pub const PERMIT: usize = 2;
+    pub const RUN: usize = PERMIT + RULE;
+
+    /// Numbers of a user's row.
+    pub const USER_ROW: usize = 10;
+
+    /// Places in a user's row.
+    pub const DECLARED: usize = 0;
+    pub const USER_RULE: usize = 1;
+
+    /// Where the users' rows begin, behind those of the containers.
+    pub const USERS_AT: usize = CONTAINERS.most * CONTAINER_ROW;
+
+    /// Numbers of a session.
+    pub const LENGTH: usize = USERS_AT + USERS.most * USER_ROW;
+
+    /// The row of a container.
+    #[inline]
+    pub const fn container(number: usize) -> Range<usize> {
+        number * CONTAINER_ROW..(number + 1) * CONTAINER_ROW
+    }
+
+    /// The row of a user.
+    #[inline]
+    pub const fn user(number: usize) -> Range<usize> {
+        USERS_AT + number * USER_ROW..USERS_AT + (number + 1) * USER_ROW
+    }
+
+    /// The numbers of the rule that begins at a place.
+    #[inline]
+    pub const fn rule(place: usize) -> Range<usize> {
+        place..place + RULE
+    }
+}
