@@ -11,7 +11,8 @@ use borrow.Rule.Slice.PartMut.{putMid}
 use Rattle.lists.specs.Lists.{every}
 use Rattle.answers.specs.Refusals.{overLimit}
 use Rattle.answers.specs.declared.Answer.{Answer}
-use Rattle.answers.specs.Answers.{refused, quiet, alert}
+use Rattle.answers.specs.declared.Answer.the-variants.{Given}
+use Rattle.answers.specs.Answers.{received, refused, quiet, alert}
 use Rattle.rules.specs.Sets.{dataOf, runningOf}
 use Rattle.rules.specs.Rules.{covers, meet, unrestricted}
 use Rattle.rules.specs.Answers.{dataWidth, tagWidth, mixtureLimit, boundedOf}
@@ -25,9 +26,10 @@ use Rattle.session.proofs.PutLaws.{container-row-length, row-lent, row-returned
 use Rattle.chains.specs.History.{Step, read, write, append, exec, fork, newFile, newVolatile, receiver}
 use Rattle.chains.specs.Demand.{judged}
 use Rattle.chains.specs.Table.{readRow, writeRow, appendRow, execRow, forkRow, newFileRow, newVolatileRow, ruleOr, entry, fits, meetGood, alerts, verdict}
+use Rattle.operations.specs.declared.Intake.{Intake}
 use Rattle.operations.specs.View.{view}
 use Rattle.operations.specs.Effects.{acceptedAnswer, acceptedEffect}
-use Rattle.operations.specs.Parts.{Ready, UsedAt, contentWords, newWords, coverAnswer, lateAnswer, lateEffect, sharedRun, absorbed, absorbAnswer, absorbEffect}
+use Rattle.operations.specs.Parts.{Ready, UsedAt, contentWords, newWords, coverVerdict, coverAnswer, lateAnswer, lateEffect, intakeOf, sharing, sharedRun, absorbed, absorbAnswer, absorbEffect}
 use Rattle.operations.proofs.ViewLaws.{view-row}
 use Rattle.operations.proofs.ReadyLaws.{process-kind, ready-process, ready-object, ready-user}
 use Rattle.operations.proofs.RowSteps.{row-used, row-counts, row-long, content-row, new-row, fits-short, fits-made, rule-short}
@@ -75,7 +77,7 @@ verdict-covers : (t : Step) (w : Row) → judged t ≡ true → coverAnswer (rec
 unfolding verdict alerts coverAnswer
 verdict-covers t w j = rw j (by (covers (w .permit) (w .tag)))
   where
-    by : (b : Bool) → cond b (quiet (receiver t) (w .tag)) (alert (receiver t) (w .tag)) ≡ cond (not b) (alert (receiver t) (w .tag)) (quiet (receiver t) (w .tag))
+    by : (b : Bool) → _≡_ {A = Answer} (Given (coverVerdict b) (received (receiver t) (w .tag))) (cond (not b) (alert (receiver t) (w .tag)) (quiet (receiver t) (w .tag)))
     by true = refl
     by false = refl
 
@@ -164,15 +166,32 @@ one-fits r = by (fits r)
 -- ---- the operations, one by one
 
 module _ (s : List ℕ) (p o : ℕ) where
-  pub read-done : (t : ℕ) → t ≡ bitOr (view s .row p .tag) (dataOf dataWidth (view s .row o .tag)) → (a : Answer) (s₁ : List ℕ)
+  read-done : (t : ℕ) → t ≡ bitOr (view s .row p .tag) (dataOf dataWidth (view s .row o .tag)) → (a : Answer) (s₁ : List ℕ)
       → (a ≡ absorbAnswer s p o t) × (s₁ ≡ absorbEffect s p o t) → Done s (read p o) a s₁
   unfolding entry readRow absorbed sharedRun meetGood
   read-done t et = absorb-late s p o t (read p o) refl refl (rw et) (one-fits (sharedRun s p o))
 
-  pub append-done : (t : ℕ) → t ≡ bitOr (view s .row o .tag) (view s .row p .tag) → (a : Answer) (s₁ : List ℕ)
+  append-done : (t : ℕ) → t ≡ bitOr (view s .row o .tag) (view s .row p .tag) → (a : Answer) (s₁ : List ℕ)
       → (a ≡ absorbAnswer s o p t) × (s₁ ≡ absorbEffect s o p t) → Done s (append p o) a s₁
   unfolding entry appendRow absorbed sharedRun meetGood
   append-done t et = absorb-late s o p t (append p o) refl refl (rw et) (one-fits (sharedRun s o p))
+
+  -- by which of the two it is
+  pub share-done : (reads : Bool) (i : Intake) → i ≡ intakeOf s reads p o → (a : Answer) (s₁ : List ℕ)
+      → (a ≡ absorbAnswer s (i .receiver) (i .giver) (i .tag)) × (s₁ ≡ absorbEffect s (i .receiver) (i .giver) (i .tag)) → Done s (sharing reads p o) a s₁
+  unfolding intakeOf
+  share-done true i e a s₁ h = read-done _ refl a s₁ (rw e at h)
+  share-done false i e a s₁ h = append-done _ refl a s₁ (rw e at h)
+
+  pub share-used : (reads : Bool) (i : Intake) → i ≡ intakeOf s reads p o → Ready s (sharing reads p o) → (UsedAt s (i .receiver)) × (UsedAt s (i .giver))
+  unfolding intakeOf entry
+  share-used true i e h = rw e (ready-process s (read p o) h, ready-object s (read p o) h refl)
+  share-used false i e h = rw e (ready-object s (append p o) h refl, ready-process s (append p o) h)
+
+  pub share-bounds : (reads : Bool) → Ready s (sharing reads p o) → (p < containerLimit) × (o < containerLimit)
+  unfolding entry
+  share-bounds true h = (h .process, h .object)
+  share-bounds false h = (h .process, h .object)
 
   pub write-done : Ready s (write p o) → (m : Bounded) → m ≡ boundedOf (view s .row p .run) → (t : ℕ) → t ≡ view s .row p .tag → (a : Answer) (ws : List ℕ)
       → a ≡ coverAnswer o (rowOf (lent s o) .permit) t → ws ≡ contentWords (lent s o) t m → Done s (write p o) a (returned s o ws)

@@ -1,14 +1,16 @@
 -- What is read of the session, and what is written to a row of it.
 use Prim.Native.Nat.{ℕ, zero, suc, _+_, _-_, _*_, _≤_, _<_}
 use mathlib.Core.Path.{_≡_, refl, sym, ap, ap₂, _∙_}
-use mathlib.Core.Bool.{Bool, true, false, cond}
+use mathlib.Core.Bool.{Bool, true, cond, _&&_}
 use mathlib.Core.Option.{none, some}
 use mathlib.Core.List.{List, [], _∷_, _++_, append-nil}
 use native.Mathlib.Omega.{arith}
 use lib.ListN.{length, getD, take, drop, set, length-take, length-drop, length-append, drop-of-length-le}
 use lib.Bits.{bitAnd}
 use lib.Seq.{take-nil, take-take, drop-drop, drop-cons, getD-take, getD-drop, take-at}
-use borrow.Author.Tests.{leb-true}
+use lib.Dec.{eqb}
+use borrow.Author.Tests.{eqb-true, leb-true}
+use Rattle.lists.proofs.Bools.{and-0, and-1}
 use borrow.Rule.Slice.PartMut.{putMid}
 use Rattle.rules.specs.Rules.{covers, meet, refines}
 use Rattle.rules.specs.Answers.{mixtureLimit, boundedOf}
@@ -26,9 +28,11 @@ use Rattle.session.proofs.RowLaws.{row-permit, good-counts, good-used, good-wor
 use Rattle.session.proofs.PutLaws.{container-row-length, user-row-length}
 use Rattle.chains.specs.Table.{fits, ruleOr}
 use Rattle.answers.specs.declared.Answer.{Answer}
-use Rattle.answers.specs.Answers.{quiet, alert}
+use Rattle.answers.specs.declared.Answer.the-variants.{Given}
+use Rattle.answers.specs.declared.Verdict.{Verdict}
+use Rattle.answers.specs.Answers.{received}
 use Rattle.operations.specs.View.{view}
-use Rattle.operations.specs.Parts.{Kept, KeptAt, UsedAt, DeclaredAt, wordsFrom, boundedWords, contentWords, newWords, coverAnswer}
+use Rattle.operations.specs.Parts.{Kept, KeptAt, UsedAt, DeclaredAt, wordsFrom, boundedWords, contentWords, newWords, coverVerdict, coverAnswer}
 use Rattle.operations.proofs.ViewLaws.{view-row, view-user}
 use Rattle.image.specs.Limits.{containerLimit}
 
@@ -232,6 +236,9 @@ single-rule s at k e =
     let g : getD w 1 0 ≡ getD s (at + 1) 0 = getD-take ruleWidth (drop at s) 1 0 (omega arith) ∙ getD-drop at s 1 0 in
     ap (λ (k : ℕ). take k (drop 1 w)) f ∙ ap (take 1) (drop-cons w 1 0 (omega arith)) ∙ ap (λ (x : ℕ). x ∷ []) g
 
+pub single-counts : (s : List ℕ) (x y : ℕ) → (eqb (getD s x 0) 1 && eqb (getD s y 0) 1) ≡ true → (getD s x 0 ≡ 1) × (getD s y 0 ≡ 1)
+single-counts s x y h = (eqb-true (getD s x 0) 1 (and-0 (eqb (getD s x 0) 1) _ h), eqb-true (getD s y 0) 1 (and-1 (eqb (getD s x 0) 1) h))
+
 pub meet-single : (s : List ℕ) (x y : ℕ) → KeptAt s x → KeptAt s y → getD s x 0 ≡ 1 → getD s y 0 ≡ 1
     → bitAnd (getD s (x + 1) 0) (getD s (y + 1) 0) ∷ [] ≡ meet (ruleOf (wordsFrom s x)) (ruleOf (wordsFrom s y))
 meet-single s x y k l e f = meet-singles _ _ _ _ (single-rule s x k e) (single-rule s y l f)
@@ -308,11 +315,7 @@ module _ (k t : ℕ) (p m : Bounded) (lp : length (p .mixtures) ≡ mixtureLimit
 
 -- ---- whether the permit rule covers the tag
 
-module _ (row rule : List ℕ) (c : ℕ) (b : Bool) (e : rule ≡ ruleOf (permitWords row)) (f : b ≡ covers rule (getD row tagAt 0)) where
-  pub judged-quiet : b ≡ true → quiet c (getD row tagAt 0) ≡ coverAnswer c (rowOf row .permit) (rowOf row .tag)
-  unfolding coverAnswer rowOf
-  judged-quiet g = rw (← e, ← f, g)
-
-  pub judged-alert : b ≡ false → alert c (getD row tagAt 0) ≡ coverAnswer c (rowOf row .permit) (rowOf row .tag)
-  unfolding coverAnswer rowOf
-  judged-alert g = rw (← e, ← f, g)
+pub judged-by : (row rule : List ℕ) (c : ℕ) (b : Bool) (v : Verdict) → rule ≡ ruleOf (permitWords row) → b ≡ covers rule (getD row tagAt 0) → v ≡ coverVerdict b
+    → _≡_ {A = Answer} (Given v (received c (getD row tagAt 0))) (coverAnswer c (rowOf row .permit) (rowOf row .tag))
+unfolding coverAnswer rowOf
+judged-by row rule c b v e f g = rw (g, f, e)

@@ -2,21 +2,28 @@
 -- No public contract cites this file.
 use Prim.Native.Nat.{ℕ, _+_, _≤_, _<_}
 use mathlib.Core.Path.{_≡_}
-use mathlib.Core.Bool.{true, false, cond}
+use mathlib.Core.Bool.{Bool, true, false, cond}
 use mathlib.Core.List.{List, _∷_, _++_}
 use mathlib.Core.Option.{some}
 use lib.ListN.{length, getD, take, drop}
 use Rattle.lists.specs.Conditions.{Condition, _orRefuse_, firstFailed}
 use Rattle.answers.specs.Refusals.{row, overLimit}
 use Rattle.answers.specs.declared.Answer.{Answer}
-use Rattle.answers.specs.Answers.{refused, quiet, alert}
+use Rattle.answers.specs.declared.Answer.the-variants.{Given}
+use Rattle.answers.specs.declared.Verdict.{Verdict}
+use Rattle.answers.specs.declared.Verdict.the-variants.{Quiet, Alert}
+use Rattle.answers.specs.Answers.{received, refused}
 use Rattle.rules.specs.Rules.{covers, meet}
 use Rattle.rules.specs.declared.Bounded.{Bounded}
 use Rattle.image.specs.Limits.{containerLimit, userLimit, isFree}
 use Rattle.rule_words.specs.Words.{ruleWidth, keptWell}
 use Rattle.session.specs.Limits.{sessionLength, kindAt}
 use Rattle.session.specs.Rows.{Row, rowWords, permitWords, containerRow, containerRowGood, putRow, userRow, userRowGood, isDeclared}
-use Rattle.chains.specs.History.{Step}
+use lib.Bits.{bitOr}
+use Rattle.rules.specs.Sets.{dataOf}
+use Rattle.rules.specs.Answers.{dataWidth}
+use Rattle.chains.specs.History.{Step, read, append}
+use Rattle.operations.specs.declared.Intake.{Intake}
 use Rattle.chains.specs.Table.{entry, fits, meetGood, earlyConditions}
 use Rattle.operations.specs.View.{view}
 use Rattle.operations.specs.Effects.{rowsGood, acceptedAnswer, acceptedEffect}
@@ -86,9 +93,27 @@ contentWords row tag run = getD row kindAt 0 ∷ tag ∷ (permitWords row ++ bou
 unfoldable pub newWords : ℕ → ℕ → Bounded → Bounded → List ℕ
 newWords kind tag permit run = kind ∷ tag ∷ (boundedWords permit ++ boundedWords run)
 
+-- the verdict by whether the tag is covered
+abbrev pub coverVerdict : Bool → Verdict
+coverVerdict true = Quiet
+coverVerdict false = Alert
+
 -- the answer by whether the permit rule covers the tag
 unfoldable pub coverAnswer : ℕ → List ℕ → ℕ → Answer
-coverAnswer c permit tag = cond (covers permit tag) (quiet c tag) (alert c tag)
+coverAnswer c permit tag = Given (coverVerdict (covers permit tag)) (received c tag)
+
+-- ---- a read and an append, by which of the two it is
+
+abbrev pub sharing : Bool → ℕ → ℕ → Step
+sharing true p o = read p o
+sharing false p o = append p o
+
+-- the receiver, the giver, and the receiver's tag afterwards
+unfoldable pub intakeOf : List ℕ → Bool → ℕ → ℕ → Intake
+intakeOf s reads p o =
+    cond reads
+    (record { receiver = p; giver = o; tag = bitOr (view s .row p .tag) (dataOf dataWidth (view s .row o .tag)) })
+    (record { receiver = o; giver = p; tag = bitOr (view s .row o .tag) (view s .row p .tag) })
 
 -- ---- container c takes in what d has, as a reader or a file that is appended to does: the tag t, and the meet of both run rules
 

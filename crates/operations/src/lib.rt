@@ -1,6 +1,8 @@
 // The operations on a lent session: what a request is refused for because of the session, and what it does (the paper,
 // "Operations" and "Refused because of the session").
 ghost use mathlib.Core.Path.{_≡_};
+ghost use mathlib.Core.Bool.{true, _&&_, _||_};
+ghost use lib.Dec.{eqb};
 ghost use Prim.Native.Nat.{_≤_, _<_};
 ghost use lib.ListN.{length, getD, take};
 ghost use Rattle.lists.specs.Conditions.{firstFailed};
@@ -10,12 +12,12 @@ ghost use Rattle.image.specs.Limits.{containerLimit, processKind};
 ghost use Rattle.rule_words.specs.Words.{ruleOf};
 ghost use Rattle.session.specs.Limits.{sessionLength, rowWidth};
 ghost use Rattle.session.specs.Rows.{rowOf, permitWords};
-ghost use Rattle.chains.specs.History.{read, write, append, exec, fork, newFile, newVolatile};
-ghost use Rattle.records.specs.Codes.{objectFits};
+ghost use Rattle.chains.specs.History.{write, exec, fork, newFile, newVolatile};
+ghost use Rattle.records.specs.Codes.{readCode, appendCode, objectFits};
 ghost use Rattle.records.specs.Records.{stepIn};
 ghost use Rattle.operations.specs.View.{view};
 ghost use Rattle.operations.specs.Effects.{Named, rowsGood, performAnswer, performEffect};
-ghost use Rattle.operations.specs.Parts.{firstConditions, Ready, lateAnswer, lateEffect, absorbAnswer, absorbEffect, Kept, KeptAt, UsedAt, wordsFrom, contentWords, newWords, coverAnswer};
+ghost use Rattle.operations.specs.Parts.{firstConditions, Ready, lateAnswer, lateEffect, intakeOf, sharing, absorbAnswer, absorbEffect, Kept, KeptAt, UsedAt, wordsFrom, contentWords, newWords, coverVerdict, coverAnswer};
 use answers::Answer;
 use answers::Received;
 use answers::Verdict;
@@ -150,15 +152,32 @@ fn meet_kept(a: &[u64], b: &[u64]) -> Bounded
     rules::meet(r, v)
 }
 
-// The meet of the rules at two places of the session. Rules of one mixture, the usual ones, are a straight line.
+// The rules at two places of the session have one mixture each, as is usual.
+fn both_single(s: &[u64], x: usize, y: usize) -> bool
+    requires { ⌜ (KeptAt (now s) x) × (KeptAt (now s) y) ⌝ }
+    ensures { λ r. ⌜ r ≡ (eqb (getD (now (s .entry)) x 0) 1 && eqb (getD (now (s .entry)) y 0) 1) ⌝ }
+{
+    if s[x] == 1 {
+        return s[y] == 1;
+    }
+    false
+}
+
+// Their meet, in a straight line.
+fn meet_single(s: &[u64], x: usize, y: usize) -> Bounded
+    requires { ⌜ (KeptAt (now s) x) × (KeptAt (now s) y) × ((eqb (getD (now s) x 0) 1 && eqb (getD (now s) y 0) 1) ≡ true) ⌝ }
+    ensures { λ r. ⌜ (r ≡ boundedOf (meet (ruleOf (wordsFrom (now (s .entry)) x)) (ruleOf (wordsFrom (now (s .entry)) y)))) × (r .fits ≡ true) ⌝ }
+{
+    rules::one(s[x + 1] & s[y + 1])
+}
+
+// The meet of the rules at two places of the session.
 fn meet_at(s: &[u64], x: usize, y: usize) -> Bounded
     requires { ⌜ (KeptAt (now s) x) × (KeptAt (now s) y) ⌝ }
     ensures { λ r. ⌜ r ≡ boundedOf (meet (ruleOf (wordsFrom (now (s .entry)) x)) (ruleOf (wordsFrom (now (s .entry)) y))) ⌝ }
 {
-    if s[x] == 1 {
-        if s[y] == 1 {
-            return rules::one(s[x + 1] & s[y + 1]);
-        }
+    if both_single(s, x, y) {
+        return meet_single(s, x, y);
     }
     meet_kept(&s[x..x + RULE_WIDTH], &s[y..y + RULE_WIDTH])
 }
@@ -174,19 +193,25 @@ fn set_content(row: &mut [u64], tag: u64, run: Bounded)
     rule_words::put_rule(&mut row[RUN_AT..RUN_AT + RULE_WIDTH], run);
 }
 
+// Quiet if the tag is covered.
+fn verdict_of(covered: bool) -> Verdict
+    ensures { λ r. ⌜ r ≡ coverVerdict covered ⌝ }
+{
+    if covered {
+        return Verdict::Quiet;
+    }
+    Verdict::Alert
+}
+
 // Whether the row's permit rule covers its tag.
-fn judged(row: &[u64], receiver: usize) -> Answer
+fn judge(row: &[u64], receiver: usize) -> Answer
     requires { ⌜ (length (now row) ≡ rowWidth) × (getD (permitWords (now row)) 0 0 ≤ mixtureLimit) ⌝ }
     ensures { λ r. ⌜ r ≡ coverAnswer receiver (rowOf (now (row .entry)) .permit) (rowOf (now (row .entry)) .tag) ⌝ }
 {
     let tag = row[TAG_AT];
-    if rules::covers(
-        rule_words::rule_of(&row[PERMIT_AT..PERMIT_AT + RULE_WIDTH]),
-        tag,
-    ) {
-        return Answer::Given(Verdict::Quiet, Received { receiver, tag });
-    }
-    Answer::Given(Verdict::Alert, Received { receiver, tag })
+    let rule = rule_words::rule_of(&row[PERMIT_AT..PERMIT_AT + RULE_WIDTH]);
+    let verdict = verdict_of(rules::covers(rule, tag));
+    Answer::Given(verdict, Received { receiver, tag })
 }
 
 // Gives the receiver's row a tag and a run rule, and answers.
@@ -195,7 +220,7 @@ fn update(row: &mut [u64], receiver: usize, tag: u64, run: Bounded) -> Answer
     ensures { λ r. ⌜ (r ≡ coverAnswer receiver (rowOf (now (row .entry)) .permit) tag) × (now (row .exit) ≡ contentWords (now (row .entry)) tag run) ⌝ }
 {
     set_content(row, tag, run);
-    judged(row, receiver)
+    judge(row, receiver)
 }
 
 // Makes the receiver's row that of a process, and answers.
@@ -204,33 +229,66 @@ fn replace(row: &mut [u64], receiver: usize, tag: u64, permit: Bounded, run: Bou
     ensures { λ r. ⌜ (r ≡ coverAnswer receiver (take (permit .count) (permit .mixtures)) tag) × (now (row .exit) ≡ newWords processKind tag permit run) ⌝ }
 {
     session::put_row(row, PROCESS_KIND, tag, permit, run);
-    judged(row, receiver)
+    judge(row, receiver)
 }
 
 // ---- the seven operations
 
-// The receiver takes in what the giver has: it gets the tag, and the meet of both run rules.
+// The receiver takes in what the giver has: it gets the tag, and the meet of both run rules. Rules of one mixture go
+// first, so that no rule is passed by value.
 fn absorb(s: &mut [u64], receiver: usize, giver: usize, tag: u64) -> Answer
     requires { ⌜ (UsedAt (now s) receiver) × (UsedAt (now s) giver) ⌝ }
     ensures { λ r. ⌜ (r ≡ absorbAnswer (now (s .entry)) receiver giver tag) × (now (s .exit) ≡ absorbEffect (now (s .entry)) receiver giver tag) ⌝ }
 {
     let a = receiver * ROW_WIDTH;
-    let met = meet_at(s, a + RUN_AT, giver * ROW_WIDTH + RUN_AT);
+    let x = a + RUN_AT;
+    let y = giver * ROW_WIDTH + RUN_AT;
+    if both_single(s, x, y) {
+        let met = meet_single(s, x, y);
+        return update(&mut s[a..a + ROW_WIDTH], receiver, tag, met);
+    }
+    let met = meet_at(s, x, y);
     if !met.fits {
         return Answer::Refused(answers::OVER_LIMIT);
     }
     update(&mut s[a..a + ROW_WIDTH], receiver, tag, met)
 }
 
-// Code 1: the process reads the object.
-fn read(s: &mut [u64], p: usize, o: usize) -> Answer
-    requires { ⌜ Ready (now s) (read p o) ⌝ }
-    ensures { λ r. ⌜ (r ≡ lateAnswer (now (s .entry)) (read p o)) × (now (s .exit) ≡ lateEffect (now (s .entry)) (read p o)) ⌝ }
+// Who takes in what: the process what it reads, the object what is appended to it.
+struct Intake {
+    receiver: usize,
+    giver: usize,
+    tag: u64,
+}
+
+// What a read or an append takes in.
+fn taken_in(s: &[u64], reads: bool, p: usize, o: usize) -> Intake
+    requires { ⌜ (length (now s) ≡ sessionLength) × (p < containerLimit) × (o < containerLimit) ⌝ }
+    ensures { λ r. ⌜ r ≡ intakeOf (now (s .entry)) reads p o ⌝ }
 {
     let held = tag_of(s, p);
-    let gained = tag_of(s, o);
-    let tag = rules::add_data_atoms(held, gained);
-    absorb(s, p, o, tag)
+    let stored = tag_of(s, o);
+    if reads {
+        return Intake {
+            receiver: p,
+            giver: o,
+            tag: rules::add_data_atoms(held, stored),
+        };
+    }
+    Intake {
+        receiver: o,
+        giver: p,
+        tag: stored | held,
+    }
+}
+
+// Codes 1 and 3: the process reads the object, or adds to it. Both are one call of `absorb`, which is then compiled in place.
+fn share(s: &mut [u64], reads: bool, p: usize, o: usize) -> Answer
+    requires { ⌜ Ready (now s) (sharing reads p o) ⌝ }
+    ensures { λ r. ⌜ (r ≡ lateAnswer (now (s .entry)) (sharing reads p o)) × (now (s .exit) ≡ lateEffect (now (s .entry)) (sharing reads p o)) ⌝ }
+{
+    let taken = taken_in(s, reads, p, o);
+    absorb(s, taken.receiver, taken.giver, taken.tag)
 }
 
 // Code 2: the process writes the object anew.
@@ -242,15 +300,6 @@ fn write(s: &mut [u64], p: usize, o: usize) -> Answer
     let tag = tag_of(s, p);
     let at = o * ROW_WIDTH;
     update(&mut s[at..at + ROW_WIDTH], o, tag, rule)
-}
-
-// Code 3: the process adds to the object.
-fn append(s: &mut [u64], p: usize, o: usize) -> Answer
-    requires { ⌜ Ready (now s) (append p o) ⌝ }
-    ensures { λ r. ⌜ (r ≡ lateAnswer (now (s .entry)) (append p o)) × (now (s .exit) ≡ lateEffect (now (s .entry)) (append p o)) ⌝ }
-{
-    let tag = tag_of(s, o) | tag_of(s, p);
-    absorb(s, o, p, tag)
 }
 
 // Code 4: the process executes the object for the user.
@@ -318,6 +367,16 @@ fn new_volatile(s: &mut [u64], p: usize, o: usize) -> Answer
 
 // ---- by code
 
+// The code is that of a read or an append.
+fn is_sharing(code: usize) -> bool
+    ensures { λ r. ⌜ r ≡ (eqb code readCode || eqb code appendCode) ⌝ }
+{
+    if code == records::READ_CODE {
+        return true;
+    }
+    code == records::APPEND_CODE
+}
+
 // What a request that is not refused by 10 to 14 does: 15, or the effect and the answer.
 fn by_code(s: &mut [u64], q: Request) -> Answer
     requires { ⌜ (Named (now s) q) × (Ready (now s) (stepIn q)) ⌝ }
@@ -327,14 +386,11 @@ fn by_code(s: &mut [u64], q: Request) -> Answer
     let p = q.p;
     let o = q.o;
     let u = q.u;
-    if code == records::READ_CODE {
-        return read(s, p, o);
+    if is_sharing(code) {
+        return share(s, code == records::READ_CODE, p, o);
     }
     if code == records::WRITE_CODE {
         return write(s, p, o);
-    }
-    if code == records::APPEND_CODE {
-        return append(s, p, o);
     }
     if code == records::EXEC_CODE {
         return exec(s, p, o, u);

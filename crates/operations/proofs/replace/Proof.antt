@@ -9,9 +9,9 @@ use Rattle.operations.proofs.replace.Tie as tie
 put-row-requires : tie.Need-put-row-requires
 put-row-requires c κs = search needs
 
-judged-requires : tie.Need-judged-requires
+judge-requires : tie.Need-judge-requires
 unfolding newWords boundedWords
-judged-requires c κs = new-judged processKind (c .before .before .before .before .before .before .args .tag) (c .before .before .before .before .before .before .args .permit) (c .before .before .before .before .before .before .args .run) (search needs) _ (c .before .before .before .put-row .ensures) (search needs) (c .before .before .before .before .before .before .pre .1)
+judge-requires c κs = new-judged processKind (c .before .before .before .before .before .before .args .tag) (c .before .before .before .before .before .before .args .permit) (c .before .before .before .before .before .before .args .run) (search needs) _ (c .before .before .before .put-row .ensures) (search needs) (c .before .before .before .before .before .before .pre .1)
 
 same-length : tie.Need-same-length
 same-length c = search needs
@@ -22,9 +22,9 @@ returns c =
     let start = c .before .before .before .before .before .before .before in (
       new-answer processKind (start .args .tag) (start .args .permit) (start .args .run) (search needs) _
           (c .before .before .before .before .put-row .ensures) (start .args .receiver) _
-          (c .judged .ensures),
+          (c .judge .ensures),
       c .before .before .before .before .put-row .ensures,
     )
 
 pub replace-spec : {M : Type 1} → statement M
-replace-spec = tie.close (tie.spec put-row-requires judged-requires same-length returns)
+replace-spec = tie.close (tie.spec put-row-requires judge-requires same-length returns)

@@ -7,8 +7,8 @@ use Rattle.operations.proofs.update.Tie as tie
 set-content-requires : tie.Need-set-content-requires
 set-content-requires c κs = search needs
 
-judged-requires : tie.Need-judged-requires
-judged-requires c κs =
+judge-requires : tie.Need-judge-requires
+judge-requires c κs =
     let start = c .before .before .before .before .before .before in
     content-judged (start .args .row .now) (start .args .tag) (start .pre .0) (start .args .run) _
     (c .before .before .before .set-content .ensures) (search needs) (start .pre .1)
@@ -21,9 +21,9 @@ returns c =
     let start = c .before .before .before .before .before .before .before in (
       content-answer (start .args .row .now) (start .args .tag) (start .pre .0) (start .args .run) _
           (c .before .before .before .before .set-content .ensures) (start .args .receiver) _
-          (c .judged .ensures),
+          (c .judge .ensures),
       c .before .before .before .before .set-content .ensures,
     )
 
 pub update-spec : {M : Type 1} → statement M
-update-spec = tie.close (tie.spec set-content-requires judged-requires same-length returns)
+update-spec = tie.close (tie.spec set-content-requires judge-requires same-length returns)
