@@ -1,1 +1,2 @@
 -- Theorems is the file to read.
+pub mod Theorems

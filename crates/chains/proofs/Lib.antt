@@ -12,7 +12,7 @@ pub mod Start
 pub mod VerdictLaws
 pub mod TableLaws
 -- a whole list of records
-pub mod Whole
+pub mod Monitors
 -- the table as a monitor, and the paper's listing run by it
-pub mod Itself
-pub mod Listing
+pub mod TableMonitor
+pub mod PaperListing

@@ -15,7 +15,7 @@ use Rattle.chains.specs.Table.{State, begin, Faithful}
 use Rattle.chains.proofs.ChainLaws.{chain-snoc, chain-stay, chain-carry, chain-none, chain-here}
 use Rattle.chains.proofs.Inductive.{Built, listed, built}
 use Rattle.chains.proofs.Start.{Inv, begin-ok}
-use Rattle.chains.proofs.Whole.{Told, told-at, history-from-append}
+use Rattle.chains.proofs.Monitors.{Told, told-at, history-from-append}
 
 -- ---- demand 3: of every monitor that follows the table, from every state that reads as the start of a sound policy
 

@@ -5,6 +5,6 @@ pub mod AnswerLaws
 pub mod StartView
 pub mod RunLaws
 pub mod DemandLaws
-pub mod Replaying
+pub mod TraceRuns
 pub mod Examples
 pub mod PaperListing

@@ -1,5 +1,5 @@
 -- `monitor::record_at`. Eight bytes are left, or fewer.
-use Rattle.monitor.proofs.Replaying.{short-record, whole-record}
+use Rattle.monitor.proofs.TraceRuns.{short-record, whole-record}
 use borrow.Author.Needs.{needs}
 use Rattle.monitor.proofs.record_at.Statement.{statement}
 use Rattle.monitor.proofs.record_at.Tie as tie

@@ -1,5 +1,5 @@
 -- `monitor::replay`. The start refuses, or the run follows.
-use Rattle.monitor.proofs.Replaying.{not-started, started}
+use Rattle.monitor.proofs.TraceRuns.{not-started, started}
 use borrow.Author.Needs.{needs}
 use Rattle.monitor.proofs.replay.Statement.{statement}
 use Rattle.monitor.proofs.replay.Tie as tie

@@ -3,7 +3,7 @@ use Prim.Native.Nat.{_-_}
 use native.Mathlib.Omega.{arith}
 use lib.ListN.{length}
 use borrow.Author.Needs.{needs}
-use Rattle.monitor.proofs.Replaying.{Running, run-start, run-next, run-end, record-length}
+use Rattle.monitor.proofs.TraceRuns.{Running, run-start, run-next, run-end, record-length}
 use Rattle.monitor.proofs.run.Statement.{statement}
 use Rattle.monitor.proofs.run.Tie as tie
 

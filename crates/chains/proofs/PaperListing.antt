@@ -20,7 +20,7 @@ use Rattle.answers.specs.Answers.{quiet, alert, refused}
 use Rattle.chains.specs.Demand.{answers, historyOf, AcceptedAt}
 use Rattle.chains.specs.Table.{readRow, writeRow, appendRow, freeRow, fitsNeed, entry, processGood, objectGood, kindGood, freeGood, userGood, fits, meetGood, earlyConditions, tableConditions, alerts, verdict, placed, operate, begin}
 use Rattle.session.specs.Session.{startTag, startRow}
-use Rattle.chains.proofs.Itself.{table-tag-told}
+use Rattle.chains.proofs.TableMonitor.{table-tag-told}
 
 -- the derived policy of document 000's matrix: four files, three processes, one user
 abbrev object : ℕ → Container
