@@ -19,7 +19,7 @@ use Rattle.lists.specs.Lists.{elem}
 use Rattle.rules.specs.Rules.{normal}
 use Rattle.rule_words.proofs.WordLaws.{normal-is, is-normal-of}
 use Rattle.rule_words.specs.Words.{isNormal}
-use Rattle.rule_words.specs.RuleTest.{holdsOne}
+use Rattle.rule_words.specs.InPlace.{holdsOne}
 
 -- ---- one of l is held
 
