@@ -65,20 +65,20 @@ container-fits n c h = by (isFile (c .kind)) refl
     by false e k = other k
 
 container-back : (n : ℕ) → n ≤ ruleLimit → (c : Container) → containerGood n c ≡ true → containerIn (containerBytes c) ≡ c
-unfolding containerIn containerBytes field numberIn bytesOf
+unfolding containerIn containerBytes field bytesOf
 container-back n h c k =
     let f : Fits c = container-fits n c h k in
-    let e0 : c .kind % 256 + 256 * 0 ≡ c .kind = omega arith in
-    let e1 : c .atom % 256 + 256 * 0 ≡ c .atom = omega arith in
-    let e2 : c .permit % 256 + 256 * (c .permit / 256 % 256 + 256 * 0) ≡ c .permit = omega arith in
-    let e3 : c .run % 256 + 256 * (c .run / 256 % 256 + 256 * 0) ≡ c .run = omega arith in
+    let e0 : numberIn (bytesOf size8 (c .kind)) ≡ c .kind = number-bytes size8 (c .kind) (f .kind) in
+    let e1 : numberIn (bytesOf size8 (c .atom)) ≡ c .atom = number-bytes size8 (c .atom) (f .atom) in
+    let e2 : numberIn (bytesOf size16 (c .permit)) ≡ c .permit = number-bytes size16 (c .permit) (f .permit) in
+    let e3 : numberIn (bytesOf size16 (c .run)) ≡ c .run = number-bytes size16 (c .run) (f .run) in
     λ i. record { kind = e0 i; atom = e1 i; permit = e2 i; run = e3 i }
 
-container-wide : (c : Container) → length (containerBytes c) ≡ containerSize
+pub container-wide : (c : Container) → length (containerBytes c) ≡ containerSize
 unfolding containerBytes bytesOf
 container-wide c = refl
 
-span-wide : (r : Span) → length (spanBytes r) ≡ ruleSize
+pub span-wide : (r : Span) → length (spanBytes r) ≡ ruleSize
 unfolding spanBytes bytesOf
 span-wide r = refl
 
@@ -86,12 +86,12 @@ spanFits : Span → Bool
 spanFits r = ltb (r .first) (256 ^ size16) && ltb (r .count) (256 ^ size16)
 
 span-back : (r : Span) → spanFits r ≡ true → spanIn (spanBytes r) ≡ r
-unfolding spanIn spanBytes field numberIn bytesOf spanFits
+unfolding spanIn spanBytes field bytesOf spanFits
 span-back r k =
     let f : r .first < 256 ^ size16 = ltb-true (r .first) (256 ^ size16) (and-0 (ltb (r .first) (256 ^ size16)) (ltb (r .count) (256 ^ size16)) k) in
     let g : r .count < 256 ^ size16 = ltb-true (r .count) (256 ^ size16) (and-1 (ltb (r .first) (256 ^ size16)) k) in
-    let e0 : r .first % 256 + 256 * (r .first / 256 % 256 + 256 * 0) ≡ r .first = omega arith in
-    let e1 : r .count % 256 + 256 * (r .count / 256 % 256 + 256 * 0) ≡ r .count = omega arith in
+    let e0 : numberIn (bytesOf size16 (r .first)) ≡ r .first = number-bytes size16 (r .first) f in
+    let e1 : numberIn (bytesOf size16 (r .count)) ≡ r .count = number-bytes size16 (r .count) g in
     λ i. record { first = e0 i; count = e1 i }
 
 -- ---- the rules and their mixtures

@@ -4,13 +4,13 @@ pub mod Theorems
 pub mod AcceptedImage
 pub mod Decode
 pub mod Encode
+pub mod FramedSections
 pub mod WrittenMeaning
 pub mod Numbering
 pub mod RecordsByPlace
 pub mod RulesByNumber
 -- inside this crate
 pub mod ImageRefusals
-pub mod FramedSections
 pub mod FirstUses
 pub mod RuleRecordScan
 pub mod SpanWords

@@ -1,4 +1,4 @@
--- One record of a section, by its place.
+-- The records of a section: how many there are, and one by its place.
 use Prim.Native.Nat.{ℕ, zero, suc, _+_, _-_, _*_, _/_, _≤_, _<_}
 use mathlib.Core.Path.{_≡_, refl, sym, ap, _∙_}
 use mathlib.Core.Bool.{true, _&&_}
@@ -9,18 +9,36 @@ use lib.ListN.{length, getD, take, drop, length-map}
 use borrow.Author.Tests.{leb-true}
 use Rattle.lists.proofs.Bools.{and-0, and-1}
 use Rattle.fields.specs.Bytes.{numberIn, field, records}
-use Rattle.image.specs.Image.{Span, spanIn, spansIn, ruleIn, rulesIn, mixturesIn, spansGood}
+use Rattle.image.specs.Image.{Span, containerIn, containersIn, usersIn, spanIn, spansIn, ruleIn, rulesIn, mixturesIn, spansGood}
 use Rattle.fields.proofs.FieldLaws.{field-record}
 use Rattle.fields.proofs.RecordLaws.{records-count, record-at}
 use Rattle.lists.proofs.Places.{map-at}
-use Rattle.image.specs.Limits.{ruleSize, mixtureSize, size16, firstField, countField}
+use Rattle.image.specs.Limits.{containerSize, userSize, ruleSize, mixtureSize, size16, firstField, countField}
 use Rattle.rules.specs.Answers.{mixtureLimit}
 
--- ---- mixtures and rules
+-- ---- how many there are
+
+pub containers-count : (s : List ℕ) → length (containersIn s) ≡ length s / containerSize
+unfolding containersIn
+containers-count s = length-map (records containerSize s) containerIn ∙ records-count containerSize s
+
+pub users-count : (s : List ℕ) → length (usersIn s) ≡ length s / userSize
+unfolding usersIn
+users-count s = length-map (records userSize s) numberIn ∙ records-count userSize s
+
+spans-count : (r : List ℕ) → length (spansIn r) ≡ length r / ruleSize
+unfolding spansIn
+spans-count r = length-map (records ruleSize r) spanIn ∙ records-count ruleSize r
+
+pub rules-count : (r m : List ℕ) → length (rulesIn r m) ≡ length r / ruleSize
+unfolding rulesIn
+rules-count r m = length-map (spansIn r) (ruleIn (mixturesIn m)) ∙ spans-count r
 
 pub mixtures-count : (m : List ℕ) → length (mixturesIn m) ≡ length m / mixtureSize
 unfolding mixturesIn
 mixtures-count m = length-map (records mixtureSize m) numberIn ∙ records-count mixtureSize m
+
+-- ---- by place
 
 pub mixture-at : (m : List ℕ) (k : ℕ) → k < length m / mixtureSize → field m (k * mixtureSize) mixtureSize ≡ getD (mixturesIn m) k 0
 unfolding mixturesIn field
@@ -52,15 +70,14 @@ good-at m from (r ∷ rs) (suc n) d h l =
     good-at m (r .first) rs n d (and-1 (leb (r .first + r .count) m) (and-1 (leb (r .count) mixtureLimit) (and-1 (leb from (r .first)) h))) (omega arith)
 
 module _ (r m : List ℕ) (h : spansGood (length m / mixtureSize) 0 (spansIn r) ≡ true) (n : ℕ) (l : n < length r / ruleSize) where
-  spans-count : n < length (spansIn r)
-  unfolding spansIn
-  spans-count = omega (arith, length-map (records ruleSize r) spanIn, records-count ruleSize r)
+  inside : n < length (spansIn r)
+  inside = omega (arith, spans-count r)
 
   pub rule-fits : (field r (n * ruleSize + countField) size16 ≤ mixtureLimit) × (field r (n * ruleSize) size16 + field r (n * ruleSize + countField) size16 ≤ length m / mixtureSize)
   rule-fits =
-      let g = good-at (length m / mixtureSize) 0 (spansIn r) n span-zero h spans-count in
+      let g = good-at (length m / mixtureSize) 0 (spansIn r) n span-zero h inside in
       (rw (span-at r n l) at (g .0), rw (span-at r n l) at (g .1))
 
   pub rule-at : getD (rulesIn r m) n [] ≡ take (field r (n * ruleSize + countField) size16) (drop (field r (n * ruleSize) size16) (mixturesIn m))
   unfolding rulesIn
-  rule-at = map-at (ruleIn (mixturesIn m)) (spansIn r) n span-zero [] spans-count ∙ ap (ruleIn (mixturesIn m)) (span-at r n l) ∙ (unfold ruleIn in refl)
+  rule-at = map-at (ruleIn (mixturesIn m)) (spansIn r) n span-zero [] inside ∙ ap (ruleIn (mixturesIn m)) (span-at r n l) ∙ (unfold ruleIn in refl)

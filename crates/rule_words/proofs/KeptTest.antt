@@ -10,7 +10,7 @@ use borrow.Author.Tests.{le-leb, lt-leb}
 use Rattle.lists.proofs.Bools.{decide}
 use Rattle.rules.specs.Answers.{mixtureLimit}
 use Rattle.rule_words.specs.Words.{ruleWidth, ruleOf, isNormal, allZero, keptWell}
-use Rattle.rule_words.proofs.NormalTest.{rising-start, rising-end}
+use Rattle.rule_words.proofs.NormalTest.{front-start, front-end}
 use Rattle.rule_words.proofs.KeptWords.{rule-length}
 
 module _ (ws : List ℕ) where
@@ -34,6 +34,6 @@ kept-single ws e f =
     let i : getD ws 0 0 + 1 ≡ 2 = omega arith in
     let g : allZero (drop (getD ws 0 0 + 1) ws) ≡ allZero (drop 2 ws) = ap (λ (k : ℕ). allZero (drop k ws)) i in
     ⊎-elim
-    (λ z. z ∙ rising-end (ruleOf ws) 1 (rising-start (ruleOf ws)) (omega (arith, rule-length ws e l)) ∙ kept-if ws l (g ∙ z))
+    (λ z. z ∙ front-end (ruleOf ws) 1 (front-start (ruleOf ws)) (omega (arith, rule-length ws e l)) ∙ kept-if ws l (g ∙ z))
     (λ z. z ∙ kept-not ws l (g ∙ z))
     (decide (allZero (drop 2 ws)))

@@ -7,6 +7,7 @@ pub mod ZeroLaws
 pub mod Copying
 -- inside this crate, for its functions
 pub mod NormalTest
-pub mod SortLaws
+pub mod SortNetwork
+pub mod Insertion
 pub mod NormalInPlace
 pub mod KeptTest

@@ -19,7 +19,7 @@ use Rattle.lists.specs.Lists.{elem}
 use Rattle.rules.specs.Rules.{normal}
 use Rattle.rule_words.proofs.WordLaws.{normal-is, is-normal-of}
 use Rattle.rule_words.specs.Words.{isNormal}
-use Rattle.rule_words.specs.RuleTest.{holdsOne}
+use Rattle.rule_words.specs.InPlace.{holdsOne}
 
 -- ---- one of l is held
 
@@ -92,15 +92,15 @@ elem-take m (suc i) [] h = h
 elem-take m (suc i) (n ∷ r) h = ⊎-elim (λ q. rw q (elem-here n r)) (λ q. elem-there m n r (elem-take m i r q)) (elem-cases m n (take i r) h)
 
 -- the first j mixtures rise, none holds another, and the last of them is the largest
-pub record Rising (r : List ℕ) (j : ℕ) : Type 0 where
+pub record NormalFront (r : List ℕ) (j : ℕ) : Type 0 where
   pub some : 1 ≤ j
   pub asc : Ascending (take j r)
   pub anti : Antichain (take j r)
   pub below : (m : ℕ) → elem m (take j r) ≡ true → m ≤ getD r (j - 1) 0
 
-pub rising-start : (r : List ℕ) → Rising r 1
-rising-start [] = record { some = omega arith; asc = tt; anti = λ m n p q h. elem-none m p; below = λ m h. elem-none m h }
-rising-start (x ∷ r) =
+pub front-start : (r : List ℕ) → NormalFront r 1
+front-start [] = record { some = omega arith; asc = tt; anti = λ m n p q h. elem-none m p; below = λ m h. elem-none m h }
+front-start (x ∷ r) =
     record {
       some = omega arith;
       asc = ((λ n h. elem-none n h), tt);
@@ -111,15 +111,15 @@ rising-start (x ∷ r) =
 normal-eq : (r : List ℕ) → isNormal r ≡ true → r ≡ normal r
 normal-eq r h = sym (normal-is r h)
 
-module _ (r : List ℕ) (j : ℕ) (s : Rising r j) where
-  pub rising-end : length r ≤ j → true ≡ isNormal r
-  rising-end h =
+module _ (r : List ℕ) (j : ℕ) (s : NormalFront r j) where
+  pub front-end : length r ≤ j → true ≡ isNormal r
+  front-end h =
       let q : take j r ≡ r = take-all j r h in
       sym (is-normal-of r (sym (is-normal r r (rw q at (s .asc)) (rw q at (s .anti)) (λ t. refl))))
 
   module _ (h : j < length r) where
-    pub rising-falls : getD r j 0 ≤ getD r (j - 1) 0 → false ≡ isNormal r
-    rising-falls e = sym (refuted (isNormal r) (λ k. no (rw (← normal-eq r k) at (normal-ascends r))))
+    pub front-falls : getD r j 0 ≤ getD r (j - 1) 0 → false ≡ isNormal r
+    front-falls e = sym (refuted (isNormal r) (λ k. no (rw (← normal-eq r k) at (normal-ascends r))))
       where
         no : Ascending r → ⊥
         no a =
@@ -131,14 +131,14 @@ module _ (r : List ℕ) (j : ℕ) (s : Rising r j) where
       less : (m : ℕ) → elem m (take j r) ≡ true → m < getD r j 0
       less m p = omega (arith, s .below m p)
 
-      pub rising-held : holdsOne (getD r j 0) (take j r) ≡ true → false ≡ isNormal r
-      rising-held g = sym (refuted (isNormal r) (λ k. no (rw (← normal-eq r k) at (normal-antichain r)) (held-one (getD r j 0) (take j r) g)))
+      pub front-held : holdsOne (getD r j 0) (take j r) ≡ true → false ≡ isNormal r
+      front-held g = sym (refuted (isNormal r) (λ k. no (rw (← normal-eq r k) at (normal-antichain r)) (held-one (getD r j 0) (take j r) g)))
         where
           no : Antichain r → Held (getD r j 0) (take j r) → ⊥
           no a w = omega (arith, less (w .one) (w .among), a (w .one) (getD r j 0) (elem-take (w .one) j r (w .among)) (elem-at r j h) (w .under))
 
-      pub rising-next : holdsOne (getD r j 0) (take j r) ≡ false → Rising r (j + 1)
-      rising-next g =
+      pub front-next : holdsOne (getD r j 0) (take j r) ≡ false → NormalFront r (j + 1)
+      front-next g =
           let q : take (j + 1) r ≡ take j r ++ (getD r j 0 ∷ []) = ap (λ (k : ℕ). take k r) (add-one j) ∙ take-suc r j 0 h in
           let o : j + 1 - 1 ≡ j = omega arith in
           record {

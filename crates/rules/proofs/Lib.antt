@@ -7,6 +7,7 @@ pub mod MeetAll
 pub mod MeetLaws
 pub mod RefineLaws
 pub mod BoundedLaws
+pub mod SortLaws
 -- inside this crate: how the normal form is made
 pub mod KeptMixtures
 pub mod SieveLaws

@@ -12,15 +12,16 @@ use borrow.Rule.Slice.PartMut.{putMid}
 use Rattle.rules.specs.Answers.{dataWidth, mixtureLimit}
 use Rattle.rule_words.specs.Words.{wordsOf}
 use Rattle.image.specs.Limits.{containerLimit, userLimit, noAtom, containerSize, userSize, ruleSize, mixtureSize, size8, size16, kindField, atomField, permitField, runField}
-use Rattle.fields.specs.Bytes.{field, numberIn, records}
+use Rattle.fields.specs.Bytes.{field, numberIn}
 use Rattle.lists.specs.Lists.{every}
 use Rattle.image.specs.Policy.{Container, named, containerGood}
 use Rattle.image.specs.Image.{containerIn, containersIn, usersIn, spansIn, rulesIn, spansGood}
 use Rattle.image.specs.Normal.{Place, normalAt, placeOf}
 use Rattle.lists.proofs.Every.{every-map, every-getD}
 use Rattle.image.proofs.WrittenMeaning.{container-named, container-atom}
-use Rattle.fields.proofs.RecordLaws.{record-at, records-count}
+use Rattle.fields.proofs.RecordLaws.{record-at}
 use Rattle.lists.proofs.Places.{map-at}
+use Rattle.image.proofs.RecordsByPlace.{users-count, containers-count}
 use Rattle.image.proofs.RulesByNumber.{normal-short}
 use Rattle.session.specs.Limits.{rowWidth, userWidth}
 use Rattle.session.specs.Rows.{rowWords, userWords}
@@ -35,14 +36,10 @@ abbrev pub userRows : List ℕ → List ℕ → List ℕ → List (List ℕ)
 userRows users rules m = map userWords (map (normalAt (rulesIn rules m)) (usersIn users))
 
 module _ (users rules m : List ℕ) (good : every (named (length rules / ruleSize)) (usersIn users) ≡ true) (spans : spansGood (length m / mixtureSize) 0 (spansIn rules) ≡ true) where
-  users-count : length (usersIn users) ≡ length users / userSize
-  unfolding usersIn
-  users-count = length-map (records userSize users) numberIn ∙ records-count userSize users
-
   pub user-named : (i : ℕ) → i < length users / userSize → named (length rules / ruleSize) (field users (i * userSize) userSize) ≡ true
   unfolding usersIn field
   user-named i l =
-      rw (sym (record-at numberIn userSize i users 0 l)) (every-getD (named (length rules / ruleSize)) (usersIn users) i 0 (omega (arith, users-count)) good)
+      rw (sym (record-at numberIn userSize i users 0 l)) (every-getD (named (length rules / ruleSize)) (usersIn users) i 0 (omega (arith, users-count users)) good)
 
   pub users-wide : every (wide userWidth) (userRows users rules m) ≡ true
   unfolding wide
@@ -55,13 +52,13 @@ module _ (users rules m : List ℕ) (good : every (named (length rules / ruleSiz
   pub user-given : (i : ℕ) → i < length users / userSize → userWords (normalAt (rulesIn rules m) (field users (i * userSize) userSize)) ≡ getD (userRows users rules m) i (replicate userWidth 0)
   unfolding usersIn field
   user-given i l =
-      let k : i < length (usersIn users) = omega (arith, users-count) in
+      let k : i < length (usersIn users) = omega (arith, users-count users) in
       sym (map-at userWords (map (normalAt (rulesIn rules m)) (usersIn users)) i [] (replicate userWidth 0) (omega (arith, length-map (usersIn users) (normalAt (rulesIn rules m))))
       ∙ ap userWords (map-at (normalAt (rulesIn rules m)) (usersIn users) i 0 [] k)
       ∙ ap (λ (n : ℕ). userWords (normalAt (rulesIn rules m) n)) (record-at numberIn userSize i users 0 l))
 
   user-rows : length (userRows users rules m) ≡ length users / userSize
-  user-rows = omega (arith, users-count, length-map (usersIn users) (normalAt (rulesIn rules m)), length-map (map (normalAt (rulesIn rules m)) (usersIn users)) userWords)
+  user-rows = omega (arith, users-count users, length-map (usersIn users) (normalAt (rulesIn rules m)), length-map (map (normalAt (rulesIn rules m)) (usersIn users)) userWords)
 
   module _ (out₀ out : List ℕ) (i : ℕ) (g : Rowed userWidth userLimit (userRows users rules m) out₀ out i) where
     pub users-next : i < userLimit → i < length users / userSize → (row : List ℕ) → row ≡ userWords (normalAt (rulesIn rules m) (field users (i * userSize) userSize))
@@ -99,15 +96,11 @@ abbrev pub containerRows : List ℕ → List ℕ → List ℕ → List (List ℕ
 containerRows cs rules m = map placeWords (map (placeOf (rulesIn rules m)) (containersIn cs))
 
 module _ (cs rules m : List ℕ) (good : every (containerGood (length rules / ruleSize)) (containersIn cs) ≡ true) (spans : spansGood (length m / mixtureSize) 0 (spansIn rules) ≡ true) where
-  containers-count : length (containersIn cs) ≡ length cs / containerSize
-  unfolding containersIn
-  containers-count = length-map (records containerSize cs) containerIn ∙ records-count containerSize cs
-
   pub container-good : (i : ℕ) → i < length cs / containerSize → containerGood (length rules / ruleSize) (containerIn (take containerSize (drop (i * containerSize) cs))) ≡ true
   unfolding containersIn
   container-good i l =
       let z : Container = record { kind = 0; atom = 0; permit = 0; run = 0 } in
-      rw (sym (record-at containerIn containerSize i cs z l)) (every-getD (containerGood (length rules / ruleSize)) (containersIn cs) i z (omega (arith, containers-count)) good)
+      rw (sym (record-at containerIn containerSize i cs z l)) (every-getD (containerGood (length rules / ruleSize)) (containersIn cs) i z (omega (arith, containers-count cs)) good)
 
   one-wide : (c : Container) → containerGood (length rules / ruleSize) c ≡ true → length (placeWords (placeOf (rulesIn rules m) c)) ≡ rowWidth
   unfolding placeWords startRow placeOf
@@ -126,13 +119,13 @@ module _ (cs rules m : List ℕ) (good : every (containerGood (length rules / ru
   container-given i l =
       let z : Container = record { kind = 0; atom = 0; permit = 0; run = 0 } in
       let y : Place = record { kind = 0; atom = 0; permit = []; run = [] } in
-      let k : i < length (containersIn cs) = omega (arith, containers-count) in
+      let k : i < length (containersIn cs) = omega (arith, containers-count cs) in
       sym (map-at placeWords (map (placeOf (rulesIn rules m)) (containersIn cs)) i y (replicate rowWidth 0) (omega (arith, length-map (containersIn cs) (placeOf (rulesIn rules m))))
       ∙ ap placeWords (map-at (placeOf (rulesIn rules m)) (containersIn cs) i z y k)
       ∙ ap (λ (c : Container). placeWords (placeOf (rulesIn rules m) c)) (record-at containerIn containerSize i cs z l))
 
   container-rows : length (containerRows cs rules m) ≡ length cs / containerSize
-  container-rows = omega (arith, containers-count, length-map (containersIn cs) (placeOf (rulesIn rules m)), length-map (map (placeOf (rulesIn rules m)) (containersIn cs)) placeWords)
+  container-rows = omega (arith, containers-count cs, length-map (containersIn cs) (placeOf (rulesIn rules m)), length-map (map (placeOf (rulesIn rules m)) (containersIn cs)) placeWords)
 
   module _ (out₀ out : List ℕ) (i : ℕ) (g : Rowed rowWidth containerLimit (containerRows cs rules m) out₀ out i) where
     pub containers-next : i < containerLimit → i < length cs / containerSize → (row : List ℕ) → row ≡ placeWords (placeOf (rulesIn rules m) (containerIn (take containerSize (drop (i * containerSize) cs))))

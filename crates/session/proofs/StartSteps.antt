@@ -105,12 +105,12 @@ module _ (i s : List ℕ) where
   wrong-length h = unchanged lentLength (refused-9 i s .1 (ne-eqb (length s) sessionLength h)) (λ e. omega arith)
 
   module _ (l : length s ≡ sessionLength) where
-    judged : startAnswer i s ≡ checkOf i
-    judged = length-passed i s (length-good s .1 l)
+    answered : startAnswer i s ≡ checkOf i
+    answered = length-passed i s (length-good s .1 l)
 
     pub refused-image : (r : ℕ) → r ≡ checkOf i → (r ≡ 0 → ⊥) → (r ≡ startAnswer i s) × (s ≡ startEffect i s)
-    refused-image r e d = unchanged r (judged ∙ sym e) d
+    refused-image r e d = unchanged r (answered ∙ sym e) d
 
     pub started : checkOf i ≡ 0 → (t : List ℕ) → t ≡ startOf (policyIn i) → (0 ≡ startAnswer i s) × (t ≡ startEffect i s)
     unfolding startEffect
-    started e t f = (sym (judged ∙ e), rw (eq-eqb (startAnswer i s) 0 (judged ∙ e)) f)
+    started e t f = (sym (answered ∙ e), rw (eq-eqb (startAnswer i s) 0 (answered ∙ e)) f)
