@@ -56,13 +56,29 @@ returns-5 : tie.Need-returns-5
 returns-5 c = let start = c .before .before .before .before .before .before .before .before .before .before .before in let q = start .args .q in done-as (start .args .s .now) q (newFile (q .p) (q .o) (q .u)) (step-file q (c .before .before .before .before .if5 .taken)) _ _ (c .before .before .new-file .ensures)
 
 new-volatile-requires : tie.Need-new-volatile-requires
-new-volatile-requires c κs = let start = c .before .before .before .before .before .before .before .before in let q = start .args .q in let n = not-sharing (q .code) (sym (c .before .before .before .before .before .before .is-sharing .ensures) ∙ c .before .before .before .before .before .if1 .left) in ready-as (start .args .s .now) q (newVolatile (q .p) (q .o)) (step-volatile q (start .pre .0 .asked) (n .0) (c .before .before .before .before .if2 .left) (n .1) (c .before .before .before .if3 .left) (c .before .before .if4 .left) (c .before .if5 .left)) (start .pre .1)
+new-volatile-requires c κs =
+    let start = c .before .before .before .before .before .before .before .before in
+    let q = start .args .q in
+    let n = not-sharing (q .code) (sym (c .before .before .before .before .before .before .is-sharing .ensures)
+    ∙ c .before .before .before .before .before .if1 .left) in ready-as (start .args .s .now) q (newVolatile (q .p)
+    (q .o)) (step-volatile q (start .pre .0 .asked) (n .0) (c .before .before .before .before .if2 .left) (n .1)
+    (c .before .before .before .if3 .left) (c .before .before .if4 .left) (c .before .if5 .left)) (start .pre .1)
 
 same-length-6 : tie.Need-same-length-6
 same-length-6 c = search needs
 
 returns-6 : tie.Need-returns-6
-returns-6 c = let start = c .before .before .before .before .before .before .before .before .before .before .before in let q = start .args .q in let n = not-sharing (q .code) (sym (c .before .before .before .before .before .before .before .before .before .is-sharing .ensures) ∙ c .before .before .before .before .before .before .before .before .if1 .left) in done-as (start .args .s .now) q (newVolatile (q .p) (q .o)) (step-volatile q (start .pre .0 .asked) (n .0) (c .before .before .before .before .before .before .before .if2 .left) (n .1) (c .before .before .before .before .before .before .if3 .left) (c .before .before .before .before .before .if4 .left) (c .before .before .before .before .if5 .left)) _ _ (c .before .before .new-volatile .ensures)
+returns-6 c =
+    let start = c .before .before .before .before .before .before .before .before .before .before .before in
+    let q = start .args .q in
+    let n = not-sharing (q .code) (sym
+    (c .before .before .before .before .before .before .before .before .before .is-sharing .ensures)
+    ∙ c .before .before .before .before .before .before .before .before .if1 .left) in done-as (start .args .s .now) q
+    (newVolatile (q .p) (q .o)) (step-volatile q (start .pre .0 .asked) (n .0)
+    (c .before .before .before .before .before .before .before .if2 .left) (n .1)
+    (c .before .before .before .before .before .before .if3 .left)
+    (c .before .before .before .before .before .if4 .left) (c .before .before .before .before .if5 .left)) _ _
+    (c .before .before .new-volatile .ensures)
 
 pub by-code-spec : {M : Type 1} → statement M
 by-code-spec =
