@@ -11,9 +11,10 @@ use Rattle.lists.specs.Lists.{elem}
 use Rattle.rules.specs.Answers.{dataWidth, boundedOf}
 use Rattle.image.specs.Image.{offset, size}
 use Rattle.monitor.proofs.Examples.{CheckedRuns, checked-runs}
-use Rattle.matrix.specs.Verdicts.{verdictOf}
-use Rattle.matrix.specs.Derived.{permitOf, countFrom, derivedImage}
-use Rattle.matrix.proofs.Examples.{flows, permits, image-length, image-offsets, image-sizes}
+use Rattle.matrix.specs.Verdicts.{matrixVerdict}
+use Rattle.derivation.specs.Derived.{permitOf, countFrom, derivedImage}
+use Rattle.matrix.proofs.Examples.{flows}
+use Rattle.derivation.proofs.Examples.{permits, image-length, image-offsets, image-sizes}
 
 -- document 000's matrix: "read rows 5, 3, 2, write rows 1, 2, 10, 4 objects"
 abbrev reads : List ℕ
@@ -42,7 +43,7 @@ pub record Starred : Type 0 where
   -- the same two and 15 as runs of records from a session's start, with "Fork onto p itself: 13."
   pub runs : CheckedRuns
   -- "Document 000's matrix ..: 3 flows, first 0 to 3."
-  pub matrix-flows : verdictOf reads writes 4 ≡ record { number = 1; count = 3; source = 0; target = 3 }
+  pub matrix-flows : matrixVerdict reads writes 4 ≡ record { number = 1; count = 3; source = 0; target = 3 }
   -- "Permit rules 5; 3; 4; 10."
   pub matrix-permits : map (λ b. normal (permitOf reads writes b)) (countFrom 0 4) ≡ (5 ∷ []) ∷ (3 ∷ []) ∷ (4 ∷ []) ∷ (10 ∷ []) ∷ []
   -- "Image of 110 bytes, pairs (18,42), (60,2), (62,16), (78,32)."

@@ -1,0 +1,8 @@
+-- Theorems is the file to read: the laws of this crate, stated and cited. Examples computes the starred example. The others serve inside.
+pub mod Theorems
+pub mod Examples
+pub mod DerivedLaws
+pub mod SpellingLaws
+pub mod PolicyBytes
+pub mod PlainImage
+pub mod DeriveLaws
