@@ -2,3 +2,4 @@
 pub mod FieldLaws
 pub mod ByteLaws
 pub mod RecordLaws
+pub mod WritingLaws

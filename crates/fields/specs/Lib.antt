@@ -1,2 +1,3 @@
--- What a reader must believe of this crate: numbers in bytes, and records of one width.
+-- What a reader must believe of this crate: numbers in bytes, records of one width, and bytes written at a place.
 pub mod Bytes
+pub mod Writing

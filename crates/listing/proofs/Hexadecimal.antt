@@ -7,8 +7,9 @@ use mathlib.Core.List.{List, [], _∷_, map}
 use lib.ListN.{length}
 use lib.Pow.{pow-pos, pow-mono, split, mod-mod-pow, ones-lt}
 use lib.Bits.{bitAnd, and-block, and-mask, and-le-r}
-use Rattle.listing.specs.Text.{digit, digits, packed}
-use Rattle.listing.proofs.TextLaws.{digit-glyph, joined, Below, packed-joined}
+use Rattle.fields.specs.Bytes.{numberIn, bytesOf}
+use Rattle.listing.specs.Text.{digit, digits}
+use Rattle.listing.proofs.TextLaws.{digit-glyph, Below, bytes-below}
 
 -- ---- masks
 
@@ -109,9 +110,10 @@ abbrev nibbles : List ℕ → List ℕ
 nibbles [] = []
 nibbles (d ∷ ds) = d / 16 ∷ d % 16 ∷ nibbles ds
 
-fields-joined : (ds : List ℕ) → fields (map (λ (d : ℕ). d / 16) ds) + fields (map (λ (d : ℕ). d % 16) ds) * 256 ≡ joined (nibbles ds)
-fields-joined [] = refl
-fields-joined (d ∷ ds) = omega (arith, fields-joined ds)
+fields-spelled : (ds : List ℕ) → fields (map (λ (d : ℕ). d / 16) ds) + fields (map (λ (d : ℕ). d % 16) ds) * 256 ≡ numberIn (nibbles ds)
+unfolding numberIn
+fields-spelled [] = refl
+fields-spelled (d ∷ ds) = omega (arith, fields-spelled ds)
 
 -- ---- letters
 
@@ -120,11 +122,12 @@ ones zero = 0
 ones (suc n) = ones n * 256 + 1
 
 -- which values are 10 or more
-letters : (ds : List ℕ) → Below 16 ds → bitAnd ((joined ds + ones (length ds) * 6) / 16) (ones (length ds)) ≡ joined (map (λ (d : ℕ). (d + 6) / 16) ds)
+letters : (ds : List ℕ) → Below 16 ds → bitAnd ((numberIn ds + ones (length ds) * 6) / 16) (ones (length ds)) ≡ numberIn (map (λ (d : ℕ). (d + 6) / 16) ds)
+unfolding numberIn
 letters [] h = refl
 letters (d ∷ ds) (l, h) =
-    let s : ℕ = joined ds + ones (length ds) * 6 in
-    let y : ℕ = (joined ds * 256 + d + (ones (length ds) * 256 + 1) * 6) / 16 in
+    let s : ℕ = numberIn ds + ones (length ds) * 6 in
+    let y : ℕ = (d + 256 * numberIn ds + (ones (length ds) * 256 + 1) * 6) / 16 in
     let g : y ≡ s * 16 + (d + 6) / 16 = omega arith in
     let t : (d + 6) / 16 < 2 = omega arith in
     let e : y / 256 ≡ s / 16 = ap (λ (n : ℕ). n / 256) g ∙ high s ((d + 6) / 16) t in
@@ -132,6 +135,7 @@ letters (d ∷ ds) (l, h) =
     field 1 7 y (ones (length ds))
     ∙ ap₂ (λ (m n : ℕ). bitAnd m (ones (length ds)) * 256 + n) e f
     ∙ ap (λ (m : ℕ). m * 256 + (d + 6) / 16) (letters ds h)
+    ∙ omega arith
   where
     high : (s t : ℕ) → t < 2 → (s * 16 + t) / 256 ≡ s / 16
     high s t h = omega arith
@@ -140,7 +144,8 @@ letters (d ∷ ds) (l, h) =
     low s t h = omega arith
 
 glyphs : (ds : List ℕ) → Below 16 ds
-    → joined ds + ones (length ds) * 48 + joined (map (λ (d : ℕ). (d + 6) / 16) ds) * 39 ≡ joined (map digit ds)
+    → numberIn ds + ones (length ds) * 48 + numberIn (map (λ (d : ℕ). (d + 6) / 16) ds) * 39 ≡ numberIn (map digit ds)
+unfolding numberIn
 glyphs [] h = refl
 glyphs (d ∷ ds) (l, h) = omega (arith, glyphs ds h, digit-glyph d l)
 
@@ -177,9 +182,9 @@ quarters-are x h =
     let p : x % 65536 < 65536 = omega arith in
     halves-parted (x / 65536) (x % 65536) q p
 
-bytes-below : (x : ℕ) → x < 4294967296 → Below 256 (four-bytes x)
+four-below : (x : ℕ) → x < 4294967296 → Below 256 (four-bytes x)
 unfolding four-bytes
-bytes-below x h = (omega arith, (omega arith, (omega arith, (omega arith, tt))))
+four-below x h = (omega arith, (omega arith, (omega arith, (omega arith, tt))))
 
 half-low : (y : ℕ) → y % 65536 % 256 ≡ y % 256
 half-low y = omega arith
@@ -202,14 +207,14 @@ octet-nibbles x h =
     let g : x / 16777216 / 16 ≡ x / 268435456 = omega arith in
     simp (half-low, half-high, d, byte-low, byte-high, e, f, g)
 
-pub eight-digits : (x : ℕ) → x < 4294967296 → packed 8 (written (eighths (quarters (halves x)))) ≡ digits 16 8 x
+pub eight-digits : (x : ℕ) → x < 4294967296 → bytesOf 8 (written (eighths (quarters (halves x)))) ≡ digits 16 8 x
 unfolding four-bytes octet
 eight-digits x h =
     let b : Below 16 (octet x) = octet-below x in
-    ap (λ (y : ℕ). packed 8 (written (eighths y))) (quarters-are x h)
-    ∙ ap₂ (λ (y z : ℕ). packed 8 (written (y + z * 256))) (high-fields (four-bytes x) (bytes-below x h)) (low-fields (four-bytes x) (bytes-below x h))
-    ∙ ap (λ (y : ℕ). packed 8 (written y)) (fields-joined (four-bytes x) ∙ ap joined (octet-nibbles x h))
-    ∙ ap (λ (y : ℕ). packed 8 (joined (octet x) + 0x3030303030303030 + y * 39)) (letters (octet x) b)
-    ∙ ap (λ (y : ℕ). packed 8 y) (glyphs (octet x) b)
-    ∙ packed-joined (map digit (octet x)) (glyphs-below (octet x) b)
+    ap (λ (y : ℕ). bytesOf 8 (written (eighths y))) (quarters-are x h)
+    ∙ ap₂ (λ (y z : ℕ). bytesOf 8 (written (y + z * 256))) (high-fields (four-bytes x) (four-below x h)) (low-fields (four-bytes x) (four-below x h))
+    ∙ ap (λ (y : ℕ). bytesOf 8 (written y)) (fields-spelled (four-bytes x) ∙ ap numberIn (octet-nibbles x h))
+    ∙ ap (λ (y : ℕ). bytesOf 8 (numberIn (octet x) + 0x3030303030303030 + y * 39)) (letters (octet x) b)
+    ∙ ap (λ (y : ℕ). bytesOf 8 y) (glyphs (octet x) b)
+    ∙ bytes-below (map digit (octet x)) (glyphs-below (octet x) b)
     ∙ octet-digits x

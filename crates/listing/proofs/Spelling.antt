@@ -5,16 +5,16 @@ use mathlib.Core.Path.{_≡_, refl, sym, ap, _∙_}
 use mathlib.Core.List.{List}
 use lib.ListN.{length, set, length-set}
 use Rattle.listing.specs.Text.{digit, digits}
-use Rattle.listing.specs.Buffer.{placed, Appended}
+use Rattle.fields.specs.Writing.{overwritten, Wrote}
 use Rattle.listing.proofs.TextLaws.{digits-length}
-use Rattle.listing.proofs.BufferLaws.{placed-none, placed-back}
+use Rattle.fields.proofs.WritingLaws.{overwritten-none, overwritten-back}
 
 -- of the k digits of n in base b, i are still to be written: those of `rest`
 pub record Spelling (b k n at : ℕ) (before after : List ℕ) (i rest : ℕ) : Type 0 where
   pub few : i ≤ k
   pub room : at + k ≤ length before
   pub long : length after ≡ length before
-  pub left : placed (digits b i rest) at after ≡ placed (digits b k n) at before
+  pub left : overwritten (digits b i rest) at after ≡ overwritten (digits b k n) at before
 
 pub spelling-start : (b k n at : ℕ) (before : List ℕ) → at + k ≤ length before → Spelling b k n at before before k n
 spelling-start b k n at before h = record { few = omega arith; room = h; long = refl; left = refl }
@@ -32,18 +32,18 @@ spelling-next {b} {k} {n} {at} {before} {after} {i} {rest} s d h e =
       room = s .room;
       long = length-set after (at + (i - 1)) d ∙ s .long;
       left =
-          ap (λ (v : ℕ). placed x at (set after (at + (i - 1)) v)) e
-          ∙ ap (λ (j : ℕ). placed x at (set after (at + j) (digit (rest % b)))) (sym m)
-          ∙ placed-back x (digit (rest % b)) at after r
-          ∙ ap (λ (j : ℕ). placed (digits b j rest) at after) (sym q)
+          ap (λ (v : ℕ). overwritten x at (set after (at + (i - 1)) v)) e
+          ∙ ap (λ (j : ℕ). overwritten x at (set after (at + j) (digit (rest % b)))) (sym m)
+          ∙ overwritten-back x (digit (rest % b)) at after r
+          ∙ ap (λ (j : ℕ). overwritten (digits b j rest) at after) (sym q)
           ∙ s .left;
     }
 
 pub spelling-end : {b k n at : ℕ} {before after : List ℕ} {i rest : ℕ} → Spelling b k n at before after i rest → i ≡ 0
-    → Appended (digits b k n) before after at (at + k)
+    → Wrote (digits b k n) before after at (at + k)
 unfolding digits
 spelling-end {b} {k} {n} {at} {before} {after} {i} {rest} s e =
     record {
-      bytes = sym (placed-none at after) ∙ ap (λ (j : ℕ). placed (digits b j rest) at after) (sym e) ∙ s .left;
+      buffer = sym (overwritten-none at after) ∙ ap (λ (j : ℕ). overwritten (digits b j rest) at after) (sym e) ∙ s .left;
       ends = ap (λ (j : ℕ). at + j) (sym (digits-length b k n));
     }

@@ -1,6 +1,6 @@
 -- Laws of numbers as text.
 use Prim.Native.Nat.{ℕ, zero, suc, _+_, _*_, _-_, _/_, _%_, _^_, _≤_, _<_}
-use native.Mathlib.Nat.{pow-succ', add-zero, zero-add, add-suc, suc-add, suc-mul}
+use native.Mathlib.Nat.{pow-succ', add-zero, add-suc, suc-mul}
 use native.Mathlib.Numerals.{add-one}
 use native.Mathlib.Omega.{arith}
 use mathlib.Core.Path.{_≡_, refl, sym, ap, ap₂, _∙_}
@@ -9,10 +9,12 @@ use mathlib.Core.List.{List, [], _∷_, _++_, append-assoc}
 use lib.Dec.{ltb, eqb, eqb→eq}
 use lib.ListN.{length, getD, take, drop, length-append, List·getD-append, drop-of-length-le}
 use lib.Seq.{drop-append-le}
-use lib.Pow.{shr-shr, mod-mod-pow}
+use lib.Pow.{pow-add, mod-mod-pow}
 use lib.Pow as Pow
 use borrow.Author.Tests.{lt-ltb, le-ltb, ltb-true, ltb-false}
-use Rattle.listing.specs.Text.{ascii, digit, digits, packed, decimalLimit, decimalIn, decimal, tagDigits, hexadecimal, spelled}
+use Rattle.fields.specs.Bytes.{numberIn, bytesOf, Bytes}
+use Rattle.fields.proofs.ByteLaws.{bytes-take, bytes-drop, bytes-number}
+use Rattle.listing.specs.Text.{ascii, digit, digits, decimalLimit, decimalIn, decimal, tagDigits, hexadecimal, spelled}
 use Rattle.listing.proofs.Finite.{all-at}
 
 -- ---- one digit
@@ -173,35 +175,15 @@ length-three n l h =
 
 -- ---- digits as the bytes of a number
 
-pub packed-length : (k n : ℕ) → length (packed k n) ≡ k
-unfolding packed
-packed-length zero n = refl
-packed-length (suc k) n = ap suc (packed-length k (n / 256))
-
-pub packed-four : (n : ℕ) → packed 4 n ≡ n % 256 ∷ n / 256 % 256 ∷ n / 65536 % 256 ∷ n / 16777216 % 256 ∷ []
-unfolding packed
-packed-four n =
-    let e : n / 256 / 256 ≡ n / 65536 = omega arith in
-    let f : n / 65536 / 256 ≡ n / 16777216 = omega arith in
-    rw (e, f)
-
-pub packed-eight : (n : ℕ) → packed 8 n ≡ packed 4 n ++ packed 4 (n / 4294967296)
-unfolding packed
-packed-eight n = let e : n / 256 / 256 / 256 / 256 ≡ n / 4294967296 = omega arith in rw e
-
--- fewer bytes are the first of them
-pub packed-take : (m j n : ℕ) → take m (packed (m + j) n) ≡ packed m n
-unfolding packed
-packed-take zero j n = refl
-packed-take (suc m) j n = rw (suc-add m j) (ap (λ (x : List ℕ). n % 256 ∷ x) (packed-take m j (n / 256)))
-
 -- a shift by whole bytes drops them
-packed-drop : (k m n : ℕ) → drop k (packed (k + m) n) ≡ packed m (n / 2 ^ (8 * k))
-unfolding packed
-packed-drop zero m n = let e : n / 1 ≡ n = omega arith in rw (zero-add m, e)
-packed-drop (suc k) m n =
-    let e : 8 + 8 * k ≡ 8 * suc k = omega arith in
-    rw (suc-add k m) (packed-drop k m (n / 256) ∙ ap (λ (x : ℕ). packed m x) (shr-shr n 8 (8 * k) ∙ ap (λ (i : ℕ). n / 2 ^ i) e))
+shifted : (k n : ℕ) → n / 2 ^ (8 * k) ≡ n / 256 ^ k
+shifted k n = ap (λ (i : ℕ). n / i) (by k)
+  where
+    by : (k : ℕ) → 2 ^ (8 * k) ≡ 256 ^ k
+    by zero = refl
+    by (suc k) =
+        let e : 8 * suc k ≡ 8 + 8 * k = omega arith in
+        ap (λ (i : ℕ). 2 ^ i) e ∙ pow-add 2 8 (8 * k) ∙ ap (λ (i : ℕ). 256 * i) (by k) ∙ sym (pow-succ' 256 k)
 
 digits-drop : (b k m n : ℕ) → drop k (digits b (k + m) n) ≡ digits b m n
 unfolding digits
@@ -212,15 +194,16 @@ digits-drop b k (suc m) n =
     ∙ ap (λ (x : List ℕ). x ++ (digit (n % b) ∷ [])) (digits-drop b k m (n / b)))
 
 -- a number of at most three digits, which are the bytes of x: its first bytes once the unused digits are shifted out
-pub short-number : (n k x : ℕ) → k + length (decimal n) ≡ 3 → packed 3 x ≡ digits 10 3 n
-    → take (length (decimal n)) (packed 4 (x / 2 ^ (8 * k))) ≡ decimal n
+pub short-number : (n k x : ℕ) → k + length (decimal n) ≡ 3 → bytesOf 3 x ≡ digits 10 3 n
+    → take (length (decimal n)) (bytesOf 4 (x / 2 ^ (8 * k))) ≡ decimal n
 short-number n k x e p =
     let m : ℕ = length (decimal n) in
     let f : m + (4 - m) ≡ 4 = omega arith in
-    ap (λ (i : ℕ). take m (packed i (x / 2 ^ (8 * k)))) (sym f)
-    ∙ packed-take m (4 - m) (x / 2 ^ (8 * k))
-    ∙ sym (packed-drop k m x)
-    ∙ ap (λ (i : ℕ). drop k (packed i x)) e
+    ap (λ (i : ℕ). take m (bytesOf i (x / 2 ^ (8 * k)))) (sym f)
+    ∙ bytes-take m (4 - m) (x / 2 ^ (8 * k))
+    ∙ ap (λ (y : ℕ). bytesOf m y) (shifted k x)
+    ∙ sym (bytes-drop k m x)
+    ∙ ap (λ (i : ℕ). drop k (bytesOf i x)) e
     ∙ ap (λ (y : List ℕ). drop k y) p
     ∙ ap (λ (i : ℕ). drop k (digits 10 i n)) (sym e)
     ∙ digits-drop 10 k m n
@@ -229,29 +212,26 @@ short-number n k x e p =
 low-digit : (n : ℕ) → digit (n % 10) ≡ 48 + n % 10
 low-digit n = let l : n % 10 < 10 = omega arith in digit-low (n % 10) l
 
--- the number of which these are the bytes, the lowest first
-abbrev pub joined : List ℕ → ℕ
-joined [] = 0
-joined (d ∷ ds) = joined ds * 256 + d
-
 -- each is below the bound
 abbrev pub Below : ℕ → List ℕ → Type 0
 Below k [] = Unit {0}
 Below k (d ∷ ds) = (d < k) × Below k ds
 
-pub packed-joined : (ds : List ℕ) → Below 256 ds → packed (length ds) (joined ds) ≡ ds
-unfolding packed
-packed-joined [] h = refl
-packed-joined (d ∷ ds) (l, h) =
-    let e : (joined ds * 256 + d) % 256 ≡ d = omega arith in
-    let f : (joined ds * 256 + d) / 256 ≡ joined ds = omega arith in
-    rw (e, f) (ap (λ (x : List ℕ). d ∷ x) (packed-joined ds h))
+below-bytes : (ds : List ℕ) → Below 256 ds → Bytes ds
+below-bytes [] h k = omega arith
+below-bytes (d ∷ ds) (l, h) zero = l
+below-bytes (d ∷ ds) (l, h) (suc k) = below-bytes ds h k
 
-three-joined : (h t d : ℕ) → (h * 100 + t * 10 + d) * 65536 + 3158064 - (h * 10 + t) * 655104 - h * 2559
-    ≡ joined ((48 + h) ∷ (48 + t) ∷ (48 + d) ∷ [])
-three-joined h t d = omega arith
+-- bytes are those of the number that they spell
+pub bytes-below : (ds : List ℕ) → Below 256 ds → bytesOf (length ds) (numberIn ds) ≡ ds
+bytes-below ds h = bytes-number ds (below-bytes ds h)
 
-pub three-digits : (n : ℕ) → n < 1000 → packed 3 (n * 65536 + 3158064 - n / 10 * 655104 - n / 100 * 2559) ≡ digits 10 3 n
+three-spelled : (h t d : ℕ) → (h * 100 + t * 10 + d) * 65536 + 3158064 - (h * 10 + t) * 655104 - h * 2559
+    ≡ numberIn ((48 + h) ∷ (48 + t) ∷ (48 + d) ∷ [])
+unfolding numberIn
+three-spelled h t d = omega arith
+
+pub three-digits : (n : ℕ) → n < 1000 → bytesOf 3 (n * 65536 + 3158064 - n / 10 * 655104 - n / 100 * 2559) ≡ digits 10 3 n
 unfolding digits
 three-digits n l =
     let h : ℕ = n / 10 / 10 % 10 in
@@ -260,10 +240,10 @@ three-digits n l =
     let u : n ≡ h * 100 + t * 10 + d = omega arith in
     let v : n / 10 ≡ h * 10 + t = omega arith in
     let w : n / 100 ≡ h = omega arith in
-    ap (λ (i : ℕ). packed 3 (i * 65536 + 3158064 - n / 10 * 655104 - n / 100 * 2559)) u
-    ∙ ap₂ (λ (i j : ℕ). packed 3 ((h * 100 + t * 10 + d) * 65536 + 3158064 - i * 655104 - j * 2559)) v w
-    ∙ ap (λ (i : ℕ). packed 3 i) (three-joined h t d)
-    ∙ packed-joined ((48 + h) ∷ (48 + t) ∷ (48 + d) ∷ []) (omega arith, (omega arith, (omega arith, tt)))
+    ap (λ (i : ℕ). bytesOf 3 (i * 65536 + 3158064 - n / 10 * 655104 - n / 100 * 2559)) u
+    ∙ ap₂ (λ (i j : ℕ). bytesOf 3 ((h * 100 + t * 10 + d) * 65536 + 3158064 - i * 655104 - j * 2559)) v w
+    ∙ ap (λ (i : ℕ). bytesOf 3 i) (three-spelled h t d)
+    ∙ bytes-below ((48 + h) ∷ (48 + t) ∷ (48 + d) ∷ []) (omega arith, (omega arith, (omega arith, tt)))
     ∙ rw (low-digit (n / 10 / 10), low-digit (n / 10), low-digit n)
 
 -- the last three digits are those of the rest by 1,000

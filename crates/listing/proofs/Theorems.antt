@@ -1,6 +1,6 @@
 -- What is proved of the listing, beside the contracts of src/: the statements, each with the law that proves it.
 -- `decimal`, `hexadecimal` and `spelled` are the definitions of specs/Text.antt, the lines those of specs/Lines.antt,
--- `placed`, `Appended` and `Written` those of specs/Buffer.antt.
+-- `WroteWithSpare` is that of specs/Buffer.antt.
 use Prim.Native.Nat.{ℕ, _+_, _/_, _%_, _^_, _≤_, _<_}
 use native.Mathlib.Omega.{arith}
 use mathlib.Core.Path.{_≡_, refl}
@@ -10,7 +10,8 @@ use Rattle.listing.specs.declared.Outcome.{Outcome}
 use Rattle.listing.specs.declared.Outcome.the-variants.{Refused}
 use Rattle.listing.specs.Text.{ascii, digit, decimalLimit, decimalIn, decimal, tagDigits, hexadecimal, spelled}
 use Rattle.listing.specs.Lines.{line, wordOf, verdictOf, valuesOf, heading, stepLine, shortLine, totalLine, policyLine}
-use Rattle.listing.specs.Buffer.{lineLimit, Appended, Written}
+use Rattle.listing.specs.Buffer.{lineLimit, WroteWithSpare}
+use Rattle.fields.specs.Writing.{Wrote}
 use Rattle.listing.proofs.TextLaws as text
 use Rattle.listing.proofs.LineLaws as lines
 use Rattle.listing.proofs.BufferLaws as buffer
@@ -65,16 +66,11 @@ policy-fits = lines.policy-length
 
 -- ---- buffers
 
--- two texts written one behind the other are their concatenation, written at once
-pub appended-join : {x y before between after : List ℕ} {at next end : ℕ} → at ≤ length before
-    → Appended x before between at next → Appended y between after next end → Appended (x ++ y) before after at end
-appended-join = buffer.appended-join
-
 -- bytes behind a text that do not count are overwritten by the next text
-pub written-join : {x y before between after : List ℕ} {at next end spare : ℕ} → (more : ℕ) → spare ≤ length y + more
-    → Written x spare before between at next → Written y more between after next end → Written (x ++ y) more before after at end
-written-join = buffer.written-join
+pub spare-join : {x y before between after : List ℕ} {at next end spare : ℕ} → (more : ℕ) → spare ≤ length y + more
+    → WroteWithSpare x spare before between at next → WroteWithSpare y more between after next end → WroteWithSpare (x ++ y) more before after at end
+spare-join = buffer.spare-join
 
 -- where there are none, every other byte is as it was
-pub written-appended : {x before after : List ℕ} {at next : ℕ} → Written x 0 before after at next → Appended x before after at next
-written-appended = buffer.written-appended
+pub spare-none : {x before after : List ℕ} {at next : ℕ} → WroteWithSpare x 0 before after at next → Wrote x before after at next
+spare-none = buffer.spare-none

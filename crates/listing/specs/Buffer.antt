@@ -1,21 +1,12 @@
--- What it is to write a text into a buffer, and how much room a line needs.
+-- What it is to write a part of a line, and how much room a line needs.
 use Prim.Native.Nat.{ℕ, _+_}
 use mathlib.Core.Path.{_≡_}
 use mathlib.Core.List.{List, _++_}
 use lib.ListN.{length, take, drop}
 
--- the buffer with the text at its place, every other byte as it was
-unfoldable pub placed : List ℕ → ℕ → List ℕ → List ℕ
-placed text at before = take at before ++ text ++ drop (at + length text) before
-
--- the text was written at `at`, and `next` is the place behind it
-pub record Appended (text before after : List ℕ) (at next : ℕ) : Type 0 where
-  pub bytes : after ≡ placed text at before
-  pub ends : next ≡ at + length text
-
 -- the text was written at `at`, `next` is the place behind it, and beside it nothing changed but at most `spare` bytes from
 -- `next` on, which the next text of the line overwrites
-pub record Written (text : List ℕ) (spare : ℕ) (before after : List ℕ) (at next : ℕ) : Type 0 where
+pub record WroteWithSpare (text : List ℕ) (spare : ℕ) (before after : List ℕ) (at next : ℕ) : Type 0 where
   pub starts : take next after ≡ take at before ++ text
   pub rest : drop (next + spare) after ≡ drop (next + spare) before
   pub ends : next ≡ at + length text

@@ -22,11 +22,6 @@ unfoldable pub digits : ℕ → ℕ → ℕ → List ℕ
 digits b zero n = []
 digits b (suc k) n = digits b k (n / b) ++ (digit (n % b) ∷ [])
 
--- the k lowest bytes of n, the lowest first: what one store of a number writes
-unfoldable pub packed : ℕ → ℕ → List ℕ
-packed zero n = []
-packed (suc k) n = n % 256 ∷ packed k (n / 256)
-
 -- n in decimal, by at most k digits: those of n / 10 unless n is below 10, then n % 10
 unfoldable pub decimalIn : ℕ → ℕ → List ℕ
 decimalIn zero n = []

@@ -5,9 +5,11 @@ ghost use mathlib.Core.Path.{_≡_};
 ghost use mathlib.Core.List.{[], _∷_, _++_};
 ghost use Prim.Native.Nat.{_+_, _≤_, _<_};
 ghost use lib.ListN.{length, take};
-ghost use Rattle.listing.specs.Text.{digits, packed, decimalLimit, decimal, tagDigits, hexadecimal};
+ghost use Rattle.fields.specs.Bytes.{bytesOf};
+ghost use Rattle.fields.specs.Writing.{Wrote};
+ghost use Rattle.listing.specs.Text.{digits, decimalLimit, decimal, tagDigits, hexadecimal};
 ghost use Rattle.listing.specs.Lines.{space, newline, line, spaced, wordOf, verdictOf, valuesOf, heading, stepLine, shortLine, totalLine, policyLine};
-ghost use Rattle.listing.specs.Buffer.{Appended, Written, wordLimit, accessLimit, outcomeLimit, lineLimit};
+ghost use Rattle.listing.specs.Buffer.{WroteWithSpare, wordLimit, accessLimit, outcomeLimit, lineLimit};
 
 // The most bytes of a line.
 pub const LINE_LIMIT: usize = 116;
@@ -37,7 +39,7 @@ pub enum Outcome {
 // A text as it is given.
 fn put_text(out: &mut [u8], at: usize, text: &[u8]) -> usize
     requires { ⌜ at + length (now text) ≤ length (now out) ⌝ }
-    ensures { λ r. ⌜ Appended (now (text .entry)) (now (out .entry)) (now (out .exit)) at r ⌝ }
+    ensures { λ r. ⌜ Wrote (now (text .entry)) (now (out .entry)) (now (out .exit)) at r ⌝ }
 {
     let mut i: usize = 0;
     while i < text.len() {
@@ -63,7 +65,7 @@ fn decimal_places(n: u64) -> usize
 // A number of any length in decimal, from the last digit to the first.
 fn put_long(out: &mut [u8], at: usize, n: u64) -> usize
     requires { ⌜ at + decimalLimit ≤ length (now out) ⌝ }
-    ensures { λ r. ⌜ Appended (decimal n) (now (out .entry)) (now (out .exit)) at r ⌝ }
+    ensures { λ r. ⌜ Wrote (decimal n) (now (out .entry)) (now (out .exit)) at r ⌝ }
 {
     let k = decimal_places(n);
     let mut rest = n;
@@ -76,32 +78,11 @@ fn put_long(out: &mut [u8], at: usize, n: u64) -> usize
     at + k
 }
 
-// The four lowest bytes of a number, the lowest first: one store.
-fn put_four(out: &mut [u8], at: usize, x: u64) -> usize
-    requires { ⌜ at + 4 ≤ length (now out) ⌝ }
-    ensures { λ r. ⌜ Appended (packed 4 x) (now (out .entry)) (now (out .exit)) at r ⌝ }
-{
-    out[at] = (x % 256) as u8;
-    out[at + 1] = (x / 256 % 256) as u8;
-    out[at + 2] = (x / 65536 % 256) as u8;
-    out[at + 3] = (x / 16777216 % 256) as u8;
-    at + 4
-}
-
-// The eight bytes of a number, the lowest first.
-fn put_eight(out: &mut [u8], at: usize, x: u64) -> usize
-    requires { ⌜ at + 8 ≤ length (now out) ⌝ }
-    ensures { λ r. ⌜ Appended (packed 8 x) (now (out .entry)) (now (out .exit)) at r ⌝ }
-{
-    let next = put_four(out, at, x);
-    put_four(out, next, x / 4294967296)
-}
-
 // The three digits of a number below 1,000 as the bytes of a number, the highest first: with t for n / 10 and h for n / 100
 // it is h + 256 (t - 10 h) + 65,536 (n - 10 t), and 48 in each byte.
 fn three_digits(n: u64) -> u64
     requires { ⌜ n < 1000 ⌝ }
-    ensures { λ r. ⌜ packed 3 r ≡ digits 10 3 n ⌝ }
+    ensures { λ r. ⌜ bytesOf 3 r ≡ digits 10 3 n ⌝ }
 {
     n * 65536 + 0x303030 - n / 10 * 655104 - n / 100 * 2559
 }
@@ -123,26 +104,26 @@ fn unused_digits(n: u64) -> usize
 // A number below 1,000 in decimal.
 fn put_short_number(out: &mut [u8], at: usize, n: u64) -> usize
     requires { ⌜ (n < 1000) × (at + 4 ≤ length (now out)) ⌝ }
-    ensures { λ r. ⌜ Written (decimal n) 3 (now (out .entry)) (now (out .exit)) at r ⌝ }
+    ensures { λ r. ⌜ WroteWithSpare (decimal n) 3 (now (out .entry)) (now (out .exit)) at r ⌝ }
 {
     let k = unused_digits(n);
-    put_four(out, at, three_digits(n) >> (8 * k));
+    fields::put32(out, at, (three_digits(n) >> (8 * k)) as usize);
     at + (3 - k)
 }
 
 // The last three digits of a number.
 fn put_group(out: &mut [u8], at: usize, n: u64) -> usize
     requires { ⌜ at + 4 ≤ length (now out) ⌝ }
-    ensures { λ r. ⌜ Written (digits 10 3 n) 1 (now (out .entry)) (now (out .exit)) at r ⌝ }
+    ensures { λ r. ⌜ WroteWithSpare (digits 10 3 n) 1 (now (out .entry)) (now (out .exit)) at r ⌝ }
 {
-    put_four(out, at, three_digits(n % 1000));
+    fields::put32(out, at, three_digits(n % 1000) as usize);
     at + 3
 }
 
 // A number of four to six digits.
 fn put_thousands(out: &mut [u8], at: usize, n: u64) -> usize
     requires { ⌜ (1000 ≤ n) × (n < 1000000) × (at + 7 ≤ length (now out)) ⌝ }
-    ensures { λ r. ⌜ Written (decimal n) 1 (now (out .entry)) (now (out .exit)) at r ⌝ }
+    ensures { λ r. ⌜ WroteWithSpare (decimal n) 1 (now (out .entry)) (now (out .exit)) at r ⌝ }
 {
     let next = put_short_number(out, at, n / 1000);
     put_group(out, next, n)
@@ -151,7 +132,7 @@ fn put_thousands(out: &mut [u8], at: usize, n: u64) -> usize
 // A number of seven to nine digits.
 fn put_millions(out: &mut [u8], at: usize, n: u64) -> usize
     requires { ⌜ (1000000 ≤ n) × (n < 1000000000) × (at + 10 ≤ length (now out)) ⌝ }
-    ensures { λ r. ⌜ Written (decimal n) 1 (now (out .entry)) (now (out .exit)) at r ⌝ }
+    ensures { λ r. ⌜ WroteWithSpare (decimal n) 1 (now (out .entry)) (now (out .exit)) at r ⌝ }
 {
     let next = put_thousands(out, at, n / 1000);
     put_group(out, next, n)
@@ -160,7 +141,7 @@ fn put_millions(out: &mut [u8], at: usize, n: u64) -> usize
 // A number in decimal. Up to nine digits are written three at a time.
 fn put_decimal(out: &mut [u8], at: usize, n: u64) -> usize
     requires { ⌜ at + decimalLimit ≤ length (now out) ⌝ }
-    ensures { λ r. ⌜ Written (decimal n) 3 (now (out .entry)) (now (out .exit)) at r ⌝ }
+    ensures { λ r. ⌜ WroteWithSpare (decimal n) 3 (now (out .entry)) (now (out .exit)) at r ⌝ }
 {
     if n < 1000 {
         return put_short_number(out, at, n);
@@ -178,7 +159,7 @@ fn put_decimal(out: &mut [u8], at: usize, n: u64) -> usize
 // are laid apart. A value from 10 on reaches 16 once 6 is added, and is written as a letter.
 fn eight_digits(x: u64) -> u64
     requires { ⌜ x < 4294967296 ⌝ }
-    ensures { λ r. ⌜ packed 8 r ≡ digits 16 8 x ⌝ }
+    ensures { λ r. ⌜ bytesOf 8 r ≡ digits 16 8 x ⌝ }
 {
     let two = x / 65536 + x % 65536 * 4294967296;
     let four = (two / 256 & 0x000000ff000000ff) + (two & 0x000000ff000000ff) * 65536;
@@ -190,16 +171,16 @@ fn eight_digits(x: u64) -> u64
 // A tag.
 fn put_hexadecimal(out: &mut [u8], at: usize, tag: u64) -> usize
     requires { ⌜ at + tagDigits ≤ length (now out) ⌝ }
-    ensures { λ r. ⌜ Appended (hexadecimal tag) (now (out .entry)) (now (out .exit)) at r ⌝ }
+    ensures { λ r. ⌜ Wrote (hexadecimal tag) (now (out .entry)) (now (out .exit)) at r ⌝ }
 {
-    let next = put_eight(out, at, eight_digits(tag / 4294967296));
-    put_eight(out, next, eight_digits(tag % 4294967296))
+    let next = fields::put64(out, at, eight_digits(tag / 4294967296));
+    fields::put64(out, next, eight_digits(tag % 4294967296))
 }
 
 // A number and the byte behind it.
 fn put_number(out: &mut [u8], at: usize, n: u64, end: u8) -> usize
     requires { ⌜ at + decimalLimit < length (now out) ⌝ }
-    ensures { λ r. ⌜ Appended (decimal n ++ (end ∷ [])) (now (out .entry)) (now (out .exit)) at r ⌝ }
+    ensures { λ r. ⌜ Wrote (decimal n ++ (end ∷ [])) (now (out .entry)) (now (out .exit)) at r ⌝ }
 {
     let next = put_long(out, at, n);
     out[next] = end;
@@ -209,7 +190,7 @@ fn put_number(out: &mut [u8], at: usize, n: u64, end: u8) -> usize
 // A tag and the end of its line.
 fn put_tag(out: &mut [u8], at: usize, tag: u64) -> usize
     requires { ⌜ at + tagDigits < length (now out) ⌝ }
-    ensures { λ r. ⌜ Appended (hexadecimal tag ++ (newline ∷ [])) (now (out .entry)) (now (out .exit)) at r ⌝ }
+    ensures { λ r. ⌜ Wrote (hexadecimal tag ++ (newline ∷ [])) (now (out .entry)) (now (out .exit)) at r ⌝ }
 {
     let next = put_hexadecimal(out, at, tag);
     out[next] = NEWLINE;
@@ -219,7 +200,7 @@ fn put_tag(out: &mut [u8], at: usize, tag: u64) -> usize
 // A text, a number and the byte behind it.
 fn put_named(out: &mut [u8], at: usize, name: &[u8], n: u64, end: u8) -> usize
     requires { ⌜ at + length (now name) + decimalLimit < length (now out) ⌝ }
-    ensures { λ r. ⌜ Appended (now (name .entry) ++ (decimal n ++ (end ∷ []))) (now (out .entry)) (now (out .exit)) at r ⌝ }
+    ensures { λ r. ⌜ Wrote (now (name .entry) ++ (decimal n ++ (end ∷ []))) (now (out .entry)) (now (out .exit)) at r ⌝ }
 {
     let next = put_text(out, at, name);
     put_number(out, next, n, end)
@@ -227,7 +208,7 @@ fn put_named(out: &mut [u8], at: usize, name: &[u8], n: u64, end: u8) -> usize
 
 // An operation's word as the bytes of a number, the first letter lowest, with spaces behind it.
 fn word(code: u64) -> u64
-    ensures { λ r. ⌜ take (length (wordOf code)) (packed 8 r) ≡ wordOf code ⌝ }
+    ensures { λ r. ⌜ take (length (wordOf code)) (bytesOf 8 r) ≡ wordOf code ⌝ }
 {
     match code {
         1 => 0x2020202064616572,
@@ -260,9 +241,9 @@ fn word_length(code: u64) -> usize
 // An operation's word and the space behind it.
 fn put_word(out: &mut [u8], at: usize, code: u64) -> usize
     requires { ⌜ at + wordLimit < length (now out) ⌝ }
-    ensures { λ r. ⌜ Written (wordOf code ++ (space ∷ [])) 3 (now (out .entry)) (now (out .exit)) at r ⌝ }
+    ensures { λ r. ⌜ WroteWithSpare (wordOf code ++ (space ∷ [])) 3 (now (out .entry)) (now (out .exit)) at r ⌝ }
 {
-    put_eight(out, at, word(code));
+    fields::put64(out, at, word(code));
     let next = at + word_length(code);
     out[next] = SPACE;
     next + 1
@@ -271,7 +252,7 @@ fn put_word(out: &mut [u8], at: usize, code: u64) -> usize
 // A step's number and the space behind it.
 fn put_step_number(out: &mut [u8], at: usize, n: u64) -> usize
     requires { ⌜ at + decimalLimit < length (now out) ⌝ }
-    ensures { λ r. ⌜ Written (decimal n ++ (space ∷ [])) 2 (now (out .entry)) (now (out .exit)) at r ⌝ }
+    ensures { λ r. ⌜ WroteWithSpare (decimal n ++ (space ∷ [])) 2 (now (out .entry)) (now (out .exit)) at r ⌝ }
 {
     let next = put_decimal(out, at, n);
     out[next] = SPACE;
@@ -281,7 +262,7 @@ fn put_step_number(out: &mut [u8], at: usize, n: u64) -> usize
 // A container's number and the space behind it.
 fn put_container(out: &mut [u8], at: usize, n: u64) -> usize
     requires { ⌜ at + decimalLimit < length (now out) ⌝ }
-    ensures { λ r. ⌜ Written (decimal n ++ (space ∷ [])) 2 (now (out .entry)) (now (out .exit)) at r ⌝ }
+    ensures { λ r. ⌜ WroteWithSpare (decimal n ++ (space ∷ [])) 2 (now (out .entry)) (now (out .exit)) at r ⌝ }
 {
     if n < 1000 {
         let next = put_short_number(out, at, n);
@@ -294,7 +275,7 @@ fn put_container(out: &mut [u8], at: usize, n: u64) -> usize
 // The fields of a step's line before the verdict.
 fn put_access(out: &mut [u8], at: usize, step: u64, code: u64, p: u64, o: u64) -> usize
     requires { ⌜ at + accessLimit ≤ length (now out) ⌝ }
-    ensures { λ r. ⌜ Written (spaced (decimal step ∷ wordOf code ∷ decimal p ∷ decimal o ∷ [])) 2 (now (out .entry)) (now (out .exit)) at r ⌝ }
+    ensures { λ r. ⌜ WroteWithSpare (spaced (decimal step ∷ wordOf code ∷ decimal p ∷ decimal o ∷ [])) 2 (now (out .entry)) (now (out .exit)) at r ⌝ }
 {
     let op = put_step_number(out, at, step);
     let subject = put_word(out, op, code);
@@ -305,9 +286,9 @@ fn put_access(out: &mut [u8], at: usize, step: u64, code: u64, p: u64, o: u64) -
 // A verdict's word with the space behind it, the receiver and its tag.
 fn put_verdict(out: &mut [u8], at: usize, word: u64, receiver: u64, tag: u64) -> usize
     requires { ⌜ at + outcomeLimit ≤ length (now out) ⌝ }
-    ensures { λ r. ⌜ Appended (take 6 (packed 8 word) ++ line (decimal receiver) (hexadecimal tag ∷ [])) (now (out .entry)) (now (out .exit)) at r ⌝ }
+    ensures { λ r. ⌜ Wrote (take 6 (bytesOf 8 word) ++ line (decimal receiver) (hexadecimal tag ∷ [])) (now (out .entry)) (now (out .exit)) at r ⌝ }
 {
-    put_eight(out, at, word);
+    fields::put64(out, at, word);
     let next = put_container(out, at + 6, receiver);
     put_tag(out, next, tag)
 }
@@ -315,7 +296,7 @@ fn put_verdict(out: &mut [u8], at: usize, word: u64, receiver: u64, tag: u64) ->
 // The fields of a step's line from the verdict on.
 fn put_outcome(out: &mut [u8], at: usize, outcome: Outcome) -> usize
     requires { ⌜ at + outcomeLimit ≤ length (now out) ⌝ }
-    ensures { λ r. ⌜ Appended (line (verdictOf outcome) (valuesOf outcome)) (now (out .entry)) (now (out .exit)) at r ⌝ }
+    ensures { λ r. ⌜ Wrote (line (verdictOf outcome) (valuesOf outcome)) (now (out .entry)) (now (out .exit)) at r ⌝ }
 {
     match outcome {
         Outcome::Quiet { receiver, tag } => put_verdict(out, at, QUIET, receiver, tag),
@@ -327,7 +308,7 @@ fn put_outcome(out: &mut [u8], at: usize, outcome: Outcome) -> usize
 // The first line, which names the fields.
 pub fn put_heading(out: &mut [u8], at: usize) -> usize
     requires { ⌜ at + lineLimit ≤ length (now out) ⌝ }
-    ensures { λ r. ⌜ Appended heading (now (out .entry)) (now (out .exit)) at r ⌝ }
+    ensures { λ r. ⌜ Wrote heading (now (out .entry)) (now (out .exit)) at r ⌝ }
 {
     put_text(out, at, b"step op p o verdict at tag\n")
 }
@@ -343,7 +324,7 @@ pub fn put_step(
     outcome: Outcome,
 ) -> usize
     requires { ⌜ at + lineLimit ≤ length (now out) ⌝ }
-    ensures { λ r. ⌜ Appended (stepLine step code p o outcome) (now (out .entry)) (now (out .exit)) at r ⌝ }
+    ensures { λ r. ⌜ Wrote (stepLine step code p o outcome) (now (out .entry)) (now (out .exit)) at r ⌝ }
 {
     let next = put_access(out, at, step, code, p, o);
     put_outcome(out, next, outcome)
@@ -352,7 +333,7 @@ pub fn put_step(
 // The line of a short last record.
 pub fn put_short(out: &mut [u8], at: usize, step: u64) -> usize
     requires { ⌜ at + lineLimit ≤ length (now out) ⌝ }
-    ensures { λ r. ⌜ Appended (shortLine step) (now (out .entry)) (now (out .exit)) at r ⌝ }
+    ensures { λ r. ⌜ Wrote (shortLine step) (now (out .entry)) (now (out .exit)) at r ⌝ }
 {
     let next = put_number(out, at, step, SPACE);
     put_text(out, next, b"other 0 0 refused 7\n")
@@ -361,7 +342,7 @@ pub fn put_short(out: &mut [u8], at: usize, step: u64) -> usize
 // The last line.
 pub fn put_total(out: &mut [u8], at: usize, records: u64, alerts: u64, refused: u64) -> usize
     requires { ⌜ at + lineLimit ≤ length (now out) ⌝ }
-    ensures { λ r. ⌜ Appended (totalLine records alerts refused) (now (out .entry)) (now (out .exit)) at r ⌝ }
+    ensures { λ r. ⌜ Wrote (totalLine records alerts refused) (now (out .entry)) (now (out .exit)) at r ⌝ }
 {
     let second = put_named(out, at, b"total ", records, SPACE);
     let third = put_named(out, second, b"alerts ", alerts, SPACE);
@@ -371,7 +352,7 @@ pub fn put_total(out: &mut [u8], at: usize, records: u64, alerts: u64, refused: 
 // The only line where the policy is refused.
 pub fn put_policy_refused(out: &mut [u8], at: usize, number: u64) -> usize
     requires { ⌜ at + lineLimit ≤ length (now out) ⌝ }
-    ensures { λ r. ⌜ Appended (policyLine number) (now (out .entry)) (now (out .exit)) at r ⌝ }
+    ensures { λ r. ⌜ Wrote (policyLine number) (now (out .entry)) (now (out .exit)) at r ⌝ }
 {
     put_named(out, at, b"policy refused ", number, NEWLINE)
 }

@@ -5,7 +5,8 @@ ghost use Prim.Native.Nat.{_+_, _≤_};
 ghost use lib.ListN.{length};
 ghost use Rattle.io.specs.Counts.{Counts};
 ghost use Rattle.monitor.specs.Records.{recordSize};
-ghost use Rattle.listing.specs.Buffer.{Appended, lineLimit};
+ghost use Rattle.fields.specs.Writing.{Wrote};
+ghost use Rattle.listing.specs.Buffer.{lineLimit};
 ghost use Rattle.watch.specs.Steps.{outcomeOf, recordLine, bufferSize, more, counted};
 use libc::STDOUT_FILENO;
 use listing::LINE_LIMIT;
@@ -66,7 +67,7 @@ fn outcome(answer: Answer) -> Outcome
 // The line of a whole record.
 fn put_record(out: &mut [u8], at: usize, step: u64, bytes: &[u8], answer: Answer) -> usize
     requires { ⌜ (at + lineLimit ≤ length (now out)) × (length (now bytes) ≡ recordSize) ⌝ }
-    ensures { λ r. ⌜ Appended (recordLine step (now (bytes .entry)) answer) (now (out .entry)) (now (out .exit)) at r ⌝ }
+    ensures { λ r. ⌜ Wrote (recordLine step (now (bytes .entry)) answer) (now (out .entry)) (now (out .exit)) at r ⌝ }
 {
     let code = fields::read8(bytes, 0);
     let p = fields::read16(bytes, 2);

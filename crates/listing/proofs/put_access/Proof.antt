@@ -3,7 +3,7 @@ use mathlib.Core.List.{[], _∷_}
 use lib.ListN.{length-append}
 use Rattle.listing.specs.Text.{decimal}
 use Rattle.listing.specs.Lines.{space, wordOf}
-use Rattle.listing.proofs.BufferLaws.{written-join, written-as}
+use Rattle.listing.proofs.BufferLaws.{spare-join, spare-as}
 use Rattle.listing.proofs.LineLaws.{access-text, number-length, word-length}
 use borrow.Author.Needs.{needs}
 use Rattle.listing.proofs.put_access.Statement.{statement}
@@ -31,10 +31,10 @@ same-length c = search needs
 returns : tie.Need-returns
 returns c =
     let a = c .before .before .before .before .before .before .before .before .before .before .before .before .before .before .before .before .before .args in
-    written-as
+    spare-as
     (access-text (decimal (a .step)) (wordOf (a .code)) (decimal (a .p)) (decimal (a .o)))
-    (written-join 2 (omega arith)
-    (written-join 2 (omega (arith, length-append (decimal (a .p)) (space ∷ []))) (written-join 3 (omega arith) (c .before .before .before .before .before .before .before .before .before .before .before .before .before .before .put-step-number .ensures) (c .before .before .before .before .before .before .before .before .before .before .put-word .ensures)) (c .before .before .before .before .before .before .put-container .ensures))
+    (spare-join 2 (omega arith)
+    (spare-join 2 (omega (arith, length-append (decimal (a .p)) (space ∷ []))) (spare-join 3 (omega arith) (c .before .before .before .before .before .before .before .before .before .before .before .before .before .before .put-step-number .ensures) (c .before .before .before .before .before .before .before .before .before .before .put-word .ensures)) (c .before .before .before .before .before .before .put-container .ensures))
     (c .before .before .put-container2 .ensures))
 
 pub put-access-spec : {M : Type 1} → statement M

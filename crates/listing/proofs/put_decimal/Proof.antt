@@ -1,7 +1,7 @@
 use Prim.Native.Nat.{_≤_}
 use native.Mathlib.Omega.{arith}
 use lib.ListN.{length}
-use Rattle.listing.proofs.BufferLaws.{appended-written, written-more}
+use Rattle.listing.proofs.BufferLaws.{wrote-spare, spare-more}
 use borrow.Author.Needs.{needs}
 use Rattle.listing.proofs.put_decimal.Statement.{statement}
 use Rattle.listing.proofs.put_decimal.Tie as tie
@@ -22,7 +22,7 @@ same-length-2 : tie.Need-same-length-2
 same-length-2 c = search needs
 
 returns-2 : tie.Need-returns-2
-returns-2 c = written-more 3 (omega arith) (c .before .before .put-thousands .ensures)
+returns-2 c = spare-more 3 (omega arith) (c .before .before .put-thousands .ensures)
 
 put-millions-requires : tie.Need-put-millions-requires
 put-millions-requires c κs = search needs
@@ -31,7 +31,7 @@ same-length-3 : tie.Need-same-length-3
 same-length-3 c = search needs
 
 returns-3 : tie.Need-returns-3
-returns-3 c = written-more 3 (omega arith) (c .before .before .put-millions .ensures)
+returns-3 c = spare-more 3 (omega arith) (c .before .before .put-millions .ensures)
 
 put-long-requires : tie.Need-put-long-requires
 put-long-requires c κs = search needs
@@ -43,7 +43,7 @@ returns-4 : tie.Need-returns-4
 returns-4 c =
     let a = c .before .before .before .before .before .before .before .before .args in
     let h : a .at ≤ length (a .out .now) = omega arith in
-    appended-written 3 h (c .before .before .put-long .ensures)
+    wrote-spare 3 h (c .before .before .put-long .ensures)
 
 pub put-decimal-spec : {M : Type 1} → statement M
 put-decimal-spec =

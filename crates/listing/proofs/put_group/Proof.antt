@@ -2,9 +2,11 @@ use Prim.Native.Nat.{ℕ, _+_, _≤_}
 use native.Mathlib.Omega.{arith}
 use mathlib.Core.Path.{_≡_, ap, _∙_}
 use lib.ListN.{length, take}
-use Rattle.listing.specs.Text.{digits, packed}
-use Rattle.listing.proofs.TextLaws.{digits-length, packed-length, packed-take, group-digits}
-use Rattle.listing.proofs.BufferLaws.{written-front}
+use Rattle.listing.specs.Text.{digits}
+use Rattle.fields.specs.Bytes.{bytesOf}
+use Rattle.listing.proofs.TextLaws.{digits-length, group-digits}
+use Rattle.fields.proofs.ByteLaws.{bytes-length, bytes-take}
+use Rattle.listing.proofs.BufferLaws.{spare-front}
 use borrow.Author.Needs.{needs}
 use Rattle.listing.proofs.put_group.Statement.{statement}
 use Rattle.listing.proofs.put_group.Tie as tie
@@ -12,8 +14,8 @@ use Rattle.listing.proofs.put_group.Tie as tie
 three-digits-requires : tie.Need-three-digits-requires
 three-digits-requires c κs = search needs
 
-put-four-requires : tie.Need-put-four-requires
-put-four-requires c κs = search needs
+put32-requires : tie.Need-put32-requires
+put32-requires c κs = search needs
 
 add-result : tie.Need-add-result
 add-result c = search needs
@@ -24,14 +26,14 @@ same-length c = search needs
 returns : tie.Need-returns
 returns c =
     let a = c .before .before .before .before .before .before .args in
-    let p = c .before .before .put-four in
+    let p = c .before .before .put32 in
     let r : ℕ = c .before .before .before .three-digits .result in
     let h : a .at ≤ length (a .out .now) = omega arith in
     let l : length (digits 10 3 (a .n)) ≡ 3 = digits-length 10 3 (a .n) in
-    let e : take (length (digits 10 3 (a .n))) (packed 4 r) ≡ digits 10 3 (a .n) =
-    ap (λ (k : ℕ). take k (packed 4 r)) l ∙ packed-take 3 1 r ∙ c .before .before .before .three-digits .ensures ∙ group-digits (a .n) in
-    written-front (digits 10 3 (a .n)) (packed 4 r) (a .out .now) (p .last .0) (a .at) (p .result) 1 (a .at + 3) h e (omega (arith, packed-length 4 r)) (p .ensures) (omega arith)
+    let e : take (length (digits 10 3 (a .n))) (bytesOf 4 r) ≡ digits 10 3 (a .n) =
+    ap (λ (k : ℕ). take k (bytesOf 4 r)) l ∙ bytes-take 3 1 r ∙ c .before .before .before .three-digits .ensures ∙ group-digits (a .n) in
+    spare-front (digits 10 3 (a .n)) (bytesOf 4 r) (a .out .now) (p .last .0) (a .at) (p .result) 1 (a .at + 3) h e (omega (arith, bytes-length 4 r)) (p .ensures) (omega arith)
 
 pub put-group-spec : {M : Type 1} → statement M
 put-group-spec =
-    tie.close (tie.spec three-digits-requires put-four-requires add-result same-length returns)
+    tie.close (tie.spec three-digits-requires put32-requires add-result same-length returns)

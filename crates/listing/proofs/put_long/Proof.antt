@@ -4,7 +4,7 @@ use mathlib.Core.Path.{_≡_, sym, ap, _∙_}
 use lib.ListN.{length}
 use Rattle.listing.specs.Text.{digits}
 use Rattle.listing.proofs.TextLaws.{digit-low, decimal-length, decimal-digits}
-use Rattle.listing.proofs.BufferLaws.{appended-as}
+use Rattle.fields.proofs.WritingLaws.{wrote-as}
 use Rattle.listing.proofs.Spelling.{Spelling, spelling-start, spelling-next, spelling-end}
 use borrow.Author.Needs.{needs}
 use Rattle.listing.proofs.put_long.Statement.{statement}
@@ -60,7 +60,7 @@ returns c =
     let l = c .before .loop in
     let n = c .before .before .before .before .args .n in
     let e : l .i ≡ 0 = omega arith in
-    appended-as (ap (λ (k : ℕ). digits 10 k n) (c .before .before .decimal-places .ensures) ∙ decimal-digits n) (spelling-end (l .inv) e)
+    wrote-as (ap (λ (k : ℕ). digits 10 k n) (c .before .before .decimal-places .ensures) ∙ decimal-digits n) (spelling-end (l .inv) e)
 
 pub put-long-spec : {M : Type 1} → statement M
 put-long-spec =

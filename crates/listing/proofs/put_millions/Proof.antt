@@ -2,7 +2,7 @@ use Prim.Native.Nat.{_/_, _^_, _≤_, _<_}
 use native.Mathlib.Omega.{arith}
 use Rattle.listing.specs.Text.{decimalLimit}
 use Rattle.listing.proofs.TextLaws.{digits-length, decimal-few, decimal-thousands}
-use Rattle.listing.proofs.BufferLaws.{written-join, written-as}
+use Rattle.listing.proofs.BufferLaws.{spare-join, spare-as}
 use borrow.Author.Needs.{needs}
 use Rattle.listing.proofs.put_millions.Statement.{statement}
 use Rattle.listing.proofs.put_millions.Tie as tie
@@ -24,9 +24,9 @@ returns c =
     let a = c .before .before .before .before .before .before .before .before .before .args in
     let l : 1000 ≤ a .n = omega arith in
     let b : a .n < 10 ^ decimalLimit = omega arith in
-    written-as
+    spare-as
     (decimal-thousands (a .n) l b)
-    (written-join 1 (omega (arith, digits-length 10 3 (a .n))) (c .before .before .before .before .before .before .put-thousands .ensures) (c .before .before .put-group .ensures))
+    (spare-join 1 (omega (arith, digits-length 10 3 (a .n))) (c .before .before .before .before .before .before .put-thousands .ensures) (c .before .before .put-group .ensures))
 
 pub put-millions-spec : {M : Type 1} → statement M
 put-millions-spec =

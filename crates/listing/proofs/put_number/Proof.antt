@@ -2,7 +2,7 @@ use Prim.Native.Nat.{_≤_, _<_}
 use native.Mathlib.Omega.{arith}
 use lib.ListN.{length}
 use Rattle.listing.proofs.TextLaws.{decimal-length}
-use Rattle.listing.proofs.BufferLaws.{appended-join, appended-byte}
+use Rattle.fields.proofs.WritingLaws.{wrote-join, wrote-byte}
 use borrow.Author.Needs.{needs}
 use Rattle.listing.proofs.put_number.Statement.{statement}
 use Rattle.listing.proofs.put_number.Tie as tie
@@ -25,7 +25,7 @@ returns c =
     let p = c .before .before .put-long in
     let h : a .at ≤ length (a .out .now) = omega arith in
     let l : p .result < length (p .last .0) = omega (arith, decimal-length (a .n)) in
-    appended-join h (p .ensures) (appended-byte (a .end) (p .result) (p .last .0) l)
+    wrote-join h (p .ensures) (wrote-byte (a .end) (p .result) (p .last .0) l)
 
 pub put-number-spec : {M : Type 1} → statement M
 put-number-spec =

@@ -1,8 +1,9 @@
 use mathlib.Core.Path.{sym, ap}
 use Rattle.listing.specs.declared.Outcome.{Outcome}
-use Rattle.listing.specs.Text.{ascii, packed}
+use Rattle.listing.specs.Text.{ascii}
+use Rattle.fields.specs.Bytes.{bytesOf}
 use Rattle.listing.specs.Lines.{line, verdictOf, valuesOf}
-use Rattle.listing.proofs.BufferLaws.{appended-as}
+use Rattle.fields.proofs.WritingLaws.{wrote-as}
 use borrow.Author.Needs.{needs}
 use Rattle.listing.proofs.put_outcome.Statement.{statement}
 use Rattle.listing.proofs.put_outcome.Tie as tie
@@ -32,9 +33,9 @@ same-length : tie.Need-same-length
 same-length c = search needs
 
 returns : tie.Need-returns
-unfolding line verdictOf valuesOf ascii packed
+unfolding line verdictOf valuesOf ascii bytesOf
 returns c =
-    appended-as
+    wrote-as
     (ap (λ (x : Outcome). line (verdictOf x) (valuesOf x)) (sym (c .before .before .before .before .before .outcome .given .1)))
     (c .before .before .put-verdict .ensures)
 
@@ -42,9 +43,9 @@ same-length-2 : tie.Need-same-length-2
 same-length-2 c = search needs
 
 returns-2 : tie.Need-returns-2
-unfolding line verdictOf valuesOf ascii packed
+unfolding line verdictOf valuesOf ascii bytesOf
 returns-2 c =
-    appended-as
+    wrote-as
     (ap (λ (x : Outcome). line (verdictOf x) (valuesOf x)) (sym (c .before .before .before .before .before .outcome2 .given .1)))
     (c .before .before .put-verdict2 .ensures)
 
@@ -54,7 +55,7 @@ same-length-3 c = search needs
 returns-3 : tie.Need-returns-3
 unfolding line verdictOf valuesOf ascii
 returns-3 c =
-    appended-as
+    wrote-as
     (ap (λ (x : Outcome). line (verdictOf x) (valuesOf x)) (sym (c .before .before .before .before .before .before .outcome3 .given .1)))
     (c .before .before .put-named .ensures)
 

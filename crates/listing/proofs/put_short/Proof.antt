@@ -3,7 +3,7 @@ use native.Mathlib.Omega.{arith}
 use lib.ListN.{length}
 use Rattle.listing.specs.Text.{ascii}
 use Rattle.listing.specs.Lines.{space}
-use Rattle.listing.proofs.BufferLaws.{appended-join, appended-as}
+use Rattle.fields.proofs.WritingLaws.{wrote-join, wrote-as}
 use Rattle.listing.proofs.LineLaws.{short-text, number-length}
 use borrow.Author.Needs.{needs}
 use Rattle.listing.proofs.put_short.Statement.{statement}
@@ -26,7 +26,7 @@ unfolding ascii
 returns c =
     let a = c .before .before .before .before .before .before .before .before .before .before .args in
     let h : a .at ≤ length (a .out .now) = omega arith in
-    appended-as (short-text (a .step)) (appended-join h (c .before .before .before .before .before .before .before .put-number .ensures) (c .before .before .put-text .ensures))
+    wrote-as (short-text (a .step)) (wrote-join h (c .before .before .before .before .before .before .before .put-number .ensures) (c .before .before .put-text .ensures))
 
 pub put-short-spec : {M : Type 1} → statement M
 put-short-spec =

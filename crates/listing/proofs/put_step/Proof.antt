@@ -1,7 +1,7 @@
 use Prim.Native.Nat.{_≤_}
 use native.Mathlib.Omega.{arith}
 use lib.ListN.{length}
-use Rattle.listing.proofs.BufferLaws.{appended-written, written-appended, written-join, written-as}
+use Rattle.listing.proofs.BufferLaws.{wrote-spare, spare-none, spare-join, spare-as}
 use Rattle.listing.proofs.LineLaws.{step-text, access-length, outcome-lengths}
 use borrow.Author.Needs.{needs}
 use Rattle.listing.proofs.put_step.Statement.{statement}
@@ -23,10 +23,10 @@ returns c =
     let a = c .before .before .before .before .before .before .before .before .before .args in
     let p = c .before .before .before .before .before .before .put-access in
     let h : p .result ≤ length (p .last .0) = omega (arith, access-length (a .step) (a .code) (a .p) (a .o)) in
-    written-appended
-    (written-as
+    spare-none
+    (spare-as
     (step-text (a .step) (a .code) (a .p) (a .o) (a .outcome))
-    (written-join 0 (omega (arith, outcome-lengths (a .outcome))) (p .ensures) (appended-written 0 h (c .before .before .put-outcome .ensures))))
+    (spare-join 0 (omega (arith, outcome-lengths (a .outcome))) (p .ensures) (wrote-spare 0 h (c .before .before .put-outcome .ensures))))
 
 pub put-step-spec : {M : Type 1} → statement M
 put-step-spec = tie.close (tie.spec put-access-requires put-outcome-requires same-length returns)

@@ -3,7 +3,8 @@ use native.Mathlib.Omega.{arith}
 use lib.ListN.{length}
 use Rattle.listing.specs.Lines.{space}
 use Rattle.listing.proofs.TextLaws.{decimal-length}
-use Rattle.listing.proofs.BufferLaws.{appended-byte, appended-written, written-join}
+use Rattle.fields.proofs.WritingLaws.{wrote-byte}
+use Rattle.listing.proofs.BufferLaws.{wrote-spare, spare-join}
 use borrow.Author.Needs.{needs}
 use Rattle.listing.proofs.put_step_number.Statement.{statement}
 use Rattle.listing.proofs.put_step_number.Tie as tie
@@ -26,7 +27,7 @@ returns c =
     let p = c .before .before .put-decimal in
     let h : p .result ≤ length (p .last .0) = omega (arith, decimal-length (a .n)) in
     let l : p .result < length (p .last .0) = omega (arith, decimal-length (a .n)) in
-    written-join 2 (omega arith) (p .ensures) (appended-written 2 h (appended-byte space (p .result) (p .last .0) l))
+    spare-join 2 (omega arith) (p .ensures) (wrote-spare 2 h (wrote-byte space (p .result) (p .last .0) l))
 
 pub put-step-number-spec : {M : Type 1} → statement M
 put-step-number-spec =

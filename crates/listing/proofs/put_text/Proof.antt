@@ -4,7 +4,7 @@ use native.Mathlib.Omega.{arith}
 use mathlib.Core.Path.{_≡_, refl}
 use lib.ListN.{length, length-set}
 use lib.Seq.{paste, paste-zero, paste-suc}
-use Rattle.listing.proofs.BufferLaws.{appended-paste}
+use Rattle.fields.proofs.WritingLaws.{wrote-paste}
 use borrow.Author.Needs.{needs}
 use Rattle.listing.proofs.put_text.Statement.{statement}
 use Rattle.listing.proofs.put_text.Tie as tie
@@ -53,7 +53,7 @@ returns c =
     let a = c .before .before .args in
     let l = c .before .loop in
     let e : l .i ≡ length (a .text .now) = omega arith in
-    appended-paste (a .text .now) (a .out .now) (l .out) (a .at) (l .i) e (l .inv .2)
+    wrote-paste (a .text .now) (a .out .now) (l .out) (a .at) (l .i) e (l .inv .2)
 
 pub put-text-spec : {M : Type 1} → statement M
 put-text-spec =

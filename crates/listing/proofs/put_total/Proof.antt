@@ -3,7 +3,7 @@ use native.Mathlib.Omega.{arith}
 use lib.ListN.{length}
 use Rattle.listing.specs.Text.{ascii}
 use Rattle.listing.specs.Lines.{space}
-use Rattle.listing.proofs.BufferLaws.{appended-join, appended-as}
+use Rattle.fields.proofs.WritingLaws.{wrote-join, wrote-as}
 use Rattle.listing.proofs.LineLaws.{total-text, number-length}
 use borrow.Author.Needs.{needs}
 use Rattle.listing.proofs.put_total.Statement.{statement}
@@ -37,9 +37,9 @@ unfolding ascii
 returns c =
     let a = c .before .before .before .before .before .before .before .before .before .before .before .before .before .before .before .before .args in
     let h : a .at ≤ length (a .out .now) = omega arith in
-    appended-as
+    wrote-as
     (total-text (a .records) (a .alerts) (a .refused))
-    (appended-join h (appended-join h (c .before .before .before .before .before .before .before .before .before .before .before .before .put-named .ensures) (c .before .before .before .before .before .before .before .put-named2 .ensures)) (c .before .before .put-named3 .ensures))
+    (wrote-join h (wrote-join h (c .before .before .before .before .before .before .before .before .before .before .before .before .put-named .ensures) (c .before .before .before .before .before .before .before .put-named2 .ensures)) (c .before .before .put-named3 .ensures))
 
 pub put-total-spec : {M : Type 1} → statement M
 put-total-spec =

@@ -1,39 +1,40 @@
-use Rattle.listing.specs.Text.{ascii, packed}
+use Rattle.listing.specs.Text.{ascii}
+use Rattle.fields.specs.Bytes.{bytesOf}
 use Rattle.listing.specs.Lines.{wordOf}
 use Rattle.listing.proofs.LineLaws.{other-word}
 use Rattle.listing.proofs.word.Statement.{statement}
 use Rattle.listing.proofs.word.Tie as tie
 
 returns : tie.Need-returns
-unfolding wordOf ascii packed
+unfolding wordOf ascii bytesOf
 returns c = rw (c .match .keys1)
 
 returns-2 : tie.Need-returns-2
-unfolding wordOf ascii packed
+unfolding wordOf ascii bytesOf
 returns-2 c = rw (c .match .keys2)
 
 returns-3 : tie.Need-returns-3
-unfolding wordOf ascii packed
+unfolding wordOf ascii bytesOf
 returns-3 c = rw (c .match .keys3)
 
 returns-4 : tie.Need-returns-4
-unfolding wordOf ascii packed
+unfolding wordOf ascii bytesOf
 returns-4 c = rw (c .match .keys4)
 
 returns-5 : tie.Need-returns-5
-unfolding wordOf ascii packed
+unfolding wordOf ascii bytesOf
 returns-5 c = rw (c .match .keys5)
 
 returns-6 : tie.Need-returns-6
-unfolding wordOf ascii packed
+unfolding wordOf ascii bytesOf
 returns-6 c = rw (c .match .keys6)
 
 returns-7 : tie.Need-returns-7
-unfolding wordOf ascii packed
+unfolding wordOf ascii bytesOf
 returns-7 c = rw (c .match .keys7)
 
 returns-8 : tie.Need-returns-8
-unfolding ascii packed
+unfolding ascii bytesOf
 returns-8 c =
     let r = c .match .rest in
     let e = other-word (c .before .args .code) (r .0 .0 .0 .0 .0 .0 .1) (r .0 .0 .0 .0 .0 .1) (r .0 .0 .0 .0 .1) (r .0 .0 .0 .1) (r .0 .0 .1) (r .0 .1) (r .1) in
