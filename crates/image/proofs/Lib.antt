@@ -8,7 +8,4 @@ pub mod Means
 pub mod Scanning
 pub mod Places
 pub mod RuleReading
-pub mod WordLaws
-pub mod RuleTests
-pub mod Exchange
 pub mod SpanWords

@@ -1,8 +1,8 @@
 -- Rules numbered by first use.
 use Prim.Native.Nat.{ℕ, suc, _+_, _≤_, _<_}
-use mathlib.Core.Path.{_≡_, refl, sym, ap, _∙_}
+use mathlib.Core.Path.{_≡_, refl, sym, ap, ap₂, _∙_}
 use mathlib.Core.Bool.{Bool, true, false, cond, _||_}
-use mathlib.Core.List.{List, [], _∷_, _++_}
+use mathlib.Core.List.{List, [], _∷_, _++_, map}
 use mathlib.Core.Logic.{_⊎_, ⊎-elim}
 use native.Mathlib.Omega.{arith}
 use lib.Dec.{eqb, ltb}
@@ -14,6 +14,8 @@ use Rattle.lists.proofs.Same.{same-refl, same-eq}
 use Rattle.image.specs.Limits.{unrestrictedNumber}
 use Rattle.image.specs.Policy.{unrestrictedRule, ruleAt, named}
 use Rattle.image.specs.Normal.{known, noted, numbered, position, numberOf}
+use Rattle.rule_words.specs.Words.{wordsOf}
+use Rattle.rule_words.proofs.WordLaws.{words-same}
 use Rattle.lists.proofs.Every.{every-0, every-1, every-nil, every-cons, every-append}
 
 -- r needs no number, or has one
@@ -175,3 +177,9 @@ module _ (t : List (List ℕ)) (few : length t ≤ 256) (r : List ℕ) (h : sett
       by : (b : Bool) → (b || known r t) ≡ true → (ltb (cond b unrestrictedNumber (position r t)) (length t) || eqb (cond b unrestrictedNumber (position r t)) unrestrictedNumber) ≡ true
       by true k = or-1 (ltb unrestrictedNumber (length t)) true refl
       by false k = or-0 (ltb (position r t) (length t)) (eqb (position r t) unrestrictedNumber) (lt-ltb (position r t) (length t) (position-lt r t k))
+
+-- the place of a rule is the place of its words among their words
+pub position-words : (r : List ℕ) (t : List (List ℕ)) → position (wordsOf r) (map wordsOf t) ≡ position r t
+unfolding position
+position-words r [] = refl
+position-words r (s ∷ t) = ap₂ (λ (b : Bool) (n : ℕ). cond b 0 (suc n)) (words-same r s) (position-words r t)

@@ -3,5 +3,3 @@ pub mod Limits
 pub mod Policy
 pub mod Image
 pub mod Normal
-pub mod Words
-pub mod RuleTest

@@ -34,6 +34,10 @@ isProcess k = eqb k processKind
 unfoldable pub isStore : ℕ → Bool
 isStore k = isFile k || isVolatile k
 
+-- "0 free, else as in the image": a container in use
+unfoldable pub usedKind : ℕ → Bool
+usedKind k = isStore k || isProcess k
+
 -- ---- "atom (8 bits: 0 to 31, 255 none)"; "Rule number 65535 is the unrestricted rule"
 
 abbrev pub noAtom : ℕ

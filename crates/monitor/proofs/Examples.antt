@@ -8,13 +8,13 @@ use Rattle.rules.specs.Sets.{holds, dataOf, runningOf}
 use Rattle.rules.specs.Rules.{covers, distinct, heldIn, unheldIn, insert, sort, normal, intersections, meet, unrestricted}
 use Rattle.lists.specs.Lists.{elem, sameList}
 use Rattle.rules.specs.Answers.{padded}
-use Rattle.image.specs.Limits.{isFree, isFile, isVolatile, isProcess, isStore, fileKind, processKind, noAtom, unrestrictedNumber}
+use Rattle.image.specs.Limits.{isFree, isFile, isVolatile, isProcess, isStore, fileKind, processKind, noAtom, unrestrictedNumber, usedKind}
 use Rattle.fields.specs.Bytes.{numberIn, bytesOf, field}
 use Rattle.image.specs.Policy.{Container, Policy, unrestrictedRule, ruleAt}
 use Rattle.image.specs.Normal.{normalAt, placeOf, meaning}
 use Rattle.chains.proofs.KindLaws.{process-used}
-use Rattle.session.specs.Rows.{Row, allZero, keptWell, rowWords, freeWords, permitWords, runWords, rowOf, usedKind, containerRowGood, userWords, isDeclared, userRuleWords, userRuleOf, userRowGood, containerRow, userRow, putRow}
-use Rattle.image.specs.Words.{ruleOf, wordsOf, isNormal}
+use Rattle.session.specs.Rows.{Row, rowWords, freeWords, permitWords, runWords, rowOf, containerRowGood, userWords, isDeclared, userRuleWords, userRuleOf, userRowGood, containerRow, userRow, putRow}
+use Rattle.rule_words.specs.Words.{allZero, keptWell, ruleOf, wordsOf, isNormal}
 use Rattle.session.specs.Session.{startTag, startRow, placeWords, filled, sessionOf, startOf}
 use Rattle.chains.specs.Demand.{quiet, alert, refused}
 use Rattle.chains.specs.Table.{readRow, writeRow, appendRow, execRow, forkRow, fits, alerts, verdict}

@@ -11,9 +11,9 @@ use Rattle.rules.specs.Answers.{mixtureLimit}
 use Rattle.lists.proofs.Bools.{and-0, and-1}
 use Rattle.rules.proofs.RuleLaws.{normal-normal}
 use Rattle.rules.proofs.MeetAll.{normal-one}
-use Rattle.image.specs.Limits.{isFree, isFile, isVolatile, isStore}
+use Rattle.image.specs.Limits.{isFree, isFile, isVolatile, isStore, usedKind}
 use Rattle.image.specs.Policy.{unrestrictedRule}
-use Rattle.session.specs.Rows.{Row, rowOf, usedKind, containerRowGood, InUse, userRowGood, containerRow, userRow}
+use Rattle.session.specs.Rows.{Row, rowOf, containerRowGood, InUse, userRowGood, containerRow, userRow}
 use Rattle.session.proofs.RowLaws.{good-used, good-declared}
 use Rattle.chains.specs.Table.{readRow, writeRow, appendRow, execRow, forkRow, newFileRow, newVolatileRow, fits}
 use Rattle.chains.proofs.KindLaws.{process-used, file-used, store-used}

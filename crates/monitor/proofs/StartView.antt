@@ -12,7 +12,7 @@ use Rattle.image.specs.Limits.{containerLimit, userLimit}
 use Rattle.image.specs.Policy.{Container, Policy, Sound}
 use Rattle.image.specs.Normal.{normalAt, placeOf, meaning}
 use Rattle.session.specs.Rows.{rowOf, permitWords, runWords, freeWords, isDeclared, userRuleOf, userWords, undeclaredWords}
-use Rattle.image.specs.Words.{ruleOf}
+use Rattle.rule_words.specs.Words.{ruleOf}
 use Rattle.session.specs.Session.{startOf}
 use Rattle.session.proofs.RowLaws.{user-words, user-declared, undeclared-not}
 use Rattle.session.proofs.StartLaws.{start-length, start-said, start-free, start-user, start-user-short, start-undeclared, start-rows-good, start-users-good}

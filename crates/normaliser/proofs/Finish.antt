@@ -19,12 +19,12 @@ use Rattle.lists.specs.Lists.{joined, every}
 use Rattle.image.specs.Policy.{Container, Policy, unrestrictedRule, ruleAt, ruleGood, Sound}
 use Rattle.image.specs.Image.{containersIn, usersIn, spanIn, ruleIn, spansIn, mixturesIn, rulesIn, spansGood, part, policyIn, lengthGood, pairsGood, rulesGood, checkOf}
 use Rattle.image.specs.Normal.{Meaning, normalAt, placeOf, meaning, numberOf, containerOf, writtenBy, policyOf, normalPolicy, containerBytes, spanBytes, spansOf, framed, encode, normalImage}
-use Rattle.image.specs.Words.{ruleOf, wordsOf}
+use Rattle.rule_words.specs.Words.{ruleOf, wordsOf}
 use Rattle.lists.proofs.Every.{every-nil, every-cons, every-left, every-right, every-map}
 use Rattle.image.proofs.Decode.{passes, sound}
 use Rattle.image.proofs.Encode.{encode-length, encode-short}
 use Rattle.image.proofs.Means.{meaning-encodable, policy-sound, normal-good, form-rule}
-use Rattle.image.proofs.WordLaws.{words-rule, words-nine}
+use Rattle.rule_words.proofs.WordLaws.{words-rule, words-nine}
 use Rattle.lists.proofs.Places.{map-at}
 use Rattle.fields.proofs.RecordLaws.{records-count}
 use Rattle.image.proofs.Places.{rule-at, rule-fits}

@@ -17,7 +17,7 @@ use Rattle.image.specs.Limits.{unrestrictedNumber}
 use Rattle.fields.specs.Bytes.{records}
 use Rattle.image.specs.Policy.{unrestrictedRule}
 use Rattle.image.specs.Normal.{position}
-use Rattle.image.specs.Words.{ruleOf}
+use Rattle.rule_words.specs.Words.{ruleOf}
 use Rattle.normaliser.specs.Tables.{wordsAt, formAt, classOf, Classified}
 use Rattle.normaliser.specs.Keys.{mixed, spread, keyOf, Keyed}
 use Rattle.normaliser.proofs.Finish.{zeros-at}

@@ -16,7 +16,7 @@ use Rattle.rules.specs.Rules.{unrestricted}
 use Rattle.fields.specs.Bytes.{records}
 use Rattle.image.specs.Policy.{unrestrictedRule}
 use Rattle.image.specs.Normal.{position}
-use Rattle.image.specs.Words.{ruleOf}
+use Rattle.rule_words.specs.Words.{ruleOf}
 use Rattle.fields.proofs.RecordLaws.{records-count}
 use Rattle.normaliser.specs.Tables.{wordsAt}
 use Rattle.normaliser.proofs.TableLaws.{words-at}

@@ -14,7 +14,7 @@ use Rattle.fields.specs.Bytes.{bytesOf}
 use Rattle.lists.specs.Lists.{joined, every}
 use Rattle.image.specs.Image.{Span}
 use Rattle.image.specs.Normal.{spanBytes, spansOf}
-use Rattle.image.specs.Words.{ruleOf}
+use Rattle.rule_words.specs.Words.{ruleOf}
 use Rattle.lists.proofs.Every.{every-getD, every-all, every-map}
 use Rattle.fields.proofs.ByteLaws.{bytes-length, joined-length}
 use Rattle.image.proofs.Encode.{spans-length}

@@ -16,11 +16,12 @@ use Rattle.lists.specs.Lists.{every}
 use Rattle.fields.specs.Bytes.{records}
 use Rattle.image.specs.Policy.{unrestrictedRule, ruleAt, named}
 use Rattle.image.specs.Normal.{normalAt, position, numberOf}
-use Rattle.image.specs.Words.{ruleOf, wordsOf}
+use Rattle.rule_words.specs.Words.{ruleOf, wordsOf}
 use Rattle.lists.proofs.Every.{every-0, every-1, every-getD, map-back}
 use Rattle.image.proofs.Means.{normal-unrestricted}
 use Rattle.fields.proofs.RecordLaws.{record-at, records-count}
-use Rattle.image.proofs.WordLaws.{words-rule, position-words}
+use Rattle.rule_words.proofs.WordLaws.{words-rule}
+use Rattle.image.proofs.Numbering.{position-words}
 use Rattle.normaliser.specs.Tables.{wordsAt, formAt, formsIn, wordsGood, classOf, Classified, classAt}
 use Rattle.normaliser.proofs.Ordering.{class-none, class-some, named-some}
 

@@ -14,7 +14,7 @@ use Rattle.image.specs.Policy.{Container, Policy, unrestrictedRule, named, Soun
 use Rattle.image.specs.Image.{containersIn, usersIn, rulesIn}
 use Rattle.image.specs.Normal.{position, containerBytes, spanBytes, spansOf}
 use Rattle.normaliser.specs.Normaliser.{written}
-use Rattle.image.specs.Words.{ruleWidth, ruleOf, wordsOf}
+use Rattle.rule_words.specs.Words.{ruleWidth, ruleOf, wordsOf}
 
 -- ---- the rules
 

@@ -11,7 +11,7 @@ ghost use Rattle.fields.specs.Bytes.{bytesOf, records};
 ghost use Rattle.image.specs.Policy.{unrestrictedRule, named, Sound};
 ghost use Rattle.image.specs.Image.{containersIn, usersIn, spansIn, rulesIn, spansGood};
 ghost use Rattle.image.specs.Normal.{position, containerBytes, spanBytes, framed, normalImage};
-ghost use Rattle.image.specs.Words.{ruleWidth, ruleOf, wordsOf};
+ghost use Rattle.rule_words.specs.Words.{ruleWidth, ruleOf, wordsOf};
 ghost use Rattle.normaliser.specs.Normaliser.{normalAnswer, normalEffect};
 ghost use Rattle.normaliser.specs.Keys.{mixed, keyLimit, keyOf, Keyed};
 ghost use Rattle.normaliser.specs.Tables.{wordsAt, formAt, formGood, classOf, Classified, classAt, classNamed, containerUses, placed, placedAll, Ordered, numberAt, found, policyAt, policyFrom, headerFields, Grown, containerBytesAt, userBytes, spanBytesAt, mixtureBytes, Writable, Written, Tabled};
@@ -92,13 +92,13 @@ fn first_same(forms: &[u64], k: usize) -> usize
     requires { ⌜ k < length (now forms) / ruleWidth ⌝ }
     ensures { λ r. ⌜ r ≡ position (wordsAt (now (forms .entry)) k) (records ruleWidth (now (forms .entry))) ⌝ }
 {
-    let a = k * image::RULE_WIDTH;
+    let a = k * rule_words::RULE_WIDTH;
     let mut j: usize = 0;
     while j < k {
-        let b = j * image::RULE_WIDTH;
+        let b = j * rule_words::RULE_WIDTH;
         if rules::same(
-            &forms[a..a + image::RULE_WIDTH],
-            &forms[b..b + image::RULE_WIDTH],
+            &forms[a..a + rule_words::RULE_WIDTH],
+            &forms[b..b + rule_words::RULE_WIDTH],
         ) {
             return j;
         }
@@ -147,21 +147,21 @@ fn class_of(forms: &[u64], classes: &[u64], keys: &mut [u64], k: usize) -> usize
     requires { ⌜ (k < length (now forms) / ruleWidth) × Classified (now forms) (now classes) k × Keyed (now forms) (now keys) k ⌝ }
     ensures { λ r. ⌜ (r ≡ classOf (now (forms .entry)) k) × Keyed (now (forms .entry)) (now (keys .exit)) (k + 1) ⌝ }
 {
-    let a = k * image::RULE_WIDTH;
-    let h = key(&forms[a..a + image::RULE_WIDTH], keys.len());
+    let a = k * rule_words::RULE_WIDTH;
+    let h = key(&forms[a..a + rule_words::RULE_WIDTH], keys.len());
     let j = keys[h] as usize;
     if j == 0 {
         keys[h] = (k + 1) as u64;
-        return class_by(&forms[a..a + image::RULE_WIDTH], k);
+        return class_by(&forms[a..a + rule_words::RULE_WIDTH], k);
     }
-    let b = (j - 1) * image::RULE_WIDTH;
+    let b = (j - 1) * rule_words::RULE_WIDTH;
     if rules::same(
-        &forms[a..a + image::RULE_WIDTH],
-        &forms[b..b + image::RULE_WIDTH],
+        &forms[a..a + rule_words::RULE_WIDTH],
+        &forms[b..b + rule_words::RULE_WIDTH],
     ) {
         return classes[j - 1] as usize;
     }
-    class_by(&forms[a..a + image::RULE_WIDTH], first_same(forms, k))
+    class_by(&forms[a..a + rule_words::RULE_WIDTH], first_same(forms, k))
 }
 
 // The class of each rule.
@@ -169,7 +169,7 @@ fn classify(forms: &[u64], classes: &mut [u64], keys: &mut [u64])
     requires { ⌜ (length (now forms) / ruleWidth ≤ length (now classes)) × Keyed (now forms) (now keys) 0 ⌝ }
     ensures { λ _. ⌜ Classified (now (forms .entry)) (now (classes .exit)) (length (now (forms .entry)) / ruleWidth) ⌝ }
 {
-    let n = forms.len() / image::RULE_WIDTH;
+    let n = forms.len() / rule_words::RULE_WIDTH;
     let mut k: usize = 0;
     while k < n {
         let v = class_of(forms, classes, keys, k);
@@ -313,7 +313,7 @@ fn write_spans(out: &mut [u8], forms: &[u64], order: &[u64]) -> usize
     let mut j: usize = 0;
     while j < order.len() {
         let at = j * image::RULE_SIZE;
-        let v = (order[j] as usize) * image::RULE_WIDTH;
+        let v = (order[j] as usize) * rule_words::RULE_WIDTH;
         let count = forms[v] as usize;
         put_span(&mut out[at..at + image::RULE_SIZE], first, count);
         first += count;
@@ -343,7 +343,7 @@ fn write_mixtures(out: &mut [u8], forms: &[u64], order: &[u64])
     let mut at: usize = 0;
     let mut j: usize = 0;
     while j < order.len() {
-        let v = (order[j] as usize) * image::RULE_WIDTH;
+        let v = (order[j] as usize) * rule_words::RULE_WIDTH;
         let count = forms[v] as usize;
         let end = at + count * image::MIXTURE_SIZE;
         write_rule(&mut out[at..end], &forms[v + 1..v + 1 + count]);
@@ -522,7 +522,7 @@ pub fn write_policy(containers: &[u8], users: &[u8], forms: &[u64], out: &mut [u
     requires { ⌜ Tabled (now containers) (now users) (now forms) × (outputBound ≤ length (now out)) ⌝ }
     ensures { λ r. ⌜ Written (normalImage (policyAt (now (containers .entry)) (now (users .entry)) (now (forms .entry)))) (now (out .entry)) (now (out .exit)) r ⌝ }
 {
-    if forms.len() / image::RULE_WIDTH <= FEW_RULES {
+    if forms.len() / rule_words::RULE_WIDTH <= FEW_RULES {
         write_few(containers, users, forms, out)
     } else {
         write_many(containers, users, forms, out)
@@ -539,8 +539,13 @@ fn fill_forms(forms: &mut [u64], rules: &[u8], mixtures: &[u8])
     let n = rules.len() / image::RULE_SIZE;
     let mut k: usize = 0;
     while k < n {
-        let at = k * image::RULE_WIDTH;
-        image::put_own_rule(&mut forms[at..at + image::RULE_WIDTH], rules, mixtures, k);
+        let at = k * rule_words::RULE_WIDTH;
+        image::put_own_rule(
+            &mut forms[at..at + rule_words::RULE_WIDTH],
+            rules,
+            mixtures,
+            k,
+        );
         k += 1;
     }
 }
@@ -557,7 +562,7 @@ fn rewrite_one(
     ensures { λ r. ⌜ Written (normalImage (policyFrom (now (containers .entry)) (now (users .entry)) (now (rules .entry)) (now (mixtures .entry)))) (now (out .entry)) (now (out .exit)) r ⌝ }
 {
     let mut forms = [0u64; 9];
-    let n = rules.len() / image::RULE_SIZE * image::RULE_WIDTH;
+    let n = rules.len() / image::RULE_SIZE * rule_words::RULE_WIDTH;
     fill_forms(&mut forms[0..n], rules, mixtures);
     write_one(containers, users, &forms[0..n], out)
 }
@@ -574,7 +579,7 @@ fn rewrite_few(
     ensures { λ r. ⌜ Written (normalImage (policyFrom (now (containers .entry)) (now (users .entry)) (now (rules .entry)) (now (mixtures .entry)))) (now (out .entry)) (now (out .exit)) r ⌝ }
 {
     let mut forms = [0u64; 144];
-    let n = rules.len() / image::RULE_SIZE * image::RULE_WIDTH;
+    let n = rules.len() / image::RULE_SIZE * rule_words::RULE_WIDTH;
     fill_forms(&mut forms[0..n], rules, mixtures);
     write_few(containers, users, &forms[0..n], out)
 }
@@ -591,7 +596,7 @@ fn rewrite_many(
     ensures { λ r. ⌜ Written (normalImage (policyFrom (now (containers .entry)) (now (users .entry)) (now (rules .entry)) (now (mixtures .entry)))) (now (out .entry)) (now (out .exit)) r ⌝ }
 {
     let mut forms = [0u64; 2304];
-    let n = rules.len() / image::RULE_SIZE * image::RULE_WIDTH;
+    let n = rules.len() / image::RULE_SIZE * rule_words::RULE_WIDTH;
     fill_forms(&mut forms[0..n], rules, mixtures);
     write_many(containers, users, &forms[0..n], out)
 }

@@ -8,9 +8,9 @@ use lib.ListN.{length, getD}
 use Rattle.rules.specs.Rules.{covers, meet}
 use Rattle.rules.specs.declared.Bounded.{Bounded}
 use Rattle.image.specs.Limits.{containerLimit, userLimit, isFree}
-use Rattle.image.specs.Words.{ruleWidth}
+use Rattle.rule_words.specs.Words.{ruleWidth, keptWell}
 use Rattle.session.specs.Limits.{sessionLength, kindAt}
-use Rattle.session.specs.Rows.{keptWell, Row, rowOf, rowWords, permitWords, containerRow, containerRowGood, putRow, userRow, userRowGood, isDeclared}
+use Rattle.session.specs.Rows.{Row, rowOf, rowWords, permitWords, containerRow, containerRowGood, putRow, userRow, userRowGood, isDeclared}
 use Rattle.chains.specs.Demand.{Answer, refused, quiet, alert}
 use Rattle.chains.specs.Table.{fits}
 use Rattle.operations.specs.declared.Request.{Request}

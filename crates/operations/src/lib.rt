@@ -4,8 +4,8 @@ ghost use Prim.Native.Nat.{_≤_, _<_};
 ghost use lib.ListN.{length, getD, take};
 ghost use Rattle.rules.specs.Rules.{meet};
 ghost use Rattle.rules.specs.Answers.{mixtureLimit, boundedOf};
-ghost use Rattle.image.specs.Limits.{isStore, containerLimit, processKind};
-ghost use Rattle.image.specs.Words.{ruleOf};
+ghost use Rattle.image.specs.Limits.{containerLimit, processKind};
+ghost use Rattle.rule_words.specs.Words.{ruleOf};
 ghost use Rattle.session.specs.Limits.{sessionLength, rowWidth};
 ghost use Rattle.session.specs.Rows.{rowOf, permitWords, containerRow, userRow, userRuleOf};
 ghost use Rattle.operations.specs.Codes.{readCode, writeCode, appendCode, execCode, forkCode, newFileCode, newVolatileCode, codeAt, objectFits};
@@ -13,8 +13,8 @@ ghost use Rattle.operations.specs.Answers.{answerOf};
 ghost use Rattle.operations.specs.Parts.{Ready, lateAnswer, lateEffect, sharedRun, absorbAnswer, absorbEffect, Kept, UsedAt, DeclaredAt, contentWords, newWords, coverAnswer};
 use image::FILE_KIND;
 use image::PROCESS_KIND;
-use image::RULE_WIDTH;
 use image::VOLATILE_KIND;
+use rule_words::RULE_WIDTH;
 use rules::Bounded;
 use session::PERMIT_AT;
 use session::ROW_WIDTH;
@@ -116,28 +116,18 @@ pub fn code_at(code: usize) -> Code
     CODES[code]
 }
 
-// A file or a volatile.
-fn is_store(kind: u64) -> bool
-    ensures { λ r. ⌜ r ≡ isStore kind ⌝ }
-{
-    if image::is_file(kind) {
-        return true;
-    }
-    image::is_volatile(kind)
-}
-
 // A container of the kind serves as the object.
 pub fn object_fits(need: u8, kind: u64) -> bool
     ensures { λ r. ⌜ r ≡ objectFits need kind ⌝ }
 {
     if need == NEEDS_STORE {
-        return is_store(kind);
+        return image::is_store(kind);
     }
     if need == NEEDS_FILE {
         return image::is_file(kind);
     }
     if need == NEEDS_FREE {
-        return kind == session::FREE_KIND;
+        return kind == image::FREE_KIND;
     }
     false
 }
@@ -196,8 +186,8 @@ fn meet_kept(a: &[u64], b: &[u64]) -> Bounded
     requires { ⌜ (Kept (now a)) × (Kept (now b)) ⌝ }
     ensures { λ r. ⌜ r ≡ boundedOf (meet (ruleOf (now (a .entry))) (ruleOf (now (b .entry)))) ⌝ }
 {
-    let r = session::rule_of(a);
-    let v = session::rule_of(b);
+    let r = rule_words::rule_of(a);
+    let v = rule_words::rule_of(b);
     if rules::refines(r, v) {
         return rule_copy(a);
     }
@@ -240,7 +230,7 @@ fn set_content(row: &mut [u64], tag: u64, run: Bounded)
     ensures { λ _. ⌜ now (row .exit) ≡ contentWords (now (row .entry)) tag run ⌝ }
 {
     row[TAG_AT] = tag;
-    image::put_rule(&mut row[RUN_AT..RUN_AT + RULE_WIDTH], run);
+    rule_words::put_rule(&mut row[RUN_AT..RUN_AT + RULE_WIDTH], run);
 }
 
 // Whether the row's permit rule covers its tag.
@@ -250,7 +240,7 @@ fn judged(row: &[u64], receiver: usize) -> Answer
 {
     let tag = row[TAG_AT];
     if rules::covers(
-        session::rule_of(&row[PERMIT_AT..PERMIT_AT + RULE_WIDTH]),
+        rule_words::rule_of(&row[PERMIT_AT..PERMIT_AT + RULE_WIDTH]),
         tag,
     ) {
         return Answer::Quiet(receiver, tag);

@@ -13,7 +13,7 @@ use borrow.Author.Tests.{eqb-true, leb-true}
 use borrow.Rule.Slice.PartMut.{putMid, same-len-mid}
 use Rattle.lists.proofs.Bools.{and-0, and-1}
 use Rattle.lists.specs.Lists.{every}
-use Rattle.image.proofs.SpanWords.{drop-zeros}
+use Rattle.rule_words.proofs.ZeroLaws.{drop-zeros}
 use Rattle.lists.proofs.Every.{every-0, every-1, every-imp, append-apart}
 use Rattle.session.specs.Session.{filled}
 

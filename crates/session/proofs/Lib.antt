@@ -1,6 +1,5 @@
 -- Theorems is the file to read: what is proved of the session, stated and cited. The others prove it.
-pub mod RuleWords
-pub mod TestLaws
+pub mod RowTests
 pub mod RowLaws
 pub mod RowCases
 pub mod PutLaws

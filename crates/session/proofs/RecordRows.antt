@@ -10,7 +10,7 @@ use lib.ListN.{length, getD, take, drop, replicate, length-map}
 use borrow.Author.Tests.{eq-eqb, le-leb, leb-true}
 use borrow.Rule.Slice.PartMut.{putMid}
 use Rattle.rules.specs.Answers.{dataWidth, mixtureLimit}
-use Rattle.image.specs.Words.{wordsOf}
+use Rattle.rule_words.specs.Words.{wordsOf}
 use Rattle.image.specs.Limits.{containerLimit, userLimit, noAtom, containerSize, userSize, ruleSize, mixtureSize}
 use Rattle.fields.specs.Bytes.{field, numberIn, records}
 use Rattle.lists.specs.Lists.{every}

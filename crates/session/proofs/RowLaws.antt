@@ -12,12 +12,13 @@ use borrow.Author.Tests.{eqb-true, ne-eqb}
 use Rattle.lists.proofs.Bools.{and-0, and-1, or-cases, clash}
 use Rattle.rules.specs.Rules.{normal}
 use Rattle.rules.specs.Answers.{mixtureLimit}
-use Rattle.image.specs.Limits.{fileKind, volatileKind, processKind, isFree, isFile, isVolatile, isProcess, isStore}
+use Rattle.image.specs.Limits.{fileKind, volatileKind, processKind, isFree, isFile, isVolatile, isProcess, isStore, usedKind}
 use Rattle.session.specs.Limits.{rowWidth, userWidth, kindAt, tagAt, permitAt, runAt, declaredAt, userRuleAt, declared}
-use Rattle.image.specs.Words.{ruleWidth, ruleOf, wordsOf}
-use Rattle.session.specs.Rows.{allZero, keptWell, Row, rowWords, freeWords, permitWords, runWords, rowOf, usedKind, containerRowGood, InUse, userWords, undeclaredWords, isDeclared, userRuleWords, userRuleOf, userRowGood}
-use Rattle.session.proofs.RuleWords.{zeros, zero-is, words-kept, kept-count, kept-normal, kept-short, kept-words}
-use Rattle.image.proofs.WordLaws.{words-rule, words-nine}
+use Rattle.rule_words.specs.Words.{ruleWidth, ruleOf, wordsOf, allZero, keptWell}
+use Rattle.session.specs.Rows.{Row, rowWords, freeWords, permitWords, runWords, rowOf, containerRowGood, InUse, userWords, undeclaredWords, isDeclared, userRuleWords, userRuleOf, userRowGood}
+use Rattle.rule_words.proofs.ZeroLaws.{zeros, zero-is}
+use Rattle.rule_words.proofs.KeptWords.{words-kept, kept-count, kept-normal, kept-short, kept-words}
+use Rattle.rule_words.proofs.WordLaws.{words-rule, words-nine}
 
 -- ---- kinds
 

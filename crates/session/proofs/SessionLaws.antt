@@ -13,13 +13,13 @@ use borrow.Author.Tests.{eq-eqb, leb-true, le-leb, eqb-true}
 use Rattle.lists.proofs.Bools.{and-in, and-0, and-1}
 use Rattle.lists.specs.Lists.{sameList, every}
 use Rattle.rules.specs.Answers.{dataWidth, tagWidth, mixtureLimit}
-use Rattle.image.specs.Limits.{noAtom, isFile, isVolatile, isProcess, isStore, containerLimit, userLimit}
+use Rattle.image.specs.Limits.{noAtom, isFile, isVolatile, isProcess, isStore, containerLimit, userLimit, usedKind}
 use Rattle.image.specs.Policy.{unrestrictedRule, ruleGood}
 use Rattle.image.specs.Normal.{Place, Meaning}
 use Rattle.lists.proofs.Every.{every-map, map-apart, append-apart}
 use Rattle.image.proofs.Means.{formGood, shapeGood, placeGood, Encodable, form-rule, form-normal}
 use Rattle.session.specs.Limits.{sessionLength, rowWidth, userWidth, usersAt}
-use Rattle.session.specs.Rows.{Row, rowWords, rowOf, usedKind, InUse, userWords, userRuleOf, containerRow, userRow}
+use Rattle.session.specs.Rows.{Row, rowWords, rowOf, InUse, userWords, userRuleOf, containerRow, userRow}
 use Rattle.session.specs.Session.{filled, startTag, startRow, placeWords, sessionOf}
 use Rattle.session.proofs.RowLaws.{used-kind, row-length, row-words, row-kind, user-length, user-words}
 use Rattle.session.proofs.Filled.{wide, used, all-wide, filled-length, filled-row, filled-apart}

@@ -17,7 +17,7 @@ use Rattle.image.specs.Image.{offset, size, part, containersIn, usersIn, spansI
 use Rattle.image.specs.Normal.{placeOf, normalAt, meaning}
 use Rattle.image.proofs.Decode.{Passes, passes, few}
 use Rattle.fields.proofs.RecordLaws.{records-count}
-use Rattle.image.proofs.SpanWords.{drop-zeros}
+use Rattle.rule_words.proofs.ZeroLaws.{drop-zeros}
 use Rattle.image.proofs.Scanning.{part-ends-0, part-ends-1, part-ends-2, part-ends-3}
 use Rattle.session.specs.Limits.{sessionLength, rowWidth, userWidth, usersAt}
 use Rattle.session.specs.Rows.{userWords}

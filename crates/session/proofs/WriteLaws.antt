@@ -15,10 +15,10 @@ use Rattle.lists.proofs.Bools.{or-cases}
 use Rattle.rules.specs.Answers.{dataWidth, tagWidth, mixtureLimit}
 use Rattle.image.specs.Limits.{noAtom}
 use Rattle.session.specs.Limits.{rowWidth, userWidth, kindAt, tagAt, permitAt, runAt, declaredAt, userRuleAt, declared}
-use Rattle.image.specs.Words.{ruleWidth, wordsOf}
+use Rattle.rule_words.specs.Words.{ruleWidth, wordsOf}
 use Rattle.session.specs.Rows.{userWords}
 use Rattle.session.specs.Session.{startTag}
-use Rattle.image.proofs.WordLaws.{words-nine}
+use Rattle.rule_words.proofs.WordLaws.{words-nine}
 
 -- ---- a container row: kind, tag and two rules
 

@@ -1,27 +1,15 @@
 -- Rows of the session, as numbers and as what they say (the paper, "Session").
 use Prim.Native.Nat.{ℕ, _+_, _*_, _≤_}
 use mathlib.Core.Path.{_≡_}
-use mathlib.Core.Bool.{Bool, true, cond, _&&_, _||_}
-use mathlib.Core.List.{List, [], _∷_, _++_}
-use lib.Dec.{eqb, leb}
+use mathlib.Core.Bool.{Bool, true, cond, _&&_}
+use mathlib.Core.List.{List, _∷_, _++_}
+use lib.Dec.{eqb}
 use lib.ListN.{length, getD, take, drop, replicate}
 use Rattle.rules.specs.Rules.{normal}
 use Rattle.rules.specs.Answers.{mixtureLimit}
-use Rattle.image.specs.Words.{ruleOf, wordsOf, isNormal}
-use Rattle.image.specs.Limits.{isFree, isStore, isProcess}
+use Rattle.rule_words.specs.Words.{ruleWidth, ruleOf, wordsOf, allZero, keptWell}
+use Rattle.image.specs.Limits.{isFree, usedKind}
 use Rattle.session.specs.Limits.{rowWidth, userWidth, usersAt, kindAt, tagAt, permitAt, runAt, declaredAt, userRuleAt, declared}
-use Rattle.image.specs.Words.{ruleWidth}
-
--- ---- a rule as 9 words: "count, 8 mixtures"
-
--- all of the words are 0
-unfoldable pub allZero : List ℕ → Bool
-allZero [] = true
-allZero (x ∷ ws) = eqb x 0 && allZero ws
-
--- the words are a rule as a session keeps it: at most 8 mixtures, "Unused words are 0, rules in normal form"
-unfoldable pub keptWell : List ℕ → Bool
-keptWell ws = leb (getD ws 0 0) mixtureLimit && (allZero (drop (getD ws 0 0 + 1) ws) && isNormal (ruleOf ws))
 
 -- ---- a container row
 
@@ -55,10 +43,6 @@ rowOf ws =
       permit = ruleOf (permitWords ws);
       run = ruleOf (runWords ws);
     }
-
--- "kind (0 free, else as in the image)"
-unfoldable pub usedKind : ℕ → Bool
-usedKind k = isStore k || isProcess k
 
 -- a container row is as "Session" says; the tag is any number
 unfoldable pub containerRowGood : List ℕ → Bool

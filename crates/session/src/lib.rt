@@ -1,19 +1,18 @@
-// The session: the test of a row, a rule in a row, and the start (the paper, "Session").
+// The session: the test of a row, and the start (the paper, "Session").
 ghost use mathlib.Core.Path.{_≡_};
 ghost use mathlib.Core.Bool.{true, _||_};
 ghost use mathlib.Core.List.{_∷_, _++_, map};
 ghost use lib.Dec.{eqb, ltb};
 ghost use Prim.Native.Nat.{_*_, _/_, _≤_};
-ghost use lib.ListN.{length, getD, drop, replicate};
-ghost use Rattle.rules.specs.Answers.{dataWidth, mixtureLimit};
+ghost use lib.ListN.{length, replicate};
+ghost use Rattle.rules.specs.Answers.{dataWidth};
 ghost use Rattle.image.specs.Limits.{noAtom, containerLimit, userLimit, containerSize, userSize, ruleSize, mixtureSize};
 ghost use Rattle.lists.specs.Lists.{every};
 ghost use Rattle.image.specs.Policy.{named, containerGood};
 ghost use Rattle.image.specs.Image.{containerIn, containersIn, usersIn, spansIn, rulesIn, spansGood};
 ghost use Rattle.image.specs.Normal.{normalAt, placeOf};
 ghost use Rattle.session.specs.Limits.{rowWidth, userWidth};
-ghost use Rattle.image.specs.Words.{ruleWidth, ruleOf};
-ghost use Rattle.session.specs.Rows.{allZero, keptWell, usedKind, containerRowGood, userWords, userRowGood};
+ghost use Rattle.session.specs.Rows.{containerRowGood, userWords, userRowGood};
 ghost use Rattle.session.specs.Session.{filled, startTag, placeWords, startAnswer, startEffect};
 use rules::Bounded;
 
@@ -42,77 +41,10 @@ pub const DECLARED_AT: usize = 0;
 
 pub const USER_RULE_AT: usize = 1;
 
-// The kind of a free row, and the first number of a declared user's row.
-pub const FREE_KIND: u64 = 0;
-
+// The first number of a declared user's row.
 pub const DECLARED: u64 = 1;
 
-// ---- a rule in a row
-
-// The rule that the words give: exactly its mixtures.
-pub fn rule_of(ws: &[u64]) -> &[u64]
-    requires { ⌜ (length (now ws) ≡ ruleWidth) × (getD (now ws) 0 0 ≤ mixtureLimit) ⌝ }
-    ensures { λ r. ⌜ now r ≡ ruleOf (now (ws .entry)) ⌝ }
-{
-    let n = ws[0] as usize;
-    let e = n + 1;
-    &ws[1..e]
-}
-
 // ---- the test of a row
-
-// All of the words are 0: so is their union.
-fn all_zero(ws: &[u64]) -> bool
-    ensures { λ r. ⌜ r ≡ allZero (now (ws .entry)) ⌝ }
-{
-    let mut all = 0;
-    let mut i = 0;
-    while i < ws.len() {
-        all = all | ws[i];
-        i += 1;
-    }
-    all == 0
-}
-
-// The seven words behind a single mixture are 0.
-fn none_behind(ws: &[u64]) -> bool
-    requires { ⌜ length (now ws) ≡ ruleWidth ⌝ }
-    ensures { λ r. ⌜ r ≡ allZero (drop 2 (now (ws .entry))) ⌝ }
-{
-    ws[2] | ws[3] | ws[4] | ws[5] | ws[6] | ws[7] | ws[8] == 0
-}
-
-// The words are a rule as a session keeps it. A rule of one mixture, the usual one, is a straight line.
-fn kept_well(ws: &[u64]) -> bool
-    requires { ⌜ length (now ws) ≡ ruleWidth ⌝ }
-    ensures { λ r. ⌜ r ≡ keptWell (now (ws .entry)) ⌝ }
-{
-    let n = ws[0];
-    if n == 1 {
-        return none_behind(ws);
-    }
-    if (rules::MIXTURE_LIMIT as u64) < n {
-        return false;
-    }
-    let e = n as usize + 1;
-    if !all_zero(&ws[e..]) {
-        return false;
-    }
-    image::is_normal(&ws[1..e])
-}
-
-// A kind of the image.
-fn used_kind(kind: u64) -> bool
-    ensures { λ r. ⌜ r ≡ usedKind kind ⌝ }
-{
-    if image::is_file(kind) {
-        return true;
-    }
-    if image::is_volatile(kind) {
-        return true;
-    }
-    image::is_process(kind)
-}
 
 // The container row is as the session keeps it.
 pub fn container_row_good(row: &[u64]) -> bool
@@ -120,16 +52,16 @@ pub fn container_row_good(row: &[u64]) -> bool
     ensures { λ r. ⌜ r ≡ containerRowGood (now (row .entry)) ⌝ }
 {
     let kind = row[KIND_AT];
-    if kind == FREE_KIND {
-        return all_zero(row);
+    if image::is_free(kind) {
+        return rule_words::all_zero(row);
     }
-    if !used_kind(kind) {
+    if !image::used_kind(kind) {
         return false;
     }
-    if !kept_well(&row[PERMIT_AT..PERMIT_AT + image::RULE_WIDTH]) {
+    if !rule_words::kept_well(&row[PERMIT_AT..PERMIT_AT + rule_words::RULE_WIDTH]) {
         return false;
     }
-    kept_well(&row[RUN_AT..RUN_AT + image::RULE_WIDTH])
+    rule_words::kept_well(&row[RUN_AT..RUN_AT + rule_words::RULE_WIDTH])
 }
 
 // The user row is as the session keeps it.
@@ -139,12 +71,12 @@ pub fn user_row_good(row: &[u64]) -> bool
 {
     let first = row[DECLARED_AT];
     if first == 0 {
-        return all_zero(row);
+        return rule_words::all_zero(row);
     }
     if first != DECLARED {
         return false;
     }
-    kept_well(&row[USER_RULE_AT..USER_RULE_AT + image::RULE_WIDTH])
+    rule_words::kept_well(&row[USER_RULE_AT..USER_RULE_AT + rule_words::RULE_WIDTH])
 }
 
 // ---- the start
@@ -156,7 +88,7 @@ fn put_user(row: &mut [u64], rules: &[u8], m: &[u8], n: usize)
 {
     row[DECLARED_AT] = DECLARED;
     image::put_rule_at(
-        &mut row[USER_RULE_AT..USER_RULE_AT + image::RULE_WIDTH],
+        &mut row[USER_RULE_AT..USER_RULE_AT + rule_words::RULE_WIDTH],
         rules,
         m,
         n,
@@ -200,8 +132,11 @@ pub fn put_row(row: &mut [u64], kind: u64, tag: u64, permit: Bounded, run: Bound
 {
     row[KIND_AT] = kind;
     row[TAG_AT] = tag;
-    image::put_rule(&mut row[PERMIT_AT..PERMIT_AT + image::RULE_WIDTH], permit);
-    image::put_rule(&mut row[RUN_AT..RUN_AT + image::RULE_WIDTH], run);
+    rule_words::put_rule(
+        &mut row[PERMIT_AT..PERMIT_AT + rule_words::RULE_WIDTH],
+        permit,
+    );
+    rule_words::put_rule(&mut row[RUN_AT..RUN_AT + rule_words::RULE_WIDTH], run);
 }
 
 // The row of a container record.
@@ -212,13 +147,13 @@ fn put_container(row: &mut [u64], r: &[u8], rules: &[u8], m: &[u8])
     row[KIND_AT] = fields::read8(r, 0) as u64;
     row[TAG_AT] = tag_of(fields::read8(r, 1));
     image::put_rule_at(
-        &mut row[PERMIT_AT..PERMIT_AT + image::RULE_WIDTH],
+        &mut row[PERMIT_AT..PERMIT_AT + rule_words::RULE_WIDTH],
         rules,
         m,
         fields::read16(r, 2),
     );
     image::put_rule_at(
-        &mut row[RUN_AT..RUN_AT + image::RULE_WIDTH],
+        &mut row[RUN_AT..RUN_AT + rule_words::RULE_WIDTH],
         rules,
         m,
         fields::read16(r, 4),
@@ -256,7 +191,7 @@ pub fn start(image: &[u8], session: &mut [u64]) -> u32
     if refusal != 0 {
         return refusal;
     }
-    image::clear(session);
+    rule_words::clear(session);
     let rules = image::section(image, 2);
     let mixtures = image::section(image, 3);
     fill_containers(

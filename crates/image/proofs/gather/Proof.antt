@@ -1,5 +1,7 @@
+-- The mixtures of the rule are copied one after the other.
 use borrow.Author.Needs.{needs}
-use Rattle.image.proofs.RuleReading.{Gathered, gathered-start, gathered-next, gathered-all, from-length, from-at}
+use Rattle.rule_words.proofs.Copying.{Copied, copied-start, copied-next, copied-all}
+use Rattle.image.proofs.RuleReading.{from-length, from-at}
 use Rattle.image.specs.Image.{mixturesIn}
 use lib.ListN.{length, take, drop}
 use mathlib.Core.Path.{_∙_}
@@ -9,13 +11,17 @@ use Rattle.image.proofs.gather.Statement.{statement}
 use Rattle.image.proofs.gather.Tie as tie
 
 abbrev Inv-loop : tie.InvT-loop
-Inv-loop out₀ m first j₀ out j = Gathered (take (length out₀) (drop first (mixturesIn m))) out₀ out j
+Inv-loop out₀ m first j₀ out j = Copied (take (length out₀) (drop first (mixturesIn m))) out₀ out 0 j
 
 abbrev μ-loop : tie.MeasureT-loop
 μ-loop out₀ m first j₀ out j = length out₀ - j
 
 loop-holds : tie.Need-loop-holds Inv-loop μ-loop
-loop-holds c = gathered-start (take (length (c .before .before .args .out .now)) (drop (c .before .before .args .first) (mixturesIn (c .before .before .args .m .now)))) (c .before .before .args .out .now) (omega (arith, from-length (c .before .before .args .m .now) (c .before .before .args .first) (length (c .before .before .args .out .now)) (c .before .before .pre)))
+loop-holds c =
+    let start = c .before .before in
+    let n = length (start .args .out .now) in
+    copied-start (take n (drop (start .args .first) (mixturesIn (start .args .m .now)))) (start .args .out .now) 0
+    (omega (arith, from-length (start .args .m .now) (start .args .first) n (start .pre)))
 
 add-mixture : tie.Need-add-mixture Inv-loop μ-loop
 add-mixture c = search needs
@@ -36,13 +42,24 @@ loop-less : tie.Need-loop-less Inv-loop μ-loop
 loop-less c = search needs
 
 loop-again : tie.Need-loop-again Inv-loop μ-loop
-loop-again c = gathered-next (take (length (c .before .before .before .before .before .args .out .now)) (drop (c .before .before .before .before .before .args .first) (mixturesIn (c .before .before .before .before .before .args .m .now)))) (c .before .before .before .before .before .args .out .now) (c .before .before .loop .out) (c .before .before .loop .j) (c .before .before .loop .inv) (c .mixture .result) (omega (arith, from-length (c .before .before .before .before .before .args .m .now) (c .before .before .before .before .before .args .first) (length (c .before .before .before .before .before .args .out .now)) (c .before .before .before .before .before .pre), c .before .before .loop .inv .long)) (c .mixture .ensures ∙ from-at (c .before .before .before .before .before .args .m .now) (c .before .before .before .before .before .args .first) (length (c .before .before .before .before .before .args .out .now)) (c .before .before .before .before .before .pre) (c .before .before .loop .j) (omega (arith, c .before .before .loop .inv .long)))
+loop-again c =
+    let start = c .before .before .before .before .before in
+    let n = length (start .args .out .now) in
+    let at = c .before .before .loop in
+    copied-next (take n (drop (start .args .first) (mixturesIn (start .args .m .now)))) (start .args .out .now) (at .out) 0 (at .j) (at .inv) (at .j) (c .mixture .result) (omega arith)
+    (omega (arith, from-length (start .args .m .now) (start .args .first) n (start .pre), at .inv .long))
+    (c .mixture .ensures ∙ from-at (start .args .m .now) (start .args .first) n (start .pre) (at .j) (omega (arith, at .inv .long)))
 
 same-length : tie.Need-same-length Inv-loop μ-loop
 same-length c = search needs
 
 returns : tie.Need-returns Inv-loop μ-loop
-returns c = gathered-all (take (length (c .before .before .before .before .args .out .now)) (drop (c .before .before .before .before .args .first) (mixturesIn (c .before .before .before .before .args .m .now)))) (c .before .before .before .before .args .out .now) (c .before .loop .out) (c .before .loop .j) (c .before .loop .inv) (from-length (c .before .before .before .before .args .m .now) (c .before .before .before .before .args .first) (length (c .before .before .before .before .args .out .now)) (c .before .before .before .before .pre)) (c .loop-test .left)
+returns c =
+    let start = c .before .before .before .before in
+    let n = length (start .args .out .now) in
+    let at = c .before .loop in
+    copied-all (take n (drop (start .args .first) (mixturesIn (start .args .m .now)))) (start .args .out .now) (at .out) (at .j) (at .inv)
+    (from-length (start .args .m .now) (start .args .first) n (start .pre)) (c .loop-test .left)
 
 pub gather-spec : {M : Type 1} → statement M
 gather-spec =

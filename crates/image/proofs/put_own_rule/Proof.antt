@@ -1,4 +1,4 @@
-use Rattle.image.proofs.SpanWords.{words-good, normal-out}
+use Rattle.rule_words.proofs.WordLaws.{words-good, normal-out}
 use Rattle.image.proofs.RuleReading.{own-rule}
 use Rattle.image.proofs.Places.{rule-fits}
 use Rattle.image.specs.Image.{mixturesIn}

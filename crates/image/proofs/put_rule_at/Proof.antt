@@ -1,5 +1,5 @@
 use Rattle.image.proofs.RuleReading.{named-own, own-normal, unrestricted-words}
-use Rattle.image.specs.Words.{wordsOf}
+use Rattle.rule_words.specs.Words.{wordsOf}
 use mathlib.Core.Path.{ap, _∙_}
 use borrow.Author.Needs.{needs}
 use Rattle.image.proofs.put_rule_at.Statement.{statement}

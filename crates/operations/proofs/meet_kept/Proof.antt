@@ -3,7 +3,7 @@ use mathlib.Core.Path.{sym, ap, ap₂, _∙_}
 use mathlib.Core.List.{List}
 use Rattle.rules.specs.Rules.{meet, refines}
 use Rattle.rules.specs.Answers.{boundedOf}
-use Rattle.session.proofs.RuleWords.{kept-short}
+use Rattle.rule_words.proofs.KeptWords.{kept-short}
 use Rattle.operations.proofs.RowSteps.{kept-readable, meet-first, meet-second}
 use borrow.Author.Needs.{needs}
 use Rattle.operations.proofs.meet_kept.Statement.{statement}

@@ -1,7 +1,8 @@
+-- The tests of a container row, one after the other, are those of `containerRowGood`.
 use Rattle.session.specs.Rows.{permitWords, runWords}
 use mathlib.Core.Path.{sym, _∙_}
-use borrow.Author.Tests.{not-true, not-false}
-use Rattle.session.proofs.TestLaws.{free-row, other-kind, bad-permit, by-run}
+use Rattle.lists.proofs.Bools.{passes-test, fails-test}
+use Rattle.session.proofs.RowTests.{free-row, other-kind, bad-permit, by-run}
 use borrow.Author.Needs.{needs}
 use Rattle.session.proofs.container_row_good.Statement.{statement}
 use Rattle.session.proofs.container_row_good.Tie as tie
@@ -9,17 +10,20 @@ use Rattle.session.proofs.container_row_good.Tie as tie
 shared-slice-read-kind : tie.Need-shared-slice-read-kind
 shared-slice-read-kind c = search needs
 
+is-free-requires : tie.Need-is-free-requires
+is-free-requires c κs = search needs
+
 all-zero-requires : tie.Need-all-zero-requires
 all-zero-requires c κs = search needs
 
 returns : tie.Need-returns
-returns c = c .all-zero .ensures ∙ free-row _ (c .before .if1 .taken)
+returns c = c .all-zero .ensures ∙ free-row _ (sym (c .before .before .is-free .ensures) ∙ c .before .if1 .taken)
 
 used-kind-requires : tie.Need-used-kind-requires
 used-kind-requires c κs = search needs
 
 returns-2 : tie.Need-returns-2
-returns-2 c = other-kind _ (c .before .before .if1 .left) (sym (c .before .used-kind .ensures) ∙ not-true _ (c .if2 .taken))
+returns-2 c = other-kind _ (sym (c .before .before .before .is-free .ensures) ∙ c .before .before .if1 .left) (fails-test (c .before .used-kind .ensures) (c .if2 .taken))
 
 add-kept-well : tie.Need-add-kept-well
 add-kept-well c = search needs
@@ -38,7 +42,10 @@ kept-well-requires c κs = search needs
 
 returns-3 : tie.Need-returns-3
 unfolding permitWords
-returns-3 c = bad-permit _ (c .before .before .before .before .before .if1 .left) (sym (c .before .before .before .before .used-kind .ensures) ∙ not-false _ (c .before .before .before .if2 .left)) (sym (c .before .kept-well .ensures) ∙ not-true _ (c .if3 .taken))
+returns-3 c =
+    let free = c .before .before .before .before .before in
+    bad-permit _ (sym (free .before .is-free .ensures) ∙ free .if1 .left) (passes-test (c .before .before .before .before .used-kind .ensures) (c .before .before .before .if2 .left))
+    (fails-test (c .before .kept-well .ensures) (c .if3 .taken))
 
 add-kept-well-2 : tie.Need-add-kept-well-2
 add-kept-well-2 c = search needs
@@ -57,13 +64,18 @@ kept-well-requires-2 c κs = search needs
 
 returns-4 : tie.Need-returns-4
 unfolding permitWords runWords
-returns-4 c = c .kept-well2 .ensures ∙ by-run _ (c .before .before .before .before .before .before .before .if1 .left) (sym (c .before .before .before .before .before .before .used-kind .ensures) ∙ not-false _ (c .before .before .before .before .before .if2 .left)) (sym (c .before .before .before .kept-well .ensures) ∙ not-false _ (c .before .before .if3 .left))
+returns-4 c =
+    let free = c .before .before .before .before .before .before .before in
+    c .kept-well2 .ensures
+    ∙ by-run _ (sym (free .before .is-free .ensures) ∙ free .if1 .left) (passes-test (c .before .before .before .before .before .before .used-kind .ensures) (c .before .before .before .before .before .if2 .left))
+    (passes-test (c .before .before .before .kept-well .ensures) (c .before .before .if3 .left))
 
 pub container-row-good-spec : {M : Type 1} → statement M
 container-row-good-spec =
     tie.close
     (tie.spec
     shared-slice-read-kind
+    is-free-requires
     all-zero-requires
     returns
     used-kind-requires

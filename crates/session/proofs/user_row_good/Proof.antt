@@ -1,6 +1,7 @@
+-- The tests of a user row, one after the other, are those of `userRowGood`.
 use Rattle.session.specs.Rows.{userRuleWords}
 use mathlib.Core.Path.{_∙_}
-use Rattle.session.proofs.TestLaws.{undeclared-row, other-first, by-user-rule}
+use Rattle.session.proofs.RowTests.{undeclared-row, other-first, by-user-rule}
 use borrow.Author.Needs.{needs}
 use Rattle.session.proofs.user_row_good.Statement.{statement}
 use Rattle.session.proofs.user_row_good.Tie as tie
