@@ -12,7 +12,8 @@ use lib.Dec.{eqb, ltb}
 use lib.ListN.{length, getD, replicate, length-append, length-map, length-replicate}
 use borrow.Author.Tests.{le-leb, lt-ltb, ltb-true, ne-eqb}
 use Rattle.lists.proofs.Bools.{and-in, or-0, or-1}
-use Rattle.image.specs.Limits.{isFile, isVolatile, isProcess}
+use Rattle.image.specs.Limits.{isFile, isVolatile, isProcess, headerSize, outputBound}
+use Rattle.normaliser.proofs.WriterLaws.{normal-long, normal-short}
 use Rattle.lists.specs.Lists.{every, elem}
 use Rattle.rules.specs.Rules.{normal, unrestricted}
 use Rattle.lists.proofs.Elem.{elem-here, elem-cases, elem-none}
@@ -20,9 +21,11 @@ use Rattle.rules.proofs.RuleLaws.{normal-among}
 use Rattle.image.specs.Policy.{Container, unrestrictedRule, ruleAt, named, containerGood, ruleGood, Sound}
 use Rattle.image.specs.Image.{readImage, accepted}
 use Rattle.image.specs.Normal.{Place, Meaning, normalAt, placeOf, meaning, policyOf, normalPolicy, encode, normalImage}
-use Rattle.image.proofs.Encode.{read-encode, encode-short}
+use Rattle.image.proofs.Encode.{read-encode}
 use Rattle.image.proofs.Means.{Encodable, meaning-encodable, normal-unrestricted, policy-sound, policy-means}
 use Rattle.lists.proofs.Every.{every-0, every-1, every-nil, every-cons, every-imp, every-append}
+use Rattle.matrix.specs.Limits.{subjectLimit}
+use Rattle.rules.specs.Answers.{mixtureLimit}
 use Rattle.matrix.specs.Flows.{has, rowsWithin}
 use Rattle.derivation.specs.Derived.{writerMixtures, orAlone, permitOf, countFrom, objectFile, subjectProcess, derivedPolicy, derivedImage}
 use Rattle.matrix.proofs.GoodLaws.{Good}
@@ -91,7 +94,7 @@ alone-small n b [] l h = every-cons (small n) (2 ^ b) [] (lt-ltb (2 ^ b) (2 ^ n)
 alone-small n b (m ∷ r) l h = h
 
 -- at most one for each subject, or one
-pub few-mixtures : (reads writes : List ℕ) (b : ℕ) → length reads ≤ 8 → length (permitOf reads writes b) ≤ 8
+pub few-mixtures : (reads writes : List ℕ) (b : ℕ) → length reads ≤ subjectLimit → length (permitOf reads writes b) ≤ mixtureLimit
 unfolding permitOf
 few-mixtures reads writes b h = alone-few b 8 (writerMixtures reads writes b) (omega arith) (omega (arith, writers-few reads writes b))
 
@@ -186,10 +189,6 @@ module _ (reads writes : List ℕ) (objects : ℕ) (g : Good reads writes object
       user-good : every (named objects) (65535 ∷ []) ≡ true
       user-good = every-cons (named objects) 65535 [] (unfold named in or-1 (ltb 65535 objects) true refl) (every-nil (named objects))
 
-  -- the image that spells it plainly is accepted as it
-  pub plain-read : readImage (encode (derivedPolicy reads writes objects)) ≡ accepted (derivedPolicy reads writes objects)
-  plain-read = read-encode (derivedPolicy reads writes objects) derived-sound
-
   -- ---- its normal image
 
   pub derived-encodable : Encodable (meaning (derivedPolicy reads writes objects))
@@ -207,8 +206,11 @@ module _ (reads writes : List ℕ) (objects : ℕ) (g : Good reads writes object
   pub derived-normal : normalImage (normalPolicy (derivedPolicy reads writes objects)) ≡ derivedImage reads writes objects
   derived-normal = unfold derivedImage normalImage normalPolicy in ap (λ (m : Meaning). encode (policyOf m)) same-meaning
 
-  pub derived-short : length (derivedImage reads writes objects) ≤ 18994
-  derived-short = unfold derivedImage normalImage in encode-short (normalPolicy (derivedPolicy reads writes objects)) normal-sound
+  pub derived-short : length (derivedImage reads writes objects) ≤ outputBound
+  derived-short = unfold derivedImage in normal-short (derivedPolicy reads writes objects) derived-sound
+
+  pub derived-long : headerSize ≤ length (derivedImage reads writes objects)
+  derived-long = unfold derivedImage in normal-long (derivedPolicy reads writes objects) derived-sound
 
   -- ---- what it means
 

@@ -2,7 +2,6 @@
 pub mod Theorems
 pub mod Examples
 pub mod DerivedLaws
-pub mod SpellingLaws
-pub mod PolicyBytes
-pub mod PlainImage
-pub mod DeriveLaws
+pub mod ContainerRows
+pub mod PermitWords
+pub mod DeriveCases

@@ -4,12 +4,13 @@ use mathlib.Core.Bool.{cond}
 use mathlib.Core.List.{List, [], _∷_, _++_, map}
 use lib.Bits.{bitOr}
 use lib.Dec.{leb}
-use lib.ListN.{length, drop, replicate}
+use lib.ListN.{length, replicate}
 use Rattle.image.specs.Limits.{fileKind, processKind, noAtom, unrestrictedNumber, outputBound}
 use Rattle.image.specs.Policy.{Container, Policy}
 use Rattle.image.specs.Normal.{normalImage}
-use Rattle.normaliser.specs.Normaliser.{outputRefusal}
-use Rattle.answers.specs.Refusals.{matrix}
+use Rattle.normaliser.specs.Normaliser.{lengthUnless, writtenUnless}
+use Rattle.answers.specs.Refusals.{matrix, lentLength}
+use Rattle.lists.specs.Conditions.{Condition, _orRefuse_, firstFailed}
 use Rattle.matrix.specs.Flows.{has, matrixGood}
 
 -- ---- the permit rule of an object
@@ -56,18 +57,15 @@ derivedPolicy reads writes objects =
 unfoldable pub derivedImage : List ℕ → List ℕ → ℕ → List ℕ
 derivedImage reads writes objects = normalImage (derivedPolicy reads writes objects)
 
--- ---- the answer, and the output afterwards: 9, then 8, else the length of the image; the bytes behind it stay
+-- ---- the answer, and the output afterwards
 
+-- "In this order: 9 .. output (of normaliser or derived policy) under 18,994 bytes; .. 8 matrix"
+unfoldable pub derivedConditions : List ℕ → List ℕ → ℕ → List ℕ → List Condition
+derivedConditions reads writes objects out = (leb outputBound (length out) orRefuse lentLength) ∷ (matrixGood reads writes objects orRefuse matrix) ∷ []
+
+-- the refusal, or the length of the image
 unfoldable pub derivedAnswer : List ℕ → List ℕ → ℕ → List ℕ → ℕ
-derivedAnswer reads writes objects out =
-    cond (leb outputBound (length out))
-    (cond (matrixGood reads writes objects) (length (derivedImage reads writes objects)) matrix)
-    outputRefusal
+derivedAnswer reads writes objects out = lengthUnless (firstFailed (derivedConditions reads writes objects out)) (derivedImage reads writes objects)
 
 unfoldable pub derivedEffect : List ℕ → List ℕ → ℕ → List ℕ → List ℕ
-derivedEffect reads writes objects out =
-    cond (leb outputBound (length out))
-    (cond (matrixGood reads writes objects)
-    (derivedImage reads writes objects ++ drop (length (derivedImage reads writes objects)) out)
-    out)
-    out
+derivedEffect reads writes objects out = writtenUnless (firstFailed (derivedConditions reads writes objects out)) (derivedImage reads writes objects) out

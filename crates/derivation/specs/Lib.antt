@@ -1,3 +1,2 @@
--- What a reader must believe of this crate: Derived. Spelling is about private functions only.
+-- What a reader must believe of this crate: Derived.
 pub mod Derived
-pub mod Spelling

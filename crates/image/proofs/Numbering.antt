@@ -159,7 +159,7 @@ position-at r (x ∷ t) h = by (sameList r x) refl h (position-at r t)
     by true e k ih = sym (same-eq r x e)
     by false e k ih = ih k
 
-module _ (t : List (List ℕ)) (few : length t ≤ 256) (r : List ℕ) (h : settled t r ≡ true) where
+module _ (t : List (List ℕ)) (few : length t ≤ unrestrictedNumber) (r : List ℕ) (h : settled t r ≡ true) where
   pub number-rule : ruleAt t (numberOf t r) ≡ r
   unfolding ruleAt numberOf settled
   number-rule = by (sameList r unrestrictedRule) refl h

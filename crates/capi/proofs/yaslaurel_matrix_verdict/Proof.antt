@@ -1,3 +1,4 @@
+-- Each case of the verdict gives its numbers.
 use mathlib.Core.Path.{sym, ap, _∙_}
 use Rattle.matrix.specs.Verdicts.{consistencyValues}
 use borrow.Author.Needs.{needs}

@@ -1,23 +1,31 @@
-use borrow.Author.Needs.{needs}
+-- The invariant: the first b objects are written.
+use native.Mathlib.Omega.{arith}
 use Prim.Native.Nat.{_-_}
-use native.Mathlib.Nat.{le-of-eq}
-use Rattle.derivation.specs.Derived.{objectFile}
-use Rattle.derivation.proofs.SpellingLaws.{Laying, laying-start, laying-room, laying-next, laying-end}
-use Rattle.derivation.proofs.PolicyBytes.{objectBytes, laid-objects, container-length}
+use lib.ListN.{length-map}
+use Rattle.fields.proofs.RowWriting.{RowsWritten, rows-start, rows-end}
+use Rattle.image.specs.Normal.{containerBytes}
+use Rattle.derivation.proofs.ContainerRows.{containerRows, containers-size, container-room, container-next, objectFiles, objects-count, object-row}
+use borrow.Author.Needs.{needs}
 use Rattle.derivation.proofs.put_objects.Statement.{statement}
 use Rattle.derivation.proofs.put_objects.Tie as tie
 
 abbrev Inv-loop : tie.InvT-loop
-Inv-loop out₀ start n at₀ b₀ out at b = Laying objectBytes 6 out₀ start n out b at
+Inv-loop out₀ start n at₀ b₀ out at b = RowsWritten (containerRows (objectFiles n)) out₀ start out at b
 
 abbrev μ-loop : tie.MeasureT-loop
 μ-loop out₀ start n at₀ b₀ out at b = n - b
 
 loop-holds : tie.Need-loop-holds Inv-loop μ-loop
-loop-holds c = laying-start objectBytes 6 _ _ _ (c .before .pre .1)
+loop-holds c =
+    let start = c .before in
+    rows-start _ _ _ (omega (arith, start .pre .1, containers-size (objectFiles (start .args .n)), objects-count (start .args .n)))
 
 put-container-requires : tie.Need-put-container-requires Inv-loop μ-loop
-put-container-requires c κs = laying-room objectBytes 6 _ _ _ _ _ _ (c .before .before .loop .inv) (c .before .loop-test .taken)
+put-container-requires c κs =
+    let start = c .before .before .before .before in
+    let loop = c .before .before .loop in
+    let taken = c .before .loop-test .taken in
+    container-room (objectFiles (start .args .n)) (loop .inv) (omega (arith, objects-count (start .args .n))) _ (object-row (start .args .n) (loop .b) taken)
 
 add-b : tie.Need-add-b Inv-loop μ-loop
 add-b c = search needs
@@ -26,14 +34,19 @@ loop-less : tie.Need-loop-less Inv-loop μ-loop
 loop-less c = search needs
 
 loop-again : tie.Need-loop-again Inv-loop μ-loop
-unfolding objectFile
-loop-again c = laying-next objectBytes 6 _ _ _ _ _ _ _ _ (c .before .before .before .before .before .loop .inv) (c .before .before .before .before .loop-test .taken) (le-of-eq (container-length _)) (c .before .before .put-container .ensures)
+loop-again c =
+    let start = c .before .before .before .before .before .before .before in
+    let loop = c .before .before .before .before .before .loop in
+    let taken = c .before .before .before .before .loop-test .taken in
+    container-next (objectFiles (start .args .n)) (loop .inv) (omega (arith, objects-count (start .args .n))) _ (object-row (start .args .n) (loop .b) taken) (c .before .before .put-container .ensures)
 
 same-length : tie.Need-same-length Inv-loop μ-loop
 same-length c = c .before .loop .inv .long
 
 returns : tie.Need-returns Inv-loop μ-loop
-returns c = laying-end objectBytes 6 _ _ _ _ _ _ _ (c .before .loop .inv) (c .loop-test .left) (laid-objects _)
+returns c =
+    let start = c .before .before .before in
+    rows-end (c .before .loop .inv) (omega (arith, c .loop-test .left, length-map (objectFiles (start .args .n)) containerBytes, objects-count (start .args .n)))
 
 pub put-objects-spec : {M : Type 1} → statement M
 put-objects-spec =

@@ -1,3 +1,4 @@
+-- The invariant: what is left of the rows decides.
 use borrow.Author.Needs.{needs}
 use Prim.Native.Nat.{_-_}
 use lib.ListN.{length}
