@@ -2,7 +2,7 @@
 use Prim.Native.Nat.{ℕ}
 use mathlib.Core.Bool.{cond}
 use lib.Dec.{eqb}
-use Rattle.matrix.specs.Limits.{matrixRefusal}
+use Rattle.answers.specs.Refusals.{matrix}
 use Rattle.answers.specs.declared.Answer.{Answer}
 use Rattle.answers.specs.declared.Answer.the-variants.{Given, Refused}
 
@@ -18,4 +18,4 @@ tagAfter (Refused n) old = old
 
 -- one of the three numbers of a matrix verdict: the value, or what stood there if the matrix is refused
 abbrev pub valueAfter : ℕ → ℕ → ℕ → ℕ
-valueAfter number value old = cond (eqb number matrixRefusal) old value
+valueAfter number value old = cond (eqb number matrix) old value

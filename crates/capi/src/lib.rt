@@ -5,17 +5,15 @@ ghost use Rattle.session.specs.Session.{startAnswer, startEffect};
 ghost use Rattle.answers.specs.Answers.{answerNumber};
 ghost use Rattle.monitor.specs.Steps.{stepAnswer, stepEffect};
 ghost use Rattle.normaliser.specs.Normaliser.{normalAnswer, normalEffect};
-ghost use Rattle.matrix.specs.Verdicts.{verdictOf};
-ghost use Rattle.matrix.specs.Derived.{derivedAnswer, derivedEffect};
+ghost use Rattle.matrix.specs.Verdicts.{matrixVerdict};
+ghost use Rattle.derivation.specs.Derived.{derivedAnswer, derivedEffect};
 ghost use Rattle.capi.specs.Hosts.{receiverAfter, tagAfter, valueAfter};
 use answers::Answer;
 use answers::Verdict;
 use matrix::Consistency;
 
-// The number of a matrix that is not consistent, and of one that is refused.
+// The number of a matrix that is not consistent.
 const INCONSISTENT: u32 = 1;
-
-const MATRIX_REFUSAL: u32 = 8;
 
 // 0 if the image is accepted, else its refusal, 1 to 6.
 #[no_mangle]
@@ -80,14 +78,14 @@ pub extern "C" fn yaslaurel_matrix_verdict(
     target: &mut u32,
 ) -> u32
     ensures { λ r. ⌜
-        (r ≡ verdictOf (now (reads .entry)) (now (writes .entry)) objects .number)
-        × (now (count .exit) ≡ valueAfter (verdictOf (now (reads .entry)) (now (writes .entry)) objects .number) (verdictOf (now (reads .entry)) (now (writes .entry)) objects .count) (now (count .entry)))
-        × (now (source .exit) ≡ valueAfter (verdictOf (now (reads .entry)) (now (writes .entry)) objects .number) (verdictOf (now (reads .entry)) (now (writes .entry)) objects .source) (now (source .entry)))
-        × (now (target .exit) ≡ valueAfter (verdictOf (now (reads .entry)) (now (writes .entry)) objects .number) (verdictOf (now (reads .entry)) (now (writes .entry)) objects .target) (now (target .entry))) ⌝ }
+        (r ≡ matrixVerdict (now (reads .entry)) (now (writes .entry)) objects .number)
+        × (now (count .exit) ≡ valueAfter (matrixVerdict (now (reads .entry)) (now (writes .entry)) objects .number) (matrixVerdict (now (reads .entry)) (now (writes .entry)) objects .count) (now (count .entry)))
+        × (now (source .exit) ≡ valueAfter (matrixVerdict (now (reads .entry)) (now (writes .entry)) objects .number) (matrixVerdict (now (reads .entry)) (now (writes .entry)) objects .source) (now (source .entry)))
+        × (now (target .exit) ≡ valueAfter (matrixVerdict (now (reads .entry)) (now (writes .entry)) objects .number) (matrixVerdict (now (reads .entry)) (now (writes .entry)) objects .target) (now (target .entry))) ⌝ }
 {
     let v = matrix::verdict(reads, writes, objects);
     match v {
-        Consistency::Refused => MATRIX_REFUSAL,
+        Consistency::Refused => answers::MATRIX,
         Consistency::Consistent => {
             *count = 0;
             *source = 0;
@@ -119,5 +117,5 @@ pub extern "C" fn yaslaurel_matrix_policy(
         (r ≡ derivedAnswer (now (reads .entry)) (now (writes .entry)) objects (now (out .entry)))
         × (now (out .exit) ≡ derivedEffect (now (reads .entry)) (now (writes .entry)) objects (now (out .entry))) ⌝ }
 {
-    matrix::derive(reads, writes, objects, out)
+    derivation::derive(reads, writes, objects, out)
 }

@@ -7,13 +7,22 @@ use lib.Bits.{bitOr, or-zero-r}
 use lib.ListN.{length}
 use Rattle.rules.specs.Sets.{holds, dataOf, runningOf}
 use Rattle.rules.specs.Rules.{covers, distinct, heldIn, unheldIn, insert, sort, normal, intersections, meet}
-use Rattle.lists.specs.Lists.{elem}
+use Rattle.lists.specs.Lists.{elem, joined}
 use Rattle.rules.specs.Answers.{dataWidth, boundedOf}
+use Rattle.fields.specs.Bytes.{bytesOf}
 use Rattle.image.specs.Image.{offset, size}
-use Rattle.monitor.proofs.Examples.{CheckedRuns, checked-runs}
-use Rattle.matrix.specs.Verdicts.{verdictOf}
-use Rattle.matrix.specs.Derived.{permitOf, countFrom, derivedImage}
-use Rattle.matrix.proofs.Examples.{flows, permits, image-length, image-offsets, image-sizes}
+use Rattle.image.specs.Normal.{containerBytes, spanBytes, spansOf, pair, header, framed, encode}
+use Rattle.session.specs.Session.{startOf}
+use Rattle.answers.specs.Answers.{quiet, refused}
+use Rattle.records.specs.Codes.{readCode, writeCode, appendCode, execCode, forkCode}
+use Rattle.records.specs.Records.{noUser}
+use Rattle.monitor.specs.Runs.{runAnswers}
+use Rattle.monitor.proofs.Examples.{recordOf, P, Q, checked-runs}
+use Rattle.monitor.proofs.PaperListing.{image}
+use Rattle.matrix.specs.Verdicts.{matrixVerdict}
+use Rattle.derivation.specs.Derived.{permitOf, countFrom, derivedImage}
+use Rattle.matrix.proofs.Examples.{flows}
+use Rattle.derivation.proofs.Examples.{permits, image-is, image-length, image-offsets, image-sizes}
 
 -- document 000's matrix: "read rows 5, 3, 2, write rows 1, 2, 10, 4 objects"
 abbrev reads : List ℕ
@@ -39,16 +48,29 @@ pub record Starred : Type 0 where
   pub exec-tag : runningOf dataWidth (2 ^ 1 + 2 ^ 34) ≡ 2 ^ 33
   -- "Reading a file holding only 33 adds nothing."
   pub read-tag : (t : ℕ) → bitOr t (dataOf dataWidth (2 ^ 33)) ≡ t
-  -- the same two and 15 as runs of records from a session's start, with "Fork onto p itself: 13."
-  pub runs : CheckedRuns
+  -- the same two and 15 as runs of records from a session's start
+  pub exec-run : runAnswers (startOf P) (recordOf execCode 3 1 0 ∷ recordOf appendCode 3 0 noUser ∷ recordOf execCode 4 0 0 ∷ [])
+      ≡ quiet 3 (2 ^ 34) ∷ quiet 0 (2 ^ 1 + 2 ^ 34) ∷ quiet 4 (2 ^ 33) ∷ []
+  pub read-run : runAnswers (startOf P)
+      (recordOf execCode 3 0 0 ∷ recordOf writeCode 3 2 noUser ∷ recordOf readCode 4 1 noUser ∷ recordOf readCode 4 2 noUser ∷ [])
+      ≡ quiet 3 (2 ^ 33) ∷ quiet 2 (2 ^ 33) ∷ quiet 4 (2 ^ 2) ∷ quiet 4 (2 ^ 2) ∷ []
+  pub meet-run : runAnswers (startOf Q) (recordOf readCode 2 0 noUser ∷ recordOf readCode 2 1 noUser ∷ []) ≡ quiet 2 0 ∷ refused 15 ∷ []
+  -- "Fork onto p itself: 13."
+  pub fork-itself : runAnswers (startOf P) (recordOf forkCode 3 3 noUser ∷ []) ≡ refused 13 ∷ []
   -- "Document 000's matrix ..: 3 flows, first 0 to 3."
-  pub matrix-flows : verdictOf reads writes 4 ≡ record { number = 1; count = 3; source = 0; target = 3 }
+  pub matrix-flows : matrixVerdict reads writes 4 ≡ record { number = 1; count = 3; source = 0; target = 3 }
   -- "Permit rules 5; 3; 4; 10."
   pub matrix-permits : map (λ b. normal (permitOf reads writes b)) (countFrom 0 4) ≡ (5 ∷ []) ∷ (3 ∷ []) ∷ (4 ∷ []) ∷ (10 ∷ []) ∷ []
   -- "Image of 110 bytes, pairs (18,42), (60,2), (62,16), (78,32)."
   pub matrix-image : length (derivedImage reads writes 4) ≡ 110
+  pub matrix-bytes : derivedImage reads writes 4 ≡ image
   pub matrix-offsets : map (offset (derivedImage reads writes 4)) (0 ∷ 1 ∷ 2 ∷ 3 ∷ []) ≡ 18 ∷ 60 ∷ 62 ∷ 78 ∷ []
   pub matrix-sizes : map (size (derivedImage reads writes 4)) (0 ∷ 1 ∷ 2 ∷ 3 ∷ []) ≡ 42 ∷ 2 ∷ 16 ∷ 32 ∷ []
+
+-- the derived image, byte by byte
+bytes : derivedImage reads writes 4 ≡ image
+unfolding encode framed header pair containerBytes spanBytes spansOf bytesOf joined
+bytes = image-is
 
 pub starred : Starred
 unfolding covers holds normal sort insert unheldIn heldIn distinct elem meet intersections boundedOf runningOf dataOf
@@ -63,10 +85,14 @@ starred =
       nine-do-not-fit = refl;
       exec-tag = refl;
       read-tag = λ t. or-zero-r t;
-      runs = checked-runs;
+      exec-run = checked-runs .execHolding;
+      read-run = checked-runs .readHolding;
+      meet-run = checked-runs .meetOver;
+      fork-itself = checked-runs .forkItself;
       matrix-flows = flows;
       matrix-permits = permits;
       matrix-image = image-length;
+      matrix-bytes = bytes;
       matrix-offsets = image-offsets;
       matrix-sizes = image-sizes;
     }

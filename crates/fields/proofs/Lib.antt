@@ -3,3 +3,5 @@ pub mod FieldLaws
 pub mod ByteLaws
 pub mod RecordLaws
 pub mod WritingLaws
+pub mod RowWriting
+pub mod RowLaws

@@ -11,7 +11,7 @@ use borrow.Author.Tests.{ne-eqb, lt-ltb}
 use Rattle.lists.proofs.Bools.{or-0, or-1, or-cases, clash, refuted}
 use Rattle.lists.specs.Lists.{sameList, every}
 use Rattle.lists.proofs.Same.{same-refl, same-eq}
-use Rattle.image.specs.Limits.{unrestrictedNumber, ruleLimit}
+use Rattle.image.specs.Limits.{unrestrictedNumber}
 use Rattle.image.specs.Policy.{unrestrictedRule, ruleAt, named}
 use Rattle.image.specs.Normal.{known, noted, numbered, position, numberOf}
 use Rattle.rule_words.specs.Words.{wordsOf}
@@ -159,7 +159,7 @@ position-at r (x ∷ t) h = by (sameList r x) refl h (position-at r t)
     by true e k ih = sym (same-eq r x e)
     by false e k ih = ih k
 
-module _ (t : List (List ℕ)) (few : length t ≤ ruleLimit) (r : List ℕ) (h : settled t r ≡ true) where
+module _ (t : List (List ℕ)) (few : length t ≤ unrestrictedNumber) (r : List ℕ) (h : settled t r ≡ true) where
   pub number-rule : ruleAt t (numberOf t r) ≡ r
   unfolding ruleAt numberOf settled
   number-rule = by (sameList r unrestrictedRule) refl h

@@ -208,7 +208,7 @@ places-uses f (p ∷ ps) h =
     every-cons f (p .permit) (p .run ∷ placeUses ps) (and-0 (f (p .permit)) (f (p .run)) k)
     (every-cons f (p .run) (placeUses ps) (and-1 (f (p .permit)) k) (places-uses f ps (every-1 (λ p. f (p .permit) && f (p .run)) p ps h)))
 
-module _ (t : List (List ℕ)) (few : length t ≤ ruleLimit) where
+module _ (t : List (List ℕ)) (few : length t ≤ unrestrictedNumber) where
   number-back : (r : List ℕ) → (formGood r && settled t r) ≡ true → normalAt t (numberOf t r) ≡ r
   unfolding normalAt
   number-back r h = ap normal (number-rule t few r (and-1 (formGood r) h)) ∙ form-normal r (and-0 (formGood r) (settled t r) h)
@@ -246,9 +246,9 @@ module _ (m : Meaning) (h : Encodable m) where
   t : List (List ℕ)
   t = numbered [] (uses m)
 
-  t-few : length t ≤ ruleLimit
+  t-few : length t ≤ unrestrictedNumber
   unfolding t
-  t-few = h .fewRules
+  t-few = omega (arith, h .fewRules)
 
   uses-settled : every (settled t) (placeUses (m .places) ++ m .users) ≡ true
   unfolding t uses
@@ -277,7 +277,7 @@ module _ (m : Meaning) (h : Encodable m) where
       record {
         fewContainers = unfold writtenBy in omega (arith, length-map (m .places) (containerOf t), h .fewPlaces);
         fewUsers = unfold writtenBy in omega (arith, length-map (m .users) (numberOf t), h .fewUsers);
-        fewRules = unfold writtenBy in t-few;
+        fewRules = unfold writtenBy t in h .fewRules;
         rulesGood = unfold writtenBy t in numbered-every ruleGood [] (uses m) (every-nil ruleGood) uses-good;
         containersGood = unfold writtenBy in every-map (λ p. placeGood p && placeSettled t p) (containerGood (length t)) (containerOf t) (m .places) (place-container t t-few) places-both;
         usersGood = unfold writtenBy in every-map (λ r. formGood r && settled t r) (named (length t)) (numberOf t) (m .users) (λ r k. number-named t t-few r (and-1 (formGood r) k)) users-both;

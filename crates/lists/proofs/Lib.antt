@@ -5,3 +5,4 @@ pub mod Elem
 pub mod Same
 pub mod Every
 pub mod Places
+pub mod Joined

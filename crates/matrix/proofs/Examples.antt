@@ -1,18 +1,12 @@
 -- The starred example of the matrix, by computation: document 000's matrix, read rows 5, 3, 2, write rows 1, 2, 10, 4 objects.
 use Prim.Native.Nat.{ℕ}
 use mathlib.Core.Path.{_≡_, refl}
-use mathlib.Core.List.{List, [], _∷_, map}
-use lib.ListN.{length}
-use Rattle.rules.specs.Sets.{atom, holds}
-use Rattle.lists.specs.Lists.{elem, sameList, joined, every}
-use Rattle.rules.specs.Rules.{distinct, heldIn, unheldIn, insert, sort, normal, unrestricted}
-use Rattle.fields.specs.Bytes.{bytesOf, numberIn, field}
-use Rattle.image.specs.Policy.{unrestrictedRule, ruleAt}
-use Rattle.image.specs.Image.{offset, size}
-use Rattle.image.specs.Normal.{normalAt, placeOf, meaning, placeUses, uses, known, noted, numbered, position, numberOf, containerOf, writtenBy, policyOf, normalPolicy, containerBytes, spanBytes, spansOf, pair, header, framed, encode, normalImage}
-use Rattle.matrix.specs.Flows.{rowsGood, counted, matrixGood, has, subjectCarries, granted, within, composed}
-use Rattle.matrix.specs.Verdicts.{countBelow, sumBelow, someBelow, leastBelow, ungranted, ungrantedFrom, flowCount, firstSource, firstTarget, consistent, judgedBy, verdictOf}
-use Rattle.matrix.specs.Derived.{writerMixtures, orAlone, permitOf, countFrom, objectFile, subjectProcess, derivedPolicy, derivedImage}
+use mathlib.Core.List.{List, [], _∷_}
+use Rattle.rules.specs.Sets.{atom}
+use Rattle.lists.specs.Conditions.{firstFailed}
+use Rattle.lists.specs.Lists.{every}
+use Rattle.matrix.specs.Flows.{rowsWithin, counted, matrixGood, has, subjectCarries, granted, within, composed}
+use Rattle.matrix.specs.Verdicts.{countBelow, sumBelow, someBelow, leastBelow, ungranted, ungrantedFrom, flowCount, firstSource, firstTarget, consistent, judgedBy, matrixConditions, unlessRefused, matrixVerdict}
 
 abbrev reads : List ℕ
 reads = 5 ∷ 3 ∷ 2 ∷ []
@@ -21,36 +15,6 @@ abbrev writes : List ℕ
 writes = 1 ∷ 2 ∷ 10 ∷ []
 
 -- "3 flows, first 0 to 3"
-pub flows : verdictOf reads writes 4 ≡ record { number = 1; count = 3; source = 0; target = 3 }
-unfolding verdictOf matrixGood rowsGood every counted has atom judgedBy consistent someBelow ungrantedFrom ungranted composed within granted subjectCarries flowCount sumBelow countBelow firstSource firstTarget leastBelow
+pub flows : matrixVerdict reads writes 4 ≡ record { number = 1; count = 3; source = 0; target = 3 }
+unfolding matrixVerdict matrixConditions firstFailed unlessRefused matrixGood rowsWithin every counted has atom judgedBy consistent someBelow ungrantedFrom ungranted composed within granted subjectCarries flowCount sumBelow countBelow firstSource firstTarget leastBelow
 flows = refl
-
--- "Permit rules 5; 3; 4; 10", in normal form
-pub permits : map (λ b. normal (permitOf reads writes b)) (countFrom 0 4) ≡ (5 ∷ []) ∷ (3 ∷ []) ∷ (4 ∷ []) ∷ (10 ∷ []) ∷ []
-unfolding countFrom permitOf writerMixtures orAlone has atom normal sort insert distinct elem unheldIn heldIn holds
-permits = refl
-
--- "Image of 110 bytes, pairs (18,42), (60,2), (62,16), (78,32)"
-abbrev image : List ℕ
-image = derivedImage reads writes 4
-
-pub image-length : length image ≡ 110
-unfolding derivedImage derivedPolicy countFrom objectFile subjectProcess permitOf writerMixtures orAlone has atom normalImage
-    encode framed header pair containerBytes spanBytes spansOf bytesOf joined normalPolicy policyOf writtenBy
-    containerOf numberOf position numbered noted known uses placeUses meaning placeOf normalAt ruleAt unrestrictedRule
-    unrestricted sameList normal sort insert distinct elem unheldIn heldIn holds
-image-length = refl
-
-pub image-offsets : map (offset image) (0 ∷ 1 ∷ 2 ∷ 3 ∷ []) ≡ 18 ∷ 60 ∷ 62 ∷ 78 ∷ []
-unfolding derivedImage derivedPolicy countFrom objectFile subjectProcess permitOf writerMixtures orAlone has atom normalImage
-    encode framed header pair containerBytes spanBytes spansOf bytesOf joined normalPolicy policyOf writtenBy
-    containerOf numberOf position numbered noted known uses placeUses meaning placeOf normalAt ruleAt unrestrictedRule
-    unrestricted sameList normal sort insert distinct elem unheldIn heldIn holds offset field numberIn
-image-offsets = refl
-
-pub image-sizes : map (size image) (0 ∷ 1 ∷ 2 ∷ 3 ∷ []) ≡ 42 ∷ 2 ∷ 16 ∷ 32 ∷ []
-unfolding derivedImage derivedPolicy countFrom objectFile subjectProcess permitOf writerMixtures orAlone has atom normalImage
-    encode framed header pair containerBytes spanBytes spansOf bytesOf joined normalPolicy policyOf writtenBy
-    containerOf numberOf position numbered noted known uses placeUses meaning placeOf normalAt ruleAt unrestrictedRule
-    unrestricted sameList normal sort insert distinct elem unheldIn heldIn holds size field numberIn
-image-sizes = refl

@@ -8,16 +8,16 @@ use native.Mathlib.Decide.{ℕ-discrete, decLt}
 use native.Mathlib.Nat.{div-lt-iff-lt-mul}
 use native.Mathlib.Omega.{arith}
 use lib.Pow.{pow-pos}
-use lib.Dec.{ltb}
+use lib.Dec.{eqb, ltb}
 use lib.ListN.{length, getD}
-use borrow.Author.Tests.{not-true, not-false, ltb-true, lt-ltb}
+use borrow.Author.Tests.{eqb-true, eq-eqb, not-true, not-false, ltb-true, lt-ltb}
 use Rattle.lists.proofs.Bools.{and-in, and-0, and-1, decide, clash, refuted, same-test}
 use Rattle.lists.specs.Lists.{every}
 use Rattle.lists.proofs.Every.{every-0, every-1, every-nil, every-cons}
-use Rattle.matrix.specs.Flows.{has, granted, Composed, composed, rowsGood, matrixGood}
+use Rattle.matrix.specs.Flows.{has, granted, Composed, composed, rowsWithin, matrixGood}
 use Rattle.matrix.specs.Verdicts.{countBelow, sumBelow, someBelow, ungranted, ungrantedFrom, flowCount, firstSource, firstTarget, consistent}
 use Rattle.matrix.specs.Rows.{bitAt, Closed}
-use Rattle.matrix.proofs.VerdictLaws.{good-parts, parts-good}
+use Rattle.matrix.proofs.GoodLaws.{good-parts, parts-good}
 use Rattle.matrix.proofs.BitLaws.{has-above, has-ext, has-at}
 use Rattle.matrix.proofs.PathLaws.{path-source, path-target, within-path, path-within}
 use Rattle.matrix.proofs.CountLaws.{Least, count-same, count-none, count-some, sum-same, sum-none, sum-some, some-at, least-some}
@@ -130,6 +130,12 @@ module _ (reads writes : List ℕ) (n : ℕ) where
           none : (a b : ℕ) → a < n → b < n → ungranted reads writes n a b ≡ false
           none a b p q = refuted (ungranted reads writes n a b) (λ u. clash h (flow-inconsistent a b (ungranted-flow a b p q .0 u)))
 
+  -- the count, as it is tested
+  pub count-zero : (count : ℕ) → count ≡ flowCount reads writes n → eqb count 0 ≡ consistent reads writes n
+  count-zero count e =
+      same-test (eqb count 0) (consistent reads writes n)
+      (λ h. count-consistent .0 (sym e ∙ eqb-true count 0 h)) (λ h. eq-eqb count 0 (e ∙ count-consistent .1 h))
+
 -- ---- the rows: no bit beyond the objects
 
 row-small : (n row : ℕ) → ((k : ℕ) → n ≤ k → has row k ≡ false) → row < 2 ^ n
@@ -140,8 +146,8 @@ row-small n row h =
     div-small : (a b : ℕ) → 0 < b → a / b ≡ 0 → a < b
     div-small a b p e = let l : a / b < 1 = omega arith in let m : a < 1 * b = div-lt-iff-lt-mul p .0 l in omega arith
 
-pub rows-exact : (n : ℕ) (rows : List ℕ) → (rowsGood n rows ≡ true) ↔ ((s k : ℕ) → n ≤ k → has (getD rows s 0) k ≡ false)
-unfolding rowsGood
+pub rows-exact : (n : ℕ) (rows : List ℕ) → (rowsWithin n rows ≡ true) ↔ ((s k : ℕ) → n ≤ k → has (getD rows s 0) k ≡ false)
+unfolding rowsWithin
 rows-exact n rows = (to rows, back rows)
   where
     to : (rows : List ℕ) → every (λ row. ltb row (2 ^ n)) rows ≡ true → (s k : ℕ) → n ≤ k → has (getD rows s 0) k ≡ false

@@ -14,7 +14,7 @@ use lib.ListN.{length, getD, drop, set, length-set, drop-of-length-le}
 use lib.Seq.{drop-cons, getD-set-same, getD-set-other}
 use borrow.Author.Tests.{lt-ltb, le-ltb}
 use Rattle.lists.specs.Lists.{every}
-use Rattle.matrix.specs.Flows.{has, subjectCarries, granted, within, rowsGood}
+use Rattle.matrix.specs.Flows.{has, subjectCarries, granted, within, rowsWithin}
 use Rattle.matrix.specs.Rows.{bitAt, Spelt, joinedAt, Passed}
 use Rattle.matrix.proofs.BitLaws.{has-is, has-not, has-or, has-single}
 
@@ -161,13 +161,13 @@ closing-end n before rows k c h =
 
 pub record Checking (objects : ℕ) (rows : List ℕ) (s : ℕ) : Type 0 where
   pub place : s ≤ length rows
-  pub rest : rowsGood objects (drop s rows) ≡ rowsGood objects rows
+  pub rest : rowsWithin objects (drop s rows) ≡ rowsWithin objects rows
 
 pub checking-start : (objects : ℕ) (rows : List ℕ) → Checking objects rows 0
 checking-start objects rows = record { place = omega arith; rest = refl }
 
-rows-next : (objects : ℕ) (rows : List ℕ) (s : ℕ) → s < length rows → rowsGood objects (drop s rows) ≡ (ltb (getD rows s 0) (2 ^ objects) && rowsGood objects (drop (s + 1) rows))
-unfolding rowsGood every
+rows-next : (objects : ℕ) (rows : List ℕ) (s : ℕ) → s < length rows → rowsWithin objects (drop s rows) ≡ (ltb (getD rows s 0) (2 ^ objects) && rowsWithin objects (drop (s + 1) rows))
+unfolding rowsWithin every
 rows-next objects rows s h = rw (drop-cons rows s 0 h, add-one)
 
 bound-is : (objects : ℕ) → objects ≤ 32 → 1 * 2 ^ objects % 2 ^ 64 ≡ 2 ^ objects
@@ -176,17 +176,17 @@ bound-is objects h = let l : objects < 64 = omega arith in ap (λ (x : ℕ). x %
 pub checking-next : (objects : ℕ) (rows : List ℕ) (s : ℕ) → objects ≤ 32 → Checking objects rows s → s < length rows → getD rows s 0 < 1 * 2 ^ objects % 2 ^ 64 → Checking objects rows (s + 1)
 checking-next objects rows s o c h t =
     let l : getD rows s 0 < 2 ^ objects = rw (bound-is objects o) at t in
-    let n : rowsGood objects (drop s rows) ≡ (ltb (getD rows s 0) (2 ^ objects) && rowsGood objects (drop (s + 1) rows)) = rows-next objects rows s h in
+    let n : rowsWithin objects (drop s rows) ≡ (ltb (getD rows s 0) (2 ^ objects) && rowsWithin objects (drop (s + 1) rows)) = rows-next objects rows s h in
     record { place = omega arith; rest = sym (rw (lt-ltb (getD rows s 0) (2 ^ objects) l) at n) ∙ c .rest }
 
-pub checking-bad : (objects : ℕ) (rows : List ℕ) (s : ℕ) → objects ≤ 32 → Checking objects rows s → s < length rows → 1 * 2 ^ objects % 2 ^ 64 ≤ getD rows s 0 → false ≡ rowsGood objects rows
+pub checking-bad : (objects : ℕ) (rows : List ℕ) (s : ℕ) → objects ≤ 32 → Checking objects rows s → s < length rows → 1 * 2 ^ objects % 2 ^ 64 ≤ getD rows s 0 → false ≡ rowsWithin objects rows
 checking-bad objects rows s o c h t =
     let l : 2 ^ objects ≤ getD rows s 0 = rw (bound-is objects o) at t in
-    let n : rowsGood objects (drop s rows) ≡ (ltb (getD rows s 0) (2 ^ objects) && rowsGood objects (drop (s + 1) rows)) = rows-next objects rows s h in
+    let n : rowsWithin objects (drop s rows) ≡ (ltb (getD rows s 0) (2 ^ objects) && rowsWithin objects (drop (s + 1) rows)) = rows-next objects rows s h in
     sym (rw (le-ltb (getD rows s 0) (2 ^ objects) l) at n) ∙ c .rest
 
-pub checking-end : (objects : ℕ) (rows : List ℕ) (s : ℕ) → Checking objects rows s → length rows ≤ s → true ≡ rowsGood objects rows
-unfolding rowsGood every
+pub checking-end : (objects : ℕ) (rows : List ℕ) (s : ℕ) → Checking objects rows s → length rows ≤ s → true ≡ rowsWithin objects rows
+unfolding rowsWithin every
 checking-end objects rows s c h = rw (drop-of-length-le rows h) at (c .rest)
 
 -- ---- row i of the granted flows, stored

@@ -1,22 +1,21 @@
 -- What is proved of an access matrix, stated in full. The proofs are in the files that are cited.
 use Prim.Native.Nat.{ℕ, _≤_, _<_}
-use mathlib.Core.Path.{_≡_, ap}
+use native.Mathlib.Omega.{arith}
+use mathlib.Core.Path.{_≡_, refl}
 use mathlib.Core.Bool.{Bool, true, false}
-use mathlib.Core.List.{List, [], _∷_, _++_, map}
+use mathlib.Core.List.{List, [], _∷_}
 use mathlib.Core.Logic.{_⊎_, _↔_}
-use lib.ListN.{length, getD, replicate}
-use Rattle.rules.specs.Rules.{normal}
-use Rattle.image.specs.Limits.{fileKind, processKind, noAtom}
-use Rattle.image.specs.Policy.{unrestrictedRule, Sound}
-use Rattle.image.specs.Image.{policyIn, checkOf}
-use Rattle.image.specs.Normal.{meaning, normalPolicy, encode, normalImage}
+use lib.ListN.{length, getD}
+use Rattle.lists.specs.Lists.{elem}
+use Rattle.lists.specs.Conditions.{Condition, firstFailed, numbersOf, numberAt, numbersGood}
+use Rattle.lists.proofs.Conditions.{given-exactly, given-none}
+use Rattle.answers.specs.Refusals.{matrix}
+use Rattle.matrix.specs.Limits.{subjectLimit, objectLimit}
 use Rattle.matrix.specs.Flows.{has, granted, Composed, composed, matrixGood}
-use Rattle.matrix.specs.Verdicts.{countBelow, sumBelow, flowCount, firstSource, firstTarget, consistent, verdictOf}
-use Rattle.matrix.specs.Derived.{permitOf, countFrom, derivedPolicy, derivedImage}
+use Rattle.matrix.specs.Verdicts.{countBelow, sumBelow, flowCount, firstSource, firstTarget, consistent, matrixConditions, matrixVerdict}
 use Rattle.matrix.specs.Rows.{Closed}
 use Rattle.matrix.proofs.FlowLaws as flows
 use Rattle.matrix.proofs.VerdictLaws as verdicts
-use Rattle.matrix.proofs.DerivedLaws as derived
 
 -- ---- which rows are a matrix: all but those refused by 8
 
@@ -25,9 +24,9 @@ pub matrix-good : (reads writes : List ℕ) (objects : ℕ) →
     (matrixGood reads writes objects ≡ true)
     ↔ ((length reads ≡ length writes)
     × (1 ≤ length reads)
-    × (length reads ≤ 8)
+    × (length reads ≤ subjectLimit)
     × (1 ≤ objects)
-    × (objects ≤ 32)
+    × (objects ≤ objectLimit)
     × ((s k : ℕ) → objects ≤ k → has (getD reads s 0) k ≡ false)
     × ((s k : ℕ) → objects ≤ k → has (getD writes s 0) k ≡ false))
 matrix-good = flows.good-exact
@@ -76,17 +75,38 @@ pub count-consistent : (reads writes : List ℕ) (objects : ℕ) →
     (flowCount reads writes objects ≡ 0) ↔ (consistent reads writes objects ≡ true)
 count-consistent = flows.count-consistent
 
--- each case of the verdict, and no other number
+-- ---- each case of the verdict, and no other number
+
+-- 8 exactly if the matrix is malformed
+pub verdict-8 : (reads writes : List ℕ) (objects : ℕ) → (matrixVerdict reads writes objects .number ≡ matrix) ↔ (matrixGood reads writes objects ≡ false)
+verdict-8 = verdicts.verdict-8
+
+pub verdict-among : (reads writes : List ℕ) (objects : ℕ) → elem (matrixVerdict reads writes objects .number) (0 ∷ 1 ∷ matrix ∷ []) ≡ true
+verdict-among = verdicts.verdict-among
+
+-- the conditions by themselves: refused by 8 exactly if malformed, by nothing exactly if not, and by no other number
+module _ (reads writes : List ℕ) (objects : ℕ) where
+  abbrev cs : List Condition
+  cs = matrixConditions reads writes objects
+
+  pub refused-8 : (firstFailed cs ≡ matrix) ↔ (matrixGood reads writes objects ≡ false)
+  unfolding matrixConditions numbersGood numbersOf numberAt elem
+  refused-8 = given-exactly cs refl 0 (omega arith)
+
+  pub refused-none : (firstFailed cs ≡ 0) ↔ (matrixGood reads writes objects ≡ true)
+  unfolding matrixConditions numbersGood numbersOf elem
+  refused-none = given-none cs refl
+
 pub verdict-refused : (reads writes : List ℕ) (objects : ℕ) → matrixGood reads writes objects ≡ false →
-    verdictOf reads writes objects ≡ record { number = 8; count = 0; source = 0; target = 0 }
+    matrixVerdict reads writes objects ≡ record { number = matrix; count = 0; source = 0; target = 0 }
 verdict-refused = verdicts.verdict-refused
 
 pub verdict-consistent : (reads writes : List ℕ) (objects : ℕ) → matrixGood reads writes objects ≡ true → consistent reads writes objects ≡ true →
-    verdictOf reads writes objects ≡ record { number = 0; count = 0; source = 0; target = 0 }
+    matrixVerdict reads writes objects ≡ record { number = 0; count = 0; source = 0; target = 0 }
 verdict-consistent = verdicts.verdict-consistent
 
 pub verdict-inconsistent : (reads writes : List ℕ) (objects : ℕ) → matrixGood reads writes objects ≡ true → consistent reads writes objects ≡ false →
-    verdictOf reads writes objects
+    matrixVerdict reads writes objects
     ≡ record {
       number = 1;
       count = flowCount reads writes objects;
@@ -94,40 +114,3 @@ pub verdict-inconsistent : (reads writes : List ℕ) (objects : ℕ) → matrixG
       target = firstTarget reads writes objects;
     }
 verdict-inconsistent = verdicts.verdict-inconsistent
-
--- ---- the derived policy
-
-module _ (reads writes : List ℕ) (objects : ℕ) (good : matrixGood reads writes objects ≡ true) where
-  -- an image can spell it
-  pub derived-sound : Sound (derivedPolicy reads writes objects)
-  derived-sound = derived.derived-sound reads writes objects (verdicts.good-parts reads writes objects good)
-
-  -- the plain image, which the code spells first, is accepted as this policy
-  pub plain-read : (checkOf (encode (derivedPolicy reads writes objects)) ≡ 0) × (policyIn (encode (derivedPolicy reads writes objects)) ≡ (derivedPolicy reads writes objects))
-  plain-read = derived.plain-read reads writes objects (verdicts.good-parts reads writes objects good)
-
-  -- its normal image is accepted, and decodes to the policy in normal form
-  pub derived-read : (checkOf (derivedImage reads writes objects) ≡ 0) × (policyIn (derivedImage reads writes objects) ≡ (normalPolicy (derivedPolicy reads writes objects)))
-  derived-read = derived.derived-read reads writes objects (verdicts.good-parts reads writes objects good)
-
-  -- which means what was stated: files with their atoms and permit rules, then processes; one unrestricted user
-  pub derived-means : meaning (normalPolicy (derivedPolicy reads writes objects))
-      ≡ record {
-        places =
-            map (λ b. record { kind = fileKind; atom = b; permit = normal (permitOf reads writes b); run = unrestrictedRule }) (countFrom 0 objects)
-            ++ replicate (length reads) (record { kind = processKind; atom = noAtom; permit = unrestrictedRule; run = unrestrictedRule });
-        users = unrestrictedRule ∷ [];
-      }
-  derived-means = derived.derived-means reads writes objects (verdicts.good-parts reads writes objects good)
-
-  -- it is its own normal image
-  pub derived-normal : normalImage (normalPolicy (derivedPolicy reads writes objects)) ≡ derivedImage reads writes objects
-  derived-normal = derived.derived-normal reads writes objects (verdicts.good-parts reads writes objects good)
-
-  -- the output holds it
-  pub derived-short : length (derivedImage reads writes objects) ≤ 18994
-  derived-short = derived.derived-short reads writes objects (verdicts.good-parts reads writes objects good)
-
-  -- no object is unrestricted: a permit rule speaks of data atoms only
-  pub derived-restricted : (b : ℕ) → b < objects → normal (permitOf reads writes b) ≡ unrestrictedRule → ⊥
-  derived-restricted b l e = derived.derived-restricted reads writes objects (verdicts.good-parts reads writes objects good) b l e

@@ -1,22 +1,26 @@
--- The loops that judge, the tests of a matrix, and the verdict from its parts.
+-- The loops that judge, and the verdict from its parts.
 use Prim.Native.Nat.{ℕ, _+_, _-_, _*_, _/_, _%_, _^_, _≤_, _<_}
 use mathlib.Core.Path.{_≡_, refl, sym, ap, ap₂, _∙_}
 use mathlib.Core.Bool.{Bool, true, false, not, _&&_, _||_}
+use mathlib.Core.Logic.{_⊎_, inl, inr, _↔_}
 use mathlib.Core.List.{List, [], _∷_}
 use native.Mathlib.Numerals.{add-one}
 use native.Mathlib.Omega.{arith}
 use lib.Bits.{bitAnd}
 use lib.Count.{ones, ones-le}
-use lib.Dec.{eqb, ltb, leb}
+use lib.Dec.{eqb, ltb}
 use lib.ListN.{length, getD}
-use borrow.Author.Tests.{eq-eqb, ne-eqb, le-leb, eqb-true, ltb-true, leb-true, not-true, not-false}
+use borrow.Author.Tests.{ne-eqb, ltb-true}
 use borrow.Author.Count.{below-more}
-use Rattle.lists.proofs.Bools.{and-in, and-0, and-1}
-use Rattle.lists.specs.Lists.{every}
+use Rattle.lists.proofs.Bools.{and-0, and-1, decide}
+use Rattle.lists.specs.Lists.{elem, every}
+use Rattle.lists.specs.Conditions.{firstFailed, _orRefuse_}
+use Rattle.lists.proofs.Conditions.{passed, failed, none-left}
+use Rattle.answers.specs.Refusals.{matrix}
 use Rattle.matrix.specs.declared.Consistency.{Consistency}
-use Rattle.matrix.specs.declared.Consistency.the-variants.{Consistent, Inconsistent}
-use Rattle.matrix.specs.Flows.{has, subjectCarries, granted, within, composed, rowsGood, counted, matrixGood}
-use Rattle.matrix.specs.Verdicts.{countBelow, sumBelow, leastBelow, ungranted, ungrantedFrom, flowCount, firstSource, firstTarget, consistent, judgedBy, valuesOf, verdictOf}
+use Rattle.matrix.specs.declared.Consistency.the-variants.{Refused, Consistent, Inconsistent}
+use Rattle.matrix.specs.Flows.{has, subjectCarries, granted, within, composed, rowsWithin, matrixGood}
+use Rattle.matrix.specs.Verdicts.{countBelow, sumBelow, leastBelow, ungranted, ungrantedFrom, flowCount, firstSource, firstTarget, consistent, judgedBy, ConsistencyValues, consistencyValues, matrixConditions, unlessRefused, matrixVerdict}
 use Rattle.matrix.specs.Rows.{bitAt, Spelt, Closed}
 use Rattle.matrix.proofs.BitLaws.{has-is, has-not, has-above, has-without}
 use Rattle.matrix.proofs.PathLaws.{within-same, within-none}
@@ -24,8 +28,8 @@ use Rattle.matrix.proofs.CountLaws.{count-same, count-front, ones-count
 
 -- ---- no flow goes beyond the objects
 
-carries-beyond : (reads writes : List ℕ) (n a b : ℕ) → rowsGood n writes ≡ true → n ≤ b → subjectCarries reads writes a b ≡ false
-unfolding subjectCarries rowsGood every
+carries-beyond : (reads writes : List ℕ) (n a b : ℕ) → rowsWithin n writes ≡ true → n ≤ b → subjectCarries reads writes a b ≡ false
+unfolding subjectCarries rowsWithin every
 carries-beyond [] writes n a b g h = refl
 carries-beyond (r ∷ reads) [] n a b g h = refl
 carries-beyond (r ∷ reads) (w ∷ writes) n a b g h =
@@ -38,13 +42,13 @@ carries-beyond (r ∷ reads) (w ∷ writes) n a b g h =
     by true = refl
     by false = refl
 
-granted-beyond : (reads writes : List ℕ) (n a b : ℕ) → rowsGood n writes ≡ true → a < n → n ≤ b → granted reads writes a b ≡ false
+granted-beyond : (reads writes : List ℕ) (n a b : ℕ) → rowsWithin n writes ≡ true → a < n → n ≤ b → granted reads writes a b ≡ false
 unfolding granted
 granted-beyond reads writes n a b g l h =
     let e : eqb a b ≡ false = ne-eqb a b (λ q. omega arith) in
     rw e (carries-beyond reads writes n a b g h)
 
-pub ungranted-beyond : (reads writes : List ℕ) (n a b : ℕ) → rowsGood n writes ≡ true → a < n → n ≤ b → ungranted reads writes n a b ≡ false
+pub ungranted-beyond : (reads writes : List ℕ) (n a b : ℕ) → rowsWithin n writes ≡ true → a < n → n ≤ b → ungranted reads writes n a b ≡ false
 unfolding ungranted composed
 ungranted-beyond reads writes n a b g l h =
     let e : within (granted reads writes) n a b ≡ false = within-none (granted reads writes) n n a b (omega arith) l (λ i m. granted-beyond reads writes n i b g m h) in
@@ -71,7 +75,7 @@ pub counting-start : (reads writes closure : List ℕ) (n : ℕ) → Closed read
 unfolding sumBelow
 counting-start reads writes closure n c = record { place = omega arith; few = c .few; small = omega arith; sum = refl }
 
-row-count : (reads writes : List ℕ) (n a row : ℕ) → n ≤ 32 → rowsGood n writes ≡ true → a < n → row < 2 ^ 32
+row-count : (reads writes : List ℕ) (n a row : ℕ) → n ≤ 32 → rowsWithin n writes ≡ true → a < n → row < 2 ^ 32
     → ((b : ℕ) → has row b ≡ ungranted reads writes n a b) → ones row ≡ countBelow (ungranted reads writes n a) n
 row-count reads writes n a row f g l p e =
     let w : n + (32 - n) ≡ 32 = omega arith in
@@ -160,7 +164,7 @@ searching-found reads writes n a b row count found s l e t =
 
 -- ---- the closure of the granted flows
 
-pub closed : (reads writes granting closure : List ℕ) (n : ℕ) → length writes ≡ length reads → n ≤ 32 → rowsGood n writes ≡ true
+pub closed : (reads writes granting closure : List ℕ) (n : ℕ) → length writes ≡ length reads → n ≤ 32 → rowsWithin n writes ≡ true
     → Spelt (granted reads writes) n granting → Spelt (within (bitAt granting) n) n closure → Closed reads writes n closure
 unfolding composed
 closed reads writes granting closure n e f g s t =
@@ -171,70 +175,51 @@ closed reads writes granting closure n e f g s t =
       spelt = record { fit = t .fit; bits = λ a b l. t .bits a b l ∙ within-same (bitAt granting) (granted reads writes) n n a b (omega arith) l (s .bits) };
     }
 
--- ---- a matrix that passes
-
-pub record Good (reads writes : List ℕ) (objects : ℕ) : Type 0 where
-  pub even : length writes ≡ length reads
-  pub few : objects ≤ 32
-  pub some : 1 ≤ objects
-  pub someSubjects : 1 ≤ length reads
-  pub subjects : length reads ≤ 8
-  pub readsGood : rowsGood objects reads ≡ true
-  pub writesGood : rowsGood objects writes ≡ true
-
-pub good-parts : (reads writes : List ℕ) (objects : ℕ) → matrixGood reads writes objects ≡ true → Good reads writes objects
-unfolding matrixGood counted
-good-parts reads writes objects h =
-    let h1 = and-1 (eqb (length reads) (length writes)) h in
-    let s = and-0 (counted 8 (length reads)) _ h1 in
-    let h2 = and-1 (counted 8 (length reads)) h1 in
-    let o = and-0 (counted 32 objects) _ h2 in
-    let h3 = and-1 (counted 32 objects) h2 in
-    record {
-      even = sym (eqb-true (length reads) (length writes) (and-0 (eqb (length reads) (length writes)) _ h));
-      few = leb-true objects 32 (and-1 (leb 1 objects) o);
-      some = leb-true 1 objects (and-0 (leb 1 objects) (leb objects 32) o);
-      someSubjects = leb-true 1 (length reads) (and-0 (leb 1 (length reads)) (leb (length reads) 8) s);
-      subjects = leb-true (length reads) 8 (and-1 (leb 1 (length reads)) s);
-      readsGood = and-0 (rowsGood objects reads) (rowsGood objects writes) h3;
-      writesGood = and-1 (rowsGood objects reads) h3;
-    }
-
-pub parts-good : (reads writes : List ℕ) (objects : ℕ) → length reads ≡ length writes → 1 ≤ length reads → length reads ≤ 8 → 1 ≤ objects → objects ≤ 32
-    → rowsGood objects reads ≡ true → rowsGood objects writes ≡ true → matrixGood reads writes objects ≡ true
-unfolding matrixGood counted
-parts-good reads writes objects e s t o p r w =
-    and-in (eq-eqb (length reads) (length writes) e)
-    (and-in (and-in (le-leb 1 (length reads) s) (le-leb (length reads) 8 t))
-    (and-in (and-in (le-leb 1 objects o) (le-leb objects 32 p)) (and-in r w)))
-
--- a test that code makes by a call, and its negation
-pub passes : {r x : Bool} → r ≡ x → not r ≡ false → x ≡ true
-passes {r} e h = sym e ∙ not-false r h
-
-pub fails : {r x : Bool} → r ≡ x → not r ≡ true → x ≡ false
-fails {r} e h = sym e ∙ not-true r h
-
-pub counted-most : (most n : ℕ) → counted most n ≡ true → n ≤ most
-unfolding counted
-counted-most most n h = leb-true n most (and-1 (leb 1 n) h)
-
 -- ---- the verdict
 
-pub verdict-is : (reads writes : List ℕ) (n count : ℕ) (v : Consistency) → matrixGood reads writes n ≡ true → count ≡ flowCount reads writes n
-    → v ≡ judgedBy count reads writes n → valuesOf v ≡ verdictOf reads writes n
-unfolding verdictOf
-verdict-is reads writes n count v g e f = ap valuesOf (f ∙ ap (λ (k : ℕ). judgedBy k reads writes n) e) ∙ sym (rw g)
+module _ (reads writes : List ℕ) (n : ℕ) where
+  passed-all : matrixGood reads writes n ≡ true → firstFailed (matrixConditions reads writes n) ≡ 0
+  unfolding matrixConditions
+  passed-all g = passed (matrixGood reads writes n orRefuse matrix) [] g ∙ none-left
 
-pub verdict-refused : (reads writes : List ℕ) (n : ℕ) → matrixGood reads writes n ≡ false → verdictOf reads writes n ≡ record { number = 8; count = 0; source = 0; target = 0 }
-unfolding verdictOf
-verdict-refused reads writes n g = rw g
+  failed-one : matrixGood reads writes n ≡ false → firstFailed (matrixConditions reads writes n) ≡ matrix
+  unfolding matrixConditions
+  failed-one g = failed (matrixGood reads writes n orRefuse matrix) [] g
 
-pub verdict-consistent : (reads writes : List ℕ) (n : ℕ) → matrixGood reads writes n ≡ true → consistent reads writes n ≡ true → verdictOf reads writes n ≡ record { number = 0; count = 0; source = 0; target = 0 }
-unfolding verdictOf judgedBy
-verdict-consistent reads writes n g c = rw (g, c)
+  pub verdict-is : (count : ℕ) (v : Consistency) → matrixGood reads writes n ≡ true → count ≡ flowCount reads writes n
+      → v ≡ judgedBy count reads writes n → consistencyValues v ≡ matrixVerdict reads writes n
+  unfolding matrixVerdict unlessRefused
+  verdict-is count v g e f = ap consistencyValues (f ∙ ap (λ (k : ℕ). judgedBy k reads writes n) e) ∙ sym (rw (passed-all g))
 
-pub verdict-inconsistent : (reads writes : List ℕ) (n : ℕ) → matrixGood reads writes n ≡ true → consistent reads writes n ≡ false
-    → verdictOf reads writes n ≡ record { number = 1; count = flowCount reads writes n; source = firstSource reads writes n; target = firstTarget reads writes n }
-unfolding verdictOf judgedBy
-verdict-inconsistent reads writes n g c = rw (g, c)
+  pub verdict-refused : matrixGood reads writes n ≡ false → matrixVerdict reads writes n ≡ consistencyValues Refused
+  unfolding matrixVerdict unlessRefused
+  verdict-refused g = rw (failed-one g)
+
+  pub verdict-consistent : matrixGood reads writes n ≡ true → consistent reads writes n ≡ true → matrixVerdict reads writes n ≡ consistencyValues Consistent
+  unfolding judgedBy
+  verdict-consistent g c = sym (verdict-is (flowCount reads writes n) Consistent g refl (sym (rw c)))
+
+  pub verdict-inconsistent : matrixGood reads writes n ≡ true → consistent reads writes n ≡ false
+      → matrixVerdict reads writes n ≡ consistencyValues (Inconsistent (flowCount reads writes n) (firstSource reads writes n) (firstTarget reads writes n))
+  unfolding judgedBy
+  verdict-inconsistent g c = sym (verdict-is (flowCount reads writes n) (Inconsistent (flowCount reads writes n) (firstSource reads writes n) (firstTarget reads writes n)) g refl (sym (rw c)))
+
+  -- 8 exactly if the matrix is malformed
+  pub verdict-8 : (matrixVerdict reads writes n .number ≡ matrix) ↔ (matrixGood reads writes n ≡ false)
+  verdict-8 = (λ e. on e (decide (matrixGood reads writes n)) (decide (consistent reads writes n)), λ g. ap (λ (v : ConsistencyValues). v .number) (verdict-refused g))
+    where
+      on : matrixVerdict reads writes n .number ≡ matrix → (matrixGood reads writes n ≡ true) ⊎ (matrixGood reads writes n ≡ false)
+          → (consistent reads writes n ≡ true) ⊎ (consistent reads writes n ≡ false) → matrixGood reads writes n ≡ false
+      on e (inr g) c = g
+      on e (inl g) (inl c) = absurd (omega (arith, e, ap (λ (v : ConsistencyValues). v .number) (verdict-consistent g c)))
+      on e (inl g) (inr c) = absurd (omega (arith, e, ap (λ (v : ConsistencyValues). v .number) (verdict-inconsistent g c)))
+
+  -- no other number is given than 0, 1 and this one
+  pub verdict-among : elem (matrixVerdict reads writes n .number) (0 ∷ 1 ∷ matrix ∷ []) ≡ true
+  verdict-among = on (decide (matrixGood reads writes n)) (decide (consistent reads writes n))
+    where
+      on : (matrixGood reads writes n ≡ true) ⊎ (matrixGood reads writes n ≡ false)
+          → (consistent reads writes n ≡ true) ⊎ (consistent reads writes n ≡ false) → elem (matrixVerdict reads writes n .number) (0 ∷ 1 ∷ matrix ∷ []) ≡ true
+      on (inr g) c = rw (verdict-refused g) (unfold elem in refl)
+      on (inl g) (inl c) = rw (verdict-consistent g c) (unfold elem in refl)
+      on (inl g) (inr c) = rw (verdict-inconsistent g c) (unfold elem in refl)

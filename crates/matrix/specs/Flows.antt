@@ -13,19 +13,19 @@ use Rattle.matrix.specs.Limits.{subjectLimit, objectLimit}
 -- ---- which numbers are a matrix
 
 -- no row has a bit beyond the objects
-unfoldable pub rowsGood : ℕ → List ℕ → Bool
-rowsGood objects rows = every (λ row. ltb row (2 ^ objects)) rows
+unfoldable pub rowsWithin : ℕ → List ℕ → Bool
+rowsWithin objects rows = every (λ row. ltb row (2 ^ objects)) rows
 
 -- a number from 1 to most
 unfoldable pub counted : ℕ → ℕ → Bool
 counted most n = leb 1 n && leb n most
 
--- what is not refused by 8: "row counts differ, counts, bit beyond the objects"
+-- a matrix: "row counts differ, counts, bit beyond the objects" is what it is refused for
 unfoldable pub matrixGood : List ℕ → List ℕ → ℕ → Bool
 matrixGood reads writes objects =
     eqb (length reads) (length writes)
     && (counted subjectLimit (length reads)
-    && (counted objectLimit objects && (rowsGood objects reads && rowsGood objects writes)))
+    && (counted objectLimit objects && (rowsWithin objects reads && rowsWithin objects writes)))
 
 -- ---- flows between objects
 

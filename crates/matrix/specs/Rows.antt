@@ -7,7 +7,7 @@ use mathlib.Core.List.{List}
 use lib.Bits.{bitOr}
 use lib.ListN.{length, getD}
 use Rattle.matrix.specs.Limits.{objectLimit}
-use Rattle.matrix.specs.Flows.{has, composed, rowsGood}
+use Rattle.matrix.specs.Flows.{has, composed, rowsWithin}
 
 -- bit b of row a
 unfoldable pub bitAt : List ℕ → ℕ → ℕ → Bool
@@ -31,5 +31,5 @@ pub record Passed (k n : ℕ) (before after : List ℕ) : Type 0 where
 pub record Closed (reads writes : List ℕ) (n : ℕ) (closure : List ℕ) : Type 0 where
   pub even : length writes ≡ length reads
   pub few : n ≤ objectLimit
-  pub good : rowsGood n writes ≡ true
+  pub good : rowsWithin n writes ≡ true
   pub spelt : Spelt (composed reads writes n) n closure

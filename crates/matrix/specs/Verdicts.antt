@@ -1,8 +1,9 @@
 -- The verdict on a matrix (the paper, "Matrix": "The verdict is consistent, or ..").
 use Prim.Native.Nat.{ℕ, zero, suc, _+_}
 use mathlib.Core.Bool.{Bool, false, not, cond, _&&_, _||_}
-use mathlib.Core.List.{List}
-use Rattle.matrix.specs.Limits.{matrixRefusal}
+use mathlib.Core.List.{List, [], _∷_}
+use Rattle.lists.specs.Conditions.{Condition, _orRefuse_, firstFailed}
+use Rattle.answers.specs.Refusals.{matrix}
 use Rattle.matrix.specs.Flows.{matrixGood, granted, composed}
 use Rattle.matrix.specs.declared.Consistency.{Consistency}
 use Rattle.matrix.specs.declared.Consistency.the-variants.{Refused, Consistent, Inconsistent}
@@ -55,20 +56,6 @@ firstTarget reads writes objects =
 unfoldable pub consistent : List ℕ → List ℕ → ℕ → Bool
 consistent reads writes objects = not (someBelow (ungrantedFrom reads writes objects) objects)
 
--- ---- the verdict in numbers: 0 consistent, 1 not, or the refusal; then count, source and target
-
-pub record Values : Type 0 where
-  pub number : ℕ
-  pub count : ℕ
-  pub source : ℕ
-  pub target : ℕ
-
--- the numbers of each case of the answer; "A refusal returns its number, zeros elsewhere"
-abbrev pub valuesOf : Consistency → Values
-valuesOf Refused = record { number = matrixRefusal; count = 0; source = 0; target = 0 }
-valuesOf Consistent = record { number = 0; count = 0; source = 0; target = 0 }
-valuesOf (Inconsistent count source target) = record { number = 1; count = count; source = source; target = target }
-
 -- a matrix that is not refused: "consistent, or the count .. and the pair"
 unfoldable pub judgedBy : ℕ → List ℕ → List ℕ → ℕ → Consistency
 judgedBy count reads writes objects =
@@ -76,9 +63,30 @@ judgedBy count reads writes objects =
     Consistent
     (Inconsistent count (firstSource reads writes objects) (firstTarget reads writes objects))
 
-unfoldable pub verdictOf : List ℕ → List ℕ → ℕ → Values
-verdictOf reads writes objects =
-    valuesOf
-    (cond (matrixGood reads writes objects)
-    (judgedBy (flowCount reads writes objects) reads writes objects)
-    Refused)
+-- ---- the verdict in numbers: 0 consistent, 1 not, or the refusal; then count, source and target
+
+pub record ConsistencyValues : Type 0 where
+  pub number : ℕ
+  pub count : ℕ
+  pub source : ℕ
+  pub target : ℕ
+
+-- the numbers of each case of the answer; "A refusal returns its number, zeros elsewhere"
+abbrev pub consistencyValues : Consistency → ConsistencyValues
+consistencyValues Refused = record { number = matrix; count = 0; source = 0; target = 0 }
+consistencyValues Consistent = record { number = 0; count = 0; source = 0; target = 0 }
+consistencyValues (Inconsistent count source target) = record { number = 1; count = count; source = source; target = target }
+
+-- what a matrix is refused for
+unfoldable pub matrixConditions : List ℕ → List ℕ → ℕ → List Condition
+matrixConditions reads writes objects = (matrixGood reads writes objects orRefuse matrix) ∷ []
+
+-- a refusal, or the verdict
+unfoldable pub unlessRefused : ℕ → Consistency → Consistency
+unlessRefused zero v = v
+unlessRefused (suc n) v = Refused
+
+unfoldable pub matrixVerdict : List ℕ → List ℕ → ℕ → ConsistencyValues
+matrixVerdict reads writes objects =
+    consistencyValues
+    (unlessRefused (firstFailed (matrixConditions reads writes objects)) (judgedBy (flowCount reads writes objects) reads writes objects))

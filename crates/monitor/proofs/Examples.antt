@@ -29,7 +29,7 @@ use Rattle.monitor.specs.Steps.{stepAsked, stepConditions, refusalOf, st
 use Rattle.monitor.specs.Runs.{stepOn, runAnswers}
 
 -- the eight bytes of a record
-abbrev recordOf : ℕ → ℕ → ℕ → ℕ → List ℕ
+abbrev pub recordOf : ℕ → ℕ → ℕ → ℕ → List ℕ
 recordOf c p o u = c ∷ 0 ∷ bytesOf 2 p ++ (bytesOf 2 o ++ bytesOf 2 u)
 
 abbrev file : ℕ → ℕ → Container
@@ -39,7 +39,7 @@ abbrev process : Container
 process = record { kind = processKind; atom = noAtom; permit = unrestrictedNumber; run = unrestrictedNumber }
 
 -- two files with the atoms 1 and 2, a file that names none, two processes and a user, all rules unrestricted
-abbrev P : Policy
+abbrev pub P : Policy
 P = record {
   containers = file 1 unrestrictedNumber ∷ file 2 unrestrictedNumber ∷ file noAtom unrestrictedNumber ∷ process ∷ process ∷ [];
   users = unrestrictedNumber ∷ [];
@@ -47,7 +47,7 @@ P = record {
 }
 
 -- two files whose run rules have the mixtures 62, 61, 59 and 55, 47, 31, and a process
-abbrev Q : Policy
+abbrev pub Q : Policy
 Q = record { containers = file noAtom 0 ∷ file noAtom 1 ∷ process ∷ []; users = []; rules = (62 ∷ 61 ∷ 59 ∷ []) ∷ (55 ∷ 47 ∷ 31 ∷ []) ∷ [] }
 
 -- the derived policy of document 000's matrix: four files, three processes and a user

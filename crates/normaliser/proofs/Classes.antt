@@ -16,7 +16,7 @@ use Rattle.image.specs.Policy.{unrestrictedRule, ruleAt, named}
 use Rattle.image.specs.Normal.{known, noted, numbered, position, numberOf}
 use Rattle.lists.proofs.Every.{every-0, every-1, every-nil, every-cons, every-append}
 use Rattle.image.proofs.Numbering.{settled, number-rule}
-use Rattle.normaliser.specs.Tables.{placed, placedAll, indexOf, placeIn}
+use Rattle.normaliser.specs.Tables.{withClass, withClasses, indexOf, placeIn}
 
 known-at : (rules : List (List ℕ)) (n : ℕ) → n < length rules → known (getD rules n []) rules ≡ true
 unfolding known
@@ -36,7 +36,7 @@ settled-at rules k h = by (eqb k unrestrictedNumber) h
         or-1 (sameList (getD rules k []) unrestrictedRule) (known (getD rules k []) rules)
         (known-at rules k (⊎-elim (λ p. ltb-true k (length rules) p) (λ p. clash p refl) (or-cases (ltb k (length rules)) e)))
 
-module _ (F : List (List ℕ)) (few : length F ≤ 256) where
+module _ (F : List (List ℕ)) (few : length F ≤ unrestrictedNumber) where
   -- the numbers of two rules are the same just if the rules are
   pub number-same : (r s : List ℕ) → settled F r ≡ true → settled F s ≡ true → eqb (numberOf F r) (numberOf F s) ≡ sameList r s
   number-same r s h k =
@@ -72,9 +72,9 @@ module _ (F : List (List ℕ)) (few : length F ≤ 256) where
   unfolding placeIn
   place-number r T h k = ap₂ (λ (b : Bool) (n : ℕ). cond b (suc n) 0) (elem-known r T h k) (index-position r T h k)
 
-  placed-noted : (r : List ℕ) (T : List (List ℕ)) → settled F r ≡ true → every (settled F) T ≡ true → placed (map (numberOf F) T) (numberOf F r) ≡ map (numberOf F) (noted T r)
-  unfolding placed noted
-  placed-noted r T h k =
+  with-class-noted : (r : List ℕ) (T : List (List ℕ)) → settled F r ≡ true → every (settled F) T ≡ true → withClass (map (numberOf F) T) (numberOf F r) ≡ map (numberOf F) (noted T r)
+  unfolding withClass noted
+  with-class-noted r T h k =
       ap₂ (λ (a b : Bool). cond (a || b) (map (numberOf F) T) (map (numberOf F) T ++ (numberOf F r ∷ []))) (number-unrestricted r h) (elem-known r T h k)
       ∙ by (sameList r unrestrictedRule || known r T)
     where
@@ -94,12 +94,12 @@ module _ (F : List (List ℕ)) (few : length F ≤ 256) where
       by true = k
       by false = every-append (settled F) T (r ∷ []) k (every-cons (settled F) r [] h (every-nil (settled F)))
 
-  pub all-numbered : (rs T : List (List ℕ)) → every (settled F) rs ≡ true → every (settled F) T ≡ true → placedAll (map (numberOf F) T) (map (numberOf F) rs) ≡ map (numberOf F) (numbered T rs)
-  unfolding placedAll numbered
+  pub all-numbered : (rs T : List (List ℕ)) → every (settled F) rs ≡ true → every (settled F) T ≡ true → withClasses (map (numberOf F) T) (map (numberOf F) rs) ≡ map (numberOf F) (numbered T rs)
+  unfolding withClasses numbered
   all-numbered [] T h k = refl
   all-numbered (r ∷ rs) T h k =
       let a : settled F r ≡ true = every-0 (settled F) r rs h in
-      ap (λ (t : List ℕ). placedAll t (map (numberOf F) rs)) (placed-noted r T a k) ∙ all-numbered rs (noted T r) (every-1 (settled F) r rs h) (noted-settled r T a k)
+      ap (λ (t : List ℕ). withClasses t (map (numberOf F) rs)) (with-class-noted r T a k) ∙ all-numbered rs (noted T r) (every-1 (settled F) r rs h) (noted-settled r T a k)
 
 -- no unrestricted rule is written
 unfoldable pub restricted : List ℕ → Bool

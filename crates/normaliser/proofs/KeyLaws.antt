@@ -1,8 +1,8 @@
 -- Keys of rules: which rule is the first of its class.
 use Prim.Native.Nat.{ℕ, zero, suc, _+_, _-_, _*_, _/_, _%_, _^_, _≤_, _<_}
-use mathlib.Core.Path.{_≡_, sym, ap, _∙_}
-use mathlib.Core.Bool.{true, false, cond}
-use mathlib.Core.List.{List, _∷_}
+use mathlib.Core.Path.{_≡_, refl, sym, ap, _∙_}
+use mathlib.Core.Bool.{Bool, true, false, cond}
+use mathlib.Core.List.{List, [], _∷_}
 use native.Mathlib.Omega.{arith}
 use native.Mathlib.Decide.{ℕ-discrete}
 use native.Mathlib.Nat.{suc-mul, mul-le-mul-right}
@@ -17,11 +17,17 @@ use Rattle.image.specs.Limits.{unrestrictedNumber}
 use Rattle.fields.specs.Bytes.{records}
 use Rattle.image.specs.Policy.{unrestrictedRule}
 use Rattle.image.specs.Normal.{position}
-use Rattle.rule_words.specs.Words.{ruleOf}
-use Rattle.normaliser.specs.Tables.{wordsAt, formAt, classOf, Classified}
-use Rattle.normaliser.specs.Keys.{mixed, spread, keyOf, Keyed}
-use Rattle.normaliser.proofs.Finish.{zeros-at}
-use Rattle.normaliser.proofs.Seeking.{Seeking, seek-start, seek-next, seek-end}
+use Rattle.rule_words.specs.Words.{ruleWidth, ruleOf}
+use Rattle.fields.proofs.RecordLaws.{records-count}
+use Rattle.normaliser.specs.Writer.{useLimit}
+use Rattle.normaliser.specs.Tables.{formAt, classOf, Classified}
+use Rattle.normaliser.specs.Keys.{wordsAt, mixed, keyLimit, spread, keyOf, Keyed}
+use Rattle.normaliser.proofs.FirstEqual.{Seeking, seek-start, seek-next, seek-end}
+
+pub zeros-at : (n v : ℕ) → _≡_ {A = ℕ} (getD (replicate n 0) v 0) 0
+zeros-at zero v = refl
+zeros-at (suc n) zero = refl
+zeros-at (suc n) (suc v) = zeros-at n v
 
 -- ---- the words, one after the other
 
@@ -45,7 +51,7 @@ key-product : (x n : ℕ) → x < 2 ^ 32 → x * n + n ≤ 2 ^ 32 * n
 key-product x n l = let q : suc x * n ≤ 2 ^ 32 * n = mul-le-mul-right n l in omega (arith, suc-mul x n)
 
 module _ (h n : ℕ) where
-  pub key-fits : n ≤ 4096 → (h / 4294967296 + h % 4294967296) % 4294967296 * 2654435761 % 4294967296 * n < 2 ^ 64
+  pub key-fits : n ≤ keyLimit → (h / 4294967296 + h % 4294967296) % 4294967296 * 2654435761 % 4294967296 * n < 2 ^ 64
   unfolding spread
   key-fits l = omega (arith, key-product (spread h) n (spread-small h))
 
@@ -59,7 +65,7 @@ module _ (h n : ℕ) where
 
 -- ---- the table
 
-pub keyed-start : (forms : List ℕ) (n : ℕ) → 0 < n → n ≤ 4096 → Keyed forms (replicate n 0) 0
+pub keyed-start : (forms : List ℕ) (n : ℕ) → 0 < n → n ≤ keyLimit → Keyed forms (replicate n 0) 0
 keyed-start forms n s f =
     record {
       some = omega (arith, length-replicate {A = ℕ} n 0);
@@ -112,7 +118,7 @@ module _ (forms keys : List ℕ) (k h : ℕ) (g : Keyed forms keys k) (e : h ≡
         (λ s. let q : keyOf (length keys) (wordsAt forms j) ≡ h = ap (keyOf (length keys)) (sym (same-eq (wordsAt forms k) (wordsAt forms j) s)) ∙ sym e in
         omega (arith, z, ap (λ (x : ℕ). getD keys x 0) q, g .seen j m)))
 
-    module _ (b : k < length forms / 9) where
+    module _ (b : k < length forms / ruleWidth) where
       seeks : (j : ℕ) → j ≤ k → Seeking forms k j
       seeks zero m = seek-start forms k
       seeks (suc j) m = rw (add-one j) at (seek-next forms k j b (seeks j (omega arith)) (omega arith) (unlike j (omega arith)))
@@ -141,6 +147,24 @@ same-class forms j k e = rw e
 pub class-old : (forms classes : List ℕ) (j k : ℕ) → Classified forms classes k → j < k → true ≡ sameList (wordsAt forms k) (wordsAt forms j) → getD classes j 0 ≡ classOf forms k
 class-old forms classes j k t l s = t .is j l ∙ same-class forms j k (same-eq (wordsAt forms k) (wordsAt forms j) (sym s))
 
-pub class-sought : (forms : List ℕ) (k r first : ℕ) → r ≡ cond (sameList (ruleOf (wordsAt forms k)) unrestrictedRule) unrestrictedNumber first → first ≡ position (wordsAt forms k) (records 9 forms) → r ≡ classOf forms k
+pub class-sought : (forms : List ℕ) (k r first : ℕ) → r ≡ cond (sameList (ruleOf (wordsAt forms k)) unrestrictedRule) unrestrictedNumber first → first ≡ position (wordsAt forms k) (records ruleWidth forms) → r ≡ classOf forms k
 unfolding classOf formAt
 class-sought forms k r first e f = e ∙ ap (cond (sameList (ruleOf (wordsAt forms k)) unrestrictedRule) unrestrictedNumber) f
+
+-- a class is a number of 16 bits
+position-most : (r : List ℕ) (t : List (List ℕ)) → position r t ≤ length t
+unfolding position
+position-most r [] = omega arith
+position-most r (x ∷ t) = by (sameList r x) (position-most r t)
+  where
+    by : (b : Bool) → position r t ≤ length t → cond b 0 (suc (position r t)) ≤ suc (length t)
+    by true h = omega arith
+    by false h = omega arith
+
+pub class-fits : (forms : List ℕ) (k : ℕ) → length forms / ruleWidth ≤ useLimit → classOf forms k < 2 ^ 16
+unfolding classOf
+class-fits forms k l = by (sameList (formAt forms k) unrestrictedRule)
+  where
+    by : (b : Bool) → cond b unrestrictedNumber (position (wordsAt forms k) (records ruleWidth forms)) < 2 ^ 16
+    by true = omega arith
+    by false = omega (arith, position-most (wordsAt forms k) (records ruleWidth forms), records-count ruleWidth forms)

@@ -1,11 +1,16 @@
-pub mod Laying
-pub mod Ordering
+-- WriterLaws is the file that other producers of a policy cite. Theorems is the file to read. The others serve inside.
+pub mod Theorems
+pub mod WriterLaws
+pub mod AnswerLaws
+pub mod FirstEqual
+pub mod FormLaws
 pub mod Classes
-pub mod TableLaws
-pub mod Whole
-pub mod Seeking
 pub mod KeyLaws
-pub mod Reading
-pub mod Spans
-pub mod Assembly
-pub mod Finish
+pub mod FirstUse
+pub mod SectionRows
+pub mod RuleRows
+pub mod ImageBytes
+pub mod NewNumbers
+pub mod TableImage
+pub mod FormRows
+pub mod NormalCases

@@ -3,8 +3,12 @@
 use Prim.Native.Nat.{ℕ, _+_, _*_, _/_, _%_, _^_, _≤_, _<_}
 use mathlib.Core.List.{List, [], _∷_}
 use lib.Bits.{bitOr, bitXor}
-use lib.ListN.{length, getD}
-use Rattle.normaliser.specs.Tables.{wordsAt}
+use lib.ListN.{length, getD, take, drop}
+use Rattle.rule_words.specs.Words.{ruleWidth}
+
+-- the words of rule k
+unfoldable pub wordsAt : List ℕ → ℕ → List ℕ
+wordsAt forms k = take ruleWidth (drop (k * ruleWidth) forms)
 
 -- the words go into h one after the other: h is rotated, then takes the word's bits
 unfoldable pub mixed : ℕ → List ℕ → ℕ
@@ -18,6 +22,10 @@ spread h = (h / 2 ^ 32 + h % 2 ^ 32) % 2 ^ 32 * 2654435761 % 2 ^ 32
 -- the most keys of a table
 abbrev pub keyLimit : ℕ
 keyLimit = 4096
+
+-- how many keys the large table has
+abbrev pub manyKeys : ℕ
+manyKeys = 1024
 
 -- the key of the words among n
 unfoldable pub keyOf : ℕ → List ℕ → ℕ

@@ -1,27 +1,38 @@
 -- The normaliser: its answer, and the output afterwards (the paper, "Normal image" and "Refused because of the input").
-use Prim.Native.Nat.{ℕ}
-use mathlib.Core.Bool.{cond}
-use mathlib.Core.List.{List, _++_}
-use lib.Dec.{eqb, ltb}
-use lib.ListN.{length, drop}
+use Prim.Native.Nat.{ℕ, zero, suc}
+use mathlib.Core.List.{List, _∷_}
+use lib.Dec.{leb}
+use lib.ListN.{length}
+use Rattle.lists.specs.Conditions.{Condition, _orRefuse_, firstFailed}
+use Rattle.answers.specs.Refusals.{lentLength}
+use Rattle.fields.specs.Writing.{overwritten}
 use Rattle.image.specs.Limits.{outputBound}
-use Rattle.image.specs.Image.{policyIn, checkOf}
+use Rattle.image.specs.Image.{policyIn, imageConditions}
 use Rattle.image.specs.Normal.{normalImage}
 
--- "9 .. output (of normaliser or derived policy) under 18,994 bytes"
-abbrev pub outputRefusal : ℕ
-outputRefusal = 9
+-- ---- what is answered where an image is to be written: the refusal, or with none the length of the image
 
--- s at the front of the output: "those behind the image stay"
-unfoldable pub written : List ℕ → List ℕ → List ℕ
-written s out = s ++ drop (length s) out
+unfoldable pub lengthUnless : ℕ → List ℕ → ℕ
+lengthUnless zero s = length s
+lengthUnless (suc n) s = suc n
 
--- 9, or the refusal of the image, or the length of the normal image
+-- "those behind the image stay"; "A refusal .. changes no lent memory."
+unfoldable pub writtenUnless : ℕ → List ℕ → List ℕ → List ℕ
+writtenUnless zero s out = overwritten s 0 out
+writtenUnless (suc n) s out = out
+
+-- ---- the normaliser
+
+-- "9 .. output (of normaliser or derived policy) under 18,994 bytes", then those of the image
+unfoldable pub normalConditions : List ℕ → List ℕ → List Condition
+normalConditions i out = (leb outputBound (length out) orRefuse lentLength) ∷ imageConditions i
+
+-- 0 for none
+unfoldable pub normalRefusal : List ℕ → List ℕ → ℕ
+normalRefusal i out = firstFailed (normalConditions i out)
+
 unfoldable pub normalAnswer : List ℕ → List ℕ → ℕ
-normalAnswer i out =
-    cond (ltb (length out) outputBound) outputRefusal (cond (eqb (checkOf i) 0) (length (normalImage (policyIn i))) (checkOf i))
+normalAnswer i out = lengthUnless (normalRefusal i out) (normalImage (policyIn i))
 
--- "A refusal .. changes no lent memory."
 unfoldable pub normalEffect : List ℕ → List ℕ → List ℕ
-normalEffect i out =
-    cond (ltb (length out) outputBound) out (cond (eqb (checkOf i) 0) (written (normalImage (policyIn i)) out) out)
+normalEffect i out = writtenUnless (normalRefusal i out) (normalImage (policyIn i)) out

@@ -1,77 +1,60 @@
-// The normaliser: the normal image of a policy (the paper, "Policy image").
+// The normaliser, and the writer of normal images that it and other producers of a policy call (the paper, "Policy image").
 ghost use mathlib.Core.Path.{_≡_};
 ghost use mathlib.Core.Bool.{true, cond};
-ghost use mathlib.Core.List.{[], _++_, map};
-ghost use Prim.Native.Nat.{ℕ, _+_, _*_, _/_, _≤_, _<_};
-ghost use lib.ListN.{length, getD, take};
-ghost use Rattle.rules.specs.Rules.{normal};
+ghost use mathlib.Core.List.{[], map};
+ghost use Prim.Native.Nat.{_+_, _*_, _/_, _≤_, _<_};
+ghost use lib.ListN.{length, take};
 ghost use Rattle.lists.specs.Lists.{sameList, joined, every};
+ghost use Rattle.fields.specs.Bytes.{records};
+ghost use Rattle.fields.specs.Writing.{Wrote};
 ghost use Rattle.image.specs.Limits.{unrestrictedNumber, containerSize, userSize, ruleSize, mixtureSize, headerSize, outputBound};
-ghost use Rattle.fields.specs.Bytes.{bytesOf, records};
-ghost use Rattle.image.specs.Policy.{unrestrictedRule, named, Sound};
+ghost use Rattle.image.specs.Policy.{unrestrictedRule};
 ghost use Rattle.image.specs.Image.{containersIn, usersIn, spansIn, rulesIn, spansGood};
-ghost use Rattle.image.specs.Normal.{position, containerBytes, spanBytes, framed, normalImage};
-ghost use Rattle.rule_words.specs.Words.{ruleWidth, ruleOf, wordsOf};
+ghost use Rattle.image.specs.Normal.{position, containerBytes, framed, normalImage};
+ghost use Rattle.rule_words.specs.Words.{ruleWidth, ruleOf};
 ghost use Rattle.normaliser.specs.Normaliser.{normalAnswer, normalEffect};
-ghost use Rattle.normaliser.specs.Keys.{mixed, keyLimit, keyOf, Keyed};
-ghost use Rattle.normaliser.specs.Tables.{wordsAt, formAt, formGood, classOf, Classified, classAt, classNamed, containerUses, placed, placedAll, Ordered, numberAt, found, policyAt, policyFrom, headerFields, Grown, containerBytesAt, userBytes, spanBytesAt, mixtureBytes, Writable, Written, Tabled};
+ghost use Rattle.normaliser.specs.Writer.{useLimit, containerUses, policyGiven, policyAt, formWords, Tabled, Answered};
+ghost use Rattle.normaliser.specs.Keys.{wordsAt, mixed, keyLimit, keyOf, Keyed};
+ghost use Rattle.normaliser.specs.Tables.{formAt, formGood, classOf, Classified, classAt, classNamed, withClass, withClasses, Ordered, Placeable, newNumber, found, Cleared, fewRules};
+ghost use Rattle.normaliser.specs.Sections.{pairSize, pairBytes, headerBytes, containerSection, userSection, ruleSection, mixtureBytes, mixtureSection, Writable, SectionsAccepted};
 
-// The bytes that an output has at least, and the refusal of a shorter one.
+// The bytes that an output has at least.
 pub const OUTPUT_BOUND: usize = 18994;
 
-pub const OUTPUT_REFUSAL: u32 = 9;
+// The most uses of a rule: two for each container, one for each user. A policy has no more rules to write.
+pub const USE_LIMIT: usize = 528;
 
-// The most rules for which small tables do.
+// The most rules for which small tables do, and how many keys the large tables have.
 const FEW_RULES: usize = 16;
+
+const KEYS: usize = 1024;
 
 // ---- records
 
-// The 2 bytes of a number.
-fn put16(out: &mut [u8], v: usize)
-    requires { ⌜ length (now out) ≡ 2 ⌝ }
-    ensures { λ _. ⌜ now (out .exit) ≡ bytesOf 2 v ⌝ }
+// Two numbers of 16 bits: a rule record, or the offset and length of a section.
+fn put_pair(out: &mut [u8], at: usize, a: usize, b: usize) -> usize
+    requires { ⌜ at + pairSize ≤ length (now out) ⌝ }
+    ensures { λ r. ⌜ Wrote (pairBytes a b) (now (out .entry)) (now (out .exit)) at r ⌝ }
 {
-    out[0] = (v % 256) as u8;
-    out[1] = (v / 256 % 256) as u8;
-}
-
-// The 8 bytes of a mixture.
-fn put64(out: &mut [u8], v: u64)
-    requires { ⌜ length (now out) ≡ mixtureSize ⌝ }
-    ensures { λ _. ⌜ now (out .exit) ≡ bytesOf 8 v ⌝ }
-{
-    out[0] = (v % 256) as u8;
-    out[1] = (v / 256 % 256) as u8;
-    out[2] = (v / 256 / 256 % 256) as u8;
-    out[3] = (v / 256 / 256 / 256 % 256) as u8;
-    out[4] = (v / 256 / 256 / 256 / 256 % 256) as u8;
-    out[5] = (v / 256 / 256 / 256 / 256 / 256 % 256) as u8;
-    out[6] = (v / 256 / 256 / 256 / 256 / 256 / 256 % 256) as u8;
-    out[7] = (v / 256 / 256 / 256 / 256 / 256 / 256 / 256 % 256) as u8;
-}
-
-// A rule record.
-fn put_span(out: &mut [u8], first: usize, count: usize)
-    requires { ⌜ length (now out) ≡ ruleSize ⌝ }
-    ensures { λ _. ⌜ now (out .exit) ≡ spanBytes (record { first = first; count = count }) ⌝ }
-{
-    out[0] = (first % 256) as u8;
-    out[1] = (first / 256 % 256) as u8;
-    out[2] = (count % 256) as u8;
-    out[3] = (count / 256 % 256) as u8;
+    let next = fields::put16(out, at, a);
+    fields::put16(out, next, b)
 }
 
 // A container record.
-fn put_container(out: &mut [u8], kind: usize, atom: usize, permit: usize, run: usize)
-    requires { ⌜ length (now out) ≡ containerSize ⌝ }
-    ensures { λ _. ⌜ now (out .exit) ≡ containerBytes (record { kind = kind; atom = atom; permit = permit; run = run }) ⌝ }
+pub fn put_container(
+    out: &mut [u8],
+    at: usize,
+    kind: usize,
+    atom: usize,
+    permit: usize,
+    run: usize,
+) -> usize
+    requires { ⌜ at + containerSize ≤ length (now out) ⌝ }
+    ensures { λ r. ⌜ Wrote (containerBytes (record { kind = kind; atom = atom; permit = permit; run = run })) (now (out .entry)) (now (out .exit)) at r ⌝ }
 {
-    out[0] = (kind % 256) as u8;
-    out[1] = (atom % 256) as u8;
-    out[2] = (permit % 256) as u8;
-    out[3] = (permit / 256 % 256) as u8;
-    out[4] = (run % 256) as u8;
-    out[5] = (run / 256 % 256) as u8;
+    let a = fields::put8(out, at, kind);
+    let b = fields::put8(out, a, atom);
+    put_pair(out, b, permit, run)
 }
 
 // ---- classes of equal rules
@@ -143,7 +126,7 @@ fn key(words: &[u64], n: usize) -> usize
 }
 
 // The class of rule k, given those before it. A rule before it with its key is looked at first; without one it is the first of its class.
-fn class_of(forms: &[u64], classes: &[u64], keys: &mut [u64], k: usize) -> usize
+fn class_of(forms: &[u64], classes: &[u16], keys: &mut [u16], k: usize) -> usize
     requires { ⌜ (k < length (now forms) / ruleWidth) × Classified (now forms) (now classes) k × Keyed (now forms) (now keys) k ⌝ }
     ensures { λ r. ⌜ (r ≡ classOf (now (forms .entry)) k) × Keyed (now (forms .entry)) (now (keys .exit)) (k + 1) ⌝ }
 {
@@ -151,7 +134,7 @@ fn class_of(forms: &[u64], classes: &[u64], keys: &mut [u64], k: usize) -> usize
     let h = key(&forms[a..a + rule_words::RULE_WIDTH], keys.len());
     let j = keys[h] as usize;
     if j == 0 {
-        keys[h] = (k + 1) as u64;
+        keys[h] = (k + 1) as u16;
         return class_by(&forms[a..a + rule_words::RULE_WIDTH], k);
     }
     let b = (j - 1) * rule_words::RULE_WIDTH;
@@ -165,15 +148,15 @@ fn class_of(forms: &[u64], classes: &[u64], keys: &mut [u64], k: usize) -> usize
 }
 
 // The class of each rule.
-fn classify(forms: &[u64], classes: &mut [u64], keys: &mut [u64])
-    requires { ⌜ (length (now forms) / ruleWidth ≤ length (now classes)) × Keyed (now forms) (now keys) 0 ⌝ }
+fn classify(forms: &[u64], classes: &mut [u16], keys: &mut [u16])
+    requires { ⌜ (length (now forms) / ruleWidth ≤ length (now classes)) × (length (now classes) ≤ useLimit) × Keyed (now forms) (now keys) 0 ⌝ }
     ensures { λ _. ⌜ Classified (now (forms .entry)) (now (classes .exit)) (length (now (forms .entry)) / ruleWidth) ⌝ }
 {
     let n = forms.len() / rule_words::RULE_WIDTH;
     let mut k: usize = 0;
     while k < n {
         let v = class_of(forms, classes, keys, k);
-        classes[k] = v as u64;
+        classes[k] = v as u16;
         k += 1;
     }
 }
@@ -181,9 +164,9 @@ fn classify(forms: &[u64], classes: &mut [u64], keys: &mut [u64])
 // ---- classes by first use
 
 // The class of rule number k takes the next place, unless it is the unrestricted one or has a place: how many places are taken.
-fn place(classes: &[u64], order: &mut [u64], places: &mut [u64], m: usize, k: usize) -> usize
-    requires { ⌜ (named (length (now classes)) k ≡ true) × (named (length (now places)) (classAt (now classes) k) ≡ true) × (length (placed (take m (now order)) (classAt (now classes) k)) ≤ length (now order)) × Ordered (now order) (now places) m ⌝ }
-    ensures { λ r. ⌜ (take r (now (order .exit)) ≡ placed (take m (now (order .entry))) (classAt (now (classes .entry)) k)) × Ordered (now (order .exit)) (now (places .exit)) r ⌝ }
+fn place(classes: &[u16], order: &mut [u16], places: &mut [u16], m: usize, k: usize) -> usize
+    requires { ⌜ Placeable (now classes) (now order) (now places) m k ⌝ }
+    ensures { λ r. ⌜ (take r (now (order .exit)) ≡ withClass (take m (now (order .entry))) (classAt (now (classes .entry)) k)) × Ordered (now (order .exit)) (now (places .exit)) r ⌝ }
 {
     if k == image::UNRESTRICTED_NUMBER {
         return m;
@@ -195,20 +178,20 @@ fn place(classes: &[u64], order: &mut [u64], places: &mut [u64], m: usize, k: us
     if places[v] != 0 {
         return m;
     }
-    order[m] = v as u64;
-    places[v] = (m + 1) as u64;
+    order[m] = v as u16;
+    places[v] = (m + 1) as u16;
     m + 1
 }
 
 // The classes of the containers' rules, permit then run.
 fn place_containers(
     containers: &[u8],
-    classes: &[u64],
-    order: &mut [u64],
-    places: &mut [u64],
+    classes: &[u16],
+    order: &mut [u16],
+    places: &mut [u16],
 ) -> usize
-    requires { ⌜ (every (classNamed (now classes) (length (now places))) (containerUses (containersIn (now containers))) ≡ true) × (length (placedAll [] (map (classAt (now classes)) (containerUses (containersIn (now containers))))) ≤ length (now order)) × Ordered (now order) (now places) 0 ⌝ }
-    ensures { λ r. ⌜ (take r (now (order .exit)) ≡ placedAll [] (map (classAt (now (classes .entry))) (containerUses (containersIn (now (containers .entry)))))) × Ordered (now (order .exit)) (now (places .exit)) r ⌝ }
+    requires { ⌜ (every (classNamed (now classes) (length (now places))) (containerUses (containersIn (now containers))) ≡ true) × (length (withClasses [] (map (classAt (now classes)) (containerUses (containersIn (now containers))))) ≤ length (now order)) × Ordered (now order) (now places) 0 ⌝ }
+    ensures { λ r. ⌜ (take r (now (order .exit)) ≡ withClasses [] (map (classAt (now (classes .entry))) (containerUses (containersIn (now (containers .entry)))))) × Ordered (now (order .exit)) (now (places .exit)) r ⌝ }
 {
     let n = containers.len() / image::CONTAINER_SIZE;
     let mut m: usize = 0;
@@ -227,13 +210,13 @@ fn place_containers(
 // The classes of the users' rules, behind the first m.
 fn place_users(
     users: &[u8],
-    classes: &[u64],
-    order: &mut [u64],
-    places: &mut [u64],
+    classes: &[u16],
+    order: &mut [u16],
+    places: &mut [u16],
     m: usize,
 ) -> usize
-    requires { ⌜ (every (classNamed (now classes) (length (now places))) (usersIn (now users)) ≡ true) × (length (placedAll (take m (now order)) (map (classAt (now classes)) (usersIn (now users)))) ≤ length (now order)) × Ordered (now order) (now places) m ⌝ }
-    ensures { λ r. ⌜ (take r (now (order .exit)) ≡ placedAll (take m (now (order .entry))) (map (classAt (now (classes .entry))) (usersIn (now (users .entry))))) × Ordered (now (order .exit)) (now (places .exit)) r ⌝ }
+    requires { ⌜ (every (classNamed (now classes) (length (now places))) (usersIn (now users)) ≡ true) × (length (withClasses (take m (now order)) (map (classAt (now classes)) (usersIn (now users)))) ≤ length (now order)) × Ordered (now order) (now places) m ⌝ }
+    ensures { λ r. ⌜ (take r (now (order .exit)) ≡ withClasses (take m (now (order .entry))) (map (classAt (now (classes .entry))) (usersIn (now (users .entry))))) × Ordered (now (order .exit)) (now (places .exit)) r ⌝ }
 {
     let n = users.len() / image::USER_SIZE;
     let mut k = m;
@@ -249,9 +232,9 @@ fn place_users(
 // ---- new numbers
 
 // The new number of rule k.
-fn number(classes: &[u64], places: &[u64], k: usize) -> usize
+fn number(classes: &[u16], places: &[u16], k: usize) -> usize
     requires { ⌜ found (now classes) (now places) k ≡ true ⌝ }
-    ensures { λ r. ⌜ r ≡ numberAt (now (classes .entry)) (now (places .entry)) k ⌝ }
+    ensures { λ r. ⌜ r ≡ newNumber (now (classes .entry)) (now (places .entry)) k ⌝ }
 {
     if k == image::UNRESTRICTED_NUMBER {
         return image::UNRESTRICTED_NUMBER;
@@ -265,151 +248,111 @@ fn number(classes: &[u64], places: &[u64], k: usize) -> usize
 
 // ---- sections
 
-// The containers with their new rule numbers.
-fn write_containers(out: &mut [u8], containers: &[u8], classes: &[u64], places: &[u64])
-    requires { ⌜ (length (now out) ≡ length (now containers) / containerSize * containerSize) × (every (found (now classes) (now places)) (containerUses (containersIn (now containers))) ≡ true) ⌝ }
-    ensures { λ _. ⌜ now (out .exit) ≡ containerBytesAt (now (containers .entry)) (now (classes .entry)) (now (places .entry)) ⌝ }
+// The containers with their new rule numbers: the place behind them.
+fn write_containers(
+    out: &mut [u8],
+    start: usize,
+    containers: &[u8],
+    classes: &[u16],
+    places: &[u16],
+) -> usize
+    requires { ⌜ (start + length (now containers) / containerSize * containerSize ≤ length (now out)) × (every (found (now classes) (now places)) (containerUses (containersIn (now containers))) ≡ true) ⌝ }
+    ensures { λ r. ⌜ Wrote (containerSection (now (containers .entry)) (now (classes .entry)) (now (places .entry))) (now (out .entry)) (now (out .exit)) start r ⌝ }
 {
     let n = containers.len() / image::CONTAINER_SIZE;
+    let mut at = start;
     let mut i: usize = 0;
     while i < n {
-        let at = i * image::CONTAINER_SIZE;
-        let kind = fields::read8(containers, at);
-        let atom = fields::read8(containers, at + 1);
-        let permit = number(classes, places, fields::read16(containers, at + 2));
-        let run = number(classes, places, fields::read16(containers, at + 4));
-        put_container(
-            &mut out[at..at + image::CONTAINER_SIZE],
-            kind,
-            atom,
-            permit,
-            run,
-        );
+        let from = i * image::CONTAINER_SIZE;
+        let kind = fields::read8(containers, from);
+        let atom = fields::read8(containers, from + 1);
+        let permit = number(classes, places, fields::read16(containers, from + 2));
+        let run = number(classes, places, fields::read16(containers, from + 4));
+        at = put_container(out, at, kind, atom, permit, run);
         i += 1;
     }
+    at
 }
 
-// The users with their new rule numbers.
-fn write_users(out: &mut [u8], users: &[u8], classes: &[u64], places: &[u64])
-    requires { ⌜ (length (now out) ≡ length (now users) / userSize * userSize) × (every (found (now classes) (now places)) (usersIn (now users)) ≡ true) ⌝ }
-    ensures { λ _. ⌜ now (out .exit) ≡ userBytes (now (users .entry)) (now (classes .entry)) (now (places .entry)) ⌝ }
+// The users with their new rule numbers: the place behind them.
+fn write_users(out: &mut [u8], start: usize, users: &[u8], classes: &[u16], places: &[u16]) -> usize
+    requires { ⌜ (start + length (now users) / userSize * userSize ≤ length (now out)) × (every (found (now classes) (now places)) (usersIn (now users)) ≡ true) ⌝ }
+    ensures { λ r. ⌜ Wrote (userSection (now (users .entry)) (now (classes .entry)) (now (places .entry))) (now (out .entry)) (now (out .exit)) start r ⌝ }
 {
     let n = users.len() / image::USER_SIZE;
+    let mut at = start;
     let mut i: usize = 0;
     while i < n {
-        let at = i * image::USER_SIZE;
-        let rule = number(classes, places, fields::read16(users, at));
-        put16(&mut out[at..at + image::USER_SIZE], rule);
+        let rule = number(classes, places, fields::read16(users, i * image::USER_SIZE));
+        at = fields::put16(out, at, rule);
         i += 1;
     }
+    at
 }
 
-// The rule records of the rules in order: how many mixtures they have.
-fn write_spans(out: &mut [u8], forms: &[u64], order: &[u64]) -> usize
-    requires { ⌜ (length (now out) ≡ length (now order) * ruleSize) × (every (formGood (now forms)) (now order) ≡ true) ⌝ }
-    ensures { λ r. ⌜ (r ≡ length (joined (map (formAt (now (forms .entry))) (now (order .entry))))) × (now (out .exit) ≡ spanBytesAt (now (forms .entry)) (now (order .entry))) ⌝ }
+// The rule records of the rules in order: the place behind them.
+fn write_spans(out: &mut [u8], start: usize, forms: &[u64], order: &[u16]) -> usize
+    requires { ⌜ (start + length (now order) * ruleSize ≤ length (now out)) × (every (formGood (now forms)) (now order) ≡ true) ⌝ }
+    ensures { λ r. ⌜ Wrote (ruleSection (now (forms .entry)) (now (order .entry))) (now (out .entry)) (now (out .exit)) start r ⌝ }
 {
+    let mut at = start;
     let mut first: usize = 0;
     let mut j: usize = 0;
     while j < order.len() {
-        let at = j * image::RULE_SIZE;
         let v = (order[j] as usize) * rule_words::RULE_WIDTH;
         let count = forms[v] as usize;
-        put_span(&mut out[at..at + image::RULE_SIZE], first, count);
+        at = put_pair(out, at, first, count);
         first += count;
         j += 1;
     }
-    first
+    at
 }
 
-// The mixtures of a rule.
-fn write_rule(out: &mut [u8], rule: &[u64])
-    requires { ⌜ length (now out) ≡ length (now rule) * mixtureSize ⌝ }
-    ensures { λ _. ⌜ now (out .exit) ≡ joined (map (bytesOf 8) (now (rule .entry))) ⌝ }
+// The mixtures of a rule: the place behind them.
+fn write_rule(out: &mut [u8], start: usize, rule: &[u64]) -> usize
+    requires { ⌜ start + length (now rule) * mixtureSize ≤ length (now out) ⌝ }
+    ensures { λ r. ⌜ Wrote (mixtureBytes (now (rule .entry))) (now (out .entry)) (now (out .exit)) start r ⌝ }
 {
+    let mut at = start;
     let mut i: usize = 0;
     while i < rule.len() {
-        let at = i * image::MIXTURE_SIZE;
-        put64(&mut out[at..at + image::MIXTURE_SIZE], rule[i]);
+        at = fields::put64(out, at, rule[i]);
         i += 1;
     }
+    at
 }
 
-// The mixtures of the rules in order.
-fn write_mixtures(out: &mut [u8], forms: &[u64], order: &[u64])
-    requires { ⌜ (length (now out) ≡ length (joined (map (formAt (now forms)) (now order))) * mixtureSize) × (every (formGood (now forms)) (now order) ≡ true) ⌝ }
-    ensures { λ _. ⌜ now (out .exit) ≡ mixtureBytes (now (forms .entry)) (now (order .entry)) ⌝ }
+// The mixtures of the rules in order: the place behind them.
+fn write_mixtures(out: &mut [u8], start: usize, forms: &[u64], order: &[u16]) -> usize
+    requires { ⌜ (start + length (joined (map (formAt (now forms)) (now order))) * mixtureSize ≤ length (now out)) × (every (formGood (now forms)) (now order) ≡ true) ⌝ }
+    ensures { λ r. ⌜ Wrote (mixtureSection (now (forms .entry)) (now (order .entry))) (now (out .entry)) (now (out .exit)) start r ⌝ }
 {
-    let mut at: usize = 0;
+    let mut at = start;
     let mut j: usize = 0;
     while j < order.len() {
         let v = (order[j] as usize) * rule_words::RULE_WIDTH;
         let count = forms[v] as usize;
-        let end = at + count * image::MIXTURE_SIZE;
-        write_rule(&mut out[at..end], &forms[v + 1..v + 1 + count]);
-        at = end;
+        at = write_rule(out, at, &forms[v + 1..v + 1 + count]);
         j += 1;
     }
-}
-
-// Numbers of 2 bytes, one behind the other.
-fn write_numbers(out: &mut [u8], numbers: &[u64])
-    requires { ⌜ length (now out) ≡ length (now numbers) * 2 ⌝ }
-    ensures { λ _. ⌜ now (out .exit) ≡ joined (map (bytesOf 2) (now (numbers .entry))) ⌝ }
-{
-    let mut i: usize = 0;
-    while i < numbers.len() {
-        let at = i * 2;
-        put16(&mut out[at..at + 2], numbers[i] as usize);
-        i += 1;
-    }
+    at
 }
 
 // The header of an image whose sections have c, u, r and m bytes.
-fn write_header(out: &mut [u8], c: usize, u: usize, r: usize, m: usize)
-    requires { ⌜ (length (now out) ≡ headerSize) × (c + u + r + m ≤ outputBound) ⌝ }
-    ensures { λ _. ⌜ now (out .exit) ≡ joined (map (bytesOf 2) (headerFields c u r m)) ⌝ }
+fn write_header(out: &mut [u8], c: usize, u: usize, r: usize, m: usize) -> usize
+    requires { ⌜ headerSize + c + u + r + m ≤ length (now out) ⌝ }
+    ensures { λ x. ⌜ Wrote (headerBytes c u r m) (now (out .entry)) (now (out .exit)) 0 x ⌝ }
 {
     let second = image::HEADER_SIZE + c;
     let third = second + u;
-    let fourth = third + r;
-    let fields = [
-        image::LEADING_NUMBER as u64,
-        image::HEADER_SIZE as u64,
-        c as u64,
-        second as u64,
-        u as u64,
-        third as u64,
-        r as u64,
-        fourth as u64,
-        m as u64,
-    ];
-    write_numbers(out, &fields);
+    let a = fields::put16(out, 0, image::LEADING_NUMBER);
+    let b = put_pair(out, a, image::HEADER_SIZE, c);
+    let d = put_pair(out, b, second, u);
+    let e = put_pair(out, d, third, r);
+    put_pair(out, e, third + r, m)
 }
 
 // ---- the image
-
-// Containers, users and rule records behind the place of the header: how many mixtures follow.
-fn write_records(
-    out: &mut [u8],
-    containers: &[u8],
-    users: &[u8],
-    forms: &[u64],
-    classes: &[u64],
-    places: &[u64],
-    order: &[u64],
-) -> usize
-    requires { ⌜ Writable (now containers) (now users) (now forms) (now classes) (now places) (now order) (now out) ⌝ }
-    ensures { λ r. ⌜ (r ≡ length (joined (map (formAt (now (forms .entry))) (now (order .entry))))) × Grown (containerBytesAt (now (containers .entry)) (now (classes .entry)) (now (places .entry)) ++ (userBytes (now (users .entry)) (now (classes .entry)) (now (places .entry)) ++ spanBytesAt (now (forms .entry)) (now (order .entry)))) (now (out .entry)) (now (out .exit)) ⌝ }
-{
-    let a = image::HEADER_SIZE;
-    let b = a + containers.len() / image::CONTAINER_SIZE * image::CONTAINER_SIZE;
-    let c = b + users.len() / image::USER_SIZE * image::USER_SIZE;
-    let d = c + order.len() * image::RULE_SIZE;
-    write_containers(&mut out[a..b], containers, classes, places);
-    write_users(&mut out[b..c], users, classes, places);
-    write_spans(&mut out[c..d], forms, order)
-}
 
 // The image of the tables: its length.
 fn write_image(
@@ -417,76 +360,57 @@ fn write_image(
     containers: &[u8],
     users: &[u8],
     forms: &[u64],
-    classes: &[u64],
-    places: &[u64],
-    order: &[u64],
+    classes: &[u16],
+    places: &[u16],
+    order: &[u16],
 ) -> usize
     requires { ⌜ Writable (now containers) (now users) (now forms) (now classes) (now places) (now order) (now out) ⌝ }
-    ensures { λ r. ⌜ Written (framed (containerBytesAt (now (containers .entry)) (now (classes .entry)) (now (places .entry))) (userBytes (now (users .entry)) (now (classes .entry)) (now (places .entry))) (spanBytesAt (now (forms .entry)) (now (order .entry))) (mixtureBytes (now (forms .entry)) (now (order .entry)))) (now (out .entry)) (now (out .exit)) r ⌝ }
+    ensures { λ r. ⌜ Wrote (framed (containerSection (now (containers .entry)) (now (classes .entry)) (now (places .entry))) (userSection (now (users .entry)) (now (classes .entry)) (now (places .entry))) (ruleSection (now (forms .entry)) (now (order .entry))) (mixtureSection (now (forms .entry)) (now (order .entry)))) (now (out .entry)) (now (out .exit)) 0 r ⌝ }
 {
-    let mixtures = write_records(out, containers, users, forms, classes, places, order);
-    let c = containers.len() / image::CONTAINER_SIZE * image::CONTAINER_SIZE;
-    let u = users.len() / image::USER_SIZE * image::USER_SIZE;
-    let r = order.len() * image::RULE_SIZE;
-    let m = mixtures * image::MIXTURE_SIZE;
-    let start = image::HEADER_SIZE + c + u + r;
-    let end = start + m;
-    write_mixtures(&mut out[start..end], forms, order);
-    write_header(&mut out[0..image::HEADER_SIZE], c, u, r, m);
+    let a = image::HEADER_SIZE;
+    let b = write_containers(out, a, containers, classes, places);
+    let c = write_users(out, b, users, classes, places);
+    let d = write_spans(out, c, forms, order);
+    let end = write_mixtures(out, d, forms, order);
+    write_header(out, b - a, c - b, d - c, end - d);
     end
 }
 
-// The normal image of a policy in tables, by way of tables for order and places.
+// The normal image of a policy in tables, by way of tables for classes, keys, order and places.
 fn write_by(
-    classes: &[u64],
-    order: &mut [u64],
-    places: &mut [u64],
+    classes: &mut [u16],
+    keys: &mut [u16],
+    order: &mut [u16],
+    places: &mut [u16],
     containers: &[u8],
     users: &[u8],
     forms: &[u64],
     out: &mut [u8],
 ) -> usize
-    requires { ⌜ Tabled (now containers) (now users) (now forms) × Classified (now forms) (now classes) (length (now forms) / ruleWidth) × (length (now forms) / ruleWidth ≤ length (now order)) × (length (now forms) / ruleWidth ≤ length (now places)) × ((v : ℕ) → getD (now places) v 0 ≡ 0) × (outputBound ≤ length (now out)) ⌝ }
-    ensures { λ r. ⌜ Written (normalImage (policyAt (now (containers .entry)) (now (users .entry)) (now (forms .entry)))) (now (out .entry)) (now (out .exit)) r ⌝ }
+    requires { ⌜ Tabled (now containers) (now users) (now forms) × Cleared (now forms) (now classes) (now keys) (now order) (now places) × (outputBound ≤ length (now out)) ⌝ }
+    ensures { λ r. ⌜ Answered (policyAt (now (containers .entry)) (now (users .entry)) (now (forms .entry))) (now (out .entry)) (now (out .exit)) r ⌝ }
 {
+    classify(forms, classes, keys);
     let first = place_containers(containers, classes, order, places);
     let m = place_users(users, classes, order, places, first);
+    if image::RULE_LIMIT < m {
+        return 0;
+    }
     write_image(out, containers, users, forms, classes, places, &order[0..m])
 }
 
-// The normal image of a policy of at most one rule, by way of tables that are quick to clear.
-fn write_one(containers: &[u8], users: &[u8], forms: &[u64], out: &mut [u8]) -> usize
-    requires { ⌜ Tabled (now containers) (now users) (now forms) × (length (now forms) / ruleWidth ≤ 1) × (outputBound ≤ length (now out)) ⌝ }
-    ensures { λ r. ⌜ Written (normalImage (policyAt (now (containers .entry)) (now (users .entry)) (now (forms .entry)))) (now (out .entry)) (now (out .exit)) r ⌝ }
-{
-    let mut classes = [0u64; 1];
-    let mut keys = [0u64; 1];
-    classify(forms, &mut classes, &mut keys);
-    let mut order = [0u64; 1];
-    let mut places = [0u64; 1];
-    write_by(
-        &classes,
-        &mut order,
-        &mut places,
-        containers,
-        users,
-        forms,
-        out,
-    )
-}
-
-// The same of at most 16 rules.
+// The normal image of a policy of few rules, by way of tables that are quick to clear.
 fn write_few(containers: &[u8], users: &[u8], forms: &[u64], out: &mut [u8]) -> usize
-    requires { ⌜ Tabled (now containers) (now users) (now forms) × (length (now forms) / ruleWidth ≤ 16) × (outputBound ≤ length (now out)) ⌝ }
-    ensures { λ r. ⌜ Written (normalImage (policyAt (now (containers .entry)) (now (users .entry)) (now (forms .entry)))) (now (out .entry)) (now (out .exit)) r ⌝ }
+    requires { ⌜ Tabled (now containers) (now users) (now forms) × (length (now forms) / ruleWidth ≤ fewRules) × (outputBound ≤ length (now out)) ⌝ }
+    ensures { λ r. ⌜ Answered (policyAt (now (containers .entry)) (now (users .entry)) (now (forms .entry))) (now (out .entry)) (now (out .exit)) r ⌝ }
 {
-    let mut classes = [0u64; 16];
-    let mut keys = [0u64; 16];
-    classify(forms, &mut classes, &mut keys);
-    let mut order = [0u64; 16];
-    let mut places = [0u64; 16];
+    let mut classes = [0u16; FEW_RULES];
+    let mut keys = [0u16; FEW_RULES];
+    let mut order = [0u16; FEW_RULES];
+    let mut places = [0u16; FEW_RULES];
     write_by(
-        &classes,
+        &mut classes,
+        &mut keys,
         &mut order,
         &mut places,
         containers,
@@ -499,15 +423,15 @@ fn write_few(containers: &[u8], users: &[u8], forms: &[u64], out: &mut [u8]) -> 
 // The same of as many rules as there can be.
 fn write_many(containers: &[u8], users: &[u8], forms: &[u64], out: &mut [u8]) -> usize
     requires { ⌜ Tabled (now containers) (now users) (now forms) × (outputBound ≤ length (now out)) ⌝ }
-    ensures { λ r. ⌜ Written (normalImage (policyAt (now (containers .entry)) (now (users .entry)) (now (forms .entry)))) (now (out .entry)) (now (out .exit)) r ⌝ }
+    ensures { λ r. ⌜ Answered (policyAt (now (containers .entry)) (now (users .entry)) (now (forms .entry))) (now (out .entry)) (now (out .exit)) r ⌝ }
 {
-    let mut classes = [0u64; 256];
-    let mut keys = [0u64; 1024];
-    classify(forms, &mut classes, &mut keys);
-    let mut order = [0u64; 256];
-    let mut places = [0u64; 256];
+    let mut classes = [0u16; USE_LIMIT];
+    let mut keys = [0u16; KEYS];
+    let mut order = [0u16; USE_LIMIT];
+    let mut places = [0u16; USE_LIMIT];
     write_by(
-        &classes,
+        &mut classes,
+        &mut keys,
         &mut order,
         &mut places,
         containers,
@@ -517,10 +441,11 @@ fn write_many(containers: &[u8], users: &[u8], forms: &[u64], out: &mut [u8]) ->
     )
 }
 
-// The normal image of a policy: containers and users as an image has them, rules in words and in normal form. Its length.
+// The normal image of a policy: containers and users as an image has them, rules in words and in normal form.
+// Its length; 0 if it would need over 256 rules, and the output is as it was.
 pub fn write_policy(containers: &[u8], users: &[u8], forms: &[u64], out: &mut [u8]) -> usize
     requires { ⌜ Tabled (now containers) (now users) (now forms) × (outputBound ≤ length (now out)) ⌝ }
-    ensures { λ r. ⌜ Written (normalImage (policyAt (now (containers .entry)) (now (users .entry)) (now (forms .entry)))) (now (out .entry)) (now (out .exit)) r ⌝ }
+    ensures { λ r. ⌜ Answered (policyAt (now (containers .entry)) (now (users .entry)) (now (forms .entry))) (now (out .entry)) (now (out .exit)) r ⌝ }
 {
     if forms.len() / rule_words::RULE_WIDTH <= FEW_RULES {
         write_few(containers, users, forms, out)
@@ -534,7 +459,7 @@ pub fn write_policy(containers: &[u8], users: &[u8], forms: &[u64], out: &mut [u
 // The rules of an image's sections, in normal form.
 fn fill_forms(forms: &mut [u64], rules: &[u8], mixtures: &[u8])
     requires { ⌜ (length (now forms) ≡ length (now rules) / ruleSize * ruleWidth) × (spansGood (length (now mixtures) / mixtureSize) 0 (spansIn (now rules)) ≡ true) ⌝ }
-    ensures { λ _. ⌜ now (forms .exit) ≡ joined (map wordsOf (map normal (rulesIn (now (rules .entry)) (now (mixtures .entry))))) ⌝ }
+    ensures { λ _. ⌜ now (forms .exit) ≡ formWords (rulesIn (now (rules .entry)) (now (mixtures .entry))) ⌝ }
 {
     let n = rules.len() / image::RULE_SIZE;
     let mut k: usize = 0;
@@ -550,24 +475,7 @@ fn fill_forms(forms: &mut [u64], rules: &[u8], mixtures: &[u8])
     }
 }
 
-// The normal image of the policy of an image's sections, of at most one rule: its length.
-fn rewrite_one(
-    containers: &[u8],
-    users: &[u8],
-    rules: &[u8],
-    mixtures: &[u8],
-    out: &mut [u8],
-) -> usize
-    requires { ⌜ Sound (policyFrom (now containers) (now users) (now rules) (now mixtures)) × (spansGood (length (now mixtures) / mixtureSize) 0 (spansIn (now rules)) ≡ true) × (length (now rules) / ruleSize ≤ 1) × (outputBound ≤ length (now out)) ⌝ }
-    ensures { λ r. ⌜ Written (normalImage (policyFrom (now (containers .entry)) (now (users .entry)) (now (rules .entry)) (now (mixtures .entry)))) (now (out .entry)) (now (out .exit)) r ⌝ }
-{
-    let mut forms = [0u64; 9];
-    let n = rules.len() / image::RULE_SIZE * rule_words::RULE_WIDTH;
-    fill_forms(&mut forms[0..n], rules, mixtures);
-    write_one(containers, users, &forms[0..n], out)
-}
-
-// The same of at most 16 rules.
+// The normal image of the policy of an image's sections, of few rules: its length.
 fn rewrite_few(
     containers: &[u8],
     users: &[u8],
@@ -575,16 +483,16 @@ fn rewrite_few(
     mixtures: &[u8],
     out: &mut [u8],
 ) -> usize
-    requires { ⌜ Sound (policyFrom (now containers) (now users) (now rules) (now mixtures)) × (spansGood (length (now mixtures) / mixtureSize) 0 (spansIn (now rules)) ≡ true) × (length (now rules) / ruleSize ≤ 16) × (outputBound ≤ length (now out)) ⌝ }
-    ensures { λ r. ⌜ Written (normalImage (policyFrom (now (containers .entry)) (now (users .entry)) (now (rules .entry)) (now (mixtures .entry)))) (now (out .entry)) (now (out .exit)) r ⌝ }
+    requires { ⌜ SectionsAccepted (now containers) (now users) (now rules) (now mixtures) × (length (now rules) / ruleSize ≤ fewRules) × (outputBound ≤ length (now out)) ⌝ }
+    ensures { λ r. ⌜ Wrote (normalImage (policyGiven (now (containers .entry)) (now (users .entry)) (rulesIn (now (rules .entry)) (now (mixtures .entry))))) (now (out .entry)) (now (out .exit)) 0 r ⌝ }
 {
     let mut forms = [0u64; 144];
     let n = rules.len() / image::RULE_SIZE * rule_words::RULE_WIDTH;
     fill_forms(&mut forms[0..n], rules, mixtures);
-    write_few(containers, users, &forms[0..n], out)
+    write_policy(containers, users, &forms[0..n], out)
 }
 
-// The same of as many rules as there can be.
+// The same of as many rules as an image can have.
 fn rewrite_many(
     containers: &[u8],
     users: &[u8],
@@ -592,28 +500,25 @@ fn rewrite_many(
     mixtures: &[u8],
     out: &mut [u8],
 ) -> usize
-    requires { ⌜ Sound (policyFrom (now containers) (now users) (now rules) (now mixtures)) × (spansGood (length (now mixtures) / mixtureSize) 0 (spansIn (now rules)) ≡ true) × (outputBound ≤ length (now out)) ⌝ }
-    ensures { λ r. ⌜ Written (normalImage (policyFrom (now (containers .entry)) (now (users .entry)) (now (rules .entry)) (now (mixtures .entry)))) (now (out .entry)) (now (out .exit)) r ⌝ }
+    requires { ⌜ SectionsAccepted (now containers) (now users) (now rules) (now mixtures) × (outputBound ≤ length (now out)) ⌝ }
+    ensures { λ r. ⌜ Wrote (normalImage (policyGiven (now (containers .entry)) (now (users .entry)) (rulesIn (now (rules .entry)) (now (mixtures .entry))))) (now (out .entry)) (now (out .exit)) 0 r ⌝ }
 {
     let mut forms = [0u64; 2304];
     let n = rules.len() / image::RULE_SIZE * rule_words::RULE_WIDTH;
     fill_forms(&mut forms[0..n], rules, mixtures);
-    write_many(containers, users, &forms[0..n], out)
+    write_policy(containers, users, &forms[0..n], out)
 }
 
 // The normal image of the policy of an image's sections: its length.
 fn rewrite(containers: &[u8], users: &[u8], rules: &[u8], mixtures: &[u8], out: &mut [u8]) -> usize
-    requires { ⌜ Sound (policyFrom (now containers) (now users) (now rules) (now mixtures)) × (spansGood (length (now mixtures) / mixtureSize) 0 (spansIn (now rules)) ≡ true) × (outputBound ≤ length (now out)) ⌝ }
-    ensures { λ r. ⌜ Written (normalImage (policyFrom (now (containers .entry)) (now (users .entry)) (now (rules .entry)) (now (mixtures .entry)))) (now (out .entry)) (now (out .exit)) r ⌝ }
+    requires { ⌜ SectionsAccepted (now containers) (now users) (now rules) (now mixtures) × (outputBound ≤ length (now out)) ⌝ }
+    ensures { λ r. ⌜ Wrote (normalImage (policyGiven (now (containers .entry)) (now (users .entry)) (rulesIn (now (rules .entry)) (now (mixtures .entry))))) (now (out .entry)) (now (out .exit)) 0 r ⌝ }
 {
-    let n = rules.len() / image::RULE_SIZE;
-    if n <= 1 {
-        return rewrite_one(containers, users, rules, mixtures, out);
+    if rules.len() / image::RULE_SIZE <= FEW_RULES {
+        rewrite_few(containers, users, rules, mixtures, out)
+    } else {
+        rewrite_many(containers, users, rules, mixtures, out)
     }
-    if n <= FEW_RULES {
-        return rewrite_few(containers, users, rules, mixtures, out);
-    }
-    rewrite_many(containers, users, rules, mixtures, out)
 }
 
 // The normal image of an image: its length, or the refusal.
@@ -621,7 +526,7 @@ pub fn normalise(image: &[u8], out: &mut [u8]) -> u32
     ensures { λ r. ⌜ (r ≡ normalAnswer (now (image .entry)) (now (out .entry))) × (now (out .exit) ≡ normalEffect (now (image .entry)) (now (out .entry))) ⌝ }
 {
     if out.len() < OUTPUT_BOUND {
-        return OUTPUT_REFUSAL;
+        return answers::LENT_LENGTH;
     }
     let refusal = image::check(image);
     if refusal != 0 {

@@ -1,6 +1,6 @@
 -- `capi::yaslaurel_matrix_verdict`. Each case of the verdict gives the number and what is written.
 use mathlib.Core.Path.{sym, ap, _∙_}
-use Rattle.matrix.specs.Verdicts.{valuesOf}
+use Rattle.matrix.specs.Verdicts.{consistencyValues}
 use borrow.Author.Needs.{needs}
 use Rattle.capi.proofs.yaslaurel_matrix_verdict.Statement.{statement}
 use Rattle.capi.proofs.yaslaurel_matrix_verdict.Tie as tie
@@ -18,13 +18,19 @@ enum-known-v : tie.Need-enum-known-v
 enum-known-v c = search needs
 
 returns : tie.Need-returns
-returns c = (rw (sym (c .before .before .verdict .ensures) ∙ ap valuesOf (c .enum-told .given .1)), rw (sym (c .before .before .verdict .ensures) ∙ ap valuesOf (c .enum-told .given .1)), rw (sym (c .before .before .verdict .ensures) ∙ ap valuesOf (c .enum-told .given .1)), rw (sym (c .before .before .verdict .ensures) ∙ ap valuesOf (c .enum-told .given .1)))
+returns c =
+    let e = sym (c .before .before .verdict .ensures) ∙ ap consistencyValues (c .enum-told .given .1) in
+    (rw e, rw e, rw e, rw e)
 
 returns-2 : tie.Need-returns-2
-returns-2 c = (rw (sym (c .before .before .verdict .ensures) ∙ ap valuesOf (c .enum-told2 .given .1)), rw (sym (c .before .before .verdict .ensures) ∙ ap valuesOf (c .enum-told2 .given .1)), rw (sym (c .before .before .verdict .ensures) ∙ ap valuesOf (c .enum-told2 .given .1)), rw (sym (c .before .before .verdict .ensures) ∙ ap valuesOf (c .enum-told2 .given .1)))
+returns-2 c =
+    let e = sym (c .before .before .verdict .ensures) ∙ ap consistencyValues (c .enum-told2 .given .1) in
+    (rw e, rw e, rw e, rw e)
 
 returns-3 : tie.Need-returns-3
-returns-3 c = (rw (sym (c .before .before .before .verdict .ensures) ∙ ap valuesOf (c .before .v .given .1)), rw (sym (c .before .before .before .verdict .ensures) ∙ ap valuesOf (c .before .v .given .1)), rw (sym (c .before .before .before .verdict .ensures) ∙ ap valuesOf (c .before .v .given .1)), rw (sym (c .before .before .before .verdict .ensures) ∙ ap valuesOf (c .before .v .given .1)))
+returns-3 c =
+    let e = sym (c .before .before .before .verdict .ensures) ∙ ap consistencyValues (c .before .v .given .1) in
+    (rw e, rw e, rw e, rw e)
 
 pub yaslaurel-matrix-verdict-spec : {M : Type 1} → statement M
 yaslaurel-matrix-verdict-spec =

@@ -1,3 +1,4 @@
+-- The invariant: the rows spell the paths through objects below k.
 use borrow.Author.Needs.{needs}
 use Prim.Native.Nat.{_-_}
 use Rattle.matrix.proofs.RowLaws.{Closing, closing-start, closing-next, closing-end}

@@ -1,3 +1,4 @@
+-- The invariant: the sources before a are counted.
 use borrow.Author.Needs.{needs}
 use Prim.Native.Nat.{_-_}
 use native.Mathlib.Omega.{arith}

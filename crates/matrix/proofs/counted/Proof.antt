@@ -1,3 +1,4 @@
+-- Both bounds are the definition's.
 use Rattle.matrix.specs.Flows.{counted}
 use borrow.Author.Tests.{le-leb, lt-leb}
 use Rattle.matrix.proofs.counted.Statement.{statement}

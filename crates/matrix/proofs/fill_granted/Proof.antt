@@ -1,3 +1,4 @@
+-- The invariant: the rows before a spell the granted flows.
 use borrow.Author.Needs.{needs}
 use Prim.Native.Nat.{_-_}
 use Rattle.matrix.proofs.RowLaws.{Stored, GrantedAt, stored-start, stored-next, granted-end}

@@ -1,3 +1,4 @@
+-- The invariant: the flows of the subjects before s are in the row.
 use borrow.Author.Needs.{needs}
 use Prim.Native.Nat.{_-_}
 use lib.ListN.{length}

@@ -1,3 +1,4 @@
+-- The test is bit k of the row.
 use Rattle.matrix.specs.Rows.{joinedAt}
 use Rattle.matrix.proofs.BitLaws.{has-is, has-not}
 use borrow.Author.Needs.{needs}

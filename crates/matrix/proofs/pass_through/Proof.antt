@@ -1,3 +1,4 @@
+-- The invariant: the rows before a have taken in row k.
 use borrow.Author.Needs.{needs}
 use Prim.Native.Nat.{_-_}
 use Rattle.matrix.proofs.RowLaws.{Stored, JoinedAt, stored-start, joined-next, joined-end}

@@ -1,3 +1,4 @@
+-- The bits of the closure that the granted row lacks.
 use Prim.Native.Nat.{_<_, _^_}
 use native.Mathlib.Omega.{arith}
 use lib.ListN.{getD}

@@ -1,3 +1,4 @@
+-- The test of the unrestricted rule decides.
 use mathlib.Core.Path.{sym, _∙_}
 use borrow.Author.Needs.{needs}
 use Rattle.normaliser.proofs.class_by.Statement.{statement}

@@ -1,10 +1,12 @@
-use borrow.Author.Needs.{needs}
-use Prim.Native.Nat.{_-_}
+-- The invariant: the table has the classes of the first k rules, and each of them has its key.
 use native.Mathlib.Omega.{arith}
+use Prim.Native.Nat.{_-_}
 use mathlib.Core.Path.{_≡_, refl}
 use lib.ListN.{length}
-use Rattle.normaliser.proofs.Reading.{Classing, classing-start, classing-next, classing-end}
 use Rattle.normaliser.specs.Keys.{Keyed}
+use Rattle.normaliser.proofs.KeyLaws.{class-fits}
+use Rattle.normaliser.proofs.SectionRows.{Classing, classing-start, classing-next, classing-end}
+use borrow.Author.Needs.{needs}
 use Rattle.normaliser.proofs.classify.Statement.{statement}
 use Rattle.normaliser.proofs.classify.Tie as tie
 
@@ -15,16 +17,31 @@ abbrev μ-loop : tie.MeasureT-loop
 μ-loop forms classes₀ keys₀ n k₀ classes keys k = n - k
 
 loop-holds : tie.Need-loop-holds Inv-loop μ-loop
-loop-holds c = (classing-start (c .before .before .before .args .forms .now) (c .before .before .before .args .classes .now) (c .before .before .before .pre .0), c .before .before .before .pre .1, refl)
+loop-holds c =
+    let start = c .before .before .before in
+    (classing-start (start .args .forms .now) (start .args .classes .now) (start .pre .0) (start .pre .1), start .pre .2, refl)
 
 class-of-requires : tie.Need-class-of-requires Inv-loop μ-loop
-class-of-requires c κs = (omega (arith, c .before .before .before .loop .inv .0 .count), c .before .before .before .loop .inv .0 .told, c .before .before .before .loop .inv .1)
+class-of-requires c κs =
+    let inv = c .before .before .before .loop .inv in
+    (omega (arith, inv .0 .count), inv .0 .told, inv .1)
+
+cast-classes : tie.Need-cast-classes Inv-loop μ-loop
+cast-classes c =
+    let start = c .before .before .before .before .before .before .before .before .before .before in
+    omega (arith, c .before .before .class-of .ensures .0, class-fits (start .args .forms .now) (c .before .before .before .before .before .before .loop .k) (omega (arith, start .pre .0, start .pre .1)))
 
 mul-classes : tie.Need-mul-classes Inv-loop μ-loop
-mul-classes c = omega (arith, c .before .before .before .before .before .before .loop .inv .0 .count, c .before .before .before .before .before .before .loop .inv .0 .long, c .before .before .before .before .before .before .before .before .before .before .pre .0)
+mul-classes c =
+    let inv = c .before .before .before .before .before .before .loop .inv in
+    let start = c .before .before .before .before .before .before .before .before .before .before in
+    omega (arith, inv .0 .count, inv .0 .long, start .pre .0)
 
 slice-write-classes : tie.Need-slice-write-classes Inv-loop μ-loop
-slice-write-classes c = omega (arith, c .before .before .before .before .before .before .loop .inv .0 .count, c .before .before .before .before .before .before .loop .inv .0 .long, c .before .before .before .before .before .before .before .before .before .before .pre .0)
+slice-write-classes c =
+    let inv = c .before .before .before .before .before .before .loop .inv in
+    let start = c .before .before .before .before .before .before .before .before .before .before in
+    omega (arith, inv .0 .count, inv .0 .long, start .pre .0)
 
 add-k : tie.Need-add-k Inv-loop μ-loop
 add-k c = search needs
@@ -33,7 +50,10 @@ loop-less : tie.Need-loop-less Inv-loop μ-loop
 loop-less c = search needs
 
 loop-again : tie.Need-loop-again Inv-loop μ-loop
-loop-again c = (classing-next (c .before .before .before .before .before .before .before .before .before .before .args .forms .now) (c .before .before .before .before .before .before .before .before .before .before .args .classes .now) (c .before .before .before .before .before .before .loop .classes) _ (c .before .before .before .before .before .before .loop .k) (c .before .before .before .before .before .before .loop .inv .0) (c .before .before .before .before .before .loop-test .taken) _ (c .before .before .class-of .ensures .0), c .before .before .class-of .ensures .1, omega (arith, c .before .keys .given, c .before .before .before .before .before .before .loop .inv .2))
+loop-again c =
+    let inv = c .before .before .before .before .before .before .loop .inv in
+    let told = c .before .before .class-of .ensures in
+    (classing-next (inv .0) (c .before .before .before .before .before .loop-test .taken) (told .0), told .1, omega (arith, c .before .keys .given, inv .2))
 
 same-length : tie.Need-same-length Inv-loop μ-loop
 same-length c = c .before .loop .inv .0 .long
@@ -42,7 +62,7 @@ same-length-2 : tie.Need-same-length-2 Inv-loop μ-loop
 same-length-2 c = c .before .loop .inv .2
 
 returns : tie.Need-returns Inv-loop μ-loop
-returns c = classing-end (c .before .before .before .before .before .args .forms .now) (c .before .before .before .before .before .args .classes .now) (c .before .loop .classes) _ (c .before .loop .k) (c .before .loop .inv .0) (c .loop-test .left)
+returns c = classing-end (c .before .loop .inv .0) (c .loop-test .left)
 
 pub classify-spec : {M : Type 1} → statement M
 classify-spec =
@@ -52,6 +72,7 @@ classify-spec =
     μ-loop
     loop-holds
     class-of-requires
+    cast-classes
     mul-classes
     slice-write-classes
     add-k

@@ -1,20 +1,22 @@
-use borrow.Author.Needs.{needs}
+-- The invariant: the words of the first k rules are written.
 use Prim.Native.Nat.{_-_, _*_}
-use native.Mathlib.Omega.{arith}
-use native.Mathlib.Nat.{add-sub-cancel-left}
-use Rattle.normaliser.proofs.Finish.{Filling, filling-start, filling-next, filling-end}
-use Rattle.normaliser.proofs.Laying.{part-wide}
+use Rattle.fields.proofs.RowWriting.{RowsWritten, part-long}
+use Rattle.rule_words.specs.Words.{ruleWidth}
+use Rattle.normaliser.proofs.FormRows.{wordRows, forms-start, forms-room, forms-next, forms-end}
+use borrow.Author.Needs.{needs}
 use Rattle.normaliser.proofs.fill_forms.Statement.{statement}
 use Rattle.normaliser.proofs.fill_forms.Tie as tie
 
 abbrev Inv-loop : tie.InvT-loop
-Inv-loop forms₀ rules mixtures n k₀ forms k = Filling rules mixtures forms₀ forms n k
+Inv-loop forms₀ rules mixtures n k₀ forms k = RowsWritten (wordRows rules mixtures) forms₀ 0 forms (k * ruleWidth) k
 
 abbrev μ-loop : tie.MeasureT-loop
 μ-loop forms₀ rules mixtures n k₀ forms k = n - k
 
 loop-holds : tie.Need-loop-holds Inv-loop μ-loop
-loop-holds c = filling-start (c .before .before .before .args .rules .now) (c .before .before .before .args .mixtures .now) (c .before .before .before .args .forms .now) (c .before .before .before .pre .1) (c .before .before .before .pre .0)
+loop-holds c =
+    let start = c .before .before .before in
+    forms-start (start .args .rules .now) (start .args .mixtures .now) (start .pre .1) _ (start .pre .0)
 
 mul-at : tie.Need-mul-at Inv-loop μ-loop
 mul-at c = search needs
@@ -32,10 +34,16 @@ part-put-own-rule-start : tie.Need-part-put-own-rule-start Inv-loop μ-loop
 part-put-own-rule-start c = search needs
 
 part-put-own-rule-end : tie.Need-part-put-own-rule-end Inv-loop μ-loop
-part-put-own-rule-end c = omega (arith, c .before .loop .inv .laid .same, c .before .before .before .before .before .pre .0, c .before .loop .inv .count)
+part-put-own-rule-end c =
+    let start = c .before .before .before .before .before in
+    forms-room (start .args .rules .now) (start .args .mixtures .now) (start .pre .1) (c .before .loop .inv) (c .loop-test .taken)
 
 put-own-rule-requires : tie.Need-put-own-rule-requires Inv-loop μ-loop
-put-own-rule-requires c κs = (part-wide (c .before .before .loop .forms) (c .before .before .loop .k * 9) 9 (omega (arith, c .before .before .loop .inv .laid .same, c .before .before .before .before .before .before .pre .0, c .before .before .loop .inv .count)), omega (arith, c .before .before .loop .inv .count), c .before .before .before .before .before .before .pre .1)
+put-own-rule-requires c κs =
+    let start = c .before .before .before .before .before .before in
+    let loop = c .before .before .loop in
+    let taken = c .before .loop-test .taken in
+    (part-long (loop .forms) (loop .k * ruleWidth) ruleWidth (forms-room (start .args .rules .now) (start .args .mixtures .now) (start .pre .1) (loop .inv) taken), taken, start .pre .1)
 
 add-k : tie.Need-add-k Inv-loop μ-loop
 add-k c = search needs
@@ -44,13 +52,17 @@ loop-less : tie.Need-loop-less Inv-loop μ-loop
 loop-less c = search needs
 
 loop-again : tie.Need-loop-again Inv-loop μ-loop
-loop-again c = rw add-sub-cancel-left (filling-next (c .before .before .before .before .before .before .before .before .before .args .rules .now) (c .before .before .before .before .before .before .before .before .before .args .mixtures .now) (c .before .before .before .before .before .before .before .before .before .args .forms .now) (c .before .before .before .before .before .loop .forms) _ (c .before .before .before .before .before .loop .k) (c .before .before .before .before .before .loop .inv) (c .before .before .before .before .before .before .before .before .before .pre .1) (c .before .before .before .before .loop-test .taken) _ (c .before .before .put-own-rule .ensures))
+loop-again c =
+    let start = c .before .before .before .before .before .before .before .before .before in
+    forms-next (start .args .rules .now) (start .args .mixtures .now) (start .pre .1) (c .before .before .before .before .before .loop .inv) (c .before .before .before .before .loop-test .taken) (c .before .before .put-own-rule .ensures)
 
 same-length : tie.Need-same-length Inv-loop μ-loop
-same-length c = c .before .loop .inv .laid .same
+same-length c = c .before .loop .inv .long
 
 returns : tie.Need-returns Inv-loop μ-loop
-returns c = filling-end (c .before .before .before .before .before .args .rules .now) (c .before .before .before .before .before .args .mixtures .now) (c .before .before .before .before .before .args .forms .now) (c .before .loop .forms) _ (c .before .loop .k) (c .before .loop .inv) (c .before .before .before .before .before .pre .1) (c .loop-test .left)
+returns c =
+    let start = c .before .before .before .before .before in
+    forms-end (start .args .rules .now) (start .args .mixtures .now) (start .pre .1) (c .before .loop .inv) (start .pre .0) (c .loop-test .left)
 
 pub fill-forms-spec : {M : Type 1} → statement M
 fill-forms-spec =

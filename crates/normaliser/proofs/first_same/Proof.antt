@@ -1,5 +1,6 @@
+-- The invariant: no rule before j has the words of rule k.
 use borrow.Author.Needs.{needs}
-use Rattle.normaliser.proofs.Seeking.{Seeking, seek-start, seek-found, seek-next, seek-end, nine}
+use Rattle.normaliser.proofs.FirstEqual.{Seeking, seek-start, seek-found, seek-next, seek-end, words-part}
 use mathlib.Core.Path.{sym, _∙_}
 use Prim.Native.Nat.{_-_}
 use Rattle.normaliser.proofs.first_same.Statement.{statement}
@@ -54,7 +55,14 @@ same-requires : tie.Need-same-requires Inv-loop μ-loop
 same-requires c κs = search needs
 
 returns : tie.Need-returns Inv-loop μ-loop
-returns c = seek-found (c .before .before .before .before .before .before .before .args .forms .now) (c .before .before .before .before .before .before .before .args .k) (c .before .before .before .before .before .loop .j) (c .before .before .before .before .before .before .before .pre) (c .before .before .before .before .before .loop .inv) (sym (c .if1 .taken) ∙ (rw (nine (c .before .before .before .before .before .before .before .args .forms .now) (c .before .before .before .before .before .before .before .args .k), nine (c .before .before .before .before .before .before .before .args .forms .now) (c .before .before .before .before .before .loop .j)) at (c .before .same .ensures)))
+returns c =
+    let start = c .before .before .before .before .before .before .before in
+    let loop = c .before .before .before .before .before .loop in
+    seek-found (start .args .forms .now) (start .args .k) (loop .j) (start .pre) (loop .inv) (sym (c .if1 .taken) ∙ (rw (
+      words-part (start .args .forms .now) (start .args .k),
+      words-part
+          (start .args .forms .now) (loop .j),
+    ) at (c .before .same .ensures)))
 
 add-j : tie.Need-add-j Inv-loop μ-loop
 add-j c = search needs
@@ -63,7 +71,15 @@ loop-less : tie.Need-loop-less Inv-loop μ-loop
 loop-less c = search needs
 
 loop-again : tie.Need-loop-again Inv-loop μ-loop
-loop-again c = seek-next (c .before .before .before .before .before .before .before .args .forms .now) (c .before .before .before .before .before .before .before .args .k) (c .before .before .before .before .before .loop .j) (c .before .before .before .before .before .before .before .pre) (c .before .before .before .before .before .loop .inv) (c .before .before .before .before .loop-test .taken) (sym (c .if1 .left) ∙ (rw (nine (c .before .before .before .before .before .before .before .args .forms .now) (c .before .before .before .before .before .before .before .args .k), nine (c .before .before .before .before .before .before .before .args .forms .now) (c .before .before .before .before .before .loop .j)) at (c .before .same .ensures)))
+loop-again c =
+    let start = c .before .before .before .before .before .before .before in
+    let loop = c .before .before .before .before .before .loop in
+    let loop-test = c .before .before .before .before .loop-test in
+    seek-next (start .args .forms .now) (start .args .k) (loop .j) (start .pre) (loop .inv) (loop-test .taken) (sym (c .if1 .left) ∙ (rw (
+      words-part (start .args .forms .now)
+          (start .args .k),
+      words-part (start .args .forms .now) (loop .j),
+    ) at (c .before .same .ensures)))
 
 returns-2 : tie.Need-returns-2 Inv-loop μ-loop
 returns-2 c = seek-end (c .before .before .before .args .forms .now) (c .before .before .before .args .k) (c .before .loop .j) (c .before .before .before .pre) (c .before .loop .inv) (c .loop-test .left)

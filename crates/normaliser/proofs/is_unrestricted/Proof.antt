@@ -1,4 +1,5 @@
-use Rattle.normaliser.proofs.Seeking.{other-count, one-count}
+-- The unrestricted rule has one mixture, of all atoms.
+use Rattle.normaliser.proofs.FirstEqual.{other-count, one-count}
 use borrow.Author.Needs.{needs}
 use Rattle.normaliser.proofs.is_unrestricted.Statement.{statement}
 use Rattle.normaliser.proofs.is_unrestricted.Tie as tie

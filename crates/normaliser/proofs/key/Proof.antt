@@ -1,3 +1,4 @@
+-- A folded and spread number times n is below n times 2 to the 32.
 use native.Mathlib.Omega.{arith}
 use Rattle.normaliser.proofs.KeyLaws.{key-fits, key-is, key-below}
 use borrow.Author.Needs.{needs}

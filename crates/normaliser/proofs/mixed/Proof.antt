@@ -1,3 +1,4 @@
+-- The invariant: what is left of the words, mixed into h, makes the whole.
 use borrow.Author.Needs.{needs}
 use Prim.Native.Nat.{_-_, _≤_}
 use native.Mathlib.Omega.{arith}

@@ -1,43 +1,82 @@
-use borrow.Author.Needs.{needs}
-use Rattle.normaliser.proofs.Finish.{short-output, image-refused, image-rewritten, parts-policy, accepted-pairs, accepted-long, accepted-spans, accepted-sound, written-small}
-use Rattle.image.proofs.AcceptedImage.{part-ends}
-use mathlib.Core.Path.{sym, _∙_}
+-- Each case is the definition's; an accepted image's sections go to the writer.
 use native.Mathlib.Omega.{arith}
+use mathlib.Core.Path.{sym, _∙_}
+use Rattle.image.proofs.AcceptedImage.{part-ends}
+use Rattle.normaliser.proofs.NormalCases.{short-output, image-refused, image-written, accepted-pairs, accepted-long, sections-policy, sections-accepted, written-small}
+use borrow.Author.Needs.{needs}
 use Rattle.normaliser.proofs.normalise.Statement.{statement}
 use Rattle.normaliser.proofs.normalise.Tie as tie
 
 returns : tie.Need-returns
-returns c = short-output (c .before .before .before .args .image .now) (c .before .before .before .args .out .now) (c .if1 .taken)
+returns c = short-output _ _ (c .if1 .taken)
 
 check-requires : tie.Need-check-requires
 check-requires c κs = search needs
 
 returns-2 : tie.Need-returns-2
-returns-2 c = image-refused (c .before .before .before .before .before .args .image .now) (c .before .before .before .before .before .args .out .now) (c .before .before .if1 .left) _ (c .before .check .ensures) (c .if2 .taken)
+returns-2 c = image-refused _ _ (c .before .before .if1 .left) (c .before .check .ensures) (c .if2 .taken)
 
 section-requires : tie.Need-section-requires
-section-requires c κs = (accepted-long (c .before .before .before .before .before .args .image .now) (sym (c .before .check .ensures) ∙ c .if2 .left), omega arith, part-ends (c .before .before .before .before .before .args .image .now) (accepted-pairs (c .before .before .before .before .before .args .image .now) (sym (c .before .check .ensures) ∙ c .if2 .left)) 0 (omega arith))
+section-requires c κs =
+    let start = c .before .before .before .before .before in
+    let accepted = sym (c .before .check .ensures) ∙ c .if2 .left in
+    (accepted-long (start .args .image .now) accepted, omega arith, part-ends (start .args .image .now) (accepted-pairs (start .args .image .now) accepted) 0 (omega arith))
 
 section-requires-2 : tie.Need-section-requires-2
-section-requires-2 c κs = (accepted-long (c .before .before .before .before .before .before .args .image .now) (sym (c .before .before .check .ensures) ∙ c .before .if2 .left), omega arith, part-ends (c .before .before .before .before .before .before .args .image .now) (accepted-pairs (c .before .before .before .before .before .before .args .image .now) (sym (c .before .before .check .ensures) ∙ c .before .if2 .left)) 1 (omega arith))
+section-requires-2 c κs =
+    let start = c .before .before .before .before .before .before in
+    let accepted = sym (c .before .before .check .ensures) ∙ c .before .if2 .left in
+    (accepted-long (start .args .image .now) accepted, omega arith, part-ends (start .args .image .now) (accepted-pairs (start .args .image .now) accepted) 1 (omega arith))
 
 section-requires-3 : tie.Need-section-requires-3
-section-requires-3 c κs = (accepted-long (c .before .before .before .before .before .before .before .args .image .now) (sym (c .before .before .before .check .ensures) ∙ c .before .before .if2 .left), omega arith, part-ends (c .before .before .before .before .before .before .before .args .image .now) (accepted-pairs (c .before .before .before .before .before .before .before .args .image .now) (sym (c .before .before .before .check .ensures) ∙ c .before .before .if2 .left)) 2 (omega arith))
+section-requires-3 c κs =
+    let start = c .before .before .before .before .before .before .before in
+    let accepted = sym (c .before .before .before .check .ensures) ∙ c .before .before .if2 .left in
+    (accepted-long (start .args .image .now) accepted, omega arith, part-ends (start .args .image .now) (accepted-pairs (start .args .image .now) accepted) 2 (omega arith))
 
 section-requires-4 : tie.Need-section-requires-4
-section-requires-4 c κs = (accepted-long (c .before .before .before .before .before .before .before .before .args .image .now) (sym (c .before .before .before .before .check .ensures) ∙ c .before .before .before .if2 .left), omega arith, part-ends (c .before .before .before .before .before .before .before .before .args .image .now) (accepted-pairs (c .before .before .before .before .before .before .before .before .args .image .now) (sym (c .before .before .before .before .check .ensures) ∙ c .before .before .before .if2 .left)) 3 (omega arith))
+section-requires-4 c κs =
+    let start = c .before .before .before .before .before .before .before .before in
+    let accepted = sym (c .before .before .before .before .check .ensures) ∙ c .before .before .before .if2 .left in
+    (accepted-long (start .args .image .now) accepted, omega arith, part-ends (start .args .image .now) (accepted-pairs (start .args .image .now) accepted) 3 (omega arith))
 
 rewrite-requires : tie.Need-rewrite-requires
-rewrite-requires c κs = (rw (c .before .before .before .before .section .ensures, c .before .before .before .section2 .ensures, c .before .before .section3 .ensures, c .before .section4 .ensures) (accepted-sound (c .before .before .before .before .before .before .before .before .before .before .args .image .now) (sym (c .before .before .before .before .before .before .check .ensures) ∙ c .before .before .before .before .before .if2 .left) (λ k. omega (arith, c .before .before .before .before .before .before .before .before .before .shared-slice-known .given k))), rw (c .before .before .section3 .ensures, c .before .section4 .ensures) (accepted-spans (c .before .before .before .before .before .before .before .before .before .before .args .image .now) (sym (c .before .before .before .before .before .before .check .ensures) ∙ c .before .before .before .before .before .if2 .left)), c .before .before .before .before .before .before .before .if1 .left)
+rewrite-requires c κs =
+    let start = c .before .before .before .before .before .before .before .before .before .before in
+    let accepted = sym (c .before .before .before .before .before .before .check .ensures) ∙ c .before .before .before .before .before .if2 .left in
+    let shared-slice-known = c .before .before .before .before .before .before .before .before .before .shared-slice-known in
+    let if1 = c .before .before .before .before .before .before .before .if1 in
+    let section = c .before .before .before .before .section in
+    let section2 = c .before .before .before .section2 in (
+      rw (section .ensures, section2 .ensures, c .before .before .section3 .ensures, c .before .section4 .ensures) (sections-accepted (start .args .image .now) accepted (λ k. omega
+          (arith, shared-slice-known .given k))),
+      if1 .left,
+    )
 
 cast-result : tie.Need-cast-result
-cast-result c = omega (arith, written-small (c .before .before .before .before .before .before .before .before .before .before .before .before .before .args .image .now) (sym (c .before .before .before .before .before .before .before .before .before .check .ensures) ∙ c .before .before .before .before .before .before .before .before .if2 .left) (λ k. omega (arith, c .before .before .before .before .before .before .before .before .before .before .before .before .shared-slice-known .given k)) _ _ _ (rw (c .before .before .before .before .before .before .before .section .ensures, c .before .before .before .before .before .before .section2 .ensures, c .before .before .before .before .before .section3 .ensures, c .before .before .before .before .section4 .ensures) at (c .before .before .rewrite .ensures)))
+cast-result c =
+    let start = c .before .before .before .before .before .before .before .before .before .before .before .before .before in
+    let accepted = sym (c .before .before .before .before .before .before .before .before .before .check .ensures) ∙ c .before .before .before .before .before .before .before .before .if2 .left in
+    let shared-slice-known = c .before .before .before .before .before .before .before .before .before .before .before .before .shared-slice-known in
+    let section = c .before .before .before .before .before .before .before .section in
+    let section2 = c .before .before .before .before .before .before .section2 in
+    let section3 = c .before .before .before .before .before .section3 in
+    let section4 = c .before .before .before .before .section4 in
+    omega (arith, written-small (start .args .image .now) accepted (λ k. omega (arith, shared-slice-known .given k)) (rw (sections-policy (start .args .image .now) accepted) at (rw (section .ensures, section2 .ensures, section3 .ensures, section4 .ensures) at (c .before .before .rewrite .ensures))))
 
 same-length : tie.Need-same-length
-same-length c = c .before .out .given
+same-length c = search needs
 
 returns-3 : tie.Need-returns-3
-returns-3 c = image-rewritten (c .before .before .before .before .before .before .before .before .before .before .before .before .before .args .image .now) (c .before .before .before .before .before .before .before .before .before .before .before .before .before .args .out .now) (c .before .before .before .before .before .before .before .before .before .before .if1 .left) (sym (c .before .before .before .before .before .before .before .before .before .check .ensures) ∙ c .before .before .before .before .before .before .before .before .if2 .left) _ _ (rw (parts-policy (c .before .before .before .before .before .before .before .before .before .before .before .before .before .args .image .now)) at (rw (c .before .before .before .before .before .before .before .section .ensures, c .before .before .before .before .before .before .section2 .ensures, c .before .before .before .before .before .section3 .ensures, c .before .before .before .before .section4 .ensures) at (c .before .before .rewrite .ensures)))
+returns-3 c =
+    let start = c .before .before .before .before .before .before .before .before .before .before .before .before .before in
+    let accepted = sym (c .before .before .before .before .before .before .before .before .before .check .ensures) ∙ c .before .before .before .before .before .before .before .before .if2 .left in
+    let if1 = c .before .before .before .before .before .before .before .before .before .before .if1 in
+    let section = c .before .before .before .before .before .before .before .section in
+    let section2 = c .before .before .before .before .before .before .section2 in
+    let section3 = c .before .before .before .before .before .section3 in
+    let section4 = c .before .before .before .before .section4 in
+    image-written _ _ (if1 .left) accepted (rw (sections-policy (start .args .image .now) accepted) at (rw (section .ensures, section2 .ensures, section3 .ensures, section4 .ensures) at (c .before .before .rewrite .ensures)))
 
 pub normalise-spec : {M : Type 1} → statement M
 normalise-spec =

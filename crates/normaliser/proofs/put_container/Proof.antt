@@ -1,70 +1,28 @@
-use Rattle.normaliser.proofs.Seeking.{all-sets}
-use Rattle.fields.specs.Bytes.{bytesOf}
-use Rattle.image.specs.Normal.{containerBytes}
-use lib.ListN.{length-set}
+-- Four numbers, one behind the other.
 use native.Mathlib.Omega.{arith}
+use Rattle.fields.proofs.WritingLaws.{wrote-ends}
+use Rattle.normaliser.proofs.ImageBytes.{container-wrote}
 use borrow.Author.Needs.{needs}
 use Rattle.normaliser.proofs.put_container.Statement.{statement}
 use Rattle.normaliser.proofs.put_container.Tie as tie
 
-cast-out : tie.Need-cast-out
-cast-out c = search needs
+put8-requires : tie.Need-put8-requires
+put8-requires c κs = search needs
 
-slice-write-out : tie.Need-slice-write-out
-slice-write-out c = search needs
+put8-requires-2 : tie.Need-put8-requires-2
+put8-requires-2 c κs = omega (arith, wrote-ends 1 _ (c .before .before .before .put8 .ensures))
 
-cast-out-2 : tie.Need-cast-out-2
-cast-out-2 c = search needs
-
-slice-write-out-2 : tie.Need-slice-write-out-2
-slice-write-out-2 c = search needs
-
-cast-out-3 : tie.Need-cast-out-3
-cast-out-3 c = search needs
-
-slice-write-out-3 : tie.Need-slice-write-out-3
-slice-write-out-3 c = search needs
-
-cast-out-4 : tie.Need-cast-out-4
-cast-out-4 c = search needs
-
-slice-write-out-4 : tie.Need-slice-write-out-4
-slice-write-out-4 c = search needs
-
-cast-out-5 : tie.Need-cast-out-5
-cast-out-5 c = search needs
-
-slice-write-out-5 : tie.Need-slice-write-out-5
-slice-write-out-5 c = simp length-set (omega arith)
-
-cast-out-6 : tie.Need-cast-out-6
-cast-out-6 c = search needs
-
-slice-write-out-6 : tie.Need-slice-write-out-6
-slice-write-out-6 c = simp length-set (omega arith)
+put-pair-requires : tie.Need-put-pair-requires
+put-pair-requires c κs = omega (arith, wrote-ends 1 _ (c .before .before .before .put82 .ensures), wrote-ends 1 _ (c .before .before .before .before .before .before .before .put8 .ensures))
 
 same-length : tie.Need-same-length
-same-length c = simp length-set
+same-length c = search needs
 
 returns : tie.Need-returns
-unfolding bytesOf containerBytes
-returns c = all-sets (c .args .out .now) (containerBytes (record { kind = c .args .kind; atom = c .args .atom; permit = c .args .permit; run = c .args .run })) (c .pre)
+returns c =
+    let start = c .before .before .before .before .before .before .before .before .before .before .before .before .before in
+    container-wrote _ _ _ _ (start .pre) (c .before .before .before .before .before .before .before .before .before .before .put8 .ensures) (c .before .before .before .before .before .before .put82 .ensures) (c .before .before .put-pair .ensures)
 
 pub put-container-spec : {M : Type 1} → statement M
 put-container-spec =
-    tie.close
-    (tie.spec
-    cast-out
-    slice-write-out
-    cast-out-2
-    slice-write-out-2
-    cast-out-3
-    slice-write-out-3
-    cast-out-4
-    slice-write-out-4
-    cast-out-5
-    slice-write-out-5
-    cast-out-6
-    slice-write-out-6
-    same-length
-    returns)
+    tie.close (tie.spec put8-requires put8-requires-2 put-pair-requires same-length returns)

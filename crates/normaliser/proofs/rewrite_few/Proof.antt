@@ -1,42 +1,54 @@
-use Prim.Native.Nat.{ℕ}
+-- The words of the rules in normal form go to the writer.
 use native.Mathlib.Omega.{arith}
-use lib.ListN.{replicate, length-replicate}
-use Rattle.normaliser.proofs.Finish.{front-few, front-wide, front-long, front-tabled, front-written}
+use Rattle.normaliser.proofs.FormRows.{rules-few, front-long, filled-long, filled-tabled, filled-wrote}
+use borrow.Author.Needs.{needs}
 use Rattle.normaliser.proofs.rewrite_few.Statement.{statement}
 use Rattle.normaliser.proofs.rewrite_few.Tie as tie
 
 mul-n : tie.Need-mul-n
-mul-n c = omega (arith, c .before .before .before .before .before .pre .2)
+mul-n c =
+    let start = c .before .before .before .before .before in
+    omega (arith, rules-few (start .args .containers .now) (start .args .users .now) (start .args .rules .now) (start .args .mixtures .now) (start .pre .0))
 
 sub-fill-forms : tie.Need-sub-fill-forms
-sub-fill-forms c = omega (arith, c .before .before .before .before .before .pre .2)
+sub-fill-forms c = search needs
 
 part-forms-start : tie.Need-part-forms-start
-part-forms-start c = omega (arith, c .before .before .before .before .before .pre .2)
+part-forms-start c = search needs
 
 part-forms-end : tie.Need-part-forms-end
-part-forms-end c = omega (arith, c .before .before .before .before .before .pre .2)
+part-forms-end c =
+    let start = c .before .before .before .before .before in
+    omega (arith, rules-few (start .args .containers .now) (start .args .users .now) (start .args .rules .now) (start .args .mixtures .now) (start .pre .0))
 
 fill-forms-requires : tie.Need-fill-forms-requires
-fill-forms-requires c κs = (front-wide (c .before .before .before .before .before .before .args .containers .now) (c .before .before .before .before .before .before .args .users .now) (c .before .before .before .before .before .before .args .rules .now) (c .before .before .before .before .before .before .args .mixtures .now) (c .before .before .before .before .before .before .pre .0) (replicate 144 0) (omega (arith, length-replicate {A = ℕ} 144 0, c .before .before .before .before .before .before .pre .2)), c .before .before .before .before .before .before .pre .1)
+fill-forms-requires c κs =
+    let start = c .before .before .before .before .before .before in
+    (front-long _ _ (omega (arith, rules-few (start .args .containers .now) (start .args .users .now) (start .args .rules .now) (start .args .mixtures .now) (start .pre .0))), start .pre .0 .spans)
 
-sub-write-few : tie.Need-sub-write-few
-sub-write-few c = omega arith
+sub-write-policy : tie.Need-sub-write-policy
+sub-write-policy c = search needs
 
-part-write-few-start : tie.Need-part-write-few-start
-part-write-few-start c = omega arith
+part-write-policy-start : tie.Need-part-write-policy-start
+part-write-policy-start c = search needs
 
-part-write-few-end : tie.Need-part-write-few-end
-part-write-few-end c = front-long (c .before .before .before .before .before .before .before .before .before .args .containers .now) (c .before .before .before .before .before .before .before .before .before .args .users .now) (c .before .before .before .before .before .before .before .before .before .args .rules .now) (c .before .before .before .before .before .before .before .before .before .args .mixtures .now) (c .before .before .before .before .before .before .before .before .before .pre .0) (replicate 144 0) _ (c .before .before .fill-forms .ensures)
+part-write-policy-end : tie.Need-part-write-policy-end
+part-write-policy-end c =
+    let start = c .before .before .before .before .before .before .before .before .before in
+    filled-long (start .args .containers .now) (start .args .users .now) (start .args .rules .now) (start .args .mixtures .now) (start .pre .0) _ (c .before .before .fill-forms .ensures)
 
-write-few-requires : tie.Need-write-few-requires
-write-few-requires c κs = (front-tabled (c .before .before .before .before .before .before .before .before .before .before .before .args .containers .now) (c .before .before .before .before .before .before .before .before .before .before .before .args .users .now) (c .before .before .before .before .before .before .before .before .before .before .before .args .rules .now) (c .before .before .before .before .before .before .before .before .before .before .before .args .mixtures .now) (c .before .before .before .before .before .before .before .before .before .before .before .pre .0) (replicate 144 0) _ (c .before .before .before .before .fill-forms .ensures), front-few (c .before .before .before .before .before .before .before .before .before .before .before .args .containers .now) (c .before .before .before .before .before .before .before .before .before .before .before .args .users .now) (c .before .before .before .before .before .before .before .before .before .before .before .args .rules .now) (c .before .before .before .before .before .before .before .before .before .before .before .args .mixtures .now) (c .before .before .before .before .before .before .before .before .before .before .before .pre .0) (replicate 144 0) _ (c .before .before .before .before .fill-forms .ensures) 16 (c .before .before .before .before .before .before .before .before .before .before .before .pre .2), c .before .before .before .before .before .before .before .before .before .before .before .pre .3)
+write-policy-requires : tie.Need-write-policy-requires
+write-policy-requires c κs =
+    let start = c .before .before .before .before .before .before .before .before .before .before .before in
+    (filled-tabled (start .args .containers .now) (start .args .users .now) (start .args .rules .now) (start .args .mixtures .now) (start .pre .0) _ (c .before .before .before .before .fill-forms .ensures), start .pre .2)
 
 same-length : tie.Need-same-length
-same-length c = c .before .out .given
+same-length c = search needs
 
 returns : tie.Need-returns
-returns c = front-written (c .before .before .before .before .before .before .before .before .before .before .before .before .before .before .args .containers .now) (c .before .before .before .before .before .before .before .before .before .before .before .before .before .before .args .users .now) (c .before .before .before .before .before .before .before .before .before .before .before .before .before .before .args .rules .now) (c .before .before .before .before .before .before .before .before .before .before .before .before .before .before .args .mixtures .now) (c .before .before .before .before .before .before .before .before .before .before .before .before .before .before .pre .0) (replicate 144 0) _ (c .before .before .before .before .before .before .before .fill-forms .ensures) _ _ _ (c .before .before .write-few .ensures)
+returns c =
+    let start = c .before .before .before .before .before .before .before .before .before .before .before .before .before .before in
+    filled-wrote (start .args .containers .now) (start .args .users .now) (start .args .rules .now) (start .args .mixtures .now) (start .pre .0) _ (c .before .before .before .before .before .before .before .fill-forms .ensures) (c .before .before .write-policy .ensures)
 
 pub rewrite-few-spec : {M : Type 1} → statement M
 rewrite-few-spec =
@@ -47,9 +59,9 @@ rewrite-few-spec =
     part-forms-start
     part-forms-end
     fill-forms-requires
-    sub-write-few
-    part-write-few-start
-    part-write-few-end
-    write-few-requires
+    sub-write-policy
+    part-write-policy-start
+    part-write-policy-end
+    write-policy-requires
     same-length
     returns)

@@ -1,56 +1,139 @@
-use Rattle.normaliser.proofs.Finish.{both-fit, first-fits, containers-classed, users-classed, tables-writable, image-is}
-use Rattle.normaliser.proofs.Ordering.{ordered-empty}
-use mathlib.Core.List.{List, map}
-use Rattle.image.specs.Image.{usersIn}
-use Rattle.normaliser.specs.Tables.{classAt, placedAll}
+-- The tables, once filled, give the normal image; over 256 places are over 256 rules.
 use native.Mathlib.Omega.{arith}
-use Prim.Native.Nat.{ℕ, _-_}
-use lib.ListN.{length}
-use mathlib.Core.Path.{_≡_, ap, _∙_}
+use Prim.Native.Nat.{_-_}
+use mathlib.Core.Path.{_≡_}
+use Rattle.normaliser.proofs.FirstUse.{ordered-empty}
+use Rattle.normaliser.proofs.TableImage.{both-fit, first-fits, containers-classed, users-classed, noted, tables-writable, answered, over-limit}
+use borrow.Author.Needs.{needs}
 use Rattle.normaliser.proofs.write_by.Statement.{statement}
 use Rattle.normaliser.proofs.write_by.Tie as tie
 
+classify-requires : tie.Need-classify-requires
+classify-requires c κs =
+    let start = c .before .before .before .before .before .before .before .before .before .before in
+    (start .pre .1 .classesRoom, start .pre .1 .classesFew, start .pre .1 .keyed)
+
 place-containers-requires : tie.Need-place-containers-requires
-place-containers-requires c κs = (containers-classed (c .before .before .before .before .before .before .before .before .before .args .containers .now) (c .before .before .before .before .before .before .before .before .before .args .users .now) (c .before .before .before .before .before .before .before .before .before .args .forms .now) (c .before .before .before .before .before .before .before .before .before .pre .0) (c .before .before .before .before .before .before .before .before .before .args .classes .now) (c .before .before .before .before .before .before .before .before .before .pre .1) _ (c .before .before .before .before .before .before .before .before .before .pre .3), omega (arith, first-fits (c .before .before .before .before .before .before .before .before .before .args .containers .now) (c .before .before .before .before .before .before .before .before .before .args .users .now) (c .before .before .before .before .before .before .before .before .before .args .forms .now) (c .before .before .before .before .before .before .before .before .before .pre .0) (c .before .before .before .before .before .before .before .before .before .args .classes .now) (c .before .before .before .before .before .before .before .before .before .pre .1), c .before .before .before .before .before .before .before .before .before .pre .2), ordered-empty _ _ (c .before .before .before .before .before .before .before .before .before .pre .4))
+place-containers-requires c κs =
+    let start = c .before .before .before .before .before .before .before .before .before .before .before .before .before .before .before .before .before .before in
+    let told = c .before .before .before .before .before .before .before .classify .ensures in (
+      containers-classed (start .args .containers .now) (start .args .users .now) (start .args .forms .now) (start .pre .0) _ told _ (start .pre .1 .placesRoom),
+      omega (arith, first-fits (start .args .containers .now) (start .args .users .now) (start .args .forms .now) (start .pre .0) _ told, start .pre .1 .orderRoom),
+      ordered-empty _ _ (start .pre .1 .orderFew) (start .pre .1 .zero),
+    )
 
 place-users-requires : tie.Need-place-users-requires
-place-users-requires c κs = (users-classed (c .before .before .before .before .before .before .before .before .before .before .before .before .before .before .before .before .args .containers .now) (c .before .before .before .before .before .before .before .before .before .before .before .before .before .before .before .before .args .users .now) (c .before .before .before .before .before .before .before .before .before .before .before .before .before .before .before .before .args .forms .now) (c .before .before .before .before .before .before .before .before .before .before .before .before .before .before .before .before .pre .0) (c .before .before .before .before .before .before .before .before .before .before .before .before .before .before .before .before .args .classes .now) (c .before .before .before .before .before .before .before .before .before .before .before .before .before .before .before .before .pre .1) (length (c .before .before .before .before .before .before .place-containers .last .1 .1 .1 .0)) (omega (arith, c .before .before .before .before .before .before .before .before .before .before .before .before .before .before .before .before .pre .3, c .before .before .before .places .given)), rw (c .before .before .before .before .before .before .place-containers .ensures .0) (omega (arith, both-fit (c .before .before .before .before .before .before .before .before .before .before .before .before .before .before .before .before .args .containers .now) (c .before .before .before .before .before .before .before .before .before .before .before .before .before .before .before .before .args .users .now) (c .before .before .before .before .before .before .before .before .before .before .before .before .before .before .before .before .args .forms .now) (c .before .before .before .before .before .before .before .before .before .before .before .before .before .before .before .before .pre .0) (c .before .before .before .before .before .before .before .before .before .before .before .before .before .before .before .before .args .classes .now) (c .before .before .before .before .before .before .before .before .before .before .before .before .before .before .before .before .pre .1), c .before .before .before .before .before .before .before .before .before .before .before .before .before .before .before .before .pre .2, c .before .before .before .before .before .order .given)), c .before .before .before .before .before .before .place-containers .ensures .1)
-
-sub-write-image : tie.Need-sub-write-image
-sub-write-image c = omega arith
-
-part-write-image-start : tie.Need-part-write-image-start
-part-write-image-start c = omega arith
-
-part-write-image-end : tie.Need-part-write-image-end
-part-write-image-end c = omega (arith, c .before .before .before .before .before .before .before .place-users .ensures .1 .room)
-
-write-image-requires : tie.Need-write-image-requires
-write-image-requires c κs = let z : (c .before .before .before .before .before .before .before .before .place-users .result) - 0 ≡ (c .before .before .before .before .before .before .before .before .place-users .result) = omega arith in rw z (tables-writable (c .before .before .before .before .before .before .before .before .before .before .before .before .before .before .before .before .before .before .before .before .before .before .before .before .before .args .containers .now) (c .before .before .before .before .before .before .before .before .before .before .before .before .before .before .before .before .before .before .before .before .before .before .before .before .before .args .users .now) (c .before .before .before .before .before .before .before .before .before .before .before .before .before .before .before .before .before .before .before .before .before .before .before .before .before .args .forms .now) (c .before .before .before .before .before .before .before .before .before .before .before .before .before .before .before .before .before .before .before .before .before .before .before .before .before .pre .0) (c .before .before .before .before .before .before .before .before .before .before .before .before .before .before .before .before .before .before .before .before .before .before .before .before .before .args .classes .now) (c .before .before .before .before .before .before .before .before .before .before .before .before .before .before .before .before .before .before .before .before .before .before .before .before .before .pre .1) (c .before .before .before .before .before .before .before .before .place-users .last .1 .1 .0) (c .before .before .before .before .before .before .before .before .place-users .last .1 .1 .1 .0) (c .before .before .before .before .before .before .before .before .place-users .result) (c .before .before .before .before .before .before .before .before .place-users .ensures .1) (c .before .before .before .before .before .before .before .before .place-users .ensures .0 ∙ ap (λ (x : List ℕ). placedAll x (map (classAt (c .before .before .before .before .before .before .before .before .before .before .before .before .before .before .before .before .before .before .before .before .before .before .before .before .before .args .classes .now)) (usersIn (c .before .before .before .before .before .before .before .before .before .before .before .before .before .before .before .before .before .before .before .before .before .before .before .before .before .args .users .now)))) (c .before .before .before .before .before .before .before .before .before .before .before .before .before .before .before .place-containers .ensures .0)) (omega (arith, c .before .before .before .before .before .before .before .before .before .before .before .before .before .before .before .before .before .before .before .before .before .before .before .before .before .pre .3, c .before .before .before .before .before .before .before .before .before .before .before .before .places .given, c .before .before .before .before .before .places2 .given)) _ (c .before .before .before .before .before .before .before .before .before .before .before .before .before .before .before .before .before .before .before .before .before .before .before .before .before .pre .5))
+place-users-requires c κs =
+    let start = c .before .before .before .before .before .before .before .before .before .before .before .before .before .before .before .before .before .before .before .before .before .before .before .before .before .before in
+    let told = c .before .before .before .before .before .before .before .before .before .before .before .before .before .before .before .classify .ensures in
+    let place-containers = c .before .before .before .before .before .before .before .place-containers in
+    let order = c .before .before .before .before .before .before .order in
+    let places = c .before .before .before .before .places in
+    let first = place-containers .ensures in (
+      users-classed (start .args .containers .now) (start .args .users .now) (start .args .forms .now) (start .pre .0) _ told _
+          (omega (arith, start .pre .1 .placesRoom, places .given)),
+      rw (first .0) (omega (
+        arith,
+        both-fit (start .args .containers .now) (start .args .users .now) (start .args .forms .now)
+            (start .pre .0) _ told,
+        start .pre .1 .orderRoom,
+        order .given,
+      )),
+      first .1,
+    )
 
 same-length : tie.Need-same-length
-same-length c = c .before .before .before .before .before .before .before .before .before .before .order2 .given ∙ c .before .before .before .before .before .before .before .before .before .before .before .before .before .before .before .before .before .order .given
+same-length c = search needs
 
 same-length-2 : tie.Need-same-length-2
-same-length-2 c = c .before .before .before .before .before .before .before .before .places2 .given ∙ c .before .before .before .before .before .before .before .before .before .before .before .before .before .before .before .places .given
+same-length-2 c = search needs
 
 same-length-3 : tie.Need-same-length-3
-same-length-3 c = c .before .out .given
+same-length-3 c = search needs
+
+same-length-4 : tie.Need-same-length-4
+same-length-4 c = search needs
 
 returns : tie.Need-returns
-returns c = let z : (c .before .before .before .before .before .before .before .before .before .before .before .place-users .result) - 0 ≡ (c .before .before .before .before .before .before .before .before .before .before .before .place-users .result) = omega arith in rw (image-is (c .before .before .before .before .before .before .before .before .before .before .before .before .before .before .before .before .before .before .before .before .before .before .before .before .before .before .before .before .args .containers .now) (c .before .before .before .before .before .before .before .before .before .before .before .before .before .before .before .before .before .before .before .before .before .before .before .before .before .before .before .before .args .users .now) (c .before .before .before .before .before .before .before .before .before .before .before .before .before .before .before .before .before .before .before .before .before .before .before .before .before .before .before .before .args .forms .now) (c .before .before .before .before .before .before .before .before .before .before .before .before .before .before .before .before .before .before .before .before .before .before .before .before .before .before .before .before .pre .0) (c .before .before .before .before .before .before .before .before .before .before .before .before .before .before .before .before .before .before .before .before .before .before .before .before .before .before .before .before .args .classes .now) (c .before .before .before .before .before .before .before .before .before .before .before .before .before .before .before .before .before .before .before .before .before .before .before .before .before .before .before .before .pre .1) (c .before .before .before .before .before .before .before .before .before .before .before .place-users .last .1 .1 .0) (c .before .before .before .before .before .before .before .before .before .before .before .place-users .last .1 .1 .1 .0) (c .before .before .before .before .before .before .before .before .before .before .before .place-users .result) (c .before .before .before .before .before .before .before .before .before .before .before .place-users .ensures .1) (c .before .before .before .before .before .before .before .before .before .before .before .place-users .ensures .0 ∙ ap (λ (x : List ℕ). placedAll x (map (classAt (c .before .before .before .before .before .before .before .before .before .before .before .before .before .before .before .before .before .before .before .before .before .before .before .before .before .before .before .before .args .classes .now)) (usersIn (c .before .before .before .before .before .before .before .before .before .before .before .before .before .before .before .before .before .before .before .before .before .before .before .before .before .before .before .before .args .users .now)))) (c .before .before .before .before .before .before .before .before .before .before .before .before .before .before .before .before .before .before .place-containers .ensures .0)) (omega (arith, c .before .before .before .before .before .before .before .before .before .before .before .before .before .before .before .before .before .before .before .before .before .before .before .before .before .before .before .before .pre .3, c .before .before .before .before .before .before .before .before .before .before .before .before .before .before .before .places .given, c .before .before .before .before .before .before .before .before .places2 .given))) at (rw z at (c .before .before .write-image .ensures))
+returns c =
+    let start = c .before .before .before .before .before .before .before .before .before .before .before .before .before .before .before .before .before .before .before .before .before .before .before .before .before .before .before .before .before .before .before .before in
+    let classify = c .before .before .before .before .before .before .before .before .before .before .before .before .before .before .before .before .before .before .before .before .before .classify in
+    let place-containers = c .before .before .before .before .before .before .before .before .before .before .before .before .before .place-containers in
+    let places = c .before .before .before .before .before .before .before .before .before .before .places in
+    let place-users = c .before .before .before .before .before .place-users in
+    let done = noted (start .args .containers .now) (start .args .users .now) (start .args .forms .now) (start .pre .0) (classify .ensures) (place-containers .ensures .0)
+    (place-users .ensures .0) (place-users .ensures .1) (omega (arith, start .pre .1 .placesRoom, places .given, c .before .before .places2 .given)) in over-limit (start .args .containers .now)
+    (start .args .users .now) (start .args .forms .now) (start .pre .0) done _ (c .if1 .taken)
+
+sub-write-image : tie.Need-sub-write-image
+sub-write-image c = search needs
+
+part-write-image-start : tie.Need-part-write-image-start
+part-write-image-start c = search needs
+
+part-write-image-end : tie.Need-part-write-image-end
+part-write-image-end c = omega (arith, c .before .before .before .before .before .before .before .before .before .place-users .ensures .1 .room)
+
+write-image-requires : tie.Need-write-image-requires
+write-image-requires c κs =
+    let start = c .before .before .before .before .before .before .before .before .before .before .before .before .before .before .before .before .before .before .before .before .before .before .before .before .before .before .before .before .before .before .before .before .before .before .before .before .before in
+    let classify = c .before .before .before .before .before .before .before .before .before .before .before .before .before .before .before .before .before .before .before .before .before .before .before .before .before .before .classify in
+    let place-containers = c .before .before .before .before .before .before .before .before .before .before .before .before .before .before .before .before .before .before .place-containers in
+    let places = c .before .before .before .before .before .before .before .before .before .before .before .before .before .before .before .places in
+    let place-users = c .before .before .before .before .before .before .before .before .before .before .place-users in
+    let places2 = c .before .before .before .before .before .before .before .places2 in
+    let if1 = c .before .before .before .before .before .if1 in
+    let done = noted (start .args .containers .now) (start .args .users .now) (start .args .forms .now) (start .pre .0) (classify .ensures) (place-containers .ensures .0)
+    (place-users .ensures .0) (place-users .ensures .1) (omega (arith, start .pre .1 .placesRoom, places .given, places2 .given)) in let z : place-users .result - 0 ≡ place-users .result = omega arith in rw z
+    (tables-writable (start .args .containers .now) (start .args .users .now) (start .args .forms .now) (start .pre .0) done _ (if1 .left) (start .pre .2))
+
+same-length-5 : tie.Need-same-length-5
+same-length-5 c = search needs
+
+same-length-6 : tie.Need-same-length-6
+same-length-6 c = search needs
+
+same-length-7 : tie.Need-same-length-7
+same-length-7 c = search needs
+
+same-length-8 : tie.Need-same-length-8
+same-length-8 c = search needs
+
+same-length-9 : tie.Need-same-length-9
+same-length-9 c = search needs
+
+returns-2 : tie.Need-returns-2
+returns-2 c =
+    let start = c .before .before .before .before .before .before .before .before .before .before .before .before .before .before .before .before .before .before .before .before .before .before .before .before .before .before .before .before .before .before .before .before .before .before .before .before .before .before .before .before in
+    let classify = c .before .before .before .before .before .before .before .before .before .before .before .before .before .before .before .before .before .before .before .before .before .before .before .before .before .before .before .before .before .classify in
+    let place-containers = c .before .before .before .before .before .before .before .before .before .before .before .before .before .before .before .before .before .before .before .before .before .place-containers in
+    let places = c .before .before .before .before .before .before .before .before .before .before .before .before .before .before .before .before .before .before .places in
+    let place-users = c .before .before .before .before .before .before .before .before .before .before .before .before .before .place-users in
+    let places2 = c .before .before .before .before .before .before .before .before .before .before .places2 in
+    let if1 = c .before .before .before .before .before .before .before .before .if1 in
+    let done = noted (start .args .containers .now) (start .args .users .now) (start .args .forms .now) (start .pre .0) (classify .ensures) (place-containers .ensures .0)
+    (place-users .ensures .0) (place-users .ensures .1) (omega (arith, start .pre .1 .placesRoom, places .given, places2 .given)) in let z : place-users .result - 0 ≡ place-users .result = omega arith in answered
+    (start .args .containers .now) (start .args .users .now) (start .args .forms .now) (start .pre .0) done (if1 .left) (rw z at (c .before .before .write-image .ensures))
 
 pub write-by-spec : {M : Type 1} → statement M
 write-by-spec =
     tie.close
     (tie.spec
+    classify-requires
     place-containers-requires
     place-users-requires
+    same-length
+    same-length-2
+    same-length-3
+    same-length-4
+    returns
     sub-write-image
     part-write-image-start
     part-write-image-end
     write-image-requires
-    same-length
-    same-length-2
-    same-length-3
-    returns)
+    same-length-5
+    same-length-6
+    same-length-7
+    same-length-8
+    same-length-9
+    returns-2)

@@ -1,4 +1,7 @@
-use Rattle.normaliser.specs.Tables.{headerFields}
+-- The leading number and four pairs, one behind the other.
+use native.Mathlib.Omega.{arith}
+use Rattle.fields.proofs.WritingLaws.{wrote-ends}
+use Rattle.normaliser.proofs.ImageBytes.{pair-ends, header-wrote}
 use borrow.Author.Needs.{needs}
 use Rattle.normaliser.proofs.write_header.Statement.{statement}
 use Rattle.normaliser.proofs.write_header.Tie as tie
@@ -9,21 +12,47 @@ add-second c = search needs
 add-third : tie.Need-add-third
 add-third c = search needs
 
-add-fourth : tie.Need-add-fourth
-add-fourth c = search needs
+put16-requires : tie.Need-put16-requires
+put16-requires c κs = search needs
 
-slice-aggregate-write-numbers : tie.Need-slice-aggregate-write-numbers
-slice-aggregate-write-numbers c = search needs
+put-pair-requires : tie.Need-put-pair-requires
+put-pair-requires c κs = omega (arith, wrote-ends 2 _ (c .before .before .before .put16 .ensures))
 
-write-numbers-requires : tie.Need-write-numbers-requires
-write-numbers-requires c κs = search needs
+put-pair-requires-2 : tie.Need-put-pair-requires-2
+put-pair-requires-2 c κs = omega (arith, pair-ends _ _ (c .before .before .before .put-pair .ensures), wrote-ends 2 _ (c .before .before .before .before .before .before .before .put16 .ensures))
+
+put-pair-requires-3 : tie.Need-put-pair-requires-3
+put-pair-requires-3 c κs =
+    omega (
+      arith,
+      pair-ends _ _ (c .before .before .before .put-pair2 .ensures),
+      pair-ends _ _ (c .before .before .before .before .before .before .before .put-pair .ensures),
+      wrote-ends 2 _ (c .before .before .before .before .before .before .before .before .before .before .before .put16 .ensures),
+    )
+
+add-put-pair : tie.Need-add-put-pair
+add-put-pair c = search needs
+
+put-pair-requires-4 : tie.Need-put-pair-requires-4
+put-pair-requires-4 c κs =
+    omega (
+      arith,
+      pair-ends _ _ (c .before .before .before .put-pair3 .ensures),
+      pair-ends _ _ (c .before .before .before .before .before .before .before .put-pair2 .ensures),
+      pair-ends _ _ (c .before .before .before .before .before .before .before .before .before .before .before .put-pair .ensures),
+      wrote-ends 2 _ (c .before .before .before .before .before .before .before .before .before .before .before .before .before .before .before .put16 .ensures),
+    )
 
 same-length : tie.Need-same-length
 same-length c = search needs
 
 returns : tie.Need-returns
-unfolding headerFields
-returns c = c .before .before .write-numbers .ensures
+returns c =
+    let number = c .before .before .before .before .before .before .before .before .before .before .before .before .before .before .before .before .before .before .put16 in
+    let first = c .before .before .before .before .before .before .before .before .before .before .before .before .before .before .put-pair in
+    let second = c .before .before .before .before .before .before .before .before .before .before .put-pair2 in
+    let third = c .before .before .before .before .before .before .put-pair3 in
+    header-wrote _ _ _ _ (omega arith) (number .ensures) (first .ensures) (second .ensures) (third .ensures) (c .before .before .put-pair4 .ensures)
 
 pub write-header-spec : {M : Type 1} → statement M
 write-header-spec =
@@ -31,8 +60,11 @@ write-header-spec =
     (tie.spec
     add-second
     add-third
-    add-fourth
-    slice-aggregate-write-numbers
-    write-numbers-requires
+    put16-requires
+    put-pair-requires
+    put-pair-requires-2
+    put-pair-requires-3
+    add-put-pair
+    put-pair-requires-4
     same-length
     returns)

@@ -1,18 +1,12 @@
+-- Tables of zeros for so many rules.
 use native.Mathlib.Omega.{arith}
-use Rattle.normaliser.proofs.Finish.{forms-few, zeros-at}
-use Rattle.normaliser.proofs.KeyLaws.{keyed-start}
+use Rattle.normaliser.proofs.KeyLaws.{zeros-at, keyed-start}
+use Rattle.normaliser.proofs.FormLaws.{forms-few}
+use Rattle.normaliser.specs.Keys.{manyKeys}
+use Rattle.normaliser.specs.Writer.{useLimit}
 use borrow.Author.Needs.{needs}
 use Rattle.normaliser.proofs.write_many.Statement.{statement}
 use Rattle.normaliser.proofs.write_many.Tie as tie
-
-slice-aggregate-classify : tie.Need-slice-aggregate-classify
-slice-aggregate-classify c = search needs
-
-slice-aggregate-classify-2 : tie.Need-slice-aggregate-classify-2
-slice-aggregate-classify-2 c = search needs
-
-classify-requires : tie.Need-classify-requires
-classify-requires c κs = (forms-few (c .before .before .before .before .before .before .args .containers .now) (c .before .before .before .before .before .before .args .users .now) (c .before .before .before .before .before .before .args .forms .now) (c .before .before .before .before .before .before .pre .0), keyed-start (c .before .before .before .before .before .before .args .forms .now) 1024 (omega arith) (omega arith))
 
 slice-aggregate-write-by : tie.Need-slice-aggregate-write-by
 slice-aggregate-write-by c = search needs
@@ -23,8 +17,24 @@ slice-aggregate-write-by-2 c = search needs
 slice-aggregate-write-by-3 : tie.Need-slice-aggregate-write-by-3
 slice-aggregate-write-by-3 c = search needs
 
+slice-aggregate-write-by-4 : tie.Need-slice-aggregate-write-by-4
+slice-aggregate-write-by-4 c = search needs
+
 write-by-requires : tie.Need-write-by-requires
-write-by-requires c κs = (c .before .before .before .before .before .before .before .before .before .before .before .before .before .pre .0, c .before .before .before .before .before .before .classify .ensures, forms-few (c .before .before .before .before .before .before .before .before .before .before .before .before .before .args .containers .now) (c .before .before .before .before .before .before .before .before .before .before .before .before .before .args .users .now) (c .before .before .before .before .before .before .before .before .before .before .before .before .before .args .forms .now) (c .before .before .before .before .before .before .before .before .before .before .before .before .before .pre .0), forms-few (c .before .before .before .before .before .before .before .before .before .before .before .before .before .args .containers .now) (c .before .before .before .before .before .before .before .before .before .before .before .before .before .args .users .now) (c .before .before .before .before .before .before .before .before .before .before .before .before .before .args .forms .now) (c .before .before .before .before .before .before .before .before .before .before .before .before .before .pre .0), zeros-at 256, c .before .before .before .before .before .before .before .before .before .before .before .before .before .pre .1)
+write-by-requires c κs =
+    let start = c .before .before .before .before .before .before .before .before .before in (
+      start .pre .0,
+      record {
+        classesRoom = omega (arith, forms-few (start .pre .0));
+        classesFew = search needs;
+        keyed = keyed-start _ manyKeys (omega arith) (omega arith);
+        orderRoom = omega (arith, forms-few (start .pre .0));
+        orderFew = search needs;
+        placesRoom = omega (arith, forms-few (start .pre .0));
+        zero = λ v. zeros-at useLimit v;
+      },
+      start .pre .1,
+    )
 
 same-length : tie.Need-same-length
 same-length c = search needs
@@ -36,12 +46,10 @@ pub write-many-spec : {M : Type 1} → statement M
 write-many-spec =
     tie.close
     (tie.spec
-    slice-aggregate-classify
-    slice-aggregate-classify-2
-    classify-requires
     slice-aggregate-write-by
     slice-aggregate-write-by-2
     slice-aggregate-write-by-3
+    slice-aggregate-write-by-4
     write-by-requires
     same-length
     returns)

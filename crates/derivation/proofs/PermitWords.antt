@@ -1,0 +1,217 @@
+-- The permit rules as words: the loop over the writers of an object, and the loop over the objects.
+use Prim.Native.Nat.{ℕ, suc, _+_, _-_, _*_, _/_, _%_, _^_, _≤_, _<_}
+use mathlib.Core.Path.{_≡_, refl, sym, ap, ap₂, _∙_}
+use mathlib.Core.Bool.{Bool, true, cond}
+use mathlib.Core.List.{List, [], _∷_, _++_, map, append-nil, append-assoc}
+use native.Mathlib.Omega.{arith}
+use native.Mathlib.Nat.{zero-add, one-mul, mod-eq-of-lt}
+use native.Mathlib.Numerals.{add-one}
+use lib.Bits.{bitOr}
+use lib.Pow.{pow-lt}
+use lib.ListN.{length, getD, take, drop, set, replicate, length-append, length-map, length-replicate, replicate-append-replicate, drop-of-length-le}
+use lib.Seq.{drop-cons, drop-at, take-at}
+use lib.Dec.{leb}
+use borrow.Author.Tests.{le-leb}
+use borrow.Rule.Slice.PartMut.{putMid}
+use Rattle.lists.proofs.Places.{map-at}
+use Rattle.lists.specs.Lists.{joined, every}
+use Rattle.fields.specs.Writing.{overwritten}
+use Rattle.fields.proofs.RowWriting.{RowsWritten, rows-start, rows-room, rows-next, rows-end, part-wrote, wrote-whole}
+use Rattle.rules.specs.Answers.{mixtureLimit, padded}
+use Rattle.rules.specs.Rules.{normal}
+use Rattle.rules.proofs.RuleLaws.{normal-length}
+use Rattle.rule_words.specs.Words.{ruleWidth, wordsOf}
+use Rattle.rule_words.proofs.WordLaws.{words-nine}
+use Rattle.normaliser.specs.Writer.{formWords}
+use Rattle.normaliser.proofs.WriterLaws.{words-length}
+use Rattle.matrix.specs.Limits.{subjectLimit, objectLimit}
+use Rattle.matrix.specs.Flows.{has}
+use Rattle.matrix.proofs.BitLaws.{has-is, has-not}
+use Rattle.derivation.specs.Derived.{writerMixtures, orAlone, permitOf, countFrom}
+use Rattle.derivation.proofs.DerivedLaws.{count-length, every-count, few-mixtures}
+use Rattle.derivation.proofs.ContainerRows.{count-at}
+
+-- ---- one more mixture
+
+set-behind : (r : List ℕ) (k v : ℕ) → set (r ++ replicate (suc k) 0) (length r) v ≡ (r ++ (v ∷ [])) ++ replicate k 0
+set-behind [] k v = refl
+set-behind (m ∷ r) k v = ap (λ (l : List ℕ). m ∷ l) (set-behind r k v)
+
+set-padded : (r : List ℕ) (v : ℕ) → length r < mixtureLimit → set (padded r) (length r) v ≡ padded (r ++ (v ∷ []))
+unfolding padded
+set-padded r v l =
+    let e : mixtureLimit - length r ≡ suc (mixtureLimit - length (r ++ (v ∷ []))) = omega (arith, length-append r (v ∷ [])) in
+    ap (λ (k : ℕ). set (r ++ replicate k 0) (length r) v) e ∙ set-behind r (mixtureLimit - length (r ++ (v ∷ []))) v
+
+-- ---- the writers of object b: the first s subjects are done
+
+pub record PermitListed (reads writes : List ℕ) (b : ℕ) (words : List ℕ) (count s : ℕ) : Type 0 where
+  pub place : s ≤ length reads
+  pub even : length writes ≡ length reads
+  pub few : length reads ≤ subjectLimit
+  pub done : List ℕ
+  pub sum : count ≡ length done
+  pub most : length done ≤ s
+  pub words-are : words ≡ 0 ∷ padded done
+  pub left : done ++ writerMixtures (drop s reads) (drop s writes) b ≡ writerMixtures reads writes b
+
+pub permit-start : (reads writes : List ℕ) (b : ℕ) {words : List ℕ} → length writes ≡ length reads → length reads ≤ subjectLimit → words ≡ replicate ruleWidth 0 → PermitListed reads writes b words 0 0
+unfolding padded
+permit-start reads writes b e f z = record { place = omega arith; even = e; few = f; done = []; sum = refl; most = omega arith; words-are = z; left = refl }
+
+module _ {reads writes : List ℕ} {b : ℕ} {words : List ℕ} {count s : ℕ} (g : PermitListed reads writes b words count s) where
+  pub permit-long : length words ≡ ruleWidth
+  unfolding padded
+  permit-long =
+      ap length (g .words-are)
+      ∙ omega (arith, length-append (g .done) (replicate (mixtureLimit - length (g .done)) 0), length-replicate {A = ℕ} (mixtureLimit - length (g .done)) 0, g .most, g .place, g .few)
+
+  writers-next : s < length reads → writerMixtures (drop s reads) (drop s writes) b
+      ≡ cond (has (getD writes s 0) b) (bitOr (getD reads s 0) (2 ^ b) ∷ writerMixtures (drop (s + 1) reads) (drop (s + 1) writes) b) (writerMixtures (drop (s + 1) reads) (drop (s + 1) writes) b)
+  unfolding writerMixtures
+  writers-next l =
+      let p : s < length writes = omega (arith, g .even) in
+      rw (drop-cons reads s 0 l, drop-cons writes s 0 p, add-one)
+
+  pub permit-take : s < length reads → getD writes s 0 / 2 ^ b % 2 ≡ 1 → {v : ℕ} → v ≡ bitOr (getD reads s 0) (2 ^ b) → PermitListed reads writes b (set words (count + 1) v) (count + 1) (s + 1)
+  permit-take l t {v} e =
+      record {
+        place = omega arith;
+        even = g .even;
+        few = g .few;
+        done = g .done ++ (v ∷ []);
+        sum = omega (arith, length-append (g .done) (v ∷ []), g .sum);
+        most = omega (arith, length-append (g .done) (v ∷ []), g .most);
+        words-are =
+            ap₂ (λ (x : List ℕ) (k : ℕ). set x k v) (g .words-are) (add-one count ∙ ap suc (g .sum))
+            ∙ ap (λ (x : List ℕ). 0 ∷ x) (set-padded (g .done) v (omega (arith, g .most, g .few)));
+        left = append-assoc (g .done) (v ∷ []) (writerMixtures (drop (s + 1) reads) (drop (s + 1) writes) b) ∙ ap (λ (x : List ℕ). g .done ++ x) (sym one) ∙ g .left;
+      }
+    where
+      one : writerMixtures (drop s reads) (drop s writes) b ≡ v ∷ writerMixtures (drop (s + 1) reads) (drop (s + 1) writes) b
+      one =
+          writers-next l
+          ∙ ap (λ (x : Bool). cond x (bitOr (getD reads s 0) (2 ^ b) ∷ writerMixtures (drop (s + 1) reads) (drop (s + 1) writes) b) (writerMixtures (drop (s + 1) reads) (drop (s + 1) writes) b)) (has-is (getD writes s 0) b t)
+          ∙ ap (λ (m : ℕ). m ∷ writerMixtures (drop (s + 1) reads) (drop (s + 1) writes) b) (sym e)
+
+  pub permit-leave : s < length reads → (getD writes s 0 / 2 ^ b % 2 ≡ 1 → ⊥) → PermitListed reads writes b words count (s + 1)
+  permit-leave l t =
+      record {
+        place = omega arith;
+        even = g .even;
+        few = g .few;
+        done = g .done;
+        sum = g .sum;
+        most = omega (arith, g .most);
+        words-are = g .words-are;
+        left = ap (λ (x : List ℕ). g .done ++ x) (sym none) ∙ g .left;
+      }
+    where
+      none : writerMixtures (drop s reads) (drop s writes) b ≡ writerMixtures (drop (s + 1) reads) (drop (s + 1) writes) b
+      none =
+          writers-next l
+          ∙ ap (λ (x : Bool). cond x (bitOr (getD reads s 0) (2 ^ b) ∷ writerMixtures (drop (s + 1) reads) (drop (s + 1) writes) b) (writerMixtures (drop (s + 1) reads) (drop (s + 1) writes) b)) (has-not (getD writes s 0) b t)
+
+  all-done : length reads ≤ s → g .done ≡ writerMixtures reads writes b
+  unfolding writerMixtures
+  all-done l =
+      let e : drop s reads ≡ [] = drop-of-length-le reads {i = s} l in
+      sym (append-nil (g .done)) ∙ ap (λ (x : List ℕ). g .done ++ x) (sym (ap (λ (r : List ℕ). writerMixtures r (drop s writes) b) e)) ∙ g .left
+
+  -- no writer
+  pub permit-alone : length reads ≤ s → count ≡ 0 → {own : ℕ} → own ≡ 2 ^ b → set (set words 0 1) 1 own ≡ wordsOf (permitOf reads writes b)
+  unfolding permitOf orAlone wordsOf padded
+  permit-alone l z {own} e = by (g .done) (g .words-are) (sym (g .sum) ∙ z) (all-done l)
+    where
+      by : (d : List ℕ) → words ≡ 0 ∷ (d ++ replicate (mixtureLimit - length d) 0) → length d ≡ 0 → d ≡ writerMixtures reads writes b
+          → set (set words 0 1) 1 own ≡ length (orAlone b (writerMixtures reads writes b)) ∷ (orAlone b (writerMixtures reads writes b) ++ replicate (mixtureLimit - length (orAlone b (writerMixtures reads writes b))) 0)
+      by [] w n q = rw (← q) (ap (λ (x : List ℕ). set (set x 0 1) 1 own) w ∙ ap (λ (m : ℕ). 1 ∷ m ∷ replicate 7 0) e)
+      by (m ∷ d) w n q = absurd (omega arith)
+
+  -- a mixture for each writer
+  pub permit-writers : length reads ≤ s → (count ≡ 0 → ⊥) → set words 0 count ≡ wordsOf (permitOf reads writes b)
+  unfolding permitOf orAlone wordsOf
+  permit-writers l z = by (g .done) (g .words-are) (g .sum) (all-done l)
+    where
+      by : (d : List ℕ) → words ≡ 0 ∷ padded d → count ≡ length d → d ≡ writerMixtures reads writes b
+          → set words 0 count ≡ length (orAlone b (writerMixtures reads writes b)) ∷ padded (orAlone b (writerMixtures reads writes b))
+      by [] w n q = absurd (z n)
+      by (m ∷ d) w n q = rw (← q) (ap₂ (λ (x : List ℕ) (k : ℕ). set x 0 k) w n)
+
+-- the mixture of the object itself, as code makes it
+pub own-is : (b : ℕ) → b < objectLimit → 1 * 2 ^ b % 2 ^ 64 ≡ 2 ^ b
+own-is b l =
+    let p : b < 64 = omega arith in
+    ap (λ (x : ℕ). x % 2 ^ 64) (one-mul (2 ^ b)) ∙ mod-eq-of-lt (pow-lt p)
+
+-- ---- the objects, one after the other
+
+zeros-part : (a w k : ℕ) → take {A = ℕ} w (drop a (replicate (a + (w + k)) 0)) ≡ replicate w 0
+zeros-part a w k =
+    ap (λ (x : List ℕ). take w (drop a x)) (sym (replicate-append-replicate {A = ℕ} a (w + k) 0))
+    ∙ ap (take {A = ℕ} w) (drop-at {A = ℕ} (replicate a 0) (replicate (w + k) 0) a (length-replicate {A = ℕ} a 0))
+    ∙ ap (take {A = ℕ} w) (sym (replicate-append-replicate {A = ℕ} w k 0))
+    ∙ take-at {A = ℕ} (replicate w 0) (replicate k 0) w (length-replicate {A = ℕ} w 0)
+
+module _ (reads writes : List ℕ) (n : ℕ) where
+  abbrev pub permits : List (List ℕ)
+  permits = map (permitOf reads writes) (countFrom 0 n)
+
+  abbrev pub permitRows : List (List ℕ)
+  permitRows = map wordsOf (map normal permits)
+
+  permits-count : length permits ≡ n
+  permits-count = length-map (countFrom 0 n) (permitOf reads writes) ∙ count-length 0 n
+
+  pub permit-rows : length permitRows ≡ n
+  permit-rows = length-map (map normal permits) wordsOf ∙ length-map permits normal ∙ permits-count
+
+  pub permit-row : (b : ℕ) → b < n → wordsOf (normal (permitOf reads writes b)) ≡ getD permitRows b []
+  permit-row b l =
+      sym
+      (map-at wordsOf (map normal permits) b [] [] (omega (arith, length-map permits normal, permits-count))
+      ∙ ap wordsOf (map-at normal permits b [] [] (omega (arith, permits-count))
+      ∙ ap normal (map-at (permitOf reads writes) (countFrom 0 n) b 0 [] (omega (arith, count-length 0 n)) ∙ ap (permitOf reads writes) (count-at 0 n b l ∙ zero-add b))))
+
+  module _ (few : length reads ≤ subjectLimit) where
+    row-long : (b : ℕ) → length (wordsOf (normal (permitOf reads writes b))) ≡ ruleWidth
+    row-long b = words-nine (normal (permitOf reads writes b)) (omega (arith, normal-length (permitOf reads writes b), few-mixtures reads writes b few))
+
+    permits-short : every (λ r. leb (length r) mixtureLimit) permits ≡ true
+    permits-short = every-count (λ r. leb (length r) mixtureLimit) (permitOf reads writes) 0 n (λ b l m. le-leb (length (permitOf reads writes b)) mixtureLimit (few-mixtures reads writes b few))
+
+    pub permits-size : length (formWords permits) ≡ n * ruleWidth
+    permits-size = words-length permits permits-short ∙ ap (λ (k : ℕ). k * ruleWidth) permits-count
+
+    pub permits-start : {words : List ℕ} → words ≡ replicate (n * ruleWidth) 0 → RowsWritten permitRows words 0 words 0 0
+    unfolding formWords
+    permits-start {words} e = rows-start permitRows words 0 (omega (arith, permits-size, ap length e, length-replicate {A = ℕ} (n * ruleWidth) 0))
+
+    module _ {before words : List ℕ} {b : ℕ} (g : RowsWritten permitRows before 0 words (b * ruleWidth) b) (l : b < n) where
+      pub permits-room : b * ruleWidth + ruleWidth ≤ length words
+      permits-room = omega (arith, rows-room g (omega (arith, permit-rows)), ap length (permit-row b l), row-long b)
+
+      -- the words of the next rule are still 0
+      pub permits-zero : before ≡ replicate (n * ruleWidth) 0 → take (b * ruleWidth + ruleWidth - b * ruleWidth) (drop (b * ruleWidth) words) ≡ replicate ruleWidth 0
+      unfolding overwritten
+      permits-zero z =
+          let w : b * ruleWidth + ruleWidth - b * ruleWidth ≡ ruleWidth = omega arith in
+          let k : length (joined (take b permitRows)) ≡ b * ruleWidth = omega (arith, g .wrote .ends) in
+          let d : drop (b * ruleWidth) words ≡ drop (b * ruleWidth) before =
+          ap (drop (b * ruleWidth)) (g .wrote .buffer)
+          ∙ drop-at (joined (take b permitRows)) (drop (0 + length (joined (take b permitRows))) before) (b * ruleWidth) k
+          ∙ ap (λ (j : ℕ). drop j before) (zero-add (length (joined (take b permitRows))) ∙ k) in
+          let r : n * ruleWidth ≡ b * ruleWidth + (ruleWidth + (n - (b + 1)) * ruleWidth) = omega arith in
+          ap₂ (λ (j : ℕ) (x : List ℕ). take j x) w (d ∙ ap (drop (b * ruleWidth)) (z ∙ ap (λ (j : ℕ). replicate j 0) r))
+          ∙ zeros-part (b * ruleWidth) ruleWidth ((n - (b + 1)) * ruleWidth)
+
+      pub permits-next : {ws : List ℕ} → ws ≡ wordsOf (normal (permitOf reads writes b))
+          → RowsWritten permitRows before 0 (putMid (b * ruleWidth) (b * ruleWidth + ruleWidth - b * ruleWidth) words ws) ((b + 1) * ruleWidth) (b + 1)
+      permits-next {ws} e =
+          let m : b * ruleWidth + ruleWidth ≡ (b + 1) * ruleWidth = omega arith in
+          let w = part-wrote words ws (b * ruleWidth) ruleWidth (ap length e ∙ row-long b) in
+          rows-next g (omega (arith, permit-rows)) (e ∙ permit-row b l) (record { buffer = w .buffer; ends = sym m ∙ w .ends })
+
+    pub permits-end : {before words : List ℕ} {b : ℕ} → RowsWritten permitRows before 0 words (b * ruleWidth) b → before ≡ replicate (n * ruleWidth) 0 → n ≤ b → words ≡ formWords permits
+    unfolding formWords
+    permits-end g z l = wrote-whole (ap length z ∙ length-replicate {A = ℕ} (n * ruleWidth) 0 ∙ sym permits-size) (rows-end g (omega (arith, permit-rows)))

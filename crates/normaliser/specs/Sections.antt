@@ -1,0 +1,68 @@
+-- The bytes of a normal image from the tables: the contracts of this crate's private functions. No public contract cites this file.
+use Prim.Native.Nat.{ℕ, _+_, _*_, _/_, _≤_}
+use mathlib.Core.Path.{_≡_}
+use mathlib.Core.Bool.{true}
+use mathlib.Core.List.{List, _++_, map}
+use lib.ListN.{length}
+use Rattle.lists.specs.Lists.{joined, every}
+use Rattle.fields.specs.Bytes.{bytesOf}
+use Rattle.image.specs.Limits.{leadingNumber, headerSize, containerSize, userSize, ruleSize, mixtureSize}
+use Rattle.image.specs.Policy.{Container, Sound}
+use Rattle.image.specs.Image.{containersIn, usersIn, spansIn, rulesIn, spansGood}
+use Rattle.image.specs.Normal.{containerBytes, spanBytes, spansOf}
+use Rattle.normaliser.specs.Writer.{containerUses, policyGiven}
+use Rattle.normaliser.specs.Tables.{formAt, formGood, found, newNumber}
+
+-- ---- two numbers of 16 bits: a rule record, or the offset and length of a section
+
+abbrev pub pairSize : ℕ
+pairSize = 4
+
+unfoldable pub pairBytes : ℕ → ℕ → List ℕ
+pairBytes a b = bytesOf 2 a ++ bytesOf 2 b
+
+-- the header of an image whose sections have c, u, r and m bytes
+unfoldable pub headerBytes : ℕ → ℕ → ℕ → ℕ → List ℕ
+headerBytes c u r m =
+    bytesOf 2 leadingNumber
+    ++ (pairBytes headerSize c ++ (pairBytes (headerSize + c) u ++ (pairBytes (headerSize + c + u) r ++ pairBytes (headerSize + c + u + r) m)))
+
+-- ---- the sections, with the new rule numbers
+
+unfoldable pub renumbered : List ℕ → List ℕ → Container → Container
+renumbered classes places c =
+    record {
+      kind = c .kind;
+      atom = c .atom;
+      permit = newNumber classes places (c .permit);
+      run = newNumber classes places (c .run);
+    }
+
+unfoldable pub containerSection : List ℕ → List ℕ → List ℕ → List ℕ
+containerSection containers classes places = joined (map containerBytes (map (renumbered classes places) (containersIn containers)))
+
+unfoldable pub userSection : List ℕ → List ℕ → List ℕ → List ℕ
+userSection users classes places = joined (map (bytesOf userSize) (map (newNumber classes places) (usersIn users)))
+
+unfoldable pub ruleSection : List ℕ → List ℕ → List ℕ
+ruleSection forms order = joined (map spanBytes (spansOf 0 (map (formAt forms) order)))
+
+-- the bytes of mixtures
+unfoldable pub mixtureBytes : List ℕ → List ℕ
+mixtureBytes r = joined (map (bytesOf mixtureSize) r)
+
+unfoldable pub mixtureSection : List ℕ → List ℕ → List ℕ
+mixtureSection forms order = mixtureBytes (joined (map (formAt forms) order))
+
+-- what the writing of the sections asks: each use has its number, each rule is there, and there is room
+pub record Writable (containers users forms classes places order out : List ℕ) : Type 0 where
+  pub containersFound : every (found classes places) (containerUses (containersIn containers)) ≡ true
+  pub usersFound : every (found classes places) (usersIn users) ≡ true
+  pub formsGood : every (formGood forms) order ≡ true
+  pub room : headerSize + length containers / containerSize * containerSize + length users / userSize * userSize
+      + length order * ruleSize + length (joined (map (formAt forms) order)) * mixtureSize ≤ length out
+
+-- the four sections of an image that is accepted
+pub record SectionsAccepted (containers users rules mixtures : List ℕ) : Type 0 where
+  pub sound : Sound (policyGiven containers users (rulesIn rules mixtures))
+  pub spans : spansGood (length mixtures / mixtureSize) 0 (spansIn rules) ≡ true
