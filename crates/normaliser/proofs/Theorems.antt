@@ -1,6 +1,6 @@
 -- What is proved of the normaliser, stated in full. The proofs are short; what carries them is in the files that are cited.
 use Prim.Native.Nat.{ℕ, _≤_, _<_}
-use mathlib.Core.Path.{_≡_, refl, sym, ap, _∙_}
+use mathlib.Core.Path.{_≡_, refl, sym, _∙_}
 use mathlib.Core.List.{List, [], _∷_}
 use mathlib.Core.Logic.{_↔_}
 use native.Mathlib.Decide.{decLt, ℕ-discrete}
@@ -10,15 +10,10 @@ use Rattle.lists.specs.Lists.{every}
 use Rattle.answers.specs.Refusals.{imageLength, sections, recordCount, ruleRecord, containerRecord, userRule, lentLength}
 use Rattle.fields.specs.Bytes.{Bytes}
 use Rattle.image.specs.Limits.{headerSize, outputBound}
-use Rattle.image.specs.Policy.{Policy}
 use Rattle.image.specs.Image.{policyIn, checkOf}
-use Rattle.image.specs.Normal.{Meaning, meaning, policyOf, normalPolicy, encode, normalImage}
-use Rattle.image.proofs.Theorems.{no-other}
-use Rattle.image.proofs.Encode.{check-encode, policy-encode}
-use Rattle.image.proofs.Decode.{accepted-sound}
-use Rattle.image.proofs.WrittenMeaning.{meaning-encodable, policy-sound, policy-means}
+use Rattle.image.specs.Normal.{normalImage}
+use Rattle.image.proofs.Theorems.{no-other, normal-long, normal-accepted, normal-fixed as normal-again}
 use Rattle.normaliser.specs.Normaliser.{normalRefusal, normalAnswer, normalEffect}
-use Rattle.normaliser.proofs.WriterLaws as writer
 use Rattle.normaliser.proofs.AnswerLaws.{elem-within, refused-answer, answer-length, answer-front}
 use Rattle.normaliser.proofs.NormalCases.{refusal-short, refusal-image}
 
@@ -37,27 +32,6 @@ refusal-small i out = by (decLt (length out) outputBound)
     by (no h) = omega (arith, refusal-image i out (omega arith), check-small i)
 
 module _ (i : List ℕ) (b : Bytes i) where
-  -- ---- the normal image of an accepted image
-
-  -- it has at least 18 bytes, so that a length is no refusal number, and the output holds it
-  pub normal-long : checkOf i ≡ 0 → headerSize ≤ length (normalImage (policyIn i))
-  normal-long e = writer.normal-long (policyIn i) (accepted-sound i b e)
-
-  pub normal-short : checkOf i ≡ 0 → length (normalImage (policyIn i)) ≤ outputBound
-  normal-short e = writer.normal-short (policyIn i) (accepted-sound i b e)
-
-  -- it is its own normal image
-  pub normal-again : checkOf i ≡ 0 → normalImage (policyIn (normalImage (policyIn i))) ≡ normalImage (policyIn i)
-  unfolding normalImage normalPolicy
-  normal-again e =
-      let s = policy-sound (meaning (policyIn i)) (meaning-encodable (policyIn i) (accepted-sound i b e)) in
-      ap (λ (p : Policy). encode (policyOf (meaning p))) (policy-encode (policyOf (meaning (policyIn i))) s)
-      ∙ ap (λ (m : Meaning). encode (policyOf m)) (policy-means (meaning (policyIn i)) (meaning-encodable (policyIn i) (accepted-sound i b e)))
-
-  normal-accepted : checkOf i ≡ 0 → checkOf (normalImage (policyIn i)) ≡ 0
-  unfolding normalImage normalPolicy
-  normal-accepted e = check-encode (policyOf (meaning (policyIn i))) (policy-sound (meaning (policyIn i)) (meaning-encodable (policyIn i) (accepted-sound i b e)))
-
   module _ (out : List ℕ) where
     refusal-none : outputBound ≤ length out → checkOf i ≡ 0 → normalRefusal i out ≡ 0
     refusal-none l e = refusal-image i out l ∙ e
@@ -79,7 +53,7 @@ module _ (i : List ℕ) (b : Bytes i) where
         by : Dec (normalRefusal i out ≡ 0) → (headerSize ≤ normalAnswer i out) ↔ ((outputBound ≤ length out) × (checkOf i ≡ 0))
         by (yes z) =
             let p = none-refused z in
-            let q = answer-length (normalImage (policyIn i)) (normal-long (p .1)) (normalRefusal i out) (refusal-small i out) in
+            let q = answer-length (normalImage (policyIn i)) (normal-long i b (p .1)) (normalRefusal i out) (refusal-small i out) in
             ((λ h. p), (λ h. q .1 z))
         by (no d) = (
           (λ h. absurd (omega (arith, h, refused-answer (normalRefusal i out) (normalImage (policyIn i)) out d, refusal-small i out))),
