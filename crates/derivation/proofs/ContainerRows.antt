@@ -1,25 +1,21 @@
 -- The containers of the derived policy as they are written, row by row, and read back.
 use Prim.Native.Nat.{ℕ, zero, suc, _+_, _*_, _≤_, _<_}
-use mathlib.Core.Path.{_≡_, refl, sym, ap, _∙_}
+use mathlib.Core.Path.{_≡_, sym, ap, _∙_}
 use mathlib.Core.List.{List, [], map}
 use native.Mathlib.Omega.{arith}
 use native.Mathlib.Nat.{add-zero, zero-add}
 use lib.ListN.{length, getD, replicate, length-map, length-replicate, getD-replicate}
-use Rattle.lists.proofs.Places.{map-at}
 use Rattle.lists.specs.Lists.{joined}
-use Rattle.fields.specs.Bytes.{bytesOf}
+use Rattle.lists.proofs.Places.{map-at}
 use Rattle.fields.specs.Writing.{Wrote}
 use Rattle.fields.proofs.ByteLaws.{joined-length}
 use Rattle.fields.proofs.RowWriting.{RowsWritten, rows-room, rows-next}
 use Rattle.image.specs.Limits.{fileKind, processKind, noAtom, unrestrictedNumber, containerSize}
 use Rattle.image.specs.Policy.{Container}
 use Rattle.image.specs.Normal.{containerBytes}
+use Rattle.image.proofs.Encode.{container-wide}
 use Rattle.derivation.specs.Derived.{countFrom, objectFile, subjectProcess}
 use Rattle.derivation.proofs.DerivedLaws.{count-length}
-
-container-size : (c : Container) → length (containerBytes c) ≡ containerSize
-unfolding containerBytes bytesOf
-container-size c = refl
 
 pub count-at : (k n b : ℕ) → b < n → getD (countFrom k n) b 0 ≡ k + b
 unfolding countFrom
@@ -33,11 +29,11 @@ module _ (cs : List Container) where
   containerRows = map containerBytes cs
 
   pub containers-size : length (joined containerRows) ≡ length cs * containerSize
-  containers-size = joined-length containerSize containerBytes container-size cs
+  containers-size = joined-length containerSize containerBytes container-wide cs
 
   module _ {before out : List ℕ} {start at i : ℕ} (g : RowsWritten containerRows before start out at i) (l : i < length cs) (c : Container) (e : getD containerRows i [] ≡ containerBytes c) where
     pub container-room : at + containerSize ≤ length out
-    container-room = omega (arith, rows-room g (omega (arith, length-map cs containerBytes)), ap length e, container-size c)
+    container-room = omega (arith, rows-room g (omega (arith, length-map cs containerBytes)), ap length e, container-wide c)
 
     pub container-next : {after : List ℕ} {next : ℕ} → Wrote (containerBytes c) out after at next → RowsWritten containerRows before start after next (i + 1)
     container-next w = rows-next g (omega (arith, length-map cs containerBytes)) (sym e) w

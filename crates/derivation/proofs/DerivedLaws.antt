@@ -3,7 +3,6 @@ use Prim.Native.Nat.{ℕ, zero, suc, _+_, _-_, _^_, _≤_, _<_}
 use mathlib.Core.Path.{_≡_, refl, sym, ap, ap₂, _∙_}
 use mathlib.Core.Bool.{Bool, true, false, cond}
 use mathlib.Core.List.{List, [], _∷_, _++_, map}
-use mathlib.Core.Logic.{⊎-elim}
 use native.Mathlib.Nat.{lt-of-lt-of-le, add-zero, zero-add}
 use native.Mathlib.Omega.{arith}
 use lib.Pow.{pow-lt, pow-mono}
@@ -16,14 +15,14 @@ use Rattle.image.specs.Limits.{isFile, isVolatile, isProcess, headerSize, outpu
 use Rattle.normaliser.proofs.WriterLaws.{normal-long, normal-short}
 use Rattle.lists.specs.Lists.{every, elem}
 use Rattle.rules.specs.Rules.{normal, unrestricted}
-use Rattle.lists.proofs.Elem.{elem-here, elem-cases, elem-none}
+use Rattle.lists.proofs.Elem.{elem-here}
 use Rattle.rules.proofs.RuleLaws.{normal-among}
 use Rattle.image.specs.Policy.{Container, unrestrictedRule, ruleAt, named, containerGood, ruleGood, Sound}
 use Rattle.image.specs.Image.{policyIn, checkOf}
 use Rattle.image.specs.Normal.{Place, Meaning, normalAt, placeOf, meaning, policyOf, normalPolicy, encode, normalImage}
 use Rattle.image.proofs.Encode.{read-encode}
 use Rattle.image.proofs.WrittenMeaning.{Encodable, meaning-encodable, normal-unrestricted, policy-sound, policy-means}
-use Rattle.lists.proofs.Every.{every-0, every-1, every-nil, every-cons, every-imp, every-append}
+use Rattle.lists.proofs.Every.{every-elem, every-0, every-1, every-nil, every-cons, every-imp, every-append}
 use Rattle.matrix.specs.Limits.{subjectLimit}
 use Rattle.rules.specs.Answers.{mixtureLimit}
 use Rattle.matrix.specs.Flows.{has, rowsWithin}
@@ -119,11 +118,6 @@ map-at f k zero b l = absurd (omega arith)
 map-at f k (suc n) zero l = ap f (sym (add-zero k))
 map-at f k (suc n) (suc b) l = let e : suc k + b ≡ k + suc b = omega arith in map-at f (suc k) n b (omega arith) ∙ ap f e
 
-elem-small : (r : List ℕ) (m : ℕ) → every (λ m. ltb m (2 ^ 32)) r ≡ true → elem m r ≡ true → m < 2 ^ 32
-elem-small [] m h e = elem-none m e
-elem-small (n ∷ r) m h e =
-    ⊎-elim (λ q. rw q (ltb-true n (2 ^ 32) (every-0 (λ m. ltb m (2 ^ 32)) n r h))) (λ q. elem-small r m (every-1 (λ m. ltb m (2 ^ 32)) n r h) q) (elem-cases m n r e)
-
 -- what is stated of object b, and of a subject
 abbrev pub filePlace : List ℕ → List ℕ → ℕ → Place
 filePlace reads writes b = record { kind = 1; atom = b; permit = normal (permitOf reads writes b); run = unrestrictedRule }
@@ -197,7 +191,7 @@ module _ (reads writes : List ℕ) (objects : ℕ) (g : Good reads writes object
   normal-sound : Sound (normalPolicy (derivedPolicy reads writes objects))
   normal-sound = unfold normalPolicy in policy-sound (meaning (derivedPolicy reads writes objects)) derived-encodable
 
-  pub derived-read : (checkOf (derivedImage reads writes objects) ≡ 0) × (policyIn (derivedImage reads writes objects) ≡ (normalPolicy (derivedPolicy reads writes objects)))
+  pub derived-read : (checkOf (derivedImage reads writes objects) ≡ 0) × (policyIn (derivedImage reads writes objects) ≡ normalPolicy (derivedPolicy reads writes objects))
   derived-read = unfold derivedImage normalImage in read-encode (normalPolicy (derivedPolicy reads writes objects)) normal-sound
 
   same-meaning : meaning (normalPolicy (derivedPolicy reads writes objects)) ≡ meaning (derivedPolicy reads writes objects)
@@ -262,5 +256,5 @@ module _ (reads writes : List ℕ) (objects : ℕ) (g : Good reads writes object
   derived-restricted b l e =
       let m : elem (2 ^ 64 - 1) (normal (permitOf reads writes b)) ≡ true = rw e (elem-here (2 ^ 64 - 1) []) in
       let n : elem (2 ^ 64 - 1) (permitOf reads writes b) ≡ true = normal-among (permitOf reads writes b) (2 ^ 64 - 1) m in
-      let s : 2 ^ 64 - 1 < 2 ^ 32 = elem-small (permitOf reads writes b) (2 ^ 64 - 1) (permit-data b l) n in
+      let s : 2 ^ 64 - 1 < 2 ^ 32 = ltb-true (2 ^ 64 - 1) (2 ^ 32) (every-elem (λ m. ltb m (2 ^ 32)) (permitOf reads writes b) (2 ^ 64 - 1) (permit-data b l) n) in
       omega arith

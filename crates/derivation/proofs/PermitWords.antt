@@ -13,8 +13,8 @@ use lib.Seq.{drop-cons, drop-at, take-at}
 use lib.Dec.{leb}
 use borrow.Author.Tests.{le-leb}
 use borrow.Rule.Slice.PartMut.{putMid}
-use Rattle.lists.proofs.Places.{map-at}
 use Rattle.lists.specs.Lists.{joined, every}
+use Rattle.lists.proofs.Places.{map-at}
 use Rattle.fields.specs.Writing.{overwritten}
 use Rattle.fields.proofs.RowWriting.{RowsWritten, rows-start, rows-room, rows-next, rows-end, part-wrote, wrote-whole}
 use Rattle.rules.specs.Answers.{mixtureLimit, padded}

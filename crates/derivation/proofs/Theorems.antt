@@ -17,16 +17,13 @@ use Rattle.lists.specs.Lists.{elem}
 use Rattle.lists.specs.Conditions.{Condition, firstFailed, numbersOf, numberAt, numbersGood}
 use Rattle.lists.proofs.Conditions.{given-exactly, given-none, given-among}
 use Rattle.answers.specs.Refusals.{matrix, lentLength}
-use Rattle.normaliser.proofs.AnswerLaws.{refused-answer, answer-number, answer-front}
+use Rattle.normaliser.proofs.AnswerLaws.{through, refused-answer, answer-number, answer-front}
 use Rattle.matrix.specs.Flows.{matrixGood}
 use Rattle.matrix.proofs.GoodLaws.{good-parts}
 use Rattle.derivation.specs.Derived.{permitOf, countFrom, derivedPolicy, derivedImage, derivedConditions, derivedAnswer, derivedEffect}
 use Rattle.derivation.proofs.DerivedLaws as derived
 
 -- ---- the answer
-
-through : {A B C : Type 0} → A ↔ B → B ↔ C → A ↔ C
-through p q = ((λ a. q .0 (p .0 a)), (λ c. p .1 (q .1 c)))
 
 module _ (reads writes : List ℕ) (objects : ℕ) (out : List ℕ) where
   abbrev cs : List Condition
@@ -77,7 +74,7 @@ module _ (reads writes : List ℕ) (objects : ℕ) (good : matrixGood reads writ
   derived-sound = derived.derived-sound reads writes objects (good-parts reads writes objects good)
 
   -- its normal image is accepted, and decodes to the policy in normal form
-  pub derived-read : (checkOf (derivedImage reads writes objects) ≡ 0) × (policyIn (derivedImage reads writes objects) ≡ (normalPolicy (derivedPolicy reads writes objects)))
+  pub derived-read : (checkOf (derivedImage reads writes objects) ≡ 0) × (policyIn (derivedImage reads writes objects) ≡ normalPolicy (derivedPolicy reads writes objects))
   derived-read = derived.derived-read reads writes objects (good-parts reads writes objects good)
 
   -- which means what was stated: files with their atoms and permit rules, then processes; one unrestricted user

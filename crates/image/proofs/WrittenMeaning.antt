@@ -9,7 +9,7 @@ use lib.Dec.{eqb, leb, ltb}
 use lib.ListN.{length, getD, length-map}
 use borrow.Author.Tests.{ltb-true, leb-true, le-leb}
 use Rattle.lists.proofs.Bools.{and-in, and-0, and-1, or-0, or-1, or-cases}
-use Rattle.lists.proofs.Elem.{elem-here, elem-there, elem-cases, elem-none}
+use Rattle.lists.proofs.Elem.{elem-here, elem-there}
 use Rattle.rules.proofs.RuleLaws.{normal-among, normal-length, normal-normal}
 use Rattle.rules.proofs.MeetAll.{normal-one}
 use Rattle.lists.specs.Lists.{elem, sameList, every}
@@ -19,7 +19,7 @@ use Rattle.rules.specs.Answers.{dataWidth, tagWidth, mixtureLimit}
 use Rattle.image.specs.Limits.{containerLimit, userLimit, ruleLimit, isFile, isVolatile, isProcess, unrestrictedNumber, noAtom}
 use Rattle.image.specs.Policy.{Container, Policy, unrestrictedRule, ruleAt, named, containerGood, ruleGood, Sound}
 use Rattle.image.specs.Normal.{Place, Meaning, normalAt, placeOf, meaning, placeUses, uses, known, numbered, numberOf, containerOf, writtenBy, policyOf}
-use Rattle.lists.proofs.Every.{every-0, every-1, every-nil, every-cons, every-imp, every-append, every-left, every-right, every-both, every-map, every-getD, map-back}
+use Rattle.lists.proofs.Every.{every-elem, every-0, every-1, every-nil, every-cons, every-imp, every-append, every-left, every-right, every-both, every-map, every-getD, map-back}
 use Rattle.image.proofs.Numbering.{settled, all-settled, numbered-every, numbered-few, number-rule, number-named}
 
 -- a rule of at most 8 mixtures of 64 bits in normal form
@@ -44,10 +44,6 @@ pub record Encodable (m : Meaning) : Type 0 where
   pub fewRules : length (numbered [] (uses m)) ≤ ruleLimit
 
 -- ---- the normal form of a good rule
-
-every-elem : (f : ℕ → Bool) (r : List ℕ) (m : ℕ) → every f r ≡ true → elem m r ≡ true → f m ≡ true
-every-elem f [] m h e = elem-none m e
-every-elem f (n ∷ r) m h e = ⊎-elim (λ q. ap f q ∙ every-0 f n r h) (λ q. every-elem f r m (every-1 f n r h) q) (elem-cases m n r e)
 
 elem-every : (f : ℕ → Bool) (r : List ℕ) → ((m : ℕ) → elem m r ≡ true → f m ≡ true) → every f r ≡ true
 elem-every f [] h = every-nil f

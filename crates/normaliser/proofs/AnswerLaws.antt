@@ -1,30 +1,14 @@
 -- The answer where an image is to be written: a refusal, or its length. Other crates that write an image may cite this file.
 use Prim.Native.Nat.{ℕ, zero, suc, _+_, _≤_, _<_}
 use mathlib.Core.Path.{_≡_, refl, sym, _∙_}
-use mathlib.Core.Bool.{true}
-use mathlib.Core.List.{List, [], _∷_}
-use mathlib.Core.Logic.{_↔_, _⊎_, inl, inr}
+use mathlib.Core.List.{List}
+use mathlib.Core.Logic.{_↔_}
 use native.Mathlib.Omega.{arith}
-use lib.Dec.{leb}
 use lib.ListN.{length, take, drop}
 use lib.Seq.{take-at}
-use borrow.Author.Tests.{leb-true}
-use Rattle.lists.specs.Lists.{elem, every}
-use Rattle.lists.proofs.Elem.{elem-none, elem-cases}
-use Rattle.lists.proofs.Every.{every-0, every-1}
 use Rattle.fields.specs.Writing.{overwritten, Wrote}
 use Rattle.image.specs.Limits.{headerSize}
 use Rattle.normaliser.specs.Normaliser.{lengthUnless, writtenUnless}
-
--- ---- numbers within a bound
-
-pub elem-within : (b n : ℕ) (ns : List ℕ) → elem n ns ≡ true → every (λ k. leb k b) ns ≡ true → n ≤ b
-elem-within b n [] h k = elem-none n h
-elem-within b n (m ∷ ns) h k = by (elem-cases n m ns h) (λ g. elem-within b n ns g (every-1 (λ k. leb k b) m ns k))
-  where
-    by : (n ≡ m) ⊎ (elem n ns ≡ true) → (elem n ns ≡ true → n ≤ b) → n ≤ b
-    by (inl e) later = omega (arith, e, leb-true m b (every-0 (λ k. leb k b) m ns k))
-    by (inr g) later = later g
 
 -- ---- the two cases
 
@@ -48,6 +32,9 @@ unfolding lengthUnless writtenUnless
 wrote-answer {s} {out} e w = (w .ends ∙ sym (rw e (omega arith)), w .buffer ∙ sym (rw e))
 
 -- ---- a length is no refusal number
+
+pub through : {A B C : Type 0} → A ↔ B → B ↔ C → A ↔ C
+through p q = ((λ a. q .0 (p .0 a)), (λ c. p .1 (q .1 c)))
 
 module _ (s : List ℕ) (long : headerSize ≤ length s) where
   -- a refusal number is given exactly if it is the refusal

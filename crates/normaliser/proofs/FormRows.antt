@@ -9,11 +9,10 @@ use lib.ListN.{length, getD, take, drop, length-map, length-take, length-append}
 use lib.Seq.{take-at}
 use borrow.Author.Tests.{le-leb}
 use borrow.Rule.Slice.PartMut.{putMid}
-use Rattle.lists.proofs.Places.{map-at}
 use Rattle.lists.specs.Lists.{every}
 use Rattle.lists.proofs.Every.{every-nil, every-cons}
-use Rattle.fields.specs.Bytes.{field, records}
-use Rattle.fields.proofs.RecordLaws.{records-count}
+use Rattle.lists.proofs.Places.{map-at}
+use Rattle.fields.specs.Bytes.{field}
 use Rattle.fields.proofs.RowWriting.{RowsWritten, rows-start, rows-room, rows-next, rows-end, part-wrote, wrote-whole}
 use Rattle.rules.specs.Answers.{mixtureLimit}
 use Rattle.rules.specs.Rules.{normal}
@@ -21,9 +20,9 @@ use Rattle.rules.proofs.RuleLaws.{normal-length}
 use Rattle.rule_words.specs.Words.{ruleWidth, wordsOf}
 use Rattle.rule_words.proofs.WordLaws.{words-nine}
 use Rattle.image.specs.Limits.{ruleSize, mixtureSize, ruleLimit}
-use Rattle.image.specs.Image.{spanIn, ruleIn, spansIn, mixturesIn, rulesIn, spansGood}
+use Rattle.image.specs.Image.{spansIn, mixturesIn, rulesIn, spansGood}
 use Rattle.image.specs.Normal.{normalImage}
-use Rattle.image.proofs.RecordsByPlace.{rule-at, rule-fits}
+use Rattle.image.proofs.RecordsByPlace.{rules-count, rule-at, rule-fits}
 use Rattle.fields.specs.Writing.{Wrote}
 use Rattle.normaliser.specs.Writer.{policyGiven, formWords, policyAt, Tabled, Answered}
 use Rattle.normaliser.specs.Sections.{SectionsAccepted}
@@ -32,11 +31,6 @@ use Rattle.normaliser.proofs.WriterLaws.{sound-usable, words-length, wo
 every-place : (f : List ℕ → Bool) (xs : List (List ℕ)) → ((k : ℕ) → k < length xs → f (getD xs k []) ≡ true) → every f xs ≡ true
 every-place f [] h = every-nil f
 every-place f (x ∷ xs) h = every-cons f x xs (h 0 (omega arith)) (every-place f xs (λ k l. h (suc k) (omega arith)))
-
-rules-count : (rules mixtures : List ℕ) → length (rulesIn rules mixtures) ≡ length rules / ruleSize
-unfolding rulesIn spansIn
-rules-count rules mixtures =
-    length-map (map spanIn (records ruleSize rules)) (ruleIn (mixturesIn mixtures)) ∙ length-map (records ruleSize rules) spanIn ∙ records-count ruleSize rules
 
 abbrev pub wordRows : List ℕ → List ℕ → List (List ℕ)
 wordRows rules mixtures = map wordsOf (map normal (rulesIn rules mixtures))

@@ -1,35 +1,37 @@
 -- The cases of `normalise`: a short output, a refused image, an accepted one.
 use Prim.Native.Nat.{ℕ, _≤_, _<_}
 use mathlib.Core.Path.{_≡_, refl, sym, _∙_}
-use mathlib.Core.Bool.{true}
 use mathlib.Core.List.{List}
 use native.Mathlib.Omega.{arith}
 use lib.Dec.{leb}
 use lib.ListN.{length}
-use borrow.Author.Tests.{leb-true, le-leb, lt-leb}
-use Rattle.lists.proofs.Bools.{and-0}
-use Rattle.lists.specs.Conditions.{_orRefuse_}
+use borrow.Author.Tests.{le-leb, lt-leb}
+use Rattle.lists.specs.Conditions.{firstFailed, _orRefuse_}
 use Rattle.lists.proofs.Conditions.{passed, failed}
 use Rattle.answers.specs.Refusals.{lentLength}
 use Rattle.fields.specs.Bytes.{Bytes}
 use Rattle.fields.specs.Writing.{Wrote}
-use Rattle.image.specs.Limits.{headerSize, outputBound}
-use Rattle.image.specs.Image.{rulesIn, part, policyIn, imageLengthGood, pairsGood, rulesGood, imageConditions, checkOf}
+use Rattle.image.specs.Limits.{outputBound}
+use Rattle.image.specs.Image.{rulesIn, part, policyIn, imageConditions, checkOf}
 use Rattle.image.specs.Normal.{normalImage}
-use Rattle.image.proofs.AcceptedImage.{passes}
+use Rattle.image.proofs.AcceptedImage.{accepted-spans}
 use Rattle.image.proofs.Decode.{accepted-sound}
-use Rattle.normaliser.specs.Normaliser.{normalConditions, normalRefusal, normalAnswer, normalEffect}
+use Rattle.normaliser.specs.Normaliser.{normalConditions, normalAnswer, normalEffect}
 use Rattle.normaliser.specs.Writer.{policyGiven}
 use Rattle.normaliser.specs.Sections.{SectionsAccepted}
 use Rattle.normaliser.proofs.WriterLaws.{normal-short}
 use Rattle.normaliser.proofs.AnswerLaws.{refused-answer, refused-effect, wrote-answer}
 
+-- the refusal, 0 for none
+abbrev pub normalRefusal : List ℕ → List ℕ → ℕ
+normalRefusal i out = firstFailed (normalConditions i out)
+
 pub refusal-short : (i out : List ℕ) → length out < outputBound → normalRefusal i out ≡ lentLength
-unfolding normalRefusal normalConditions
+unfolding normalConditions
 refusal-short i out h = failed (leb outputBound (length out) orRefuse lentLength) (imageConditions i) (lt-leb outputBound (length out) h)
 
 pub refusal-image : (i out : List ℕ) → outputBound ≤ length out → normalRefusal i out ≡ checkOf i
-unfolding normalRefusal normalConditions checkOf
+unfolding normalConditions checkOf
 refusal-image i out h = passed (leb outputBound (length out) orRefuse lentLength) (imageConditions i) (le-leb outputBound (length out) h)
 
 module _ (i out : List ℕ) where
@@ -53,21 +55,13 @@ module _ (i out : List ℕ) where
 
 -- what an image that is not refused gives
 module _ (i : List ℕ) (e : checkOf i ≡ 0) where
-  pub accepted-pairs : pairsGood i ≡ true
-  accepted-pairs = passes i e .pairs
-
-  pub accepted-long : headerSize ≤ length i
-  unfolding imageLengthGood
-  accepted-long = leb-true headerSize (length i) (and-0 (leb headerSize (length i)) _ (passes i e .long))
-
   pub sections-policy : policyGiven (part i 0) (part i 1) (rulesIn (part i 2) (part i 3)) ≡ policyIn i
   unfolding policyGiven policyIn
   sections-policy = refl
 
   module _ (b : Bytes i) where
     pub sections-accepted : SectionsAccepted (part i 0) (part i 1) (part i 2) (part i 3)
-    unfolding rulesGood
-    sections-accepted = record { sound = rw sections-policy (accepted-sound i b e); spans = passes i e .rules }
+    sections-accepted = record { sound = rw sections-policy (accepted-sound i b e); spans = accepted-spans i e }
 
     pub written-small : {before after : List ℕ} {n : ℕ} → Wrote (normalImage (policyIn i)) before after 0 n → n ≤ outputBound
     written-small w = omega (arith, w .ends, normal-short (policyIn i) (accepted-sound i b e))

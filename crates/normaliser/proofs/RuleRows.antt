@@ -8,11 +8,11 @@ use lib.Dec.{ltb}
 use lib.ListN.{length, getD, take, drop, length-append, length-take, length-drop, length-map}
 use lib.Seq.{drop-drop, getD-take, getD-drop}
 use borrow.Author.Tests.{ltb-true, leb-true}
-use Rattle.lists.proofs.Places.{map-at}
 use Rattle.lists.proofs.Bools.{and-0, and-1}
 use Rattle.lists.specs.Lists.{joined, every}
 use Rattle.lists.proofs.Joined.{joined-more, joined-map}
 use Rattle.lists.proofs.Every.{every-getD}
+use Rattle.lists.proofs.Places.{map-at}
 use Rattle.rules.specs.Answers.{mixtureLimit}
 use Rattle.fields.specs.Bytes.{bytesOf}
 use Rattle.fields.specs.Writing.{Wrote}
@@ -23,7 +23,7 @@ use Rattle.rule_words.specs.Words.{ruleWidth, ruleOf}
 use Rattle.image.specs.Limits.{ruleSize, mixtureSize}
 use Rattle.image.specs.Image.{Span}
 use Rattle.image.specs.Normal.{spanBytes, spansOf}
-use Rattle.image.proofs.Encode.{spans-length}
+use Rattle.image.proofs.Encode.{span-wide, spans-length}
 use Rattle.normaliser.specs.Keys.{wordsAt}
 use Rattle.normaliser.specs.Tables.{formAt, formGood}
 use Rattle.normaliser.specs.Sections.{pairBytes, mixtureBytes, mixtureSection}
@@ -112,11 +112,8 @@ module _ (forms order : List ℕ) where
 
   pub spans-size : length (joined spanRows) ≡ length order * ruleSize
   spans-size =
-      joined-length ruleSize spanBytes span-size (spansOf 0 rules)
+      joined-length ruleSize spanBytes span-wide (spansOf 0 rules)
       ∙ ap (λ (n : ℕ). n * ruleSize) (spans-length 0 rules ∙ length-map order (formAt forms))
-    where
-      span-size : (s : Span) → length (spanBytes s) ≡ ruleSize
-      span-size s = unfold spanBytes bytesOf in refl
 
   -- j of the rule records are written, and first is the number of their mixtures
   pub record SpansWritten (before : List ℕ) (start : ℕ) (out : List ℕ) (at first j : ℕ) : Type 0 where

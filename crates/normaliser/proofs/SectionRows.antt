@@ -8,36 +8,31 @@ use native.Mathlib.Numerals.{add-one}
 use lib.ListN.{length, getD, take, drop, set, length-map, length-set, drop-of-length-le}
 use lib.Seq.{drop-cons, getD-set-same, getD-set-other}
 use native.Mathlib.Decide.{ℕ-discrete}
-use Rattle.lists.proofs.Places.{map-at}
 use Rattle.lists.proofs.Bools.{and-in, and-0, and-1}
-use Rattle.fields.specs.Bytes.{field, numberIn, records, bytesOf}
+use Rattle.fields.specs.Bytes.{field, numberIn, bytesOf}
 use Rattle.lists.specs.Lists.{joined, every}
 use Rattle.image.specs.Policy.{Container}
 use Rattle.image.specs.Image.{containerIn, containersIn, usersIn}
 use Rattle.image.specs.Normal.{containerBytes}
 use Rattle.lists.proofs.Every.{every-0, every-1, every-nil, every-cons, every-getD}
+use Rattle.image.proofs.RecordsByPlace.{containers-count, users-count}
+use Rattle.image.proofs.Encode.{container-wide}
 use Rattle.fields.proofs.FieldLaws.{field-record}
-use Rattle.fields.proofs.RecordLaws.{record-at, records-count}
+use Rattle.lists.proofs.Places.{map-at}
+use Rattle.fields.proofs.RecordLaws.{record-at}
 use Rattle.fields.proofs.ByteLaws.{bytes-length, joined-length}
 use Rattle.fields.specs.Writing.{Wrote}
 use Rattle.fields.proofs.RowWriting.{RowsWritten, rows-room, rows-next}
 use Rattle.image.specs.Limits.{containerSize, userSize}
 use Rattle.rule_words.specs.Words.{ruleWidth}
-use Rattle.normaliser.specs.Writer.{useLimit, containerUses}
+use Rattle.normaliser.specs.Writer.{useLimit}
 use Rattle.normaliser.specs.Tables.{classOf, Classified, classAt, withClasses, Ordered, newNumber}
+use Rattle.normaliser.specs.Writer.{containerUses}
 use Rattle.normaliser.specs.Sections.{renumbered}
 use Rattle.normaliser.proofs.FirstUse.{Placing, placing-start, placing-end}
 
 none : Container
 none = record { kind = 0; atom = 0; permit = 0; run = 0 }
-
-pub containers-count : (s : List ℕ) → length (containersIn s) ≡ length s / containerSize
-unfolding containersIn
-containers-count s = length-map (records containerSize s) containerIn ∙ records-count containerSize s
-
-pub users-count : (s : List ℕ) → length (usersIn s) ≡ length s / userSize
-unfolding usersIn
-users-count s = length-map (records userSize s) numberIn ∙ records-count userSize s
 
 -- container i, read from the section
 pub containerAt : List ℕ → ℕ → Container
@@ -179,10 +174,6 @@ module _ {users classes whole order₀ places₀ order places : List ℕ} {n m i
 
 -- ---- sections, row by row
 
-container-bytes-size : (c : Container) → length (containerBytes c) ≡ containerSize
-unfolding containerBytes bytesOf
-container-bytes-size c = refl
-
 module _ (containers classes places : List ℕ) where
   abbrev pub containerRows : List (List ℕ)
   containerRows = map containerBytes (map (renumbered classes places) (containersIn containers))
@@ -194,7 +185,7 @@ module _ (containers classes places : List ℕ) where
 
   pub containers-size : length (joined containerRows) ≡ length containers / containerSize * containerSize
   containers-size =
-      joined-length containerSize containerBytes container-bytes-size (map (renumbered classes places) (containersIn containers))
+      joined-length containerSize containerBytes container-wide (map (renumbered classes places) (containersIn containers))
       ∙ ap (λ (n : ℕ). n * containerSize) (length-map (containersIn containers) (renumbered classes places) ∙ containers-count containers)
 
   pub container-row : (i : ℕ) → i < length containers / containerSize → {permit run : ℕ}
@@ -216,7 +207,7 @@ module _ (containers classes places : List ℕ) where
           arith,
           rows-room g (omega (arith, container-rows)),
           ap length (container-row i l {permit = newNumber classes places (field containers (i * containerSize + 2) 2)} {run = newNumber classes places (field containers (i * containerSize + 4) 2)} refl refl),
-          container-bytes-size (record { kind = field containers (i * containerSize) 1; atom = field containers (i * containerSize + 1) 1; permit = newNumber classes places (field containers (i * containerSize + 2) 2); run = newNumber classes places (field containers (i * containerSize + 4) 2) }),
+          container-wide (record { kind = field containers (i * containerSize) 1; atom = field containers (i * containerSize + 1) 1; permit = newNumber classes places (field containers (i * containerSize + 2) 2); run = newNumber classes places (field containers (i * containerSize + 4) 2) }),
         )
 
     pub container-next : {permit run next : ℕ} {after : List ℕ}

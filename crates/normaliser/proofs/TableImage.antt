@@ -22,7 +22,7 @@ use Rattle.normaliser.specs.Tables.{formAt, Classified, classAt, classNa
 use Rattle.normaliser.specs.Sections.{containerSection, userSection, ruleSection, mixtureBytes, mixtureSection, Writable}
 use Rattle.normaliser.proofs.FirstUse.{classes-grow}
 use Rattle.normaliser.proofs.FormLaws.{forms-count}
-use Rattle.normaliser.proofs.SectionRows.{containers-count, users-count}
+use Rattle.image.proofs.RecordsByPlace.{containers-count, users-count}
 use Rattle.normaliser.proofs.NewNumbers as new
 
 module _ (containers users forms : List ℕ) (t : Tabled containers users forms) where

@@ -21,9 +21,9 @@ use Rattle.rule_words.proofs.WordLaws.{words-rule, words-nine}
 use Rattle.rule_words.proofs.KeptWords.{words-kept}
 use Rattle.image.specs.Limits.{unrestrictedNumber, headerSize, containerSize, userSize, ruleSize, mixtureSize, imageLimit, outputBound, ruleLimit}
 use Rattle.image.specs.Policy.{Container, Policy, unrestrictedRule, ruleAt, named, containerGood, ruleGood, Sound}
-use Rattle.image.specs.Image.{Span, containersIn, usersIn, policyIn}
+use Rattle.image.specs.Image.{containersIn, usersIn, policyIn}
 use Rattle.image.specs.Normal.{normalAt, placeOf, meaning, policyOf, normalPolicy, containerBytes, spanBytes, spansOf, encode, normalImage}
-use Rattle.image.proofs.Encode.{spans-length, policy-encode, encode-length, encode-short}
+use Rattle.image.proofs.Encode.{container-wide, span-wide, spans-length, policy-encode, encode-length, encode-short}
 use Rattle.image.proofs.FramedSections.{part-0, part-1}
 use Rattle.fields.proofs.ByteLaws.{bytes-length, joined-length}
 use Rattle.image.proofs.WrittenMeaning.{container-named, meaning-encodable, policy-sound}
@@ -205,20 +205,14 @@ module _ (p : Policy) (s : Sound p) where
   sizes =
       omega (
         arith,
-        joined-length containerSize containerBytes container-size (p .containers),
+        joined-length containerSize containerBytes container-wide (p .containers),
         joined-length userSize (bytesOf userSize) (bytes-length userSize) (p .users),
-        joined-length ruleSize spanBytes span-size (spansOf 0 (p .rules)),
+        joined-length ruleSize spanBytes span-wide (spansOf 0 (p .rules)),
         spans-length 0 (p .rules),
         joined-length mixtureSize (bytesOf mixtureSize) (bytes-length mixtureSize) (joined (p .rules)),
         encode-length p s,
         encode-short p s,
       )
-    where
-      container-size : (c : Container) → length (containerBytes c) ≡ containerSize
-      container-size c = unfold containerBytes bytesOf in refl
-
-      span-size : (r : Span) → length (spanBytes r) ≡ ruleSize
-      span-size r = unfold spanBytes bytesOf in refl
 
   pub containers-back : containersIn containersBytes ≡ p .containers
   unfolding encode policyIn

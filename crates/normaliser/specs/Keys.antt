@@ -23,9 +23,12 @@ spread h = (h / 2 ^ 32 + h % 2 ^ 32) % 2 ^ 32 * 2654435761 % 2 ^ 32
 abbrev pub keyLimit : ℕ
 keyLimit = 4096
 
--- how many keys the large table has
+-- how many keys the small and the large table have
+abbrev pub fewKeys : ℕ
+fewKeys = 64
+
 abbrev pub manyKeys : ℕ
-manyKeys = 1024
+manyKeys = 2048
 
 -- the key of the words among n
 unfoldable pub keyOf : ℕ → List ℕ → ℕ

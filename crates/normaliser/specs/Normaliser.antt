@@ -23,16 +23,13 @@ writtenUnless (suc n) s out = out
 
 -- ---- the normaliser
 
--- "9 .. output (of normaliser or derived policy) under 18,994 bytes", then those of the image
+-- "9 .. output (of normaliser or derived policy) under 18,994 bytes", then what an image is refused for
 unfoldable pub normalConditions : List ℕ → List ℕ → List Condition
 normalConditions i out = (leb outputBound (length out) orRefuse lentLength) ∷ imageConditions i
 
--- 0 for none
-unfoldable pub normalRefusal : List ℕ → List ℕ → ℕ
-normalRefusal i out = firstFailed (normalConditions i out)
-
+-- the refusal, or the length of the normal image
 unfoldable pub normalAnswer : List ℕ → List ℕ → ℕ
-normalAnswer i out = lengthUnless (normalRefusal i out) (normalImage (policyIn i))
+normalAnswer i out = lengthUnless (firstFailed (normalConditions i out)) (normalImage (policyIn i))
 
 unfoldable pub normalEffect : List ℕ → List ℕ → List ℕ
-normalEffect i out = writtenUnless (normalRefusal i out) (normalImage (policyIn i)) out
+normalEffect i out = writtenUnless (firstFailed (normalConditions i out)) (normalImage (policyIn i)) out

@@ -24,10 +24,12 @@ pub const OUTPUT_BOUND: usize = 18994;
 // The most uses of a rule: two for each container, one for each user. A policy has no more rules to write.
 pub const USE_LIMIT: usize = 528;
 
-// The most rules for which small tables do, and how many keys the large tables have.
+// The most rules for which small tables do, and how many keys the small and the large tables have.
 const FEW_RULES: usize = 16;
 
-const KEYS: usize = 1024;
+const FEW_KEYS: usize = 64;
+
+const MANY_KEYS: usize = 2048;
 
 // ---- records
 
@@ -405,7 +407,7 @@ fn write_few(containers: &[u8], users: &[u8], forms: &[u64], out: &mut [u8]) -> 
     ensures { λ r. ⌜ Answered (policyAt (now (containers .entry)) (now (users .entry)) (now (forms .entry))) (now (out .entry)) (now (out .exit)) r ⌝ }
 {
     let mut classes = [0u16; FEW_RULES];
-    let mut keys = [0u16; FEW_RULES];
+    let mut keys = [0u16; FEW_KEYS];
     let mut order = [0u16; FEW_RULES];
     let mut places = [0u16; FEW_RULES];
     write_by(
@@ -426,7 +428,7 @@ fn write_many(containers: &[u8], users: &[u8], forms: &[u64], out: &mut [u8]) ->
     ensures { λ r. ⌜ Answered (policyAt (now (containers .entry)) (now (users .entry)) (now (forms .entry))) (now (out .entry)) (now (out .exit)) r ⌝ }
 {
     let mut classes = [0u16; USE_LIMIT];
-    let mut keys = [0u16; KEYS];
+    let mut keys = [0u16; MANY_KEYS];
     let mut order = [0u16; USE_LIMIT];
     let mut places = [0u16; USE_LIMIT];
     write_by(

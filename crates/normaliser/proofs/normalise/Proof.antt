@@ -1,8 +1,8 @@
 -- Each case is the definition's; an accepted image's sections go to the writer.
 use native.Mathlib.Omega.{arith}
 use mathlib.Core.Path.{sym, _∙_}
-use Rattle.image.proofs.AcceptedImage.{part-ends}
-use Rattle.normaliser.proofs.NormalCases.{short-output, image-refused, image-written, accepted-pairs, accepted-long, sections-policy, sections-accepted, written-small}
+use Rattle.image.proofs.AcceptedImage.{accepted-section}
+use Rattle.normaliser.proofs.NormalCases.{short-output, image-refused, image-written, sections-policy, sections-accepted, written-small}
 use borrow.Author.Needs.{needs}
 use Rattle.normaliser.proofs.normalise.Statement.{statement}
 use Rattle.normaliser.proofs.normalise.Tie as tie
@@ -20,25 +20,25 @@ section-requires : tie.Need-section-requires
 section-requires c κs =
     let start = c .before .before .before .before .before in
     let accepted = sym (c .before .check .ensures) ∙ c .if2 .left in
-    (accepted-long (start .args .image .now) accepted, omega arith, part-ends (start .args .image .now) (accepted-pairs (start .args .image .now) accepted) 0 (omega arith))
+    accepted-section (start .args .image .now) accepted 0 (omega arith)
 
 section-requires-2 : tie.Need-section-requires-2
 section-requires-2 c κs =
     let start = c .before .before .before .before .before .before in
     let accepted = sym (c .before .before .check .ensures) ∙ c .before .if2 .left in
-    (accepted-long (start .args .image .now) accepted, omega arith, part-ends (start .args .image .now) (accepted-pairs (start .args .image .now) accepted) 1 (omega arith))
+    accepted-section (start .args .image .now) accepted 1 (omega arith)
 
 section-requires-3 : tie.Need-section-requires-3
 section-requires-3 c κs =
     let start = c .before .before .before .before .before .before .before in
     let accepted = sym (c .before .before .before .check .ensures) ∙ c .before .before .if2 .left in
-    (accepted-long (start .args .image .now) accepted, omega arith, part-ends (start .args .image .now) (accepted-pairs (start .args .image .now) accepted) 2 (omega arith))
+    accepted-section (start .args .image .now) accepted 2 (omega arith)
 
 section-requires-4 : tie.Need-section-requires-4
 section-requires-4 c κs =
     let start = c .before .before .before .before .before .before .before .before in
     let accepted = sym (c .before .before .before .before .check .ensures) ∙ c .before .before .before .if2 .left in
-    (accepted-long (start .args .image .now) accepted, omega arith, part-ends (start .args .image .now) (accepted-pairs (start .args .image .now) accepted) 3 (omega arith))
+    accepted-section (start .args .image .now) accepted 3 (omega arith)
 
 rewrite-requires : tie.Need-rewrite-requires
 rewrite-requires c κs =

@@ -2,6 +2,7 @@
 use native.Mathlib.Omega.{arith}
 use Rattle.normaliser.proofs.KeyLaws.{zeros-at, keyed-start}
 use Rattle.normaliser.proofs.FormLaws.{forms-few}
+use Rattle.normaliser.specs.Keys.{fewKeys}
 use Rattle.normaliser.specs.Tables.{fewRules}
 use borrow.Author.Needs.{needs}
 use Rattle.normaliser.proofs.write_few.Statement.{statement}
@@ -26,7 +27,7 @@ write-by-requires c κs =
       record {
         classesRoom = omega (arith, forms-few (start .pre .0));
         classesFew = search needs;
-        keyed = keyed-start _ fewRules (omega arith) (omega arith);
+        keyed = keyed-start _ fewKeys (omega arith) (omega arith);
         orderRoom = omega (arith, forms-few (start .pre .0));
         orderFew = search needs;
         placesRoom = omega (arith, forms-few (start .pre .0));
