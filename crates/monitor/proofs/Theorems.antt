@@ -16,6 +16,7 @@ use Rattle.lists.specs.Conditions.{numbersOf, numberAt}
 use Rattle.lists.proofs.Bools.{clash}
 use Rattle.lists.proofs.Conditions.{given-among, given-none}
 use Rattle.fields.specs.Bytes.{Bytes}
+use Rattle.answers.specs.Refusals.{operationRecord, lentLength, row, noProcess, wrongKind, notFree, notDeclared, overLimit}
 use Rattle.answers.specs.declared.Answer.{Answer}
 use Rattle.answers.specs.Answers.{quiet, alert, refused, accepted, isAlert, receiverOf, tagOf, answerNumber}
 use Rattle.rules.specs.Sets.{atom}
@@ -129,50 +130,50 @@ replay-exactly image trace lent bytes ok rs r t e j =
 -- ---- each refusal has its condition, and is given only under it: of any session and any record (the paper, "Refused ..")
 
 -- the session's length is 5,280
-pub length-good : (s : List ℕ) → (sessionLengthGood s ≡ true) ↔ (length s ≡ 5280)
+pub length-good : (s : List ℕ) → (sessionLengthGood s ≡ true) ↔ (length s ≡ sessionLength)
 unfolding sessionLengthGood
 length-good s = (eqb-true (length s) sessionLength, eq-eqb (length s) sessionLength)
 
 module _ (s r : List ℕ) where
-  pub refused-9 : (refusalOf s r ≡ 9) ↔ (sessionLengthGood s ≡ false)
+  pub refused-9 : (refusalOf s r ≡ lentLength) ↔ (sessionLengthGood s ≡ false)
   unfolding stepConditions sessionConditions tableConditions earlyConditions numberAt numbersOf
   refused-9 = refused-at s r 0 (omega arith)
 
-  pub refused-7 : (refusalOf s r ≡ 7) ↔ ((sessionLengthGood s ≡ true) × (recordGood r ≡ false))
+  pub refused-7 : (refusalOf s r ≡ operationRecord) ↔ ((sessionLengthGood s ≡ true) × (recordGood r ≡ false))
   unfolding stepConditions sessionConditions tableConditions earlyConditions numberAt numbersOf
   refused-7 = refused-at s r 1 (omega arith)
 
-  pub refused-10 : (refusalOf s r ≡ 10) ↔ ((sessionLengthGood s ≡ true) × ((recordGood r ≡ true) × (rowsGood s (stepAsked r) ≡ false)))
+  pub refused-10 : (refusalOf s r ≡ row) ↔ ((sessionLengthGood s ≡ true) × ((recordGood r ≡ true) × (rowsGood s (stepAsked r) ≡ false)))
   unfolding stepConditions sessionConditions tableConditions earlyConditions numberAt numbersOf
   refused-10 = refused-at s r 2 (omega arith)
 
-  pub refused-11 : (refusalOf s r ≡ 11)
+  pub refused-11 : (refusalOf s r ≡ noProcess)
       ↔ ((sessionLengthGood s ≡ true) × ((recordGood r ≡ true) × ((rowsGood s (stepAsked r) ≡ true)
       × (processGood (view s) (stepAsked r) ≡ false))))
   unfolding stepConditions sessionConditions tableConditions earlyConditions numberAt numbersOf
   refused-11 = refused-at s r 3 (omega arith)
 
-  pub refused-12 : (refusalOf s r ≡ 12)
+  pub refused-12 : (refusalOf s r ≡ wrongKind)
       ↔ ((sessionLengthGood s ≡ true) × ((recordGood r ≡ true) × ((rowsGood s (stepAsked r) ≡ true)
       × ((processGood (view s) (stepAsked r) ≡ true) × (kindGood (view s) (stepAsked r) ≡ false)))))
   unfolding stepConditions sessionConditions tableConditions earlyConditions numberAt numbersOf
   refused-12 = refused-at s r 4 (omega arith)
 
-  pub refused-13 : (refusalOf s r ≡ 13)
+  pub refused-13 : (refusalOf s r ≡ notFree)
       ↔ ((sessionLengthGood s ≡ true) × ((recordGood r ≡ true) × ((rowsGood s (stepAsked r) ≡ true)
       × ((processGood (view s) (stepAsked r) ≡ true) × ((kindGood (view s) (stepAsked r) ≡ true)
       × (freeGood (view s) (stepAsked r) ≡ false))))))
   unfolding stepConditions sessionConditions tableConditions earlyConditions numberAt numbersOf
   refused-13 = refused-at s r 5 (omega arith)
 
-  pub refused-14 : (refusalOf s r ≡ 14)
+  pub refused-14 : (refusalOf s r ≡ notDeclared)
       ↔ ((sessionLengthGood s ≡ true) × ((recordGood r ≡ true) × ((rowsGood s (stepAsked r) ≡ true)
       × ((processGood (view s) (stepAsked r) ≡ true) × ((kindGood (view s) (stepAsked r) ≡ true)
       × ((freeGood (view s) (stepAsked r) ≡ true) × (userGood (view s) (stepAsked r) ≡ false)))))))
   unfolding stepConditions sessionConditions tableConditions earlyConditions numberAt numbersOf
   refused-14 = refused-at s r 6 (omega arith)
 
-  pub refused-15 : (refusalOf s r ≡ 15)
+  pub refused-15 : (refusalOf s r ≡ overLimit)
       ↔ ((sessionLengthGood s ≡ true) × ((recordGood r ≡ true) × ((rowsGood s (stepAsked r) ≡ true)
       × ((processGood (view s) (stepAsked r) ≡ true) × ((kindGood (view s) (stepAsked r) ≡ true)
       × ((freeGood (view s) (stepAsked r) ≡ true) × ((userGood (view s) (stepAsked r) ≡ true)
@@ -189,7 +190,7 @@ module _ (s r : List ℕ) where
   not-refused = given-none (stepConditions s r) (numbers s r)
 
   -- no other number is given
-  pub refusals : elem (refusalOf s r) (0 ∷ 9 ∷ 7 ∷ 10 ∷ 11 ∷ 12 ∷ 13 ∷ 14 ∷ 15 ∷ []) ≡ true
+  pub refusals : elem (refusalOf s r) (0 ∷ lentLength ∷ operationRecord ∷ row ∷ noProcess ∷ wrongKind ∷ notFree ∷ notDeclared ∷ overLimit ∷ []) ≡ true
   unfolding refusalOf stepConditions sessionConditions tableConditions earlyConditions numbersOf
   refusals = given-among (stepConditions s r)
 

@@ -106,8 +106,8 @@ record-spells r = (to, back)
 
 pub record-spelling : (r : List ℕ) → (recordGood r ≡ true)
     ↔ ((length r ≡ 8) × (1 ≤ requestIn r .code) × (requestIn r .code ≤ 7) × (field r zeroPlace codeSize ≡ 0)
-    × ((requestIn r .code ≡ 4) ⊎ (requestIn r .code ≡ 6) → requestIn r .u ≤ 15)
-    × (requestIn r .code ≢ 4 → requestIn r .code ≢ 6 → requestIn r .u ≡ 65535)
+    × ((requestIn r .code ≡ execCode) ⊎ (requestIn r .code ≡ newFileCode) → requestIn r .u ≤ 15)
+    × (requestIn r .code ≢ execCode → requestIn r .code ≢ newFileCode → requestIn r .u ≡ noUser)
     × (requestIn r .p ≤ 255) × (requestIn r .o ≤ 255))
 record-spelling r = (
   λ h.

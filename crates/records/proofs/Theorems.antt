@@ -8,8 +8,8 @@ use mathlib.Core.Option.{none, some}
 use lib.ListN.{length, getD}
 use Rattle.fields.specs.Bytes.{field}
 use Rattle.records.specs.declared.Code.{Code}
-use Rattle.records.specs.Codes.{codeCount, codeAt}
-use Rattle.records.specs.Records.{requestIn, stepIn, recordGood, stepOf}
+use Rattle.records.specs.Codes.{execCode, newFileCode, codeCount, codeAt}
+use Rattle.records.specs.Records.{noUser, requestIn, stepIn, recordGood, stepOf}
 use Rattle.records.proofs.CodeLaws.{request, rows, row-at}
 use Rattle.records.proofs.RecordLaws.{record-spelling, record-step, request-bytes}
 
@@ -21,8 +21,8 @@ code-table = row-at
 -- 65535 with the others, and containers up to 255
 pub record-good : (r : List ℕ) → (recordGood r ≡ true)
     ↔ ((length r ≡ 8) × (1 ≤ requestIn r .code) × (requestIn r .code ≤ 7) × (field r 1 1 ≡ 0)
-    × ((requestIn r .code ≡ 4) ⊎ (requestIn r .code ≡ 6) → requestIn r .u ≤ 15)
-    × (requestIn r .code ≢ 4 → requestIn r .code ≢ 6 → requestIn r .u ≡ 65535)
+    × ((requestIn r .code ≡ execCode) ⊎ (requestIn r .code ≡ newFileCode) → requestIn r .u ≤ 15)
+    × (requestIn r .code ≢ execCode → requestIn r .code ≢ newFileCode → requestIn r .u ≡ noUser)
     × (requestIn r .p ≤ 255) × (requestIn r .o ≤ 255))
 record-good = record-spelling
 

@@ -39,7 +39,7 @@ pub const NEEDS_FILE: u8 = 2;
 pub const NEEDS_FREE: u8 = 3;
 
 // The table of codes: 0 no code, 1 read, 2 write, 3 append, 4 exec, 5 fork, 6 new file, 7 new volatile.
-const CODES: [Code; 8] = [
+const CODES: [Code; CODE_COUNT] = [
     Code {
         object: NO_NEED,
         user: false,

@@ -1,6 +1,9 @@
 // The checked examples of the paper that are run and not proved; the listing is the watch program's.
 use answers::Answer;
+use image::HEADER_SIZE;
 use libc::STDOUT_FILENO;
+use records::RECORD_LENGTH;
+use session::SESSION_LENGTH;
 
 // Writes a line: what was tried, and the number that came of it.
 fn line(name: &[u8], number: u64) {
@@ -20,8 +23,8 @@ fn refusal(answer: Answer) -> u64 {
 
 // "Empty policy: 18 bytes."
 fn empty_policy() {
-    let image: [u8; 18] = [4, 0, 18, 0, 0, 0, 18, 0, 0, 0, 18, 0, 0, 0, 18, 0, 0, 0];
-    let mut session = [0u64; 5280];
+    let image: [u8; HEADER_SIZE] = [4, 0, 18, 0, 0, 0, 18, 0, 0, 0, 18, 0, 0, 0, 18, 0, 0, 0];
+    let mut session = [0u64; SESSION_LENGTH];
     line(b"empty policy, check", image::check(&image) as u64);
     line(
         b"empty policy, start",
@@ -32,9 +35,9 @@ fn empty_policy() {
 
 // "Code 9 with a short session: 9."
 fn short_session() {
-    let record: [u8; 8] = [9, 0, 4, 0, 2, 0, 255, 255];
+    let record: [u8; RECORD_LENGTH] = [9, 0, 4, 0, 2, 0, 255, 255];
     let mut short = [0u64; 5279];
-    let mut whole = [0u64; 5280];
+    let mut whole = [0u64; SESSION_LENGTH];
     line(
         b"code 9, session of 5279",
         refusal(monitor::step(&mut short, &record)),

@@ -16,6 +16,7 @@ use answers::Tally;
 use libc::STDOUT_FILENO;
 use listing::LINE_LIMIT;
 use records::RECORD_LENGTH;
+use session::SESSION_LENGTH;
 
 // One byte more than a policy may have: a longer file is refused for its length and not read further.
 const POLICY_ROOM: usize = 20481;
@@ -210,7 +211,7 @@ fn refuse(out: &mut [u8], refusal: u32)
 fn main() {
     let mut out = io::large_buffer();
     // The session's buffer, which the start fills.
-    let mut session = [0u64; 5280];
+    let mut session = [0u64; SESSION_LENGTH];
     let mut policy = [0u8; POLICY_ROOM];
     let n = load(b"policy.bin", &mut policy);
     let refusal = session::start(&policy[..n], &mut session);
