@@ -1,4 +1,4 @@
--- How the verdict is worked out: the contracts of this crate's private functions. No public contract cites this file.
+-- How the verdict is worked out: what a table of rows spells (`fill_granted`, `close`), and the contracts of private functions.
 -- A relation on the first n objects is kept as n rows, bit b of row a telling of a and b.
 use Prim.Native.Nat.{ℕ, _≤_, _<_}
 use mathlib.Core.Path.{_≡_}

@@ -10,10 +10,10 @@ use Rattle.fields.specs.Writing.{Wrote}
 use Rattle.fields.proofs.WritingLaws.{wrote-join, wrote-as, wrote-length, wrote-ends}
 use Rattle.fields.proofs.ByteLaws.{bytes-length}
 use Rattle.fields.proofs.RowWriting.{wrote-front}
-use Rattle.image.specs.Limits.{leadingNumber, headerSize, containerSize, userSize, ruleSize, mixtureSize}
+use Rattle.image.specs.Limits.{size8, size16, pairSize, leadingNumber, headerSize, containerSize, userSize, ruleSize, mixtureSize}
 use Rattle.image.specs.Normal.{containerBytes, pair, header, framed}
 use Rattle.normaliser.specs.Tables.{formAt}
-use Rattle.normaliser.specs.Sections.{pairSize, pairBytes, headerBytes, containerSection, userSection, ruleSection, mixtureSection, Writable}
+use Rattle.normaliser.specs.Sections.{pairBytes, headerBytes, containerSection, userSection, ruleSection, mixtureSection, Writable}
 use Rattle.normaliser.proofs.SectionRows as rows
 use Rattle.normaliser.proofs.RuleRows as rules
 
@@ -27,12 +27,12 @@ pub pair-ends : (a b : ℕ) {before after : List ℕ} {at next : ℕ} → Wrote 
 pair-ends a b {at = at} w = w .ends ∙ ap (λ (k : ℕ). at + k) (pair-size a b)
 
 pub pair-wrote : (a b : ℕ) {before mid after : List ℕ} {at n next : ℕ} → at + pairSize ≤ length before
-    → Wrote (bytesOf 2 a) before mid at n → Wrote (bytesOf 2 b) mid after n next → Wrote (pairBytes a b) before after at next
+    → Wrote (bytesOf size16 a) before mid at n → Wrote (bytesOf size16 b) mid after n next → Wrote (pairBytes a b) before after at next
 unfolding pairBytes
 pair-wrote a b h x y = wrote-join (omega arith) x y
 
 pub container-wrote : (kind atom permit run : ℕ) {before s t after : List ℕ} {at a b next : ℕ} → at + containerSize ≤ length before
-    → Wrote (bytesOf 1 kind) before s at a → Wrote (bytesOf 1 atom) s t a b → Wrote (pairBytes permit run) t after b next
+    → Wrote (bytesOf size8 kind) before s at a → Wrote (bytesOf size8 atom) s t a b → Wrote (pairBytes permit run) t after b next
     → Wrote (containerBytes (record { kind = kind; atom = atom; permit = permit; run = run })) before after at next
 unfolding containerBytes pairBytes
 container-wrote kind atom permit run {before = before} {s = s} {at = at} {a = a} h x y z =
@@ -41,7 +41,7 @@ container-wrote kind atom permit run {before = before} {s = s} {at = at} {a = a}
 
 -- a header from its number and its pairs
 pub header-wrote : (c u r m : ℕ) {s t v w x after : List ℕ} {a b d e n : ℕ} → headerSize ≤ length s
-    → Wrote (bytesOf 2 leadingNumber) s t 0 a → Wrote (pairBytes headerSize c) t v a b → Wrote (pairBytes (headerSize + c) u) v w b d
+    → Wrote (bytesOf size16 leadingNumber) s t 0 a → Wrote (pairBytes headerSize c) t v a b → Wrote (pairBytes (headerSize + c) u) v w b d
     → Wrote (pairBytes (headerSize + c + u) r) w x d e → Wrote (pairBytes (headerSize + c + u + r) m) x after e n
     → Wrote (headerBytes c u r m) s after 0 n
 unfolding headerBytes

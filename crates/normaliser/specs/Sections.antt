@@ -6,7 +6,7 @@ use mathlib.Core.List.{List, _++_, map}
 use lib.ListN.{length}
 use Rattle.lists.specs.Lists.{joined, every}
 use Rattle.fields.specs.Bytes.{bytesOf}
-use Rattle.image.specs.Limits.{leadingNumber, headerSize, containerSize, userSize, ruleSize, mixtureSize}
+use Rattle.image.specs.Limits.{size16, leadingNumber, headerSize, containerSize, userSize, ruleSize, mixtureSize}
 use Rattle.image.specs.Policy.{Container, Sound}
 use Rattle.image.specs.Image.{containersIn, usersIn, spansIn, rulesIn, spansGood}
 use Rattle.image.specs.Normal.{containerBytes, spanBytes, spansOf}
@@ -15,16 +15,13 @@ use Rattle.normaliser.specs.Tables.{formAt, formGood, found, newNumber}
 
 -- ---- two numbers of 16 bits: a rule record, or the offset and length of a section
 
-abbrev pub pairSize : ℕ
-pairSize = 4
-
 unfoldable pub pairBytes : ℕ → ℕ → List ℕ
-pairBytes a b = bytesOf 2 a ++ bytesOf 2 b
+pairBytes a b = bytesOf size16 a ++ bytesOf size16 b
 
 -- the header of an image whose sections have c, u, r and m bytes
 unfoldable pub headerBytes : ℕ → ℕ → ℕ → ℕ → List ℕ
 headerBytes c u r m =
-    bytesOf 2 leadingNumber
+    bytesOf size16 leadingNumber
     ++ (pairBytes headerSize c ++ (pairBytes (headerSize + c) u ++ (pairBytes (headerSize + c + u) r ++ pairBytes (headerSize + c + u + r) m)))
 
 -- ---- the sections, with the new rule numbers

@@ -7,7 +7,7 @@ ghost use lib.ListN.{length, take};
 ghost use Rattle.lists.specs.Lists.{sameList, joined, every};
 ghost use Rattle.fields.specs.Bytes.{records};
 ghost use Rattle.fields.specs.Writing.{Wrote};
-ghost use Rattle.image.specs.Limits.{unrestrictedNumber, containerSize, userSize, ruleSize, mixtureSize, headerSize, outputBound};
+ghost use Rattle.image.specs.Limits.{pairSize, unrestrictedNumber, containerSize, userSize, ruleSize, mixtureSize, headerSize, outputBound};
 ghost use Rattle.image.specs.Policy.{unrestrictedRule};
 ghost use Rattle.image.specs.Image.{containersIn, usersIn, spansIn, rulesIn, spansGood};
 ghost use Rattle.image.specs.Normal.{position, containerBytes, framed, normalImage};
@@ -16,7 +16,7 @@ ghost use Rattle.normaliser.specs.Normaliser.{normalAnswer, normalEffect
 ghost use Rattle.normaliser.specs.Writer.{useLimit, containerUses, policyGiven, policyAt, formWords, Tabled, Answered};
 ghost use Rattle.normaliser.specs.Keys.{wordsAt, mixed, keyLimit, keyOf, Keyed};
 ghost use Rattle.normaliser.specs.Tables.{formAt, formGood, classOf, Classified, classAt, classNamed, withClass, withClasses, Ordered, Placeable, newNumber, found, Cleared, fewRules};
-ghost use Rattle.normaliser.specs.Sections.{pairSize, pairBytes, headerBytes, containerSection, userSection, ruleSection, mixtureBytes, mixtureSection, Writable, SectionsAccepted};
+ghost use Rattle.normaliser.specs.Sections.{pairBytes, headerBytes, containerSection, userSection, ruleSection, mixtureBytes, mixtureSection, Writable, SectionsAccepted};
 
 // The bytes that an output has at least.
 pub const OUTPUT_BOUND: usize = 18994;
