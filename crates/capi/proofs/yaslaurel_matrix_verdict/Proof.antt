@@ -5,18 +5,6 @@ use borrow.Author.Needs.{needs}
 use Rattle.capi.proofs.yaslaurel_matrix_verdict.Statement.{statement}
 use Rattle.capi.proofs.yaslaurel_matrix_verdict.Tie as tie
 
-verdict-requires : tie.Need-verdict-requires
-verdict-requires c κs = search needs
-
-enum-told : tie.Need-enum-told
-enum-told c = search needs
-
-enum-told-2 : tie.Need-enum-told-2
-enum-told-2 c = search needs
-
-enum-known-v : tie.Need-enum-known-v
-enum-known-v c = search needs
-
 returns : tie.Need-returns
 returns c =
     let e = sym (c .before .before .verdict .ensures) ∙ ap consistencyValues (c .enum-told .given .1) in
@@ -35,4 +23,4 @@ returns-3 c =
 pub yaslaurel-matrix-verdict-spec : {M : Type 1} → statement M
 yaslaurel-matrix-verdict-spec =
     tie.close
-    (tie.spec verdict-requires enum-told enum-told-2 enum-known-v returns returns-2 returns-3)
+    (tie.spec (λ c κs. search needs) (λ c. search needs) (λ c. search needs) (λ c. search needs) returns returns-2 returns-3)

@@ -13,14 +13,8 @@ use Rattle.derivation.proofs.derive.Tie as tie
 returns : tie.Need-returns
 returns c = derive-short _ _ _ _ (c .if1 .taken)
 
-matrix-good-requires : tie.Need-matrix-good-requires
-matrix-good-requires c κs = search needs
-
 returns-2 : tie.Need-returns-2
 returns-2 c = derive-refused _ _ _ _ (c .before .before .if1 .left) (fails-test (c .before .matrix-good .ensures) (c .if2 .taken))
-
-slice-aggregate-put-objects : tie.Need-slice-aggregate-put-objects
-slice-aggregate-put-objects c = search needs
 
 put-objects-requires : tie.Need-put-objects-requires
 put-objects-requires c κs =
@@ -28,30 +22,12 @@ put-objects-requires c κs =
     let g = good-parts _ _ _ good in
     (g .few, omega (arith, g .few))
 
-slice-aggregate-put-subjects : tie.Need-slice-aggregate-put-subjects
-slice-aggregate-put-subjects c = search needs
-
 put-subjects-requires : tie.Need-put-subjects-requires
 put-subjects-requires c κs =
     let start = c .before .before .before .before .before .before .before .before .before .before in
     let good = passes-test (c .before .before .before .before .before .matrix-good .ensures) (c .before .before .before .before .if2 .left) in
     let g = good-parts _ _ _ good in
     (g .subjects, omega (arith, g .few, g .subjects, objects-end (start .args .reads .now) (start .args .writes .now) (start .args .objects) good (c .before .before .put-objects .ensures)))
-
-slice-aggregate-put16 : tie.Need-slice-aggregate-put16
-slice-aggregate-put16 c = search needs
-
-put16-requires : tie.Need-put16-requires
-put16-requires c κs = search needs
-
-mul-w : tie.Need-mul-w
-mul-w c = search needs
-
-sub-put-permits : tie.Need-sub-put-permits
-sub-put-permits c = search needs
-
-part-words-start : tie.Need-part-words-start
-part-words-start c = search needs
 
 part-words-end : tie.Need-part-words-end
 part-words-end c =
@@ -65,12 +41,6 @@ put-permits-requires c κs =
     let good = passes-test (c .before .before .before .before .before .before .before .before .before .before .before .matrix-good .ensures) (c .before .before .before .before .before .before .before .before .before .before .if2 .left) in
     let g = good-parts _ _ _ good in
     (g .even, g .subjects, g .few, zeros-front (start .args .objects * ruleWidth) (objectLimit * ruleWidth) (omega (arith, g .few)))
-
-sub-write-policy : tie.Need-sub-write-policy
-sub-write-policy c = search needs
-
-part-write-policy-start : tie.Need-part-write-policy-start
-part-write-policy-start c = search needs
 
 part-write-policy-end : tie.Need-part-write-policy-end
 part-write-policy-end c =
@@ -86,15 +56,6 @@ part-write-policy-end c =
       containers-end (start .args .reads .now) (start .args .writes .now) (start .args .objects) good (put-objects .ensures)
           (put-subjects .ensures),
     )
-
-slice-aggregate-write-policy : tie.Need-slice-aggregate-write-policy
-slice-aggregate-write-policy c = search needs
-
-sub-write-policy-2 : tie.Need-sub-write-policy-2
-sub-write-policy-2 c = search needs
-
-part-write-policy-start-2 : tie.Need-part-write-policy-start-2
-part-write-policy-start-2 c = search needs
 
 part-write-policy-end-2 : tie.Need-part-write-policy-end-2
 part-write-policy-end-2 c =
@@ -136,9 +97,6 @@ cast-result c =
           (start .args .objects) good (put-objects .ensures) (put-subjects .ensures) (put16 .ensures) (search needs) _ _ (put-permits .ensures) (c .before .before .write-policy .ensures)),
     )
 
-same-length : tie.Need-same-length
-same-length c = search needs
-
 returns-3 : tie.Need-returns-3
 returns-3 c =
     let start = c .before .before .before .before .before .before .before .before .before .before .before .before .before .before .before .before .before .before .before .before .before .before .before .before .before .before .before in
@@ -158,27 +116,27 @@ derive-spec =
     tie.close
     (tie.spec
     returns
-    matrix-good-requires
+    (λ c κs. search needs)
     returns-2
-    slice-aggregate-put-objects
+    (λ c. search needs)
     put-objects-requires
-    slice-aggregate-put-subjects
+    (λ c. search needs)
     put-subjects-requires
-    slice-aggregate-put16
-    put16-requires
-    mul-w
-    sub-put-permits
-    part-words-start
+    (λ c. search needs)
+    (λ c κs. search needs)
+    (λ c. search needs)
+    (λ c. search needs)
+    (λ c. search needs)
     part-words-end
     put-permits-requires
-    sub-write-policy
-    part-write-policy-start
+    (λ c. search needs)
+    (λ c. search needs)
     part-write-policy-end
-    slice-aggregate-write-policy
-    sub-write-policy-2
-    part-write-policy-start-2
+    (λ c. search needs)
+    (λ c. search needs)
+    (λ c. search needs)
     part-write-policy-end-2
     write-policy-requires
     cast-result
-    same-length
+    (λ c. search needs)
     returns-3)

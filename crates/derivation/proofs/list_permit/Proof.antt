@@ -15,17 +15,8 @@ Inv-loop words₀ reads writes b own count₀ s₀ words count s = PermitListed 
 abbrev μ-loop : tie.MeasureT-loop
 μ-loop words₀ reads writes b own count₀ s₀ words count s = length reads - s
 
-shl-own : tie.Need-shl-own Inv-loop μ-loop
-shl-own c = search needs
-
 loop-holds : tie.Need-loop-holds Inv-loop μ-loop
 loop-holds c = permit-start (c .args .reads .now) (c .args .writes .now) (c .args .b) (c .pre .0) (c .pre .1) (c .pre .3)
-
-mul-r : tie.Need-mul-r Inv-loop μ-loop
-mul-r c = search needs
-
-shared-slice-read-r : tie.Need-shared-slice-read-r Inv-loop μ-loop
-shared-slice-read-r c = search needs
 
 mul-w : tie.Need-mul-w Inv-loop μ-loop
 mul-w c = omega (arith, c .before .before .loop .inv .even)
@@ -33,35 +24,14 @@ mul-w c = omega (arith, c .before .before .loop .inv .even)
 shared-slice-read-w : tie.Need-shared-slice-read-w Inv-loop μ-loop
 shared-slice-read-w c = omega (arith, c .before .before .before .loop .inv .even)
 
-add-s : tie.Need-add-s Inv-loop μ-loop
-add-s c = search needs
-
-cast-if1 : tie.Need-cast-if1 Inv-loop μ-loop
-cast-if1 c = search needs
-
-shr-if1 : tie.Need-shr-if1 Inv-loop μ-loop
-shr-if1 c = search needs
-
-add-count : tie.Need-add-count Inv-loop μ-loop
-add-count c = search needs
-
 cast-words : tie.Need-cast-words Inv-loop μ-loop
 cast-words c = omega (arith, c .before .before .shared-slice-known .given (c .before .before .before .before .loop .s))
-
-mul-words : tie.Need-mul-words Inv-loop μ-loop
-mul-words c = search needs
 
 slice-write-words : tie.Need-slice-write-words Inv-loop μ-loop
 slice-write-words c = omega (arith, permit-long (c .before .before .before .before .loop .inv), c .before .before .before .before .loop .inv .sum, c .before .before .before .before .loop .inv .most, c .before .before .before .before .loop .inv .few)
 
-loop-less : tie.Need-loop-less Inv-loop μ-loop
-loop-less c = search needs
-
 loop-again : tie.Need-loop-again Inv-loop μ-loop
 loop-again c = permit-take (c .before .before .before .before .loop .inv) (c .before .before .before .loop-test .taken) (c .if1 .taken) (ap (bitOr (getD (c .before .before .before .before .before .args .reads .now) (c .before .before .before .before .loop .s) 0)) (own-is _ (c .before .before .before .before .before .pre .2)))
-
-loop-less-2 : tie.Need-loop-less-2 Inv-loop μ-loop
-loop-less-2 c = search needs
 
 loop-again-2 : tie.Need-loop-again-2 Inv-loop μ-loop
 loop-again-2 c = permit-leave (c .before .before .before .before .loop .inv) (c .before .before .before .loop-test .taken) (c .if1 .left)
@@ -93,22 +63,22 @@ list-permit-spec =
     (tie.spec
     Inv-loop
     μ-loop
-    shl-own
+    (λ c. search needs)
     loop-holds
-    mul-r
-    shared-slice-read-r
+    (λ c. search needs)
+    (λ c. search needs)
     mul-w
     shared-slice-read-w
-    add-s
-    cast-if1
-    shr-if1
-    add-count
+    (λ c. search needs)
+    (λ c. search needs)
+    (λ c. search needs)
+    (λ c. search needs)
     cast-words
-    mul-words
+    (λ c. search needs)
     slice-write-words
-    loop-less
+    (λ c. search needs)
     loop-again
-    loop-less-2
+    (λ c. search needs)
     loop-again-2
     slice-write-words-2
     slice-write-words-3

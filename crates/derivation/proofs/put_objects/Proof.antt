@@ -27,12 +27,6 @@ put-container-requires c κs =
     let taken = c .before .loop-test .taken in
     container-room (objectFiles (start .args .n)) (loop .inv) (omega (arith, objects-count (start .args .n))) _ (object-row (start .args .n) (loop .b) taken)
 
-add-b : tie.Need-add-b Inv-loop μ-loop
-add-b c = search needs
-
-loop-less : tie.Need-loop-less Inv-loop μ-loop
-loop-less c = search needs
-
 loop-again : tie.Need-loop-again Inv-loop μ-loop
 loop-again c =
     let start = c .before .before .before .before .before .before .before in
@@ -56,8 +50,8 @@ put-objects-spec =
     μ-loop
     loop-holds
     put-container-requires
-    add-b
-    loop-less
+    (λ c. search needs)
+    (λ c. search needs)
     loop-again
     same-length
     returns)

@@ -19,21 +19,6 @@ loop-holds c =
     let start = c .before .before .before in
     permits-start (start .args .reads .now) (start .args .writes .now) (start .args .n) (start .pre .1) (start .pre .3)
 
-mul-at : tie.Need-mul-at Inv-loop μ-loop
-mul-at c = search needs
-
-add-put-permit : tie.Need-add-put-permit Inv-loop μ-loop
-add-put-permit c = search needs
-
-mul-put-permit : tie.Need-mul-put-permit Inv-loop μ-loop
-mul-put-permit c = search needs
-
-sub-put-permit : tie.Need-sub-put-permit Inv-loop μ-loop
-sub-put-permit c = search needs
-
-part-put-permit-start : tie.Need-part-put-permit-start Inv-loop μ-loop
-part-put-permit-start c = search needs
-
 part-put-permit-end : tie.Need-part-put-permit-end Inv-loop μ-loop
 part-put-permit-end c =
     let start = c .before .before .before .before .before in
@@ -44,12 +29,6 @@ put-permit-requires c κs =
     let start = c .before .before .before .before .before .before in
     let zero = permits-zero (start .args .reads .now) (start .args .writes .now) (start .args .n) (start .pre .1) (c .before .before .loop .inv) (c .before .loop-test .taken) (start .pre .3) in
     (start .pre .0, start .pre .1, omega (arith, start .pre .2, c .before .loop-test .taken), zero)
-
-add-b : tie.Need-add-b Inv-loop μ-loop
-add-b c = search needs
-
-loop-less : tie.Need-loop-less Inv-loop μ-loop
-loop-less c = search needs
 
 loop-again : tie.Need-loop-again Inv-loop μ-loop
 loop-again c =
@@ -71,15 +50,15 @@ put-permits-spec =
     Inv-loop
     μ-loop
     loop-holds
-    mul-at
-    add-put-permit
-    mul-put-permit
-    sub-put-permit
-    part-put-permit-start
+    (λ c. search needs)
+    (λ c. search needs)
+    (λ c. search needs)
+    (λ c. search needs)
+    (λ c. search needs)
     part-put-permit-end
     put-permit-requires
-    add-b
-    loop-less
+    (λ c. search needs)
+    (λ c. search needs)
     loop-again
     same-length
     returns)

@@ -29,12 +29,6 @@ put-container-requires c κs =
     let taken = c .before .loop-test .taken in
     container-room (replicate (start .args .n) subjectProcess) (loop .inv) (omega (arith, length-replicate {A = Container} (start .args .n) subjectProcess)) _ (subject-row (start .args .n) (loop .s) taken)
 
-add-s : tie.Need-add-s Inv-loop μ-loop
-add-s c = search needs
-
-loop-less : tie.Need-loop-less Inv-loop μ-loop
-loop-less c = search needs
-
 loop-again : tie.Need-loop-again Inv-loop μ-loop
 loop-again c =
     let start = c .before .before .before .before .before .before .before in
@@ -58,8 +52,8 @@ put-subjects-spec =
     μ-loop
     loop-holds
     put-container-requires
-    add-s
-    loop-less
+    (λ c. search needs)
+    (λ c. search needs)
     loop-again
     same-length
     returns)

@@ -7,16 +7,10 @@ use Rattle.fields.proofs.WritingLaws.{wrote-ends, wrote-halves}
 use Rattle.fields.proofs.put16.Statement.{statement}
 use Rattle.fields.proofs.put16.Tie as tie
 
-put8-requires : tie.Need-put8-requires
-put8-requires c κs = search needs
-
 put8-requires-2 : tie.Need-put8-requires-2
 put8-requires-2 c κs =
     let low = c .before .before .before .put8 in
     omega (arith, wrote-ends 1 _ (low .ensures))
-
-same-length : tie.Need-same-length
-same-length c = search needs
 
 returns : tie.Need-returns
 returns c =
@@ -26,4 +20,4 @@ returns c =
     wrote-halves 1 (start .args .v) h (low .ensures) (c .before .before .put82 .ensures)
 
 pub put16-spec : {M : Type 1} → statement M
-put16-spec = tie.close (tie.spec put8-requires put8-requires-2 same-length returns)
+put16-spec = tie.close (tie.spec (λ c κs. search needs) put8-requires-2 (λ c. search needs) returns)

@@ -7,16 +7,10 @@ use Rattle.fields.proofs.WritingLaws.{wrote-ends, wrote-halves}
 use Rattle.fields.proofs.put32.Statement.{statement}
 use Rattle.fields.proofs.put32.Tie as tie
 
-put16-requires : tie.Need-put16-requires
-put16-requires c κs = search needs
-
 put16-requires-2 : tie.Need-put16-requires-2
 put16-requires-2 c κs =
     let low = c .before .before .before .put16 in
     omega (arith, wrote-ends 2 _ (low .ensures))
-
-same-length : tie.Need-same-length
-same-length c = search needs
 
 returns : tie.Need-returns
 returns c =
@@ -26,4 +20,4 @@ returns c =
     wrote-halves 2 (start .args .v) h (low .ensures) (c .before .before .put162 .ensures)
 
 pub put32-spec : {M : Type 1} → statement M
-put32-spec = tie.close (tie.spec put16-requires put16-requires-2 same-length returns)
+put32-spec = tie.close (tie.spec (λ c κs. search needs) put16-requires-2 (λ c. search needs) returns)

@@ -7,16 +7,10 @@ use Rattle.fields.proofs.WritingLaws.{wrote-ends, wrote-halves}
 use Rattle.fields.proofs.put64.Statement.{statement}
 use Rattle.fields.proofs.put64.Tie as tie
 
-put32-requires : tie.Need-put32-requires
-put32-requires c κs = search needs
-
 put32-requires-2 : tie.Need-put32-requires-2
 put32-requires-2 c κs =
     let low = c .before .before .before .put32 in
     omega (arith, wrote-ends 4 _ (low .ensures))
-
-same-length : tie.Need-same-length
-same-length c = search needs
 
 returns : tie.Need-returns
 returns c =
@@ -26,4 +20,4 @@ returns c =
     wrote-halves 4 (start .args .v) h (low .ensures) (c .before .before .put322 .ensures)
 
 pub put64-spec : {M : Type 1} → statement M
-put64-spec = tie.close (tie.spec put32-requires put32-requires-2 same-length returns)
+put64-spec = tie.close (tie.spec (λ c κs. search needs) put32-requires-2 (λ c. search needs) returns)

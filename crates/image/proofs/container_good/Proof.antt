@@ -8,24 +8,6 @@ use borrow.Author.Needs.{needs}
 use Rattle.image.proofs.container_good.Statement.{statement}
 use Rattle.image.proofs.container_good.Tie as tie
 
-read8-requires : tie.Need-read8-requires
-read8-requires c κs = search needs
-
-read8-requires-2 : tie.Need-read8-requires-2
-read8-requires-2 c κs = search needs
-
-read16-requires : tie.Need-read16-requires
-read16-requires c κs = search needs
-
-read16-requires-2 : tie.Need-read16-requires-2
-read16-requires-2 c κs = search needs
-
-is-file-requires : tie.Need-is-file-requires
-is-file-requires c κs = search needs
-
-is-atom-requires : tie.Need-is-atom-requires
-is-atom-requires c κs = search needs
-
 returns : tie.Need-returns
 unfolding containerGood containerIn
 returns c =
@@ -37,9 +19,6 @@ returns c =
       sym (c .before .before .before .is-file .ensures) ∙ c .before .before .if1 .taken,
       fails-test (c .before .is-atom .ensures) (c .if2 .taken),
     )
-
-is-named-requires : tie.Need-is-named-requires
-is-named-requires c κs = search needs
 
 returns-2 : tie.Need-returns-2
 unfolding containerGood containerIn
@@ -54,9 +33,6 @@ returns-2 c =
       fails-test (c .before .is-named .ensures) (c .if3 .taken),
     )
 
-is-named-requires-2 : tie.Need-is-named-requires-2
-is-named-requires-2 c κs = search needs
-
 returns-3 : tie.Need-returns-3
 unfolding containerGood containerIn
 returns-3 c =
@@ -70,9 +46,6 @@ returns-3 c =
       passes-test (c .before .before .is-named .ensures) (c .before .if3 .left),
     )
     (c .is-named2 .ensures)
-
-is-volatile-or-process-requires : tie.Need-is-volatile-or-process-requires
-is-volatile-or-process-requires c κs = search needs
 
 returns-4 : tie.Need-returns-4
 unfolding containerGood containerIn
@@ -131,18 +104,18 @@ pub container-good-spec : {M : Type 1} → statement M
 container-good-spec =
     tie.close
     (tie.spec
-    read8-requires
-    read8-requires-2
-    read16-requires
-    read16-requires-2
-    is-file-requires
-    is-atom-requires
+    (λ c κs. search needs)
+    (λ c κs. search needs)
+    (λ c κs. search needs)
+    (λ c κs. search needs)
+    (λ c κs. search needs)
+    (λ c κs. search needs)
     returns
-    is-named-requires
+    (λ c κs. search needs)
     returns-2
-    is-named-requires-2
+    (λ c κs. search needs)
     returns-3
-    is-volatile-or-process-requires
+    (λ c κs. search needs)
     returns-4
     returns-5
     returns-6

@@ -22,21 +22,6 @@ abbrev μ-loop : tie.MeasureT-loop
 loop-holds : tie.Need-loop-holds Inv-loop μ-loop
 loop-holds c = scan-start (containerGood (c .before .args .n)) containerIn containerSize (c .before .args .s .now)
 
-mul-at : tie.Need-mul-at Inv-loop μ-loop
-mul-at c = search needs
-
-add-container-good : tie.Need-add-container-good Inv-loop μ-loop
-add-container-good c = search needs
-
-sub-container-good : tie.Need-sub-container-good Inv-loop μ-loop
-sub-container-good c = search needs
-
-part-container-good-start : tie.Need-part-container-good-start Inv-loop μ-loop
-part-container-good-start c = search needs
-
-part-container-good-end : tie.Need-part-container-good-end Inv-loop μ-loop
-part-container-good-end c = search needs
-
 container-good-requires : tie.Need-container-good-requires Inv-loop μ-loop
 container-good-requires c κs = simp (length-take, length-drop, add-sub-cancel-left) (omega arith)
 
@@ -46,12 +31,6 @@ returns c =
     let start = c .before .before .before .before .before .before in
     scan-stop (containerGood (start .args .n)) containerIn containerSize (start .args .s .now) _ _ (c .before .before .before .before .loop .inv) (omega arith)
     (sym (fails-test (rw add-sub-cancel-left at (c .before .container-good .ensures)) (c .if1 .taken)))
-
-add-i : tie.Need-add-i Inv-loop μ-loop
-add-i c = search needs
-
-loop-less : tie.Need-loop-less Inv-loop μ-loop
-loop-less c = search needs
 
 loop-again : tie.Need-loop-again Inv-loop μ-loop
 loop-again c =
@@ -70,14 +49,14 @@ containers-good-spec =
     Inv-loop
     μ-loop
     loop-holds
-    mul-at
-    add-container-good
-    sub-container-good
-    part-container-good-start
-    part-container-good-end
+    (λ c. search needs)
+    (λ c. search needs)
+    (λ c. search needs)
+    (λ c. search needs)
+    (λ c. search needs)
     container-good-requires
     returns
-    add-i
-    loop-less
+    (λ c. search needs)
+    (λ c. search needs)
     loop-again
     returns-2)

@@ -23,24 +23,6 @@ loop-holds c =
     copied-start (take n (drop (start .args .first) (mixturesIn (start .args .m .now)))) (start .args .out .now) 0
     (omega (arith, from-length (start .args .m .now) (start .args .first) n (start .pre)))
 
-add-mixture : tie.Need-add-mixture Inv-loop μ-loop
-add-mixture c = search needs
-
-mixture-requires : tie.Need-mixture-requires Inv-loop μ-loop
-mixture-requires c κs = search needs
-
-mul-out : tie.Need-mul-out Inv-loop μ-loop
-mul-out c = search needs
-
-slice-write-out : tie.Need-slice-write-out Inv-loop μ-loop
-slice-write-out c = search needs
-
-add-j : tie.Need-add-j Inv-loop μ-loop
-add-j c = search needs
-
-loop-less : tie.Need-loop-less Inv-loop μ-loop
-loop-less c = search needs
-
 loop-again : tie.Need-loop-again Inv-loop μ-loop
 loop-again c =
     let start = c .before .before .before .before .before in
@@ -49,9 +31,6 @@ loop-again c =
     copied-next (take n (drop (start .args .first) (mixturesIn (start .args .m .now)))) (start .args .out .now) (at .out) 0 (at .j) (at .inv) (at .j) (c .mixture .result) (omega arith)
     (omega (arith, from-length (start .args .m .now) (start .args .first) n (start .pre), at .inv .long))
     (c .mixture .ensures ∙ from-at (start .args .m .now) (start .args .first) n (start .pre) (at .j) (omega (arith, at .inv .long)))
-
-same-length : tie.Need-same-length Inv-loop μ-loop
-same-length c = search needs
 
 returns : tie.Need-returns Inv-loop μ-loop
 returns c =
@@ -68,12 +47,12 @@ gather-spec =
     Inv-loop
     μ-loop
     loop-holds
-    add-mixture
-    mixture-requires
-    mul-out
-    slice-write-out
-    add-j
-    loop-less
+    (λ c. search needs)
+    (λ c κs. search needs)
+    (λ c. search needs)
+    (λ c. search needs)
+    (λ c. search needs)
+    (λ c. search needs)
     loop-again
-    same-length
+    (λ c. search needs)
     returns)

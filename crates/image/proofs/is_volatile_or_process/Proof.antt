@@ -4,18 +4,12 @@ use borrow.Author.Needs.{needs}
 use Rattle.image.proofs.is_volatile_or_process.Statement.{statement}
 use Rattle.image.proofs.is_volatile_or_process.Tie as tie
 
-is-volatile-requires : tie.Need-is-volatile-requires
-is-volatile-requires c κs = search needs
-
 returns : tie.Need-returns
 returns c = rw (sym (c .before .is-volatile .ensures) ∙ c .if1 .taken)
-
-is-process-requires : tie.Need-is-process-requires
-is-process-requires c κs = search needs
 
 returns-2 : tie.Need-returns-2
 returns-2 c = rw (sym (c .before .before .is-volatile .ensures) ∙ c .before .if1 .left) (c .is-process .ensures)
 
 pub is-volatile-or-process-spec : {M : Type 1} → statement M
 is-volatile-or-process-spec =
-    tie.close (tie.spec is-volatile-requires returns is-process-requires returns-2)
+    tie.close (tie.spec (λ c κs. search needs) returns (λ c κs. search needs) returns-2)

@@ -9,21 +9,6 @@ use borrow.Author.Needs.{needs}
 use Rattle.image.proofs.put_own_rule.Statement.{statement}
 use Rattle.image.proofs.put_own_rule.Tie as tie
 
-mul-read16 : tie.Need-mul-read16
-mul-read16 c = search needs
-
-read16-requires : tie.Need-read16-requires
-read16-requires c κs = search needs
-
-mul-read16-2 : tie.Need-mul-read16-2
-mul-read16-2 c = search needs
-
-add-read16 : tie.Need-add-read16
-add-read16 c = search needs
-
-read16-requires-2 : tie.Need-read16-requires-2
-read16-requires-2 c κs = search needs
-
 put-span-requires : tie.Need-put-span-requires
 put-span-requires c κs =
     let start = c .before .before .before .before .before .before in (
@@ -55,9 +40,6 @@ make-normal-requires c κs =
       c .before .before .before .before .before .read162 .ensures .0,
     ))
 
-same-length : tie.Need-same-length
-same-length c = search needs
-
 returns : tie.Need-returns
 returns c =
     let start = c .before .before .before .before .before .before .before .before .before .before .before .before .before in
@@ -70,12 +52,12 @@ pub put-own-rule-spec : {M : Type 1} → statement M
 put-own-rule-spec =
     tie.close
     (tie.spec
-    mul-read16
-    read16-requires
-    mul-read16-2
-    add-read16
-    read16-requires-2
+    (λ c. search needs)
+    (λ c κs. search needs)
+    (λ c. search needs)
+    (λ c. search needs)
+    (λ c κs. search needs)
     put-span-requires
     make-normal-requires
-    same-length
+    (λ c. search needs)
     returns)

@@ -6,28 +6,16 @@ use borrow.Author.Needs.{needs}
 use Rattle.image.proofs.put_rule_at.Statement.{statement}
 use Rattle.image.proofs.put_rule_at.Tie as tie
 
-unrestricted-requires : tie.Need-unrestricted-requires
-unrestricted-requires c κs = search needs
-
-put-rule-requires : tie.Need-put-rule-requires
-put-rule-requires c κs = search needs
-
 put-own-rule-requires : tie.Need-put-own-rule-requires
 put-own-rule-requires c κs =
     let start = c .before .before .before .before .before in
     (start .pre .0, named-own _ (start .args .n) (start .pre .1) (c .before .if1 .left), start .pre .2)
-
-same-length : tie.Need-same-length
-same-length c = search needs
 
 returns : tie.Need-returns
 returns c =
     let start = c .before .before .before .before .before .before .before .before .before in
     unrestricted-words _ (start .args .n) _ _ (c .before .before .before .before .before .if1 .taken)
     (c .before .before .before .unrestricted .ensures) (c .before .before .put-rule .ensures)
-
-same-length-2 : tie.Need-same-length-2
-same-length-2 c = search needs
 
 returns-2 : tie.Need-returns-2
 returns-2 c =
@@ -38,10 +26,10 @@ pub put-rule-at-spec : {M : Type 1} → statement M
 put-rule-at-spec =
     tie.close
     (tie.spec
-    unrestricted-requires
-    put-rule-requires
+    (λ c κs. search needs)
+    (λ c κs. search needs)
     put-own-rule-requires
-    same-length
+    (λ c. search needs)
     returns
-    same-length-2
+    (λ c. search needs)
     returns-2)

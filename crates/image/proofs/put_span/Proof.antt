@@ -8,29 +8,8 @@ use borrow.Author.Needs.{needs}
 use Rattle.image.proofs.put_span.Statement.{statement}
 use Rattle.image.proofs.put_span.Tie as tie
 
-slice-write-words : tie.Need-slice-write-words
-slice-write-words c = search needs
-
-sub-clear : tie.Need-sub-clear
-sub-clear c = search needs
-
-part-clear-start : tie.Need-part-clear-start
-part-clear-start c = search needs
-
 part-clear-end : tie.Need-part-clear-end
 part-clear-end c = simp length-set (omega arith)
-
-clear-requires : tie.Need-clear-requires
-clear-requires c κs = search needs
-
-add-gather : tie.Need-add-gather
-add-gather c = search needs
-
-sub-gather : tie.Need-sub-gather
-sub-gather c = search needs
-
-part-gather-start : tie.Need-part-gather-start
-part-gather-start c = search needs
 
 part-gather-end : tie.Need-part-gather-end
 part-gather-end c =
@@ -72,14 +51,14 @@ pub put-span-spec : {M : Type 1} → statement M
 put-span-spec =
     tie.close
     (tie.spec
-    slice-write-words
-    sub-clear
-    part-clear-start
+    (λ c. search needs)
+    (λ c. search needs)
+    (λ c. search needs)
     part-clear-end
-    clear-requires
-    add-gather
-    sub-gather
-    part-gather-start
+    (λ c κs. search needs)
+    (λ c. search needs)
+    (λ c. search needs)
+    (λ c. search needs)
     part-gather-end
     gather-requires
     same-length

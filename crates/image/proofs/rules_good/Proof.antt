@@ -15,24 +15,6 @@ abbrev μ-loop : tie.MeasureT-loop
 loop-holds : tie.Need-loop-holds Inv-loop μ-loop
 loop-holds c = spans-start (c .before .args .m) (c .before .args .s .now)
 
-mul-read16 : tie.Need-mul-read16 Inv-loop μ-loop
-mul-read16 c = search needs
-
-read16-requires : tie.Need-read16-requires Inv-loop μ-loop
-read16-requires c κs = search needs
-
-mul-read16-2 : tie.Need-mul-read16-2 Inv-loop μ-loop
-mul-read16-2 c = search needs
-
-add-read16 : tie.Need-add-read16 Inv-loop μ-loop
-add-read16 c = search needs
-
-read16-requires-2 : tie.Need-read16-requires-2 Inv-loop μ-loop
-read16-requires-2 c κs = search needs
-
-add-i : tie.Need-add-i Inv-loop μ-loop
-add-i c = search needs
-
 returns : tie.Need-returns Inv-loop μ-loop
 returns c =
     let start = c .before .before .before .before .before .before in
@@ -46,9 +28,6 @@ returns-2 c =
     (rw ((c .before .before .before .read16 .ensures .0)) at (c .before .if1 .left))
     (rw ((c .before .before .read162 .ensures .0)) at (c .if2 .taken)))
 
-add-if3 : tie.Need-add-if3 Inv-loop μ-loop
-add-if3 c = search needs
-
 returns-3 : tie.Need-returns-3 Inv-loop μ-loop
 returns-3 c =
     let start = c .before .before .before .before .before .before .before .before in
@@ -56,9 +35,6 @@ returns-3 c =
     (rw ((c .before .before .before .before .read16 .ensures .0)) at (c .before .before .if1 .left))
     (rw ((c .before .before .before .read162 .ensures .0)) at (c .before .if2 .left))
     (rw ((c .before .before .before .before .read16 .ensures .0), (c .before .before .before .read162 .ensures .0)) at (c .if3 .taken)))
-
-loop-less : tie.Need-loop-less Inv-loop μ-loop
-loop-less c = search needs
 
 loop-again : tie.Need-loop-again Inv-loop μ-loop
 loop-again c =
@@ -79,16 +55,16 @@ rules-good-spec =
     Inv-loop
     μ-loop
     loop-holds
-    mul-read16
-    read16-requires
-    mul-read16-2
-    add-read16
-    read16-requires-2
-    add-i
+    (λ c. search needs)
+    (λ c κs. search needs)
+    (λ c. search needs)
+    (λ c. search needs)
+    (λ c κs. search needs)
+    (λ c. search needs)
     returns
     returns-2
-    add-if3
+    (λ c. search needs)
     returns-3
-    loop-less
+    (λ c. search needs)
     loop-again
     returns-4)

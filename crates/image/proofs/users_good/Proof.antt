@@ -21,27 +21,12 @@ abbrev μ-loop : tie.MeasureT-loop
 loop-holds : tie.Need-loop-holds Inv-loop μ-loop
 loop-holds c = scan-start (named (c .before .args .n)) numberIn userSize (c .before .args .s .now)
 
-mul-read16 : tie.Need-mul-read16 Inv-loop μ-loop
-mul-read16 c = search needs
-
-read16-requires : tie.Need-read16-requires Inv-loop μ-loop
-read16-requires c κs = search needs
-
-is-named-requires : tie.Need-is-named-requires Inv-loop μ-loop
-is-named-requires c κs = search needs
-
 returns : tie.Need-returns Inv-loop μ-loop
 unfolding usersIn field
 returns c =
     let start = c .before .before .before .before .before .before in
     scan-stop (named (start .args .n)) numberIn userSize (start .args .s .now) _ _ (c .before .before .before .before .loop .inv) (omega arith)
     (sym (fails-test (rw (c .before .before .read16 .ensures .0) at (c .before .is-named .ensures)) (c .if1 .taken)))
-
-add-i : tie.Need-add-i Inv-loop μ-loop
-add-i c = search needs
-
-loop-less : tie.Need-loop-less Inv-loop μ-loop
-loop-less c = search needs
 
 loop-again : tie.Need-loop-again Inv-loop μ-loop
 unfolding field
@@ -61,11 +46,11 @@ users-good-spec =
     Inv-loop
     μ-loop
     loop-holds
-    mul-read16
-    read16-requires
-    is-named-requires
+    (λ c. search needs)
+    (λ c κs. search needs)
+    (λ c κs. search needs)
     returns
-    add-i
-    loop-less
+    (λ c. search needs)
+    (λ c. search needs)
     loop-again
     returns-2)

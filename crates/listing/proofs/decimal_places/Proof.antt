@@ -21,9 +21,6 @@ loop-holds c = (search needs, refl)
 add-k : tie.Need-add-k Inv-loop μ-loop
 add-k c = omega (arith, decimal-length (c .before .before .args .n))
 
-loop-less : tie.Need-loop-less Inv-loop μ-loop
-loop-less c = search needs
-
 loop-again : tie.Need-loop-again Inv-loop μ-loop
 loop-again c =
     let l = c .before .loop in
@@ -35,4 +32,4 @@ returns c = omega (arith, ap length (decimal-below (c .before .loop .rest) (c .l
 
 pub decimal-places-spec : {M : Type 1} → statement M
 decimal-places-spec =
-    tie.close (tie.spec Inv-loop μ-loop loop-holds add-k loop-less loop-again returns)
+    tie.close (tie.spec Inv-loop μ-loop loop-holds add-k (λ c. search needs) loop-again returns)

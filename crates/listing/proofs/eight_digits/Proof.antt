@@ -7,12 +7,6 @@ use borrow.Author.Needs.{needs}
 use Rattle.listing.proofs.eight_digits.Statement.{statement}
 use Rattle.listing.proofs.eight_digits.Tie as tie
 
-mul-two : tie.Need-mul-two
-mul-two c = search needs
-
-add-two : tie.Need-add-two
-add-two c = search needs
-
 mul-four : tie.Need-mul-four
 mul-four c = omega (arith, and-le-r (halves (c .args .x)) 0x000000ff000000ff)
 
@@ -48,8 +42,8 @@ pub eight-digits-spec : {M : Type 1} → statement M
 eight-digits-spec =
     tie.close
     (tie.spec
-    mul-two
-    add-two
+    (λ c. search needs)
+    (λ c. search needs)
     mul-four
     add-four
     mul-eight

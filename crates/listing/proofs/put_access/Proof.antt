@@ -12,9 +12,6 @@ use borrow.Author.Needs.{needs}
 use Rattle.listing.proofs.put_access.Statement.{statement}
 use Rattle.listing.proofs.put_access.Tie as tie
 
-put-step-number-requires : tie.Need-put-step-number-requires
-put-step-number-requires c κs = search needs
-
 put-operation-requires : tie.Need-put-operation-requires
 put-operation-requires c κs = omega (arith, number-length (c .before .before .before .before .before .before .args .step) space)
 
@@ -27,9 +24,6 @@ put-container-number-requires-2 : tie.Need-put-container-number-requires-2
 put-container-number-requires-2 c κs =
     let a = c .before .before .before .before .before .before .before .before .before .before .before .before .before .before .args in
     omega (arith, number-length (a .step) space, operation-length (a .code), number-length (a .p) space)
-
-same-length : tie.Need-same-length
-same-length c = search needs
 
 returns : tie.Need-returns
 returns c =
@@ -49,9 +43,9 @@ pub put-access-spec : {M : Type 1} → statement M
 put-access-spec =
     tie.close
     (tie.spec
-    put-step-number-requires
+    (λ c κs. search needs)
     put-operation-requires
     put-container-number-requires
     put-container-number-requires-2
-    same-length
+    (λ c. search needs)
     returns)

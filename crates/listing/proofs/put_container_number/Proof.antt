@@ -9,17 +9,11 @@ use borrow.Author.Needs.{needs}
 use Rattle.listing.proofs.put_container_number.Statement.{statement}
 use Rattle.listing.proofs.put_container_number.Tie as tie
 
-put-short-number-requires : tie.Need-put-short-number-requires
-put-short-number-requires c κs = search needs
-
 slice-write-out : tie.Need-slice-write-out
 slice-write-out c = omega (arith, decimal-length (c .before .before .before .before .before .before .args .n))
 
 add-result : tie.Need-add-result
 add-result c = omega (arith, decimal-length (c .before .before .before .before .before .before .args .n))
-
-same-length : tie.Need-same-length
-same-length c = search needs
 
 returns : tie.Need-returns
 returns c =
@@ -27,12 +21,6 @@ returns c =
     let p = c .before .before .put-short-number in
     let l : p .result < length (p .last .0) = omega (arith, decimal-length (a .n)) in
     spare-byte space 2 l (omega arith) (p .ensures)
-
-put-number-requires : tie.Need-put-number-requires
-put-number-requires c κs = search needs
-
-same-length-2 : tie.Need-same-length-2
-same-length-2 c = search needs
 
 returns-2 : tie.Need-returns-2
 returns-2 c =
@@ -44,11 +32,11 @@ pub put-container-number-spec : {M : Type 1} → statement M
 put-container-number-spec =
     tie.close
     (tie.spec
-    put-short-number-requires
+    (λ c κs. search needs)
     slice-write-out
     add-result
-    same-length
+    (λ c. search needs)
     returns
-    put-number-requires
-    same-length-2
+    (λ c κs. search needs)
+    (λ c. search needs)
     returns-2)

@@ -12,18 +12,6 @@ use borrow.Author.Needs.{needs}
 use Rattle.listing.proofs.put_group.Statement.{statement}
 use Rattle.listing.proofs.put_group.Tie as tie
 
-three-digits-requires : tie.Need-three-digits-requires
-three-digits-requires c κs = search needs
-
-put32-requires : tie.Need-put32-requires
-put32-requires c κs = search needs
-
-add-result : tie.Need-add-result
-add-result c = search needs
-
-same-length : tie.Need-same-length
-same-length c = search needs
-
 returns : tie.Need-returns
 returns c =
     let a = c .before .before .before .before .before .before .args in
@@ -40,4 +28,4 @@ returns c =
 
 pub put-group-spec : {M : Type 1} → statement M
 put-group-spec =
-    tie.close (tie.spec three-digits-requires put32-requires add-result same-length returns)
+    tie.close (tie.spec (λ c κs. search needs) (λ c κs. search needs) (λ c. search needs) (λ c. search needs) returns)

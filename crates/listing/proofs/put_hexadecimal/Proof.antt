@@ -11,20 +11,8 @@ use borrow.Author.Needs.{needs}
 use Rattle.listing.proofs.put_hexadecimal.Statement.{statement}
 use Rattle.listing.proofs.put_hexadecimal.Tie as tie
 
-eight-digits-requires : tie.Need-eight-digits-requires
-eight-digits-requires c κs = search needs
-
-put64-requires : tie.Need-put64-requires
-put64-requires c κs = search needs
-
-eight-digits-requires-2 : tie.Need-eight-digits-requires-2
-eight-digits-requires-2 c κs = search needs
-
 put64-requires-2 : tie.Need-put64-requires-2
 put64-requires-2 c κs = omega (arith, bytes-length 8 (c .before .before .before .before .before .eight-digits .result))
-
-same-length : tie.Need-same-length
-same-length c = search needs
 
 returns : tie.Need-returns
 returns c =
@@ -40,9 +28,9 @@ pub put-hexadecimal-spec : {M : Type 1} → statement M
 put-hexadecimal-spec =
     tie.close
     (tie.spec
-    eight-digits-requires
-    put64-requires
-    eight-digits-requires-2
+    (λ c κs. search needs)
+    (λ c κs. search needs)
+    (λ c κs. search needs)
     put64-requires-2
-    same-length
+    (λ c. search needs)
     returns)

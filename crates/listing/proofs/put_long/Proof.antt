@@ -17,41 +17,17 @@ Inv-loop out₀ at n k rest₀ i₀ out rest i = Spelling 10 k n at out₀ out i
 abbrev μ-loop : tie.MeasureT-loop
 μ-loop out₀ at n k rest₀ i₀ out rest i = i
 
-decimal-places-requires : tie.Need-decimal-places-requires Inv-loop μ-loop
-decimal-places-requires c κs = search needs
-
 loop-holds : tie.Need-loop-holds Inv-loop μ-loop
 loop-holds c =
     let a = c .before .before .args in
     let r : a .at + c .decimal-places .result ≤ length (a .out .now) = omega (arith, decimal-length (a .n)) in
     spelling-start _ _ _ _ _ r
 
-sub-i : tie.Need-sub-i Inv-loop μ-loop
-sub-i c = search needs
-
-cast-out : tie.Need-cast-out Inv-loop μ-loop
-cast-out c = search needs
-
-add-out : tie.Need-add-out Inv-loop μ-loop
-add-out c = search needs
-
-add-out-2 : tie.Need-add-out-2 Inv-loop μ-loop
-add-out-2 c = search needs
-
-slice-write-out : tie.Need-slice-write-out Inv-loop μ-loop
-slice-write-out c = search needs
-
-loop-less : tie.Need-loop-less Inv-loop μ-loop
-loop-less c = search needs
-
 loop-again : tie.Need-loop-again Inv-loop μ-loop
 loop-again c =
     let l = c .before .loop in
     let d : l .rest % 10 < 10 = omega arith in
     spelling-next (l .inv) _ (c .loop-test .taken) (sym (digit-low (l .rest % 10) d))
-
-add-result : tie.Need-add-result Inv-loop μ-loop
-add-result c = search needs
 
 same-length : tie.Need-same-length Inv-loop μ-loop
 same-length c = c .before .loop .inv .long
@@ -69,15 +45,15 @@ put-long-spec =
     (tie.spec
     Inv-loop
     μ-loop
-    decimal-places-requires
+    (λ c κs. search needs)
     loop-holds
-    sub-i
-    cast-out
-    add-out
-    add-out-2
-    slice-write-out
-    loop-less
+    (λ c. search needs)
+    (λ c. search needs)
+    (λ c. search needs)
+    (λ c. search needs)
+    (λ c. search needs)
+    (λ c. search needs)
     loop-again
-    add-result
+    (λ c. search needs)
     same-length
     returns)

@@ -8,17 +8,11 @@ use borrow.Author.Needs.{needs}
 use Rattle.listing.proofs.put_millions.Statement.{statement}
 use Rattle.listing.proofs.put_millions.Tie as tie
 
-put-thousands-requires : tie.Need-put-thousands-requires
-put-thousands-requires c κs = search needs
-
 put-group-requires : tie.Need-put-group-requires
 put-group-requires c κs =
     let a = c .before .before .before .before .before .before .args in
     let l : a .n / 1000 < 10 ^ 6 = omega arith in
     omega (arith, decimal-few 5 (a .n / 1000) l)
-
-same-length : tie.Need-same-length
-same-length c = search needs
 
 returns : tie.Need-returns
 returns c =
@@ -30,4 +24,4 @@ returns c =
 
 pub put-millions-spec : {M : Type 1} → statement M
 put-millions-spec =
-    tie.close (tie.spec put-thousands-requires put-group-requires same-length returns)
+    tie.close (tie.spec (λ c κs. search needs) put-group-requires (λ c. search needs) returns)

@@ -8,17 +8,11 @@ use borrow.Author.Needs.{needs}
 use Rattle.listing.proofs.put_number.Statement.{statement}
 use Rattle.listing.proofs.put_number.Tie as tie
 
-put-long-requires : tie.Need-put-long-requires
-put-long-requires c κs = search needs
-
 slice-write-out : tie.Need-slice-write-out
 slice-write-out c = omega (arith, decimal-length (c .before .before .before .before .before .args .n))
 
 add-result : tie.Need-add-result
 add-result c = omega (arith, decimal-length (c .before .before .before .before .before .args .n))
-
-same-length : tie.Need-same-length
-same-length c = search needs
 
 returns : tie.Need-returns
 returns c =
@@ -30,4 +24,4 @@ returns c =
 
 pub put-number-spec : {M : Type 1} → statement M
 put-number-spec =
-    tie.close (tie.spec put-long-requires slice-write-out add-result same-length returns)
+    tie.close (tie.spec (λ c κs. search needs) slice-write-out add-result (λ c. search needs) returns)

@@ -11,15 +11,6 @@ use borrow.Author.Needs.{needs}
 use Rattle.listing.proofs.put_operation.Statement.{statement}
 use Rattle.listing.proofs.put_operation.Tie as tie
 
-operation-word-requires : tie.Need-operation-word-requires
-operation-word-requires c κs = search needs
-
-put64-requires : tie.Need-put64-requires
-put64-requires c κs = search needs
-
-operation-length-requires : tie.Need-operation-length-requires
-operation-length-requires c κs = search needs
-
 add-next : tie.Need-add-next
 add-next c = omega (arith, operation-bounds (c .before .before .before .before .before .before .before .args .code))
 
@@ -28,9 +19,6 @@ slice-write-out c = omega (arith, operation-bounds (c .before .before .before .b
 
 add-result : tie.Need-add-result
 add-result c = omega (arith, operation-bounds (c .before .before .before .before .before .before .before .args .code))
-
-same-length : tie.Need-same-length
-same-length c = search needs
 
 returns : tie.Need-returns
 returns c =
@@ -51,11 +39,11 @@ pub put-operation-spec : {M : Type 1} → statement M
 put-operation-spec =
     tie.close
     (tie.spec
-    operation-word-requires
-    put64-requires
-    operation-length-requires
+    (λ c κs. search needs)
+    (λ c κs. search needs)
+    (λ c κs. search needs)
     add-next
     slice-write-out
     add-result
-    same-length
+    (λ c. search needs)
     returns)

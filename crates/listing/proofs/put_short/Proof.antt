@@ -10,17 +10,8 @@ use borrow.Author.Needs.{needs}
 use Rattle.listing.proofs.put_short.Statement.{statement}
 use Rattle.listing.proofs.put_short.Tie as tie
 
-put-number-requires : tie.Need-put-number-requires
-put-number-requires c κs = search needs
-
-slice-aggregate-put-text : tie.Need-slice-aggregate-put-text
-slice-aggregate-put-text c = search needs
-
 put-text-requires : tie.Need-put-text-requires
 put-text-requires c κs = omega (arith, number-length (c .before .before .before .before .before .before .before .args .step) space)
-
-same-length : tie.Need-same-length
-same-length c = search needs
 
 returns : tie.Need-returns
 unfolding ascii
@@ -33,4 +24,4 @@ returns c =
 pub put-short-spec : {M : Type 1} → statement M
 put-short-spec =
     tie.close
-    (tie.spec put-number-requires slice-aggregate-put-text put-text-requires same-length returns)
+    (tie.spec (λ c κs. search needs) (λ c. search needs) put-text-requires (λ c. search needs) returns)

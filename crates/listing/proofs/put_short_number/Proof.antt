@@ -11,30 +11,6 @@ use borrow.Author.Needs.{needs}
 use Rattle.listing.proofs.put_short_number.Statement.{statement}
 use Rattle.listing.proofs.put_short_number.Tie as tie
 
-unused-digits-requires : tie.Need-unused-digits-requires
-unused-digits-requires c κs = search needs
-
-three-digits-requires : tie.Need-three-digits-requires
-three-digits-requires c κs = search needs
-
-mul-put32 : tie.Need-mul-put32
-mul-put32 c = search needs
-
-shr-put32 : tie.Need-shr-put32
-shr-put32 c = search needs
-
-put32-requires : tie.Need-put32-requires
-put32-requires c κs = search needs
-
-sub-result : tie.Need-sub-result
-sub-result c = search needs
-
-add-result : tie.Need-add-result
-add-result c = search needs
-
-same-length : tie.Need-same-length
-same-length c = search needs
-
 returns : tie.Need-returns
 returns c =
     let a = c .before .before .before .before .before .before .before .args in
@@ -53,12 +29,12 @@ pub put-short-number-spec : {M : Type 1} → statement M
 put-short-number-spec =
     tie.close
     (tie.spec
-    unused-digits-requires
-    three-digits-requires
-    mul-put32
-    shr-put32
-    put32-requires
-    sub-result
-    add-result
-    same-length
+    (λ c κs. search needs)
+    (λ c κs. search needs)
+    (λ c. search needs)
+    (λ c. search needs)
+    (λ c κs. search needs)
+    (λ c. search needs)
+    (λ c. search needs)
+    (λ c. search needs)
     returns)

@@ -11,16 +11,10 @@ use borrow.Author.Needs.{needs}
 use Rattle.listing.proofs.put_step.Statement.{statement}
 use Rattle.listing.proofs.put_step.Tie as tie
 
-put-access-requires : tie.Need-put-access-requires
-put-access-requires c κs = search needs
-
 put-answer-requires : tie.Need-put-answer-requires
 put-answer-requires c κs =
     let a = c .before .before .before .before .before .before .args in
     omega (arith, access-length (a .step) (a .code) (a .p) (a .o))
-
-same-length : tie.Need-same-length
-same-length c = search needs
 
 returns : tie.Need-returns
 returns c =
@@ -35,4 +29,4 @@ returns c =
     (spare-join {x = x} 0 (omega (arith, answer-bounds (a .answer))) (access .ensures) answer))
 
 pub put-step-spec : {M : Type 1} → statement M
-put-step-spec = tie.close (tie.spec put-access-requires put-answer-requires same-length returns)
+put-step-spec = tie.close (tie.spec (λ c κs. search needs) put-answer-requires (λ c. search needs) returns)

@@ -9,17 +9,11 @@ use borrow.Author.Needs.{needs}
 use Rattle.listing.proofs.put_tag.Statement.{statement}
 use Rattle.listing.proofs.put_tag.Tie as tie
 
-put-hexadecimal-requires : tie.Need-put-hexadecimal-requires
-put-hexadecimal-requires c κs = search needs
-
 slice-write-out : tie.Need-slice-write-out
 slice-write-out c = omega (arith, hexadecimal-length (c .before .before .before .before .before .args .tag))
 
 add-result : tie.Need-add-result
 add-result c = omega (arith, hexadecimal-length (c .before .before .before .before .before .args .tag))
-
-same-length : tie.Need-same-length
-same-length c = search needs
 
 returns : tie.Need-returns
 returns c =
@@ -31,4 +25,4 @@ returns c =
 
 pub put-tag-spec : {M : Type 1} → statement M
 put-tag-spec =
-    tie.close (tie.spec put-hexadecimal-requires slice-write-out add-result same-length returns)
+    tie.close (tie.spec (λ c κs. search needs) slice-write-out add-result (λ c. search needs) returns)

@@ -8,17 +8,11 @@ use borrow.Author.Needs.{needs}
 use Rattle.listing.proofs.put_thousands.Statement.{statement}
 use Rattle.listing.proofs.put_thousands.Tie as tie
 
-put-short-number-requires : tie.Need-put-short-number-requires
-put-short-number-requires c κs = search needs
-
 put-group-requires : tie.Need-put-group-requires
 put-group-requires c κs =
     let a = c .before .before .before .before .before .before .args in
     let l : a .n / 1000 < 10 ^ 3 = omega arith in
     omega (arith, decimal-few 2 (a .n / 1000) l)
-
-same-length : tie.Need-same-length
-same-length c = search needs
 
 returns : tie.Need-returns
 returns c =
@@ -30,4 +24,4 @@ returns c =
 
 pub put-thousands-spec : {M : Type 1} → statement M
 put-thousands-spec =
-    tie.close (tie.spec put-short-number-requires put-group-requires same-length returns)
+    tie.close (tie.spec (λ c κs. search needs) put-group-requires (λ c. search needs) returns)

@@ -10,28 +10,13 @@ use borrow.Author.Needs.{needs}
 use Rattle.listing.proofs.put_total.Statement.{statement}
 use Rattle.listing.proofs.put_total.Tie as tie
 
-slice-aggregate-put-named : tie.Need-slice-aggregate-put-named
-slice-aggregate-put-named c = search needs
-
-put-named-requires : tie.Need-put-named-requires
-put-named-requires c κs = search needs
-
-slice-aggregate-put-named-2 : tie.Need-slice-aggregate-put-named-2
-slice-aggregate-put-named-2 c = search needs
-
 put-named-requires-2 : tie.Need-put-named-requires-2
 put-named-requires-2 c κs = omega (arith, number-length (c .before .before .before .before .before .before .before .before .args .records) space)
-
-slice-aggregate-put-named-3 : tie.Need-slice-aggregate-put-named-3
-slice-aggregate-put-named-3 c = search needs
 
 put-named-requires-3 : tie.Need-put-named-requires-3
 put-named-requires-3 c κs =
     let a = c .before .before .before .before .before .before .before .before .before .before .before .before .before .args in
     omega (arith, number-length (a .records) space, number-length (a .alerts) space)
-
-same-length : tie.Need-same-length
-same-length c = search needs
 
 returns : tie.Need-returns
 unfolding ascii
@@ -48,11 +33,11 @@ pub put-total-spec : {M : Type 1} → statement M
 put-total-spec =
     tie.close
     (tie.spec
-    slice-aggregate-put-named
-    put-named-requires
-    slice-aggregate-put-named-2
+    (λ c. search needs)
+    (λ c κs. search needs)
+    (λ c. search needs)
     put-named-requires-2
-    slice-aggregate-put-named-3
+    (λ c. search needs)
     put-named-requires-3
-    same-length
+    (λ c. search needs)
     returns)

@@ -16,25 +16,10 @@ use borrow.Author.Needs.{needs}
 use Rattle.listing.proofs.put_verdict.Statement.{statement}
 use Rattle.listing.proofs.put_verdict.Tie as tie
 
-verdict-word-requires : tie.Need-verdict-word-requires
-verdict-word-requires c κs = search needs
-
-put64-requires : tie.Need-put64-requires
-put64-requires c κs = search needs
-
-add-put-container-number : tie.Need-add-put-container-number
-add-put-container-number c = search needs
-
-put-container-number-requires : tie.Need-put-container-number-requires
-put-container-number-requires c κs = search needs
-
 put-tag-requires : tie.Need-put-tag-requires
 put-tag-requires c κs =
     let start = c .before .before .before .before .before .before .before .before .before .before .before in
     omega (arith, number-length (start .args .receiver) space)
-
-same-length : tie.Need-same-length
-same-length c = search needs
 
 returns : tie.Need-returns
 returns c =
@@ -64,10 +49,10 @@ pub put-verdict-spec : {M : Type 1} → statement M
 put-verdict-spec =
     tie.close
     (tie.spec
-    verdict-word-requires
-    put64-requires
-    add-put-container-number
-    put-container-number-requires
+    (λ c κs. search needs)
+    (λ c κs. search needs)
+    (λ c. search needs)
+    (λ c κs. search needs)
     put-tag-requires
-    same-length
+    (λ c. search needs)
     returns)

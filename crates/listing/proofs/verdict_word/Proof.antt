@@ -6,12 +6,6 @@ use borrow.Author.Needs.{needs}
 use Rattle.listing.proofs.verdict_word.Statement.{statement}
 use Rattle.listing.proofs.verdict_word.Tie as tie
 
-enum-told : tie.Need-enum-told
-enum-told c = search needs
-
-enum-told-2 : tie.Need-enum-told-2
-enum-told-2 c = search needs
-
 returns : tie.Need-returns
 unfolding verdictWord ascii bytesOf
 returns c = rw (c .enum-told .given .1)
@@ -21,4 +15,4 @@ unfolding verdictWord ascii bytesOf
 returns-2 c = rw (c .enum-told2 .given .1)
 
 pub verdict-word-spec : {M : Type 1} → statement M
-verdict-word-spec = tie.close (tie.spec enum-told enum-told-2 returns returns-2)
+verdict-word-spec = tie.close (tie.spec (λ c. search needs) (λ c. search needs) returns returns-2)

@@ -14,15 +14,6 @@ abbrev μ-loop : tie.MeasureT-loop
 loop-holds : tie.Need-loop-holds Inv-loop μ-loop
 loop-holds c = closing-start _ _ (c .before .pre .1)
 
-pass-through-requires : tie.Need-pass-through-requires Inv-loop μ-loop
-pass-through-requires c κs = search needs
-
-add-k : tie.Need-add-k Inv-loop μ-loop
-add-k c = search needs
-
-loop-less : tie.Need-loop-less Inv-loop μ-loop
-loop-less c = search needs
-
 loop-again : tie.Need-loop-again Inv-loop μ-loop
 loop-again c = let l = c .before .before .before .before in closing-next _ (l .before .before .before .args .rows .now) _ _ _ (l .before .loop .inv) (l .loop-test .taken) (c .before .before .pass-through .ensures)
 
@@ -39,9 +30,9 @@ close-spec =
     Inv-loop
     μ-loop
     loop-holds
-    pass-through-requires
-    add-k
-    loop-less
+    (λ c κs. search needs)
+    (λ c. search needs)
+    (λ c. search needs)
     loop-again
     same-length
     returns)

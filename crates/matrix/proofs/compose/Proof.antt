@@ -15,9 +15,6 @@ close-requires c κs =
     let g = good-parts _ _ _ (c .before .before .before .before .before .before .before .before .pre .0) in
     (g .few, c .before .before .before .fill-granted .ensures .fit)
 
-same-length : tie.Need-same-length
-same-length c = search needs
-
 returns : tie.Need-returns
 returns c =
     let start = c .before .before .before .before .before .before .before .before .before .before .before in
@@ -25,4 +22,4 @@ returns c =
     closed _ _ _ _ _ (g .even) (g .few) (g .writesGood) (c .before .before .before .before .before .before .fill-granted .ensures) (c .before .before .close .ensures)
 
 pub compose-spec : {M : Type 1} → statement M
-compose-spec = tie.close (tie.spec fill-granted-requires close-requires same-length returns)
+compose-spec = tie.close (tie.spec fill-granted-requires close-requires (λ c. search needs) returns)

@@ -16,17 +16,8 @@ abbrev μ-loop : tie.MeasureT-loop
 loop-holds : tie.Need-loop-holds Inv-loop μ-loop
 loop-holds c = counting-start _ _ _ _ (c .before .before .before .pre)
 
-ungranted-row-requires : tie.Need-ungranted-row-requires Inv-loop μ-loop
-ungranted-row-requires c κs = search needs
-
 add-count : tie.Need-add-count Inv-loop μ-loop
 add-count c = omega (arith, ones-le 32 (c .ungranted-row .result) (c .ungranted-row .ok))
-
-add-a : tie.Need-add-a Inv-loop μ-loop
-add-a c = search needs
-
-loop-less : tie.Need-loop-less Inv-loop μ-loop
-loop-less c = search needs
 
 loop-again : tie.Need-loop-again Inv-loop μ-loop
 loop-again c = let p = c .before .before .before .before .before .before in counting-next _ _ _ _ _ _ _ (p .pre) (c .before .before .loop .inv) (c .before .loop-test .taken) (c .ungranted-row .ok) (c .ungranted-row .ensures)
@@ -41,9 +32,9 @@ count-flows-spec =
     Inv-loop
     μ-loop
     loop-holds
-    ungranted-row-requires
+    (λ c κs. search needs)
     add-count
-    add-a
-    loop-less
+    (λ c. search needs)
+    (λ c. search needs)
     loop-again
     returns)

@@ -14,26 +14,8 @@ abbrev μ-loop : tie.MeasureT-loop
 loop-holds : tie.Need-loop-holds Inv-loop μ-loop
 loop-holds c = let p = c .before .before .before in stored-start (GrantedAt (p .args .reads .now) (p .args .writes .now)) _ _ (p .pre .2)
 
-granted-row-requires : tie.Need-granted-row-requires Inv-loop μ-loop
-granted-row-requires c κs = search needs
-
-mul-rows : tie.Need-mul-rows Inv-loop μ-loop
-mul-rows c = search needs
-
-slice-write-rows : tie.Need-slice-write-rows Inv-loop μ-loop
-slice-write-rows c = search needs
-
-add-a : tie.Need-add-a Inv-loop μ-loop
-add-a c = search needs
-
-loop-less : tie.Need-loop-less Inv-loop μ-loop
-loop-less c = search needs
-
 loop-again : tie.Need-loop-again Inv-loop μ-loop
 loop-again c = let l = c .before .before .loop in let p = c .before .before .before .before .before .before in stored-next (GrantedAt (p .args .reads .now) (p .args .writes .now)) _ _ _ _ _ (l .inv) (c .before .loop-test .taken) (c .granted-row .ensures)
-
-same-length : tie.Need-same-length Inv-loop μ-loop
-same-length c = search needs
 
 returns : tie.Need-returns Inv-loop μ-loop
 returns c = granted-end _ _ _ _ _ _ (c .before .loop .inv) (c .loop-test .left)
@@ -45,11 +27,11 @@ fill-granted-spec =
     Inv-loop
     μ-loop
     loop-holds
-    granted-row-requires
-    mul-rows
-    slice-write-rows
-    add-a
-    loop-less
+    (λ c κs. search needs)
+    (λ c. search needs)
+    (λ c. search needs)
+    (λ c. search needs)
+    (λ c. search needs)
     loop-again
-    same-length
+    (λ c. search needs)
     returns)

@@ -20,38 +20,11 @@ abbrev μ-sources : tie.MeasureT-sources
 sources-holds : tie.Need-sources-holds Inv-loop μ-loop Inv-sources μ-sources
 sources-holds c = searching-start _ _ _
 
-ungranted-row-requires : tie.Need-ungranted-row-requires Inv-loop μ-loop Inv-sources μ-sources
-ungranted-row-requires c κs = search needs
-
 loop-holds : tie.Need-loop-holds Inv-loop μ-loop Inv-sources μ-sources
 loop-holds c = row-start _ _ _ _ _ (c .before .before .sources .inv) (c .before .sources-test .taken)
 
-cast-if1 : tie.Need-cast-if1 Inv-loop μ-loop Inv-sources μ-sources
-cast-if1 c = search needs
-
-shr-if1 : tie.Need-shr-if1 Inv-loop μ-loop Inv-sources μ-sources
-shr-if1 c = search needs
-
-cast-t15 : tie.Need-cast-t15 Inv-loop μ-loop Inv-sources μ-sources
-cast-t15 c = search needs
-
-cast-t16 : tie.Need-cast-t16 Inv-loop μ-loop Inv-sources μ-sources
-cast-t16 c = search needs
-
-add-b : tie.Need-add-b Inv-loop μ-loop Inv-sources μ-sources
-add-b c = search needs
-
-loop-less : tie.Need-loop-less Inv-loop μ-loop Inv-sources μ-sources
-loop-less c = search needs
-
 loop-again : tie.Need-loop-again Inv-loop μ-loop Inv-sources μ-sources
 loop-again c = row-next _ _ _ _ _ _ _ (c .before .before .loop .inv) (c .before .loop-test .taken) (c .before .before .before .ungranted-row .ensures) (c .if1 .left)
-
-add-a : tie.Need-add-a Inv-loop μ-loop Inv-sources μ-sources
-add-a c = search needs
-
-sources-less : tie.Need-sources-less Inv-loop μ-loop Inv-sources μ-sources
-sources-less c = search needs
 
 sources-again : tie.Need-sources-again Inv-loop μ-loop Inv-sources μ-sources
 sources-again c = searching-next _ _ _ _ _ _ (c .before .loop .inv) (c .loop-test .left)
@@ -71,17 +44,17 @@ first-flow-spec =
     Inv-sources
     μ-sources
     sources-holds
-    ungranted-row-requires
+    (λ c κs. search needs)
     loop-holds
-    cast-if1
-    shr-if1
-    cast-t15
-    cast-t16
-    add-b
-    loop-less
+    (λ c. search needs)
+    (λ c. search needs)
+    (λ c. search needs)
+    (λ c. search needs)
+    (λ c. search needs)
+    (λ c. search needs)
     loop-again
-    add-a
-    sources-less
+    (λ c. search needs)
+    (λ c. search needs)
     sources-again
     returns
     returns-2)

@@ -5,12 +5,6 @@ use borrow.Author.Needs.{needs}
 use Rattle.matrix.proofs.joined_at.Statement.{statement}
 use Rattle.matrix.proofs.joined_at.Tie as tie
 
-cast-if1 : tie.Need-cast-if1
-cast-if1 c = search needs
-
-shr-if1 : tie.Need-shr-if1
-shr-if1 c = search needs
-
 returns : tie.Need-returns
 unfolding joinedAt
 returns c = simp (has-is _ _ (c .if1 .taken))
@@ -20,4 +14,4 @@ unfolding joinedAt
 returns-2 c = simp (has-not _ _ (c .if1 .left))
 
 pub joined-at-spec : {M : Type 1} → statement M
-joined-at-spec = tie.close (tie.spec cast-if1 shr-if1 returns returns-2)
+joined-at-spec = tie.close (tie.spec (λ c. search needs) (λ c. search needs) returns returns-2)

@@ -11,15 +11,9 @@ returns : tie.Need-returns
 unfolding matrixGood
 returns c = simp (ne-eqb _ _ (c .if1 .taken))
 
-counted-requires : tie.Need-counted-requires
-counted-requires c κs = search needs
-
 returns-2 : tie.Need-returns-2
 unfolding matrixGood
 returns-2 c = simp (eq-eqb _ _ (c .before .before .if1 .left), fails-test (c .before .counted .ensures) (c .if2 .taken))
-
-counted-requires-2 : tie.Need-counted-requires-2
-counted-requires-2 c κs = search needs
 
 returns-3 : tie.Need-returns-3
 unfolding matrixGood
@@ -44,9 +38,9 @@ matrix-good-spec =
     tie.close
     (tie.spec
     returns
-    counted-requires
+    (λ c κs. search needs)
     returns-2
-    counted-requires-2
+    (λ c κs. search needs)
     returns-3
     rows-within-requires
     returns-4

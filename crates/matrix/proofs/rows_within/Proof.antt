@@ -13,29 +13,14 @@ Inv-loop objects rows bound s₀ s = Checking objects rows s
 abbrev μ-loop : tie.MeasureT-loop
 μ-loop objects rows bound s₀ s = length rows - s
 
-shl-bound : tie.Need-shl-bound Inv-loop μ-loop
-shl-bound c = search needs
-
 loop-holds : tie.Need-loop-holds Inv-loop μ-loop
 loop-holds c = checking-start _ _
-
-mul-if1 : tie.Need-mul-if1 Inv-loop μ-loop
-mul-if1 c = search needs
-
-shared-slice-read-if1 : tie.Need-shared-slice-read-if1 Inv-loop μ-loop
-shared-slice-read-if1 c = search needs
 
 cast-if1 : tie.Need-cast-if1 Inv-loop μ-loop
 cast-if1 c = omega (arith, c .shared-slice-known .given (c .before .before .loop .s))
 
 returns : tie.Need-returns Inv-loop μ-loop
 returns c = let b = c .before .before in checking-bad _ _ _ (b .before .before .pre) (b .before .loop .inv) (b .loop-test .taken) (c .if1 .taken)
-
-add-s : tie.Need-add-s Inv-loop μ-loop
-add-s c = search needs
-
-loop-less : tie.Need-loop-less Inv-loop μ-loop
-loop-less c = search needs
 
 loop-again : tie.Need-loop-again Inv-loop μ-loop
 loop-again c = let b = c .before .before in checking-next _ _ _ (b .before .before .pre) (b .before .loop .inv) (b .loop-test .taken) (c .if1 .left)
@@ -49,13 +34,13 @@ rows-within-spec =
     (tie.spec
     Inv-loop
     μ-loop
-    shl-bound
+    (λ c. search needs)
     loop-holds
-    mul-if1
-    shared-slice-read-if1
+    (λ c. search needs)
+    (λ c. search needs)
     cast-if1
     returns
-    add-s
-    loop-less
+    (λ c. search needs)
+    (λ c. search needs)
     loop-again
     returns-2)

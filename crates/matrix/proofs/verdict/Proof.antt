@@ -7,31 +7,13 @@ use Rattle.matrix.proofs.VerdictLaws.{verdict-is, verdict-refused}
 use Rattle.matrix.proofs.verdict.Statement.{statement}
 use Rattle.matrix.proofs.verdict.Tie as tie
 
-matrix-good-requires : tie.Need-matrix-good-requires
-matrix-good-requires c κs = search needs
-
 returns : tie.Need-returns
 returns c = sym (verdict-refused _ _ _ (fails-test (c .before .matrix-good .ensures) (c .if1 .taken)))
-
-slice-aggregate-compose : tie.Need-slice-aggregate-compose
-slice-aggregate-compose c = search needs
 
 compose-requires : tie.Need-compose-requires
 compose-requires c κs =
     let good = passes-test (c .before .before .matrix-good .ensures) (c .before .if1 .left) in
     (good, good-parts _ _ _ good .few)
-
-slice-aggregate-count-flows : tie.Need-slice-aggregate-count-flows
-slice-aggregate-count-flows c = search needs
-
-count-flows-requires : tie.Need-count-flows-requires
-count-flows-requires c κs = search needs
-
-slice-aggregate-first-flow : tie.Need-slice-aggregate-first-flow
-slice-aggregate-first-flow c = search needs
-
-first-flow-requires : tie.Need-first-flow-requires
-first-flow-requires c κs = search needs
 
 returns-2 : tie.Need-returns-2
 returns-2 c =
@@ -42,12 +24,12 @@ pub verdict-spec : {M : Type 1} → statement M
 verdict-spec =
     tie.close
     (tie.spec
-    matrix-good-requires
+    (λ c κs. search needs)
     returns
-    slice-aggregate-compose
+    (λ c. search needs)
     compose-requires
-    slice-aggregate-count-flows
-    count-flows-requires
-    slice-aggregate-first-flow
-    first-flow-requires
+    (λ c. search needs)
+    (λ c κs. search needs)
+    (λ c. search needs)
+    (λ c κs. search needs)
     returns-2)

@@ -3,11 +3,8 @@ use borrow.Author.Needs.{needs}
 use Rattle.monitor.proofs.not_run.Statement.{statement}
 use Rattle.monitor.proofs.not_run.Tie as tie
 
-no-tally-requires : tie.Need-no-tally-requires
-no-tally-requires c κs = search needs
-
 returns : tie.Need-returns
 returns c = rw (c .no-tally .ensures)
 
 pub not-run-spec : {M : Type 1} → statement M
-not-run-spec = tie.close (tie.spec no-tally-requires returns)
+not-run-spec = tie.close (tie.spec (λ c κs. search needs) returns)

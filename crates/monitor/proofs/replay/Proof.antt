@@ -4,23 +4,8 @@ use borrow.Author.Needs.{needs}
 use Rattle.monitor.proofs.replay.Statement.{statement}
 use Rattle.monitor.proofs.replay.Tie as tie
 
-start-requires : tie.Need-start-requires
-start-requires c κs = search needs
-
-not-run-requires : tie.Need-not-run-requires
-not-run-requires c κs = search needs
-
-same-length : tie.Need-same-length
-same-length c = search needs
-
 returns : tie.Need-returns
 returns c = not-started _ _ _ _ _ ((c .before .before .before .before .start .ensures) .0) ((c .before .before .before .before .start .ensures) .1) (c .before .if1 .taken) _ (c .not-run .ensures)
-
-run-requires : tie.Need-run-requires
-run-requires c κs = search needs
-
-same-length-2 : tie.Need-same-length-2
-same-length-2 c = search needs
 
 returns-2 : tie.Need-returns-2
 returns-2 c = started _ _ _ _ _ ((c .before .before .before .before .before .before .before .start .ensures) .0) ((c .before .before .before .before .before .before .before .start .ensures) .1) (c .before .before .before .before .if1 .left) _ _ (c .before .before .run .ensures)
@@ -29,10 +14,10 @@ pub replay-spec : {M : Type 1} → statement M
 replay-spec =
     tie.close
     (tie.spec
-    start-requires
-    not-run-requires
-    same-length
+    (λ c κs. search needs)
+    (λ c κs. search needs)
+    (λ c. search needs)
     returns
-    run-requires
-    same-length-2
+    (λ c κs. search needs)
+    (λ c. search needs)
     returns-2)

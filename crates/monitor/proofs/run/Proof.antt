@@ -13,20 +13,8 @@ Inv-loop trace session₀ total₀ at₀ session total at = Running trace sessio
 abbrev μ-loop : tie.MeasureT-loop
 μ-loop trace session₀ total₀ at₀ session total at = length trace - at
 
-not-run-requires : tie.Need-not-run-requires Inv-loop μ-loop
-not-run-requires c κs = search needs
-
 loop-holds : tie.Need-loop-holds Inv-loop μ-loop
 loop-holds c = run-start _ _ _ (c .not-run .ensures)
-
-record-at-requires : tie.Need-record-at-requires Inv-loop μ-loop
-record-at-requires c κs = search needs
-
-step-requires : tie.Need-step-requires Inv-loop μ-loop
-step-requires c κs = search needs
-
-extend-requires : tie.Need-extend-requires Inv-loop μ-loop
-extend-requires c κs = search needs
 
 add-at : tie.Need-add-at Inv-loop μ-loop
 add-at c = omega (arith, record-length _ _ _ (c .before .before .before .before .before .before .loop-test .taken) (c .before .before .before .before .before .record-at .ensures))
@@ -37,9 +25,6 @@ loop-less c = omega (arith, record-length _ _ _ (c .before .before .before .befo
 loop-again : tie.Need-loop-again Inv-loop μ-loop
 loop-again c = run-next _ _ _ _ _ _ _ _ _ (c .before .before .before .before .before .before .before .loop .inv) (c .before .before .before .before .before .before .loop-test .taken) (c .before .before .before .before .before .record-at .ensures) (search needs) ((c .before .before .before .step .ensures) .1) ((c .before .before .before .step .ensures) .0) (c .extend .ensures)
 
-same-length : tie.Need-same-length Inv-loop μ-loop
-same-length c = search needs
-
 returns : tie.Need-returns Inv-loop μ-loop
 returns c = run-end _ _ _ _ _ (c .before .loop .inv) (c .loop-test .left)
 
@@ -49,13 +34,13 @@ run-spec =
     (tie.spec
     Inv-loop
     μ-loop
-    not-run-requires
+    (λ c κs. search needs)
     loop-holds
-    record-at-requires
-    step-requires
-    extend-requires
+    (λ c κs. search needs)
+    (λ c κs. search needs)
+    (λ c κs. search needs)
     add-at
     loop-less
     loop-again
-    same-length
+    (λ c. search needs)
     returns)

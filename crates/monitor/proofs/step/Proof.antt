@@ -9,9 +9,6 @@ use Rattle.monitor.proofs.step.Tie as tie
 returns : tie.Need-returns
 returns c = step-9 _ _ (c .if1 .taken)
 
-record-good-requires : tie.Need-record-good-requires
-record-good-requires c κs = search needs
-
 returns-2 : tie.Need-returns-2
 returns-2 c = step-7 _ _ (c .before .before .if1 .left) (fails-test (c .before .record-good .ensures) (c .if2 .taken))
 
@@ -21,9 +18,6 @@ request-of-requires c κs = record-long _ (passes-test (c .before .before .recor
 perform-requires : tie.Need-perform-requires
 perform-requires c κs = named _ _ (c .before .before .before .before .if1 .left) (passes-test (c .before .before .before .record-good .ensures) (c .before .before .if2 .left)) _ (c .request-of .ensures)
 
-same-length : tie.Need-same-length
-same-length c = search needs
-
 returns-3 : tie.Need-returns-3
 returns-3 c = step-performed _ _ (c .before .before .before .before .before .before .before .if1 .left) (passes-test (c .before .before .before .before .before .before .record-good .ensures) (c .before .before .before .before .before .if2 .left)) _ (c .before .before .before .request-of .ensures) _ _ (c .before .before .perform .ensures)
 
@@ -32,9 +26,9 @@ step-spec =
     tie.close
     (tie.spec
     returns
-    record-good-requires
+    (λ c κs. search needs)
     returns-2
     request-of-requires
     perform-requires
-    same-length
+    (λ c. search needs)
     returns-3)

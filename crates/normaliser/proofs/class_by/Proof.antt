@@ -4,9 +4,6 @@ use borrow.Author.Needs.{needs}
 use Rattle.normaliser.proofs.class_by.Statement.{statement}
 use Rattle.normaliser.proofs.class_by.Tie as tie
 
-is-unrestricted-requires : tie.Need-is-unrestricted-requires
-is-unrestricted-requires c κs = search needs
-
 returns : tie.Need-returns
 returns c = rw (sym (c .before .is-unrestricted .ensures) ∙ c .if1 .taken)
 
@@ -14,4 +11,4 @@ returns-2 : tie.Need-returns-2
 returns-2 c = rw (sym (c .before .is-unrestricted .ensures) ∙ c .if1 .left)
 
 pub class-by-spec : {M : Type 1} → statement M
-class-by-spec = tie.close (tie.spec is-unrestricted-requires returns returns-2)
+class-by-spec = tie.close (tie.spec (λ c κs. search needs) returns returns-2)

@@ -43,12 +43,6 @@ slice-write-classes c =
     let start = c .before .before .before .before .before .before .before .before .before .before in
     omega (arith, inv .0 .count, inv .0 .long, start .pre .0)
 
-add-k : tie.Need-add-k Inv-loop μ-loop
-add-k c = search needs
-
-loop-less : tie.Need-loop-less Inv-loop μ-loop
-loop-less c = search needs
-
 loop-again : tie.Need-loop-again Inv-loop μ-loop
 loop-again c =
     let inv = c .before .before .before .before .before .before .loop .inv in
@@ -75,8 +69,8 @@ classify-spec =
     cast-classes
     mul-classes
     slice-write-classes
-    add-k
-    loop-less
+    (λ c. search needs)
+    (λ c. search needs)
     loop-again
     same-length
     same-length-2

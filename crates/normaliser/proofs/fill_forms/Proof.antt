@@ -18,21 +18,6 @@ loop-holds c =
     let start = c .before .before .before in
     forms-start (start .args .rules .now) (start .args .mixtures .now) (start .pre .1) _ (start .pre .0)
 
-mul-at : tie.Need-mul-at Inv-loop μ-loop
-mul-at c = search needs
-
-add-put-own-rule : tie.Need-add-put-own-rule Inv-loop μ-loop
-add-put-own-rule c = search needs
-
-mul-put-own-rule : tie.Need-mul-put-own-rule Inv-loop μ-loop
-mul-put-own-rule c = search needs
-
-sub-put-own-rule : tie.Need-sub-put-own-rule Inv-loop μ-loop
-sub-put-own-rule c = search needs
-
-part-put-own-rule-start : tie.Need-part-put-own-rule-start Inv-loop μ-loop
-part-put-own-rule-start c = search needs
-
 part-put-own-rule-end : tie.Need-part-put-own-rule-end Inv-loop μ-loop
 part-put-own-rule-end c =
     let start = c .before .before .before .before .before in
@@ -44,12 +29,6 @@ put-own-rule-requires c κs =
     let loop = c .before .before .loop in
     let taken = c .before .loop-test .taken in
     (part-long (loop .forms) (loop .k * ruleWidth) ruleWidth (forms-room (start .args .rules .now) (start .args .mixtures .now) (start .pre .1) (loop .inv) taken), taken, start .pre .1)
-
-add-k : tie.Need-add-k Inv-loop μ-loop
-add-k c = search needs
-
-loop-less : tie.Need-loop-less Inv-loop μ-loop
-loop-less c = search needs
 
 loop-again : tie.Need-loop-again Inv-loop μ-loop
 loop-again c =
@@ -71,15 +50,15 @@ fill-forms-spec =
     Inv-loop
     μ-loop
     loop-holds
-    mul-at
-    add-put-own-rule
-    mul-put-own-rule
-    sub-put-own-rule
-    part-put-own-rule-start
+    (λ c. search needs)
+    (λ c. search needs)
+    (λ c. search needs)
+    (λ c. search needs)
+    (λ c. search needs)
     part-put-own-rule-end
     put-own-rule-requires
-    add-k
-    loop-less
+    (λ c. search needs)
+    (λ c. search needs)
     loop-again
     same-length
     returns)

@@ -4,18 +4,12 @@ use borrow.Author.Needs.{needs}
 use Rattle.normaliser.proofs.is_unrestricted.Statement.{statement}
 use Rattle.normaliser.proofs.is_unrestricted.Tie as tie
 
-shared-slice-read-if1 : tie.Need-shared-slice-read-if1
-shared-slice-read-if1 c = search needs
-
 returns : tie.Need-returns
 returns c = other-count (c .before .before .args .words .now) (c .before .before .pre) (c .if1 .taken)
-
-shared-slice-read-result : tie.Need-shared-slice-read-result
-shared-slice-read-result c = search needs
 
 returns-2 : tie.Need-returns-2
 returns-2 c = one-count (c .before .before .before .args .words .now) (c .before .before .before .pre) (c .before .if1 .left)
 
 pub is-unrestricted-spec : {M : Type 1} → statement M
 is-unrestricted-spec =
-    tie.close (tie.spec shared-slice-read-if1 returns shared-slice-read-result returns-2)
+    tie.close (tie.spec (λ c. search needs) returns (λ c. search needs) returns-2)

@@ -5,15 +5,6 @@ use borrow.Author.Needs.{needs}
 use Rattle.normaliser.proofs.key.Statement.{statement}
 use Rattle.normaliser.proofs.key.Tie as tie
 
-mixed-requires : tie.Need-mixed-requires
-mixed-requires c κs = search needs
-
-add-folded : tie.Need-add-folded
-add-folded c = search needs
-
-mul-spread : tie.Need-mul-spread
-mul-spread c = search needs
-
 mul-result : tie.Need-mul-result
 mul-result c = omega (arith, key-fits (c .mixed .result) (c .before .before .args .n) (c .before .before .pre .1))
 
@@ -21,4 +12,4 @@ returns : tie.Need-returns
 returns c = (key-is (c .mixed .result) (c .before .before .args .n) (c .before .before .args .words .now) (c .mixed .ensures), key-below (c .mixed .result) (c .before .before .args .n) (c .before .before .pre .0))
 
 pub key-spec : {M : Type 1} → statement M
-key-spec = tie.close (tie.spec mixed-requires add-folded mul-spread mul-result returns)
+key-spec = tie.close (tie.spec (λ c κs. search needs) (λ c. search needs) (λ c. search needs) mul-result returns)

@@ -10,9 +10,6 @@ use Rattle.normaliser.proofs.normalise.Tie as tie
 returns : tie.Need-returns
 returns c = short-output _ _ (c .if1 .taken)
 
-check-requires : tie.Need-check-requires
-check-requires c κs = search needs
-
 returns-2 : tie.Need-returns-2
 returns-2 c = image-refused _ _ (c .before .before .if1 .left) (c .before .check .ensures) (c .if2 .taken)
 
@@ -64,9 +61,6 @@ cast-result c =
     let section4 = c .before .before .before .before .section4 in
     omega (arith, written-small (start .args .image .now) accepted (λ k. omega (arith, shared-slice-known .given k)) (rw (sections-policy (start .args .image .now) accepted) at (rw (section .ensures, section2 .ensures, section3 .ensures, section4 .ensures) at (c .before .before .rewrite .ensures))))
 
-same-length : tie.Need-same-length
-same-length c = search needs
-
 returns-3 : tie.Need-returns-3
 returns-3 c =
     let start = c .before .before .before .before .before .before .before .before .before .before .before .before .before in
@@ -83,7 +77,7 @@ normalise-spec =
     tie.close
     (tie.spec
     returns
-    check-requires
+    (λ c κs. search needs)
     returns-2
     section-requires
     section-requires-2
@@ -91,5 +85,5 @@ normalise-spec =
     section-requires-4
     rewrite-requires
     cast-result
-    same-length
+    (λ c. search needs)
     returns-3)

@@ -34,15 +34,9 @@ returns-3 c =
 cast-order : tie.Need-cast-order
 cast-order c = omega (arith, c .before .before .before .shared-slice-known .given (c .before .before .before .before .before .args .k))
 
-mul-order : tie.Need-mul-order
-mul-order c = search needs
-
 slice-write-order : tie.Need-slice-write-order
 slice-write-order c =
     place-room (c .before .before .before .before .before .pre) (c .before .before .before .before .if1 .left) (c .before .before .if2 .left) (c .if3 .left)
-
-add-places : tie.Need-add-places
-add-places c = search needs
 
 cast-places : tie.Need-cast-places
 cast-places c =
@@ -56,15 +50,6 @@ mul-places c = omega (arith, class-small (c .before .before .before .before .bef
 
 slice-write-places : tie.Need-slice-write-places
 slice-write-places c = class-small (c .before .before .before .before .before .pre) (c .before .before .before .before .if1 .left) (c .before .before .if2 .left)
-
-add-result : tie.Need-add-result
-add-result c = search needs
-
-same-length : tie.Need-same-length
-same-length c = search needs
-
-same-length-2 : tie.Need-same-length-2
-same-length-2 c = search needs
 
 returns-4 : tie.Need-returns-4
 returns-4 c =
@@ -86,13 +71,13 @@ place-spec =
     slice-read-if3
     returns-3
     cast-order
-    mul-order
+    (λ c. search needs)
     slice-write-order
-    add-places
+    (λ c. search needs)
     cast-places
     mul-places
     slice-write-places
-    add-result
-    same-length
-    same-length-2
+    (λ c. search needs)
+    (λ c. search needs)
+    (λ c. search needs)
     returns-4)

@@ -21,21 +21,6 @@ loop-holds c =
     let start = c .before .before .before .before in
     containing-start (start .args .containers .now) (start .args .classes .now) (start .args .order .now) (start .args .places .now) (start .pre .2) (start .pre .1)
 
-mul-at : tie.Need-mul-at Inv-loop μ-loop
-mul-at c = search needs
-
-add-read16 : tie.Need-add-read16 Inv-loop μ-loop
-add-read16 c = search needs
-
-read16-requires : tie.Need-read16-requires Inv-loop μ-loop
-read16-requires c κs = search needs
-
-add-read16-2 : tie.Need-add-read16-2 Inv-loop μ-loop
-add-read16-2 c = search needs
-
-read16-requires-2 : tie.Need-read16-requires-2 Inv-loop μ-loop
-read16-requires-2 c κs = search needs
-
 place-requires : tie.Need-place-requires Inv-loop μ-loop
 place-requires c κs =
     let start = c .before .before .before .before .before .before .before .before .before .before in
@@ -53,12 +38,6 @@ place-requires-2 c κs =
     (c .before .before .before .before .before .order .given) (c .before .before .before .places .given) in
     let read162 = c .before .before .before .before .before .before .before .before .before .read162 in
     rw (read162 .ensures .0) (placing-asks (start .args .classes .now) _ (both-at _ (start .args .containers .now) (loop .i) taken (start .pre .0) .1) left)
-
-add-i : tie.Need-add-i Inv-loop μ-loop
-add-i c = search needs
-
-loop-less : tie.Need-loop-less Inv-loop μ-loop
-loop-less c = search needs
 
 loop-again : tie.Need-loop-again Inv-loop μ-loop
 loop-again c =
@@ -88,15 +67,15 @@ place-containers-spec =
     Inv-loop
     μ-loop
     loop-holds
-    mul-at
-    add-read16
-    read16-requires
-    add-read16-2
-    read16-requires-2
+    (λ c. search needs)
+    (λ c. search needs)
+    (λ c κs. search needs)
+    (λ c. search needs)
+    (λ c κs. search needs)
     place-requires
     place-requires-2
-    add-i
-    loop-less
+    (λ c. search needs)
+    (λ c. search needs)
     loop-again
     same-length
     same-length-2

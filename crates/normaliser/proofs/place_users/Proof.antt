@@ -21,24 +21,12 @@ loop-holds c =
     let start = c .before .before .before .before in
     using-start (start .args .users .now) (start .args .classes .now) (start .args .order .now) (start .args .places .now) (start .args .m) (start .pre .2) (start .pre .1)
 
-mul-read16 : tie.Need-mul-read16 Inv-loop μ-loop
-mul-read16 c = search needs
-
-read16-requires : tie.Need-read16-requires Inv-loop μ-loop
-read16-requires c κs = search needs
-
 place-requires : tie.Need-place-requires Inv-loop μ-loop
 place-requires c κs =
     let start = c .before .before .before .before .before .before .before .before .before in
     let loop = c .before .before .before .before .loop in
     let taken = c .before .before .before .loop-test .taken in
     rw (c .before .before .read16 .ensures .0) (placing-asks (start .args .classes .now) _ (one-at _ (start .args .users .now) (loop .i) taken (start .pre .0)) (using-first (loop .inv) taken))
-
-add-i : tie.Need-add-i Inv-loop μ-loop
-add-i c = search needs
-
-loop-less : tie.Need-loop-less Inv-loop μ-loop
-loop-less c = search needs
 
 loop-again : tie.Need-loop-again Inv-loop μ-loop
 loop-again c =
@@ -64,11 +52,11 @@ place-users-spec =
     Inv-loop
     μ-loop
     loop-holds
-    mul-read16
-    read16-requires
+    (λ c. search needs)
+    (λ c κs. search needs)
     place-requires
-    add-i
-    loop-less
+    (λ c. search needs)
+    (λ c. search needs)
     loop-again
     same-length
     same-length-2

@@ -6,17 +6,11 @@ use borrow.Author.Needs.{needs}
 use Rattle.normaliser.proofs.put_container.Statement.{statement}
 use Rattle.normaliser.proofs.put_container.Tie as tie
 
-put8-requires : tie.Need-put8-requires
-put8-requires c κs = search needs
-
 put8-requires-2 : tie.Need-put8-requires-2
 put8-requires-2 c κs = omega (arith, wrote-ends 1 _ (c .before .before .before .put8 .ensures))
 
 put-pair-requires : tie.Need-put-pair-requires
 put-pair-requires c κs = omega (arith, wrote-ends 1 _ (c .before .before .before .put82 .ensures), wrote-ends 1 _ (c .before .before .before .before .before .before .before .put8 .ensures))
-
-same-length : tie.Need-same-length
-same-length c = search needs
 
 returns : tie.Need-returns
 returns c =
@@ -25,4 +19,4 @@ returns c =
 
 pub put-container-spec : {M : Type 1} → statement M
 put-container-spec =
-    tie.close (tie.spec put8-requires put8-requires-2 put-pair-requires same-length returns)
+    tie.close (tie.spec (λ c κs. search needs) put8-requires-2 put-pair-requires (λ c. search needs) returns)

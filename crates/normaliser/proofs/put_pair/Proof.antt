@@ -6,14 +6,8 @@ use borrow.Author.Needs.{needs}
 use Rattle.normaliser.proofs.put_pair.Statement.{statement}
 use Rattle.normaliser.proofs.put_pair.Tie as tie
 
-put16-requires : tie.Need-put16-requires
-put16-requires c κs = search needs
-
 put16-requires-2 : tie.Need-put16-requires-2
 put16-requires-2 c κs = omega (arith, wrote-ends 2 _ (c .before .before .before .put16 .ensures))
-
-same-length : tie.Need-same-length
-same-length c = search needs
 
 returns : tie.Need-returns
 returns c =
@@ -21,4 +15,4 @@ returns c =
     pair-wrote _ _ (start .pre) (c .before .before .before .before .before .before .put16 .ensures) (c .before .before .put162 .ensures)
 
 pub put-pair-spec : {M : Type 1} → statement M
-put-pair-spec = tie.close (tie.spec put16-requires put16-requires-2 same-length returns)
+put-pair-spec = tie.close (tie.spec (λ c κs. search needs) put16-requires-2 (λ c. search needs) returns)

@@ -42,18 +42,6 @@ place-users-requires c κs =
       first .1,
     )
 
-same-length : tie.Need-same-length
-same-length c = search needs
-
-same-length-2 : tie.Need-same-length-2
-same-length-2 c = search needs
-
-same-length-3 : tie.Need-same-length-3
-same-length-3 c = search needs
-
-same-length-4 : tie.Need-same-length-4
-same-length-4 c = search needs
-
 returns : tie.Need-returns
 returns c =
     let start = c .before .before .before .before .before .before .before .before .before .before .before .before .before .before .before .before .before .before .before .before .before .before .before .before .before .before .before .before .before .before .before .before in
@@ -64,12 +52,6 @@ returns c =
     let done = noted (start .args .containers .now) (start .args .users .now) (start .args .forms .now) (start .pre .0) (classify .ensures) (place-containers .ensures .0)
     (place-users .ensures .0) (place-users .ensures .1) (omega (arith, start .pre .1 .placesRoom, places .given, c .before .before .places2 .given)) in over-limit (start .args .containers .now)
     (start .args .users .now) (start .args .forms .now) (start .pre .0) done _ (c .if1 .taken)
-
-sub-write-image : tie.Need-sub-write-image
-sub-write-image c = search needs
-
-part-write-image-start : tie.Need-part-write-image-start
-part-write-image-start c = search needs
 
 part-write-image-end : tie.Need-part-write-image-end
 part-write-image-end c = omega (arith, c .before .before .before .before .before .before .before .before .before .place-users .ensures .1 .room)
@@ -86,21 +68,6 @@ write-image-requires c κs =
     let done = noted (start .args .containers .now) (start .args .users .now) (start .args .forms .now) (start .pre .0) (classify .ensures) (place-containers .ensures .0)
     (place-users .ensures .0) (place-users .ensures .1) (omega (arith, start .pre .1 .placesRoom, places .given, places2 .given)) in let z : place-users .result - 0 ≡ place-users .result = omega arith in rw z
     (tables-writable (start .args .containers .now) (start .args .users .now) (start .args .forms .now) (start .pre .0) done _ (if1 .left) (start .pre .2))
-
-same-length-5 : tie.Need-same-length-5
-same-length-5 c = search needs
-
-same-length-6 : tie.Need-same-length-6
-same-length-6 c = search needs
-
-same-length-7 : tie.Need-same-length-7
-same-length-7 c = search needs
-
-same-length-8 : tie.Need-same-length-8
-same-length-8 c = search needs
-
-same-length-9 : tie.Need-same-length-9
-same-length-9 c = search needs
 
 returns-2 : tie.Need-returns-2
 returns-2 c =
@@ -122,18 +89,18 @@ write-by-spec =
     classify-requires
     place-containers-requires
     place-users-requires
-    same-length
-    same-length-2
-    same-length-3
-    same-length-4
+    (λ c. search needs)
+    (λ c. search needs)
+    (λ c. search needs)
+    (λ c. search needs)
     returns
-    sub-write-image
-    part-write-image-start
+    (λ c. search needs)
+    (λ c. search needs)
     part-write-image-end
     write-image-requires
-    same-length-5
-    same-length-6
-    same-length-7
-    same-length-8
-    same-length-9
+    (λ c. search needs)
+    (λ c. search needs)
+    (λ c. search needs)
+    (λ c. search needs)
+    (λ c. search needs)
     returns-2)

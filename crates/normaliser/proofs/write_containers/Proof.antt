@@ -19,34 +19,10 @@ loop-holds c =
     let start = c .before .before .before .before in
     rows-start _ _ _ (omega (arith, start .pre .0, containers-size (start .args .containers .now) (start .args .classes .now) (start .args .places .now)))
 
-mul-from : tie.Need-mul-from Inv-loop μ-loop
-mul-from c = search needs
-
-read8-requires : tie.Need-read8-requires Inv-loop μ-loop
-read8-requires c κs = search needs
-
-add-read8 : tie.Need-add-read8 Inv-loop μ-loop
-add-read8 c = search needs
-
-read8-requires-2 : tie.Need-read8-requires-2 Inv-loop μ-loop
-read8-requires-2 c κs = search needs
-
-add-read16 : tie.Need-add-read16 Inv-loop μ-loop
-add-read16 c = search needs
-
-read16-requires : tie.Need-read16-requires Inv-loop μ-loop
-read16-requires c κs = search needs
-
 number-requires : tie.Need-number-requires Inv-loop μ-loop
 number-requires c κs =
     let start = c .before .before .before .before .before .before .before .before .before in
     rw (c .read16 .ensures .0) (both-at _ (start .args .containers .now) (c .before .before .before .before .loop .i) (c .before .before .before .loop-test .taken) (start .pre .1) .0)
-
-add-read16-2 : tie.Need-add-read16-2 Inv-loop μ-loop
-add-read16-2 c = search needs
-
-read16-requires-2 : tie.Need-read16-requires-2 Inv-loop μ-loop
-read16-requires-2 c κs = search needs
 
 number-requires-2 : tie.Need-number-requires-2 Inv-loop μ-loop
 number-requires-2 c κs =
@@ -57,12 +33,6 @@ put-container-requires : tie.Need-put-container-requires Inv-loop μ-loop
 put-container-requires c κs =
     let start = c .before .before .before .before .before .before .before .before .before .before .before .before .before in
     container-room (start .args .containers .now) (start .args .classes .now) (start .args .places .now) (c .before .before .before .before .before .before .before .before .loop .inv) (c .before .before .before .before .before .before .before .loop-test .taken)
-
-add-i : tie.Need-add-i Inv-loop μ-loop
-add-i c = search needs
-
-loop-less : tie.Need-loop-less Inv-loop μ-loop
-loop-less c = search needs
 
 loop-again : tie.Need-loop-again Inv-loop μ-loop
 loop-again c =
@@ -88,19 +58,19 @@ write-containers-spec =
     Inv-loop
     μ-loop
     loop-holds
-    mul-from
-    read8-requires
-    add-read8
-    read8-requires-2
-    add-read16
-    read16-requires
+    (λ c. search needs)
+    (λ c κs. search needs)
+    (λ c. search needs)
+    (λ c κs. search needs)
+    (λ c. search needs)
+    (λ c κs. search needs)
     number-requires
-    add-read16-2
-    read16-requires-2
+    (λ c. search needs)
+    (λ c κs. search needs)
     number-requires-2
     put-container-requires
-    add-i
-    loop-less
+    (λ c. search needs)
+    (λ c. search needs)
     loop-again
     same-length
     returns)

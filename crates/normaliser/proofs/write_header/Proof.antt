@@ -6,15 +6,6 @@ use borrow.Author.Needs.{needs}
 use Rattle.normaliser.proofs.write_header.Statement.{statement}
 use Rattle.normaliser.proofs.write_header.Tie as tie
 
-add-second : tie.Need-add-second
-add-second c = search needs
-
-add-third : tie.Need-add-third
-add-third c = search needs
-
-put16-requires : tie.Need-put16-requires
-put16-requires c κs = search needs
-
 put-pair-requires : tie.Need-put-pair-requires
 put-pair-requires c κs = omega (arith, wrote-ends 2 _ (c .before .before .before .put16 .ensures))
 
@@ -30,9 +21,6 @@ put-pair-requires-3 c κs =
       wrote-ends 2 _ (c .before .before .before .before .before .before .before .before .before .before .before .put16 .ensures),
     )
 
-add-put-pair : tie.Need-add-put-pair
-add-put-pair c = search needs
-
 put-pair-requires-4 : tie.Need-put-pair-requires-4
 put-pair-requires-4 c κs =
     omega (
@@ -42,9 +30,6 @@ put-pair-requires-4 c κs =
       pair-ends _ _ (c .before .before .before .before .before .before .before .before .before .before .before .put-pair .ensures),
       wrote-ends 2 _ (c .before .before .before .before .before .before .before .before .before .before .before .before .before .before .before .put16 .ensures),
     )
-
-same-length : tie.Need-same-length
-same-length c = search needs
 
 returns : tie.Need-returns
 returns c =
@@ -58,13 +43,13 @@ pub write-header-spec : {M : Type 1} → statement M
 write-header-spec =
     tie.close
     (tie.spec
-    add-second
-    add-third
-    put16-requires
+    (λ c. search needs)
+    (λ c. search needs)
+    (λ c κs. search needs)
     put-pair-requires
     put-pair-requires-2
     put-pair-requires-3
-    add-put-pair
+    (λ c. search needs)
     put-pair-requires-4
-    same-length
+    (λ c. search needs)
     returns)

@@ -37,18 +37,6 @@ write-mixtures-requires c κs =
     let l3 = wrote-length (omega (arith, start .pre .room, l1, l2, one .ends, two .ends, container-section-size (start .args .containers .now) (start .args .classes .now) (start .args .places .now), user-section-size (start .args .users .now) (start .args .classes .now) (start .args .places .now), rule-section-size (start .args .forms .now) (start .args .order .now))) three in
     (omega (arith, start .pre .room, l1, l2, l3, one .ends, two .ends, three .ends, container-section-size (start .args .containers .now) (start .args .classes .now) (start .args .places .now), user-section-size (start .args .users .now) (start .args .classes .now) (start .args .places .now), rule-section-size (start .args .forms .now) (start .args .order .now)), start .pre .formsGood)
 
-sub-write-header : tie.Need-sub-write-header
-sub-write-header c = search needs
-
-sub-write-header-2 : tie.Need-sub-write-header-2
-sub-write-header-2 c = search needs
-
-sub-write-header-3 : tie.Need-sub-write-header-3
-sub-write-header-3 c = search needs
-
-sub-write-header-4 : tie.Need-sub-write-header-4
-sub-write-header-4 c = search needs
-
 write-header-requires : tie.Need-write-header-requires
 write-header-requires c κs =
     let start = c .before .before .before .before .before .before .before .before .before .before .before .before .before .before .before .before .before .before .before .before .before .before .before .before in
@@ -57,9 +45,6 @@ write-header-requires c κs =
     let three = c .before .before .before .before .before .before .before .write-spans .ensures in
     let four = c .before .before .before .write-mixtures .ensures in
     omega (arith, sections-room (start .pre), length-4 (sections-room (start .pre)) one two three four, one .ends, two .ends, three .ends, four .ends)
-
-same-length : tie.Need-same-length
-same-length c = search needs
 
 returns : tie.Need-returns
 returns c =
@@ -78,10 +63,10 @@ write-image-spec =
     write-users-requires
     write-spans-requires
     write-mixtures-requires
-    sub-write-header
-    sub-write-header-2
-    sub-write-header-3
-    sub-write-header-4
+    (λ c. search needs)
+    (λ c. search needs)
+    (λ c. search needs)
+    (λ c. search needs)
     write-header-requires
-    same-length
+    (λ c. search needs)
     returns)

@@ -20,12 +20,6 @@ loop-holds c =
     let start = c .before .before .before in
     rows-start _ _ _ (mixtures-fit (start .args .forms .now) (start .args .order .now) _ _ (start .pre .0))
 
-mul-v : tie.Need-mul-v Inv-loop μ-loop
-mul-v c = search needs
-
-shared-slice-read-v : tie.Need-shared-slice-read-v Inv-loop μ-loop
-shared-slice-read-v c = search needs
-
 cast-v : tie.Need-cast-v Inv-loop μ-loop
 cast-v c = omega (arith, c .shared-slice-known3 .given (c .before .before .loop .j))
 
@@ -95,12 +89,6 @@ write-rule-requires c κs =
     let here = rule-here (start .args .forms .now) (start .args .order .now) (c .before .before .before .before .before .loop .j) (start .pre .1) (c .before .before .before .before .loop-test .taken) in
     rw (here .part) (mixtures-room (start .args .forms .now) (start .args .order .now) (c .before .before .before .before .before .loop .inv) (c .before .before .before .before .loop-test .taken))
 
-add-j : tie.Need-add-j Inv-loop μ-loop
-add-j c = search needs
-
-loop-less : tie.Need-loop-less Inv-loop μ-loop
-loop-less c = search needs
-
 loop-again : tie.Need-loop-again Inv-loop μ-loop
 loop-again c =
     let start = c .before .before .before .before .before .before .before .before .before .before .before .before in
@@ -122,8 +110,8 @@ write-mixtures-spec =
     Inv-loop
     μ-loop
     loop-holds
-    mul-v
-    shared-slice-read-v
+    (λ c. search needs)
+    (λ c. search needs)
     cast-v
     mul-v-2
     mul-count
@@ -136,8 +124,8 @@ write-mixtures-spec =
     part-write-rule-start
     part-write-rule-end
     write-rule-requires
-    add-j
-    loop-less
+    (λ c. search needs)
+    (λ c. search needs)
     loop-again
     same-length
     returns)

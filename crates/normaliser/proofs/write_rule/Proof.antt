@@ -21,20 +21,8 @@ abbrev μ-loop : tie.MeasureT-loop
 loop-holds : tie.Need-loop-holds Inv-loop μ-loop
 loop-holds c = rows-start _ _ _ (mixture-rows-fit (c .before .before .args .rule .now) _ _ (c .before .before .pre))
 
-mul-put64 : tie.Need-mul-put64 Inv-loop μ-loop
-mul-put64 c = search needs
-
-shared-slice-read-put64 : tie.Need-shared-slice-read-put64 Inv-loop μ-loop
-shared-slice-read-put64 c = search needs
-
 put64-requires : tie.Need-put64-requires Inv-loop μ-loop
 put64-requires c κs = mixture-room (c .before .before .before .before .before .before .args .rule .now) (c .before .before .before .loop .inv) (c .before .before .loop-test .taken)
-
-add-i : tie.Need-add-i Inv-loop μ-loop
-add-i c = search needs
-
-loop-less : tie.Need-loop-less Inv-loop μ-loop
-loop-less c = search needs
 
 loop-again : tie.Need-loop-again Inv-loop μ-loop
 loop-again c =
@@ -58,11 +46,11 @@ write-rule-spec =
     Inv-loop
     μ-loop
     loop-holds
-    mul-put64
-    shared-slice-read-put64
+    (λ c. search needs)
+    (λ c. search needs)
     put64-requires
-    add-i
-    loop-less
+    (λ c. search needs)
+    (λ c. search needs)
     loop-again
     same-length
     returns)

@@ -19,12 +19,6 @@ loop-holds c =
     let start = c .before .before .before .before in
     rows-start _ _ _ (omega (arith, start .pre .0, users-size (start .args .users .now) (start .args .classes .now) (start .args .places .now)))
 
-mul-read16 : tie.Need-mul-read16 Inv-loop μ-loop
-mul-read16 c = search needs
-
-read16-requires : tie.Need-read16-requires Inv-loop μ-loop
-read16-requires c κs = search needs
-
 number-requires : tie.Need-number-requires Inv-loop μ-loop
 number-requires c κs =
     let start = c .before .before .before .before .before .before .before in
@@ -34,12 +28,6 @@ put16-requires : tie.Need-put16-requires Inv-loop μ-loop
 put16-requires c κs =
     let start = c .before .before .before .before .before .before .before .before .before in
     user-room (start .args .users .now) (start .args .classes .now) (start .args .places .now) (c .before .before .before .before .loop .inv) (c .before .before .before .loop-test .taken)
-
-add-i : tie.Need-add-i Inv-loop μ-loop
-add-i c = search needs
-
-loop-less : tie.Need-loop-less Inv-loop μ-loop
-loop-less c = search needs
 
 loop-again : tie.Need-loop-again Inv-loop μ-loop
 loop-again c =
@@ -64,12 +52,12 @@ write-users-spec =
     Inv-loop
     μ-loop
     loop-holds
-    mul-read16
-    read16-requires
+    (λ c. search needs)
+    (λ c κs. search needs)
     number-requires
     put16-requires
-    add-i
-    loop-less
+    (λ c. search needs)
+    (λ c. search needs)
     loop-again
     same-length
     returns)

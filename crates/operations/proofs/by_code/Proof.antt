@@ -7,14 +7,8 @@ use borrow.Author.Needs.{needs}
 use Rattle.operations.proofs.by_code.Statement.{statement}
 use Rattle.operations.proofs.by_code.Tie as tie
 
-is-sharing-requires : tie.Need-is-sharing-requires
-is-sharing-requires c κs = search needs
-
 share-requires : tie.Need-share-requires
 share-requires c κs = let start = c .before .before .before .before in let q = start .args .q in ready-as (start .args .s .now) q _ (step-sharing q _ refl (sym (c .before .before .is-sharing .ensures) ∙ c .before .if1 .taken)) (start .pre .1)
-
-same-length : tie.Need-same-length
-same-length c = search needs
 
 returns : tie.Need-returns
 returns c = let start = c .before .before .before .before .before .before .before in let q = start .args .q in done-as (start .args .s .now) q _ (step-sharing q _ refl (sym (c .before .before .before .before .before .is-sharing .ensures) ∙ c .before .before .before .before .if1 .taken)) _ _ (c .before .before .share .ensures)
@@ -22,17 +16,11 @@ returns c = let start = c .before .before .before .before .before .before .befor
 write-requires : tie.Need-write-requires
 write-requires c κs = let start = c .before .before .before .before .before in let q = start .args .q in ready-as (start .args .s .now) q (write (q .p) (q .o)) (step-write q (c .before .if2 .taken)) (start .pre .1)
 
-same-length-2 : tie.Need-same-length-2
-same-length-2 c = search needs
-
 returns-2 : tie.Need-returns-2
 returns-2 c = let start = c .before .before .before .before .before .before .before .before in let q = start .args .q in done-as (start .args .s .now) q (write (q .p) (q .o)) (step-write q (c .before .before .before .before .if2 .taken)) _ _ (c .before .before .write .ensures)
 
 exec-requires : tie.Need-exec-requires
 exec-requires c κs = let start = c .before .before .before .before .before .before in let q = start .args .q in ready-as (start .args .s .now) q (exec (q .p) (q .o) (q .u)) (step-exec q (c .before .if3 .taken)) (start .pre .1)
-
-same-length-3 : tie.Need-same-length-3
-same-length-3 c = search needs
 
 returns-3 : tie.Need-returns-3
 returns-3 c = let start = c .before .before .before .before .before .before .before .before .before in let q = start .args .q in done-as (start .args .s .now) q (exec (q .p) (q .o) (q .u)) (step-exec q (c .before .before .before .before .if3 .taken)) _ _ (c .before .before .exec .ensures)
@@ -40,17 +28,11 @@ returns-3 c = let start = c .before .before .before .before .before .before .bef
 fork-requires : tie.Need-fork-requires
 fork-requires c κs = let start = c .before .before .before .before .before .before .before in let q = start .args .q in ready-as (start .args .s .now) q (fork (q .p) (q .o)) (step-fork q (c .before .if4 .taken)) (start .pre .1)
 
-same-length-4 : tie.Need-same-length-4
-same-length-4 c = search needs
-
 returns-4 : tie.Need-returns-4
 returns-4 c = let start = c .before .before .before .before .before .before .before .before .before .before in let q = start .args .q in done-as (start .args .s .now) q (fork (q .p) (q .o)) (step-fork q (c .before .before .before .before .if4 .taken)) _ _ (c .before .before .fork .ensures)
 
 new-file-requires : tie.Need-new-file-requires
 new-file-requires c κs = let start = c .before .before .before .before .before .before .before .before in let q = start .args .q in ready-as (start .args .s .now) q (newFile (q .p) (q .o) (q .u)) (step-file q (c .before .if5 .taken)) (start .pre .1)
-
-same-length-5 : tie.Need-same-length-5
-same-length-5 c = search needs
 
 returns-5 : tie.Need-returns-5
 returns-5 c = let start = c .before .before .before .before .before .before .before .before .before .before .before in let q = start .args .q in done-as (start .args .s .now) q (newFile (q .p) (q .o) (q .u)) (step-file q (c .before .before .before .before .if5 .taken)) _ _ (c .before .before .new-file .ensures)
@@ -63,9 +45,6 @@ new-volatile-requires c κs =
     ∙ c .before .before .before .before .before .if1 .left) in ready-as (start .args .s .now) q (newVolatile (q .p)
     (q .o)) (step-volatile q (start .pre .0 .asked) (n .0) (c .before .before .before .before .if2 .left) (n .1)
     (c .before .before .before .if3 .left) (c .before .before .if4 .left) (c .before .if5 .left)) (start .pre .1)
-
-same-length-6 : tie.Need-same-length-6
-same-length-6 c = search needs
 
 returns-6 : tie.Need-returns-6
 returns-6 c =
@@ -84,22 +63,22 @@ pub by-code-spec : {M : Type 1} → statement M
 by-code-spec =
     tie.close
     (tie.spec
-    is-sharing-requires
+    (λ c κs. search needs)
     share-requires
-    same-length
+    (λ c. search needs)
     returns
     write-requires
-    same-length-2
+    (λ c. search needs)
     returns-2
     exec-requires
-    same-length-3
+    (λ c. search needs)
     returns-3
     fork-requires
-    same-length-4
+    (λ c. search needs)
     returns-4
     new-file-requires
-    same-length-5
+    (λ c. search needs)
     returns-5
     new-volatile-requires
-    same-length-6
+    (λ c. search needs)
     returns-6)

@@ -5,47 +5,11 @@ use borrow.Author.Needs.{needs}
 use Rattle.operations.proofs.early_refusal.Statement.{statement}
 use Rattle.operations.proofs.early_refusal.Tie as tie
 
-rows-good-requires : tie.Need-rows-good-requires
-rows-good-requires c κs = search needs
-
 returns : tie.Need-returns
 returns c = early-10 _ _ (c .before .before .before .pre .asked) _ (c .before .rows-good .ensures) (c .if1 .taken)
 
-mul-a : tie.Need-mul-a
-mul-a c = search needs
-
-add-is-process : tie.Need-add-is-process
-add-is-process c = search needs
-
-mul-is-process : tie.Need-mul-is-process
-mul-is-process c = search needs
-
-shared-slice-read-is-process : tie.Need-shared-slice-read-is-process
-shared-slice-read-is-process c = search needs
-
-is-process-requires : tie.Need-is-process-requires
-is-process-requires c κs = search needs
-
 returns-2 : tie.Need-returns-2
 returns-2 c = early-11 _ _ (c .before .before .before .before .before .before .before .pre .asked) _ (c .before .before .before .before .before .rows-good .ensures) (c .before .before .before .before .if1 .left) _ (c .before .is-process .ensures) (c .if2 .taken)
-
-code-at-requires : tie.Need-code-at-requires
-code-at-requires c κs = search needs
-
-mul-b : tie.Need-mul-b
-mul-b c = search needs
-
-add-object-fits : tie.Need-add-object-fits
-add-object-fits c = search needs
-
-mul-object-fits : tie.Need-mul-object-fits
-mul-object-fits c = search needs
-
-shared-slice-read-object-fits : tie.Need-shared-slice-read-object-fits
-shared-slice-read-object-fits c = search needs
-
-object-fits-requires : tie.Need-object-fits-requires
-object-fits-requires c κs = search needs
 
 returns-3 : tie.Need-returns-3
 returns-3 c =
@@ -124,20 +88,20 @@ pub early-refusal-spec : {M : Type 1} → statement M
 early-refusal-spec =
     tie.close
     (tie.spec
-    rows-good-requires
+    (λ c κs. search needs)
     returns
-    mul-a
-    add-is-process
-    mul-is-process
-    shared-slice-read-is-process
-    is-process-requires
+    (λ c. search needs)
+    (λ c. search needs)
+    (λ c. search needs)
+    (λ c. search needs)
+    (λ c κs. search needs)
     returns-2
-    code-at-requires
-    mul-b
-    add-object-fits
-    mul-object-fits
-    shared-slice-read-object-fits
-    object-fits-requires
+    (λ c κs. search needs)
+    (λ c. search needs)
+    (λ c. search needs)
+    (λ c. search needs)
+    (λ c. search needs)
+    (λ c κs. search needs)
     returns-3
     returns-4
     returns-5

@@ -37,9 +37,6 @@ meet-at-requires : tie.Need-meet-at-requires
 unfolding entry
 meet-at-requires c κs = let start = c .before .before in let s = start .args .s .now in (run-kept s (start .args .o) (ready-object s (exec (start .args .p) (start .args .o) (start .args .u)) (start .pre) refl) .kept, user-kept-as s (start .args .u) (ready-user s (exec (start .args .p) (start .args .o) (start .args .u)) (start .pre) (start .args .u) refl) .kept)
 
-same-length : tie.Need-same-length
-same-length c = search needs
-
 returns : tie.Need-returns
 unfolding entry
 returns c =
@@ -58,9 +55,6 @@ tag-of-requires : tie.Need-tag-of-requires
 unfolding entry
 tag-of-requires c κs = search needs
 
-running-atoms-requires : tie.Need-running-atoms-requires
-running-atoms-requires c κs = search needs
-
 mul-a : tie.Need-mul-a
 unfolding entry
 mul-a c = search needs
@@ -72,12 +66,6 @@ add-replace c = search needs
 mul-replace : tie.Need-mul-replace
 unfolding entry
 mul-replace c = search needs
-
-sub-replace : tie.Need-sub-replace
-sub-replace c = search needs
-
-part-replace-start : tie.Need-part-replace-start
-part-replace-start c = search needs
 
 part-replace-end : tie.Need-part-replace-end
 unfolding entry
@@ -94,9 +82,6 @@ replace-requires c κs =
     (start .pre) (start .args .u) refl))
     (c .before .before .before .before .before .before .before .before .meet-at .ensures)) (not-false _
     (c .before .before .before .before .before .before .if1 .left))
-
-same-length-2 : tie.Need-same-length-2
-same-length-2 c = search needs
 
 returns-2 : tie.Need-returns-2
 unfolding entry
@@ -126,17 +111,17 @@ exec-spec =
     add-meet-at
     add-meet-at-2
     meet-at-requires
-    same-length
+    (λ c. search needs)
     returns
     rule-at-requires
     tag-of-requires
-    running-atoms-requires
+    (λ c κs. search needs)
     mul-a
     add-replace
     mul-replace
-    sub-replace
-    part-replace-start
+    (λ c. search needs)
+    (λ c. search needs)
     part-replace-end
     replace-requires
-    same-length-2
+    (λ c. search needs)
     returns-2)

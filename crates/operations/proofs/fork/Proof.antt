@@ -48,12 +48,6 @@ mul-replace : tie.Need-mul-replace
 unfolding entry
 mul-replace c = search needs
 
-sub-replace : tie.Need-sub-replace
-sub-replace c = search needs
-
-part-replace-start : tie.Need-part-replace-start
-part-replace-start c = search needs
-
 part-replace-end : tie.Need-part-replace-end
 unfolding entry
 part-replace-end c = search needs
@@ -61,9 +55,6 @@ part-replace-end c = search needs
 replace-requires : tie.Need-replace-requires
 unfolding entry
 replace-requires c κs = let start = c .before .before .before .before .before .before .before .before in let s = start .args .s .now in fork-fit s (start .args .p) (start .args .o) (start .pre) _ (copied s _ _ _ (permit-kept s (start .args .p) (ready-process s (fork (start .args .p) (start .args .o)) (start .pre))) (c .before .before .before .before .before .rule-at .ensures))
-
-same-length : tie.Need-same-length
-same-length c = search needs
 
 returns : tie.Need-returns
 unfolding entry
@@ -92,9 +83,9 @@ fork-spec =
     mul-b
     add-replace
     mul-replace
-    sub-replace
-    part-replace-start
+    (λ c. search needs)
+    (λ c. search needs)
     part-replace-end
     replace-requires
-    same-length
+    (λ c. search needs)
     returns)

@@ -10,44 +10,8 @@ use borrow.Author.Needs.{needs}
 use Rattle.operations.proofs.meet_at.Statement.{statement}
 use Rattle.operations.proofs.meet_at.Tie as tie
 
-both-single-requires : tie.Need-both-single-requires
-both-single-requires c κs = search needs
-
 meet-single-requires : tie.Need-meet-single-requires
 meet-single-requires c κs = (c .before .before .before .pre .0, c .before .before .before .pre .1, sym (c .before .both-single .ensures) ∙ c .if1 .taken)
-
-returns : tie.Need-returns
-returns c = search needs
-
-add-meet-kept : tie.Need-add-meet-kept
-add-meet-kept c = search needs
-
-mul-meet-kept : tie.Need-mul-meet-kept
-mul-meet-kept c = search needs
-
-sub-meet-kept : tie.Need-sub-meet-kept
-sub-meet-kept c = search needs
-
-part-meet-kept-start : tie.Need-part-meet-kept-start
-part-meet-kept-start c = search needs
-
-part-meet-kept-end : tie.Need-part-meet-kept-end
-part-meet-kept-end c = search needs
-
-add-meet-kept-2 : tie.Need-add-meet-kept-2
-add-meet-kept-2 c = search needs
-
-mul-meet-kept-2 : tie.Need-mul-meet-kept-2
-mul-meet-kept-2 c = search needs
-
-sub-meet-kept-2 : tie.Need-sub-meet-kept-2
-sub-meet-kept-2 c = search needs
-
-part-meet-kept-start-2 : tie.Need-part-meet-kept-start-2
-part-meet-kept-start-2 c = search needs
-
-part-meet-kept-end-2 : tie.Need-part-meet-kept-end-2
-part-meet-kept-end-2 c = search needs
 
 meet-kept-requires : tie.Need-meet-kept-requires
 meet-kept-requires c κs = let start = c .before .before .before .before .before in (rw (words-lent (start .args .s .now) (start .args .x)) (start .pre .0 .words), rw (words-lent (start .args .s .now) (start .args .y)) (start .pre .1 .words))
@@ -59,18 +23,18 @@ pub meet-at-spec : {M : Type 1} → statement M
 meet-at-spec =
     tie.close
     (tie.spec
-    both-single-requires
+    (λ c κs. search needs)
     meet-single-requires
-    returns
-    add-meet-kept
-    mul-meet-kept
-    sub-meet-kept
-    part-meet-kept-start
-    part-meet-kept-end
-    add-meet-kept-2
-    mul-meet-kept-2
-    sub-meet-kept-2
-    part-meet-kept-start-2
-    part-meet-kept-end-2
+    (λ c. search needs)
+    (λ c. search needs)
+    (λ c. search needs)
+    (λ c. search needs)
+    (λ c. search needs)
+    (λ c. search needs)
+    (λ c. search needs)
+    (λ c. search needs)
+    (λ c. search needs)
+    (λ c. search needs)
+    (λ c. search needs)
     meet-kept-requires
     returns-2)

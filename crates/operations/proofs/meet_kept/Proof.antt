@@ -16,24 +16,12 @@ rule-of-requires c κs = kept-readable (c .before .before .args .a .now) (c .bef
 rule-of-requires-2 : tie.Need-rule-of-requires-2
 rule-of-requires-2 c κs = kept-readable (c .before .before .before .args .b .now) (c .before .before .before .pre .1)
 
-refines-requires : tie.Need-refines-requires
-refines-requires c κs = search needs
-
-rule-copy-requires : tie.Need-rule-copy-requires
-rule-copy-requires c κs = search needs
-
 returns : tie.Need-returns
 returns c =
     let start = c .before .before .before .before .before .before .before in
     c .rule-copy .ensures ∙ ap boundedOf (meet-first (start .args .a .now) (start .args .b .now) (start .pre .0) (sym
     (c .before .before .refines .ensures ∙ ap₂ refines (c .before .before .before .before .rule-of .ensures)
     (c .before .before .before .rule-of2 .ensures)) ∙ c .before .if1 .taken))
-
-refines-requires-2 : tie.Need-refines-requires-2
-refines-requires-2 c κs = search needs
-
-rule-copy-requires-2 : tie.Need-rule-copy-requires-2
-rule-copy-requires-2 c κs = search needs
 
 returns-2 : tie.Need-returns-2
 returns-2 c =
@@ -60,11 +48,11 @@ meet-kept-spec =
     (tie.spec
     rule-of-requires
     rule-of-requires-2
-    refines-requires
-    rule-copy-requires
+    (λ c κs. search needs)
+    (λ c κs. search needs)
     returns
-    refines-requires-2
-    rule-copy-requires-2
+    (λ c κs. search needs)
+    (λ c κs. search needs)
     returns-2
     meet-requires
     returns-3)

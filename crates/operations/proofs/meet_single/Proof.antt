@@ -7,27 +7,6 @@ use borrow.Author.Needs.{needs}
 use Rattle.operations.proofs.meet_single.Statement.{statement}
 use Rattle.operations.proofs.meet_single.Tie as tie
 
-add-one : tie.Need-add-one
-add-one c = search needs
-
-mul-one : tie.Need-mul-one
-mul-one c = search needs
-
-shared-slice-read-one : tie.Need-shared-slice-read-one
-shared-slice-read-one c = search needs
-
-add-one-2 : tie.Need-add-one-2
-add-one-2 c = search needs
-
-mul-one-2 : tie.Need-mul-one-2
-mul-one-2 c = search needs
-
-shared-slice-read-one-2 : tie.Need-shared-slice-read-one-2
-shared-slice-read-one-2 c = search needs
-
-one-requires : tie.Need-one-requires
-one-requires c κs = search needs
-
 returns : tie.Need-returns
 returns c = let start = c .before .before .before .before in let e = single-counts (start .args .s .now) (start .args .x) (start .args .y) (start .pre .2) in (c .one .ensures ∙ ap boundedOf (meet-single (start .args .s .now) (start .args .x) (start .args .y) (start .pre .0) (start .pre .1) (e .0) (e .1)), ap (λ (m : Bounded). m .fits) (c .one .ensures) ∙ unfold boundedOf in refl)
 
@@ -35,11 +14,11 @@ pub meet-single-spec : {M : Type 1} → statement M
 meet-single-spec =
     tie.close
     (tie.spec
-    add-one
-    mul-one
-    shared-slice-read-one
-    add-one-2
-    mul-one-2
-    shared-slice-read-one-2
-    one-requires
+    (λ c. search needs)
+    (λ c. search needs)
+    (λ c. search needs)
+    (λ c. search needs)
+    (λ c. search needs)
+    (λ c. search needs)
+    (λ c κs. search needs)
     returns)

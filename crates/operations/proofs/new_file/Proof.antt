@@ -27,9 +27,6 @@ rule-at-requires : tie.Need-rule-at-requires
 unfolding entry
 rule-at-requires c κs = let start = c .before .before in user-kept-as (start .args .s .now) (start .args .u) (ready-user (start .args .s .now) (newFile (start .args .p) (start .args .o) (start .args .u)) (start .pre) (start .args .u) refl) .kept
 
-unrestricted-requires : tie.Need-unrestricted-requires
-unrestricted-requires c κs = search needs
-
 mul-b : tie.Need-mul-b
 unfolding entry
 mul-b c = search needs
@@ -42,21 +39,9 @@ mul-put-row : tie.Need-mul-put-row
 unfolding entry
 mul-put-row c = search needs
 
-sub-put-row : tie.Need-sub-put-row
-sub-put-row c = search needs
-
-part-put-row-start : tie.Need-part-put-row-start
-part-put-row-start c = search needs
-
 part-put-row-end : tie.Need-part-put-row-end
 unfolding entry
 part-put-row-end c = search needs
-
-put-row-requires : tie.Need-put-row-requires
-put-row-requires c κs = search needs
-
-same-length : tie.Need-same-length
-same-length c = search needs
 
 returns : tie.Need-returns
 unfolding entry newWords boundedWords
@@ -76,13 +61,13 @@ new-file-spec =
     add-rule-at
     add-rule-at-2
     rule-at-requires
-    unrestricted-requires
+    (λ c κs. search needs)
     mul-b
     add-put-row
     mul-put-row
-    sub-put-row
-    part-put-row-start
+    (λ c. search needs)
+    (λ c. search needs)
     part-put-row-end
-    put-row-requires
-    same-length
+    (λ c κs. search needs)
+    (λ c. search needs)
     returns)

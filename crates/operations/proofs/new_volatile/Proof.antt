@@ -6,9 +6,6 @@ use borrow.Author.Needs.{needs}
 use Rattle.operations.proofs.new_volatile.Statement.{statement}
 use Rattle.operations.proofs.new_volatile.Tie as tie
 
-unrestricted-requires : tie.Need-unrestricted-requires
-unrestricted-requires c κs = search needs
-
 mul-b : tie.Need-mul-b
 unfolding entry
 mul-b c = search needs
@@ -21,21 +18,9 @@ mul-put-row : tie.Need-mul-put-row
 unfolding entry
 mul-put-row c = search needs
 
-sub-put-row : tie.Need-sub-put-row
-sub-put-row c = search needs
-
-part-put-row-start : tie.Need-part-put-row-start
-part-put-row-start c = search needs
-
 part-put-row-end : tie.Need-part-put-row-end
 unfolding entry
 part-put-row-end c = search needs
-
-put-row-requires : tie.Need-put-row-requires
-put-row-requires c κs = search needs
-
-same-length : tie.Need-same-length
-same-length c = search needs
 
 returns : tie.Need-returns
 unfolding entry newWords boundedWords
@@ -45,13 +30,13 @@ pub new-volatile-spec : {M : Type 1} → statement M
 new-volatile-spec =
     tie.close
     (tie.spec
-    unrestricted-requires
+    (λ c κs. search needs)
     mul-b
     add-put-row
     mul-put-row
-    sub-put-row
-    part-put-row-start
+    (λ c. search needs)
+    (λ c. search needs)
     part-put-row-end
-    put-row-requires
-    same-length
+    (λ c κs. search needs)
+    (λ c. search needs)
     returns)

@@ -6,15 +6,9 @@ use borrow.Author.Needs.{needs}
 use Rattle.operations.proofs.object_fits.Statement.{statement}
 use Rattle.operations.proofs.object_fits.Tie as tie
 
-is-store-requires : tie.Need-is-store-requires
-is-store-requires c κs = search needs
-
 returns : tie.Need-returns
 unfolding objectFits isFree
 returns c = rw (eq-eqb _ _ (c .before .if1 .taken)) (c .is-store .ensures)
-
-is-file-requires : tie.Need-is-file-requires
-is-file-requires c κs = search needs
 
 returns-2 : tie.Need-returns-2
 unfolding objectFits isFree
@@ -30,4 +24,4 @@ returns-4 c = rw (ne-eqb _ _ (c .before .before .if1 .left), ne-eqb _ _ (c .befo
 
 pub object-fits-spec : {M : Type 1} → statement M
 object-fits-spec =
-    tie.close (tie.spec is-store-requires returns is-file-requires returns-2 returns-3 returns-4)
+    tie.close (tie.spec (λ c κs. search needs) returns (λ c κs. search needs) returns-2 returns-3 returns-4)

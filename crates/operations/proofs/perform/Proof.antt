@@ -6,20 +6,11 @@ use borrow.Author.Needs.{needs}
 use Rattle.operations.proofs.perform.Statement.{statement}
 use Rattle.operations.proofs.perform.Tie as tie
 
-early-refusal-requires : tie.Need-early-refusal-requires
-early-refusal-requires c κs = search needs
-
-same-length : tie.Need-same-length
-same-length c = search needs
-
 returns : tie.Need-returns
 returns c = let start = c .before .before .before .before in perform-refused (start .args .s .now) (stepIn (start .args .q)) _ (c .before .early-refusal .ensures) (c .if1 .taken)
 
 by-code-requires : tie.Need-by-code-requires
 by-code-requires c κs = let start = c .before .before .before .before .before in (start .pre, ready (start .args .s .now) (start .args .q) (start .pre) (sym (c .before .before .early-refusal .ensures) ∙ c .before .if1 .left))
-
-same-length-2 : tie.Need-same-length-2
-same-length-2 c = search needs
 
 returns-2 : tie.Need-returns-2
 returns-2 c = let start = c .before .before .before .before .before .before .before .before in perform-done (start .args .s .now) (stepIn (start .args .q)) (sym (c .before .before .before .before .before .early-refusal .ensures) ∙ c .before .before .before .before .if1 .left) _ _ (c .before .before .by-code .ensures)
@@ -27,4 +18,4 @@ returns-2 c = let start = c .before .before .before .before .before .before .bef
 pub perform-spec : {M : Type 1} → statement M
 perform-spec =
     tie.close
-    (tie.spec early-refusal-requires same-length returns by-code-requires same-length-2 returns-2)
+    (tie.spec (λ c κs. search needs) (λ c. search needs) returns by-code-requires (λ c. search needs) returns-2)

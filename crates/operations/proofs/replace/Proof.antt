@@ -6,15 +6,9 @@ use borrow.Author.Needs.{needs}
 use Rattle.operations.proofs.replace.Statement.{statement}
 use Rattle.operations.proofs.replace.Tie as tie
 
-put-row-requires : tie.Need-put-row-requires
-put-row-requires c κs = search needs
-
 judge-requires : tie.Need-judge-requires
 unfolding newWords boundedWords
 judge-requires c κs = new-judged processKind (c .before .before .before .before .before .before .args .tag) (c .before .before .before .before .before .before .args .permit) (c .before .before .before .before .before .before .args .run) (search needs) _ (c .before .before .before .put-row .ensures) (search needs) (c .before .before .before .before .before .before .pre .1)
-
-same-length : tie.Need-same-length
-same-length c = search needs
 
 returns : tie.Need-returns
 unfolding newWords boundedWords
@@ -27,4 +21,4 @@ returns c =
     )
 
 pub replace-spec : {M : Type 1} → statement M
-replace-spec = tie.close (tie.spec put-row-requires judge-requires same-length returns)
+replace-spec = tie.close (tie.spec (λ c κs. search needs) judge-requires (λ c. search needs) returns)

@@ -7,21 +7,6 @@ use borrow.Author.Needs.{needs}
 use Rattle.operations.proofs.rule_at.Statement.{statement}
 use Rattle.operations.proofs.rule_at.Tie as tie
 
-add-rule-copy : tie.Need-add-rule-copy
-add-rule-copy c = search needs
-
-mul-rule-copy : tie.Need-mul-rule-copy
-mul-rule-copy c = search needs
-
-sub-rule-copy : tie.Need-sub-rule-copy
-sub-rule-copy c = search needs
-
-part-rule-copy-start : tie.Need-part-rule-copy-start
-part-rule-copy-start c = search needs
-
-part-rule-copy-end : tie.Need-part-rule-copy-end
-part-rule-copy-end c = search needs
-
 rule-copy-requires : tie.Need-rule-copy-requires
 rule-copy-requires c κs = rw words-lent (c .before .before .pre .words)
 
@@ -32,10 +17,10 @@ pub rule-at-spec : {M : Type 1} → statement M
 rule-at-spec =
     tie.close
     (tie.spec
-    add-rule-copy
-    mul-rule-copy
-    sub-rule-copy
-    part-rule-copy-start
-    part-rule-copy-end
+    (λ c. search needs)
+    (λ c. search needs)
+    (λ c. search needs)
+    (λ c. search needs)
+    (λ c. search needs)
     rule-copy-requires
     returns)

@@ -7,23 +7,8 @@ use borrow.Author.Needs.{needs}
 use Rattle.operations.proofs.set_content.Statement.{statement}
 use Rattle.operations.proofs.set_content.Tie as tie
 
-slice-write-row : tie.Need-slice-write-row
-slice-write-row c = search needs
-
-add-put-rule : tie.Need-add-put-rule
-add-put-rule c = search needs
-
-sub-put-rule : tie.Need-sub-put-rule
-sub-put-rule c = search needs
-
-part-put-rule-start : tie.Need-part-put-rule-start
-part-put-rule-start c = search needs
-
 part-put-rule-end : tie.Need-part-put-rule-end
 part-put-rule-end c = simp length-set (omega arith)
-
-put-rule-requires : tie.Need-put-rule-requires
-put-rule-requires c κs = search needs
 
 same-length : tie.Need-same-length
 same-length c =
@@ -39,11 +24,11 @@ pub set-content-spec : {M : Type 1} → statement M
 set-content-spec =
     tie.close
     (tie.spec
-    slice-write-row
-    add-put-rule
-    sub-put-rule
-    part-put-rule-start
+    (λ c. search needs)
+    (λ c. search needs)
+    (λ c. search needs)
+    (λ c. search needs)
     part-put-rule-end
-    put-rule-requires
+    (λ c κs. search needs)
     same-length
     returns)

@@ -10,11 +10,8 @@ taken-in-requires c κs = let start = c .before .before in (start .pre .long, sh
 absorb-requires : tie.Need-absorb-requires
 absorb-requires c κs = let start = c .before .before .before .before in share-used (start .args .s .now) (start .args .p) (start .args .o) (start .args .reads) _ (c .before .taken-in .ensures) (start .pre)
 
-same-length : tie.Need-same-length
-same-length c = search needs
-
 returns : tie.Need-returns
 returns c = let start = c .before .before .before .before .before .before .before in share-done (start .args .s .now) (start .args .p) (start .args .o) (start .args .reads) _ (c .before .before .before .before .taken-in .ensures) _ _ (c .before .before .absorb .ensures)
 
 pub share-spec : {M : Type 1} → statement M
-share-spec = tie.close (tie.spec taken-in-requires absorb-requires same-length returns)
+share-spec = tie.close (tie.spec taken-in-requires absorb-requires (λ c. search needs) returns)

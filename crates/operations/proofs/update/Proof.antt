@@ -4,17 +4,11 @@ use borrow.Author.Needs.{needs}
 use Rattle.operations.proofs.update.Statement.{statement}
 use Rattle.operations.proofs.update.Tie as tie
 
-set-content-requires : tie.Need-set-content-requires
-set-content-requires c κs = search needs
-
 judge-requires : tie.Need-judge-requires
 judge-requires c κs =
     let start = c .before .before .before .before .before .before in
     content-judged (start .args .row .now) (start .args .tag) (start .pre .0) (start .args .run) _
     (c .before .before .before .set-content .ensures) (search needs) (start .pre .1)
-
-same-length : tie.Need-same-length
-same-length c = search needs
 
 returns : tie.Need-returns
 returns c =
@@ -26,4 +20,4 @@ returns c =
     )
 
 pub update-spec : {M : Type 1} → statement M
-update-spec = tie.close (tie.spec set-content-requires judge-requires same-length returns)
+update-spec = tie.close (tie.spec (λ c κs. search needs) judge-requires (λ c. search needs) returns)

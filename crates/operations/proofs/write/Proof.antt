@@ -37,12 +37,6 @@ mul-update : tie.Need-mul-update
 unfolding entry
 mul-update c = search needs
 
-sub-update : tie.Need-sub-update
-sub-update c = search needs
-
-part-update-start : tie.Need-part-update-start
-part-update-start c = search needs
-
 part-update-end : tie.Need-part-update-end
 unfolding entry
 part-update-end c = search needs
@@ -50,9 +44,6 @@ part-update-end c = search needs
 update-requires : tie.Need-update-requires
 unfolding entry
 update-requires c κs = let start = c .before .before .before .before .before .before in lent-fit (start .args .s .now) (start .args .o) (ready-object (start .args .s .now) (write (start .args .p) (start .args .o)) (start .pre) refl)
-
-same-length : tie.Need-same-length
-same-length c = search needs
 
 returns : tie.Need-returns
 unfolding entry
@@ -76,9 +67,9 @@ write-spec =
     mul-at
     add-update
     mul-update
-    sub-update
-    part-update-start
+    (λ c. search needs)
+    (λ c. search needs)
     part-update-end
     update-requires
-    same-length
+    (λ c. search needs)
     returns)

@@ -4,14 +4,8 @@ use borrow.Author.Needs.{needs}
 use Rattle.records.proofs.code_at.Statement.{statement}
 use Rattle.records.proofs.code_at.Tie as tie
 
-mul-result : tie.Need-mul-result
-mul-result c = search needs
-
-array-copy-out-result : tie.Need-array-copy-out-result
-array-copy-out-result c = search needs
-
 returns : tie.Need-returns
 returns c = row-at (c .before .args .code) _ (c .before .pre .0) (c .before .pre .1)
 
 pub code-at-spec : {M : Type 1} → statement M
-code-at-spec = tie.close (tie.spec mul-result array-copy-out-result returns)
+code-at-spec = tie.close (tie.spec (λ c. search needs) (λ c. search needs) returns)

@@ -11,23 +11,14 @@ use Rattle.records.proofs.record_good.Tie as tie
 returns : tie.Need-returns
 returns c = not-eight _ (c .if1 .taken)
 
-request-of-requires : tie.Need-request-of-requires
-request-of-requires c κs = search needs
-
 returns-2 : tie.Need-returns-2
 returns-2 c = code-none _ _ (c .before .before .request-of .ensures) (c .before .before .before .if1 .left) (c .if2 .taken)
 
 returns-3 : tie.Need-returns-3
 returns-3 c = code-over _ _ (c .before .before .before .before .request-of .ensures) (c .before .before .before .before .before .if1 .left) (c .before .before .if2 .left) (c .if3 .taken)
 
-shared-slice-read-if4 : tie.Need-shared-slice-read-if4
-shared-slice-read-if4 c = search needs
-
 returns-4 : tie.Need-returns-4
 returns-4 c = byte-set _ _ (c .before .before .before .before .before .before .request-of .ensures) (c .before .before .before .before .before .before .before .if1 .left) (c .before .before .before .before .if2 .left) (c .before .before .if3 .left) (λ e. (c .if4 .taken) (field-one _ 1 (omega arith) ∙ e))
-
-user-fits-requires : tie.Need-user-fits-requires
-user-fits-requires c κs = search needs
 
 returns-5 : tie.Need-returns-5
 returns-5 c =
@@ -60,12 +51,12 @@ record-good-spec =
     tie.close
     (tie.spec
     returns
-    request-of-requires
+    (λ c κs. search needs)
     returns-2
     returns-3
-    shared-slice-read-if4
+    (λ c. search needs)
     returns-4
-    user-fits-requires
+    (λ c κs. search needs)
     returns-5
     returns-6
     returns-7)

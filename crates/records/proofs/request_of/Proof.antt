@@ -4,21 +4,9 @@ use borrow.Author.Needs.{needs}
 use Rattle.records.proofs.request_of.Statement.{statement}
 use Rattle.records.proofs.request_of.Tie as tie
 
-read8-requires : tie.Need-read8-requires
-read8-requires c κs = search needs
-
-read16-requires : tie.Need-read16-requires
-read16-requires c κs = search needs
-
-read16-requires-2 : tie.Need-read16-requires-2
-read16-requires-2 c κs = search needs
-
-read16-requires-3 : tie.Need-read16-requires-3
-read16-requires-3 c κs = search needs
-
 returns : tie.Need-returns
 returns c = request-is _ _ _ _ _ ((c .before .before .before .read8 .ensures) .0) ((c .before .before .read16 .ensures) .0) ((c .before .read162 .ensures) .0) ((c .read163 .ensures) .0)
 
 pub request-of-spec : {M : Type 1} → statement M
 request-of-spec =
-    tie.close (tie.spec read8-requires read16-requires read16-requires-2 read16-requires-3 returns)
+    tie.close (tie.spec (λ c κs. search needs) (λ c κs. search needs) (λ c κs. search needs) (λ c κs. search needs) returns)

@@ -4,9 +4,6 @@ use borrow.Author.Needs.{needs}
 use Rattle.records.proofs.user_fits.Statement.{statement}
 use Rattle.records.proofs.user_fits.Tie as tie
 
-code-at-requires : tie.Need-code-at-requires
-code-at-requires c κs = search needs
-
 returns : tie.Need-returns
 returns c = user-named _ _ (c .before .before .code-at .ensures) (c .before .if1 .taken)
 
@@ -14,4 +11,4 @@ returns-2 : tie.Need-returns-2
 returns-2 c = user-unnamed _ _ (c .before .before .code-at .ensures) (c .before .if1 .left)
 
 pub user-fits-spec : {M : Type 1} → statement M
-user-fits-spec = tie.close (tie.spec code-at-requires returns returns-2)
+user-fits-spec = tie.close (tie.spec (λ c κs. search needs) returns returns-2)

@@ -24,39 +24,6 @@ loop-holds c =
     rowed-start rowWidth containerLimit (containerRows (start .args .cs .now) (start .args .rules .now) (start .args .m .now)) (start .args .out .now)
     (ap length (start .pre .0) ∙ length-replicate {A = ℕ} (containerLimit * rowWidth) 0)
 
-mul-at : tie.Need-mul-at Inv-loop μ-loop
-mul-at c = search needs
-
-mul-r : tie.Need-mul-r Inv-loop μ-loop
-mul-r c = search needs
-
-add-put-container : tie.Need-add-put-container Inv-loop μ-loop
-add-put-container c = search needs
-
-mul-put-container : tie.Need-mul-put-container Inv-loop μ-loop
-mul-put-container c = search needs
-
-sub-put-container : tie.Need-sub-put-container Inv-loop μ-loop
-sub-put-container c = search needs
-
-part-put-container-start : tie.Need-part-put-container-start Inv-loop μ-loop
-part-put-container-start c = search needs
-
-part-put-container-end : tie.Need-part-put-container-end Inv-loop μ-loop
-part-put-container-end c = search needs
-
-add-put-container-2 : tie.Need-add-put-container-2 Inv-loop μ-loop
-add-put-container-2 c = search needs
-
-sub-put-container-2 : tie.Need-sub-put-container-2 Inv-loop μ-loop
-sub-put-container-2 c = search needs
-
-part-put-container-start-2 : tie.Need-part-put-container-start-2 Inv-loop μ-loop
-part-put-container-start-2 c = search needs
-
-part-put-container-end-2 : tie.Need-part-put-container-end-2 Inv-loop μ-loop
-part-put-container-end-2 c = search needs
-
 put-container-requires : tie.Need-put-container-requires Inv-loop μ-loop
 put-container-requires c κs =
     let start = c .before .before .before .before .before .before .before .before in (
@@ -67,12 +34,6 @@ put-container-requires c κs =
           (c .before .before .before .loop .i) (c .before .before .loop-test .taken)),
       start .pre .3,
     )
-
-add-i : tie.Need-add-i Inv-loop μ-loop
-add-i c = search needs
-
-loop-less : tie.Need-loop-less Inv-loop μ-loop
-loop-less c = search needs
 
 loop-again : tie.Need-loop-again Inv-loop μ-loop
 loop-again c =
@@ -99,20 +60,20 @@ fill-containers-spec =
     Inv-loop
     μ-loop
     loop-holds
-    mul-at
-    mul-r
-    add-put-container
-    mul-put-container
-    sub-put-container
-    part-put-container-start
-    part-put-container-end
-    add-put-container-2
-    sub-put-container-2
-    part-put-container-start-2
-    part-put-container-end-2
+    (λ c. search needs)
+    (λ c. search needs)
+    (λ c. search needs)
+    (λ c. search needs)
+    (λ c. search needs)
+    (λ c. search needs)
+    (λ c. search needs)
+    (λ c. search needs)
+    (λ c. search needs)
+    (λ c. search needs)
+    (λ c. search needs)
     put-container-requires
-    add-i
-    loop-less
+    (λ c. search needs)
+    (λ c. search needs)
     loop-again
     same-length
     returns)

@@ -27,30 +27,6 @@ loop-holds c =
     rowed-start userWidth userLimit (userRows (start .args .users .now) (start .args .rules .now) (start .args .m .now)) (start .args .out .now)
     (ap length (start .pre .0) ∙ length-replicate {A = ℕ} (userLimit * userWidth) 0)
 
-mul-at : tie.Need-mul-at Inv-loop μ-loop
-mul-at c = search needs
-
-add-put-user : tie.Need-add-put-user Inv-loop μ-loop
-add-put-user c = search needs
-
-mul-put-user : tie.Need-mul-put-user Inv-loop μ-loop
-mul-put-user c = search needs
-
-sub-put-user : tie.Need-sub-put-user Inv-loop μ-loop
-sub-put-user c = search needs
-
-part-put-user-start : tie.Need-part-put-user-start Inv-loop μ-loop
-part-put-user-start c = search needs
-
-part-put-user-end : tie.Need-part-put-user-end Inv-loop μ-loop
-part-put-user-end c = search needs
-
-mul-read16 : tie.Need-mul-read16 Inv-loop μ-loop
-mul-read16 c = search needs
-
-read16-requires : tie.Need-read16-requires Inv-loop μ-loop
-read16-requires c κs = search needs
-
 put-user-requires : tie.Need-put-user-requires Inv-loop μ-loop
 put-user-requires c κs =
     let start = c .before .before .before .before .before .before .before .before in (
@@ -60,12 +36,6 @@ put-user-requires c κs =
           (c .before .before .before .loop .i) (c .before .before .loop-test .taken)),
       start .pre .3,
     )
-
-add-i : tie.Need-add-i Inv-loop μ-loop
-add-i c = search needs
-
-loop-less : tie.Need-loop-less Inv-loop μ-loop
-loop-less c = search needs
 
 loop-again : tie.Need-loop-again Inv-loop μ-loop
 loop-again c =
@@ -94,17 +64,17 @@ fill-users-spec =
     Inv-loop
     μ-loop
     loop-holds
-    mul-at
-    add-put-user
-    mul-put-user
-    sub-put-user
-    part-put-user-start
-    part-put-user-end
-    mul-read16
-    read16-requires
+    (λ c. search needs)
+    (λ c. search needs)
+    (λ c. search needs)
+    (λ c. search needs)
+    (λ c. search needs)
+    (λ c. search needs)
+    (λ c. search needs)
+    (λ c κs. search needs)
     put-user-requires
-    add-i
-    loop-less
+    (λ c. search needs)
+    (λ c. search needs)
     loop-again
     same-length
     returns)

@@ -31,37 +31,13 @@ permit-nine c = c .row .given .0 ∙ lent-permit (begun c .args .row .now) (kind
 
 -- ---- the needs
 
-read8-requires : tie.Need-read8-requires
-read8-requires c κs = search needs
-
-slice-write-row : tie.Need-slice-write-row
-slice-write-row c = search needs
-
-read8-requires-2 : tie.Need-read8-requires-2
-read8-requires-2 c κs = search needs
-
 tag-of-requires : tie.Need-tag-of-requires
 tag-of-requires c κs =
     let start = c .before .before .before .before .before .before in
     rw (c .read82 .ensures .0) (atom-good (start .args .r .now) (start .args .rules .now) (start .args .m .now) (start .pre .2) (start .pre .3))
 
-slice-write-row-2 : tie.Need-slice-write-row-2
-slice-write-row-2 c = search needs
-
-add-put-rule-at : tie.Need-add-put-rule-at
-add-put-rule-at c = search needs
-
-sub-put-rule-at : tie.Need-sub-put-rule-at
-sub-put-rule-at c = search needs
-
-part-put-rule-at-start : tie.Need-part-put-rule-at-start
-part-put-rule-at-start c = search needs
-
 part-put-rule-at-end : tie.Need-part-put-rule-at-end
 part-put-rule-at-end c = simp length-set (omega arith)
-
-read16-requires : tie.Need-read16-requires
-read16-requires c κs = search needs
 
 put-rule-at-requires : tie.Need-put-rule-at-requires
 put-rule-at-requires c κs =
@@ -71,22 +47,10 @@ put-rule-at-requires c κs =
       start .pre .3,
     )
 
-add-put-rule-at-2 : tie.Need-add-put-rule-at-2
-add-put-rule-at-2 c = search needs
-
-sub-put-rule-at-2 : tie.Need-sub-put-rule-at-2
-sub-put-rule-at-2 c = search needs
-
-part-put-rule-at-start-2 : tie.Need-part-put-rule-at-start-2
-part-put-rule-at-start-2 c = search needs
-
 part-put-rule-at-end-2 : tie.Need-part-put-rule-at-end-2
 part-put-rule-at-end-2 c =
     let at = c .before in
     omega (arith, row-mid (begun at .args .row .now) (permit at) (kind at) (tag at) (begun at .pre .0) (permit-nine at))
-
-read16-requires-2 : tie.Need-read16-requires-2
-read16-requires-2 c κs = search needs
 
 put-rule-at-requires-2 : tie.Need-put-rule-at-requires-2
 put-rule-at-requires-2 c κs =
@@ -118,22 +82,22 @@ pub put-container-spec : {M : Type 1} → statement M
 put-container-spec =
     tie.close
     (tie.spec
-    read8-requires
-    slice-write-row
-    read8-requires-2
+    (λ c κs. search needs)
+    (λ c. search needs)
+    (λ c κs. search needs)
     tag-of-requires
-    slice-write-row-2
-    add-put-rule-at
-    sub-put-rule-at
-    part-put-rule-at-start
+    (λ c. search needs)
+    (λ c. search needs)
+    (λ c. search needs)
+    (λ c. search needs)
     part-put-rule-at-end
-    read16-requires
+    (λ c κs. search needs)
     put-rule-at-requires
-    add-put-rule-at-2
-    sub-put-rule-at-2
-    part-put-rule-at-start-2
+    (λ c. search needs)
+    (λ c. search needs)
+    (λ c. search needs)
     part-put-rule-at-end-2
-    read16-requires-2
+    (λ c κs. search needs)
     put-rule-at-requires-2
     same-length
     returns)

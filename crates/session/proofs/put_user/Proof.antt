@@ -7,23 +7,8 @@ use borrow.Author.Needs.{needs}
 use Rattle.session.proofs.put_user.Statement.{statement}
 use Rattle.session.proofs.put_user.Tie as tie
 
-slice-write-row : tie.Need-slice-write-row
-slice-write-row c = search needs
-
-add-put-rule-at : tie.Need-add-put-rule-at
-add-put-rule-at c = search needs
-
-sub-put-rule-at : tie.Need-sub-put-rule-at
-sub-put-rule-at c = search needs
-
-part-put-rule-at-start : tie.Need-part-put-rule-at-start
-part-put-rule-at-start c = search needs
-
 part-put-rule-at-end : tie.Need-part-put-rule-at-end
 part-put-rule-at-end c = simp length-set (omega arith)
-
-put-rule-at-requires : tie.Need-put-rule-at-requires
-put-rule-at-requires c κs = search needs
 
 same-length : tie.Need-same-length
 same-length c =
@@ -40,11 +25,11 @@ pub put-user-spec : {M : Type 1} → statement M
 put-user-spec =
     tie.close
     (tie.spec
-    slice-write-row
-    add-put-rule-at
-    sub-put-rule-at
-    part-put-rule-at-start
+    (λ c. search needs)
+    (λ c. search needs)
+    (λ c. search needs)
+    (λ c. search needs)
     part-put-rule-at-end
-    put-rule-at-requires
+    (λ c κs. search needs)
     same-length
     returns)

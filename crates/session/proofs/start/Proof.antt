@@ -59,31 +59,16 @@ users c =
 returns : tie.Need-returns
 returns c = wrong-length (c .before .before .before .args .image .now) (c .before .before .before .args .session .now) (c .if1 .taken)
 
-check-requires : tie.Need-check-requires
-check-requires c κs = search needs
-
 returns-2 : tie.Need-returns-2
 returns-2 c =
     let start = c .before .before .before .before .before in
     refused-image (start .args .image .now) (start .args .session .now) (c .before .before .if1 .left) _ (c .before .check .ensures) (c .if2 .taken)
-
-clear-requires : tie.Need-clear-requires
-clear-requires c κs = search needs
 
 section-requires : tie.Need-section-requires
 section-requires c κs = accepted-section _ (accepted (c .before .before .before .before)) 2 (omega arith)
 
 section-requires-2 : tie.Need-section-requires-2
 section-requires-2 c κs = accepted-section _ (accepted (c .before .before .before .before .before)) 3 (omega arith)
-
-sub-fill-containers : tie.Need-sub-fill-containers
-sub-fill-containers c = search needs
-
-part-fill-containers-start : tie.Need-part-fill-containers-start
-part-fill-containers-start c = search needs
-
-part-fill-containers-end : tie.Need-part-fill-containers-end
-part-fill-containers-end c = search needs
 
 section-requires-3 : tie.Need-section-requires-3
 section-requires-3 c κs = accepted-section _ (accepted (past (c .before))) 0 (omega arith)
@@ -98,15 +83,6 @@ fill-containers-requires c κs =
       rows .1,
       spans-lent (image (past read)) _ _ (read .before .section .ensures) (read .section2 .ensures) (accepted (past read)),
     )
-
-sub-fill-users : tie.Need-sub-fill-users
-sub-fill-users c = search needs
-
-part-fill-users-start : tie.Need-part-fill-users-start
-part-fill-users-start c = search needs
-
-part-fill-users-end : tie.Need-part-fill-users-end
-part-fill-users-end c = search needs
 
 section-requires-4 : tie.Need-section-requires-4
 section-requires-4 c κs = accepted-section _ (accepted (past (read-sections (c .before .before .before)))) 1 (omega arith)
@@ -123,9 +99,6 @@ fill-users-requires c κs =
       users .1,
       spans-lent (image (past read)) _ _ (read .before .section .ensures) (read .section2 .ensures) (accepted (past read)),
     )
-
-same-length : tie.Need-same-length
-same-length c = search needs
 
 returns-3 : tie.Need-returns-3
 returns-3 c =
@@ -144,20 +117,20 @@ start-spec =
     tie.close
     (tie.spec
     returns
-    check-requires
+    (λ c κs. search needs)
     returns-2
-    clear-requires
+    (λ c κs. search needs)
     section-requires
     section-requires-2
-    sub-fill-containers
-    part-fill-containers-start
-    part-fill-containers-end
+    (λ c. search needs)
+    (λ c. search needs)
+    (λ c. search needs)
     section-requires-3
     fill-containers-requires
-    sub-fill-users
-    part-fill-users-start
-    part-fill-users-end
+    (λ c. search needs)
+    (λ c. search needs)
+    (λ c. search needs)
     section-requires-4
     fill-users-requires
-    same-length
+    (λ c. search needs)
     returns-3)

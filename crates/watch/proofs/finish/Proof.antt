@@ -5,24 +5,12 @@ use borrow.Author.Needs.{needs}
 use Rattle.watch.proofs.finish.Statement.{statement}
 use Rattle.watch.proofs.finish.Tie as tie
 
-room-requires : tie.Need-room-requires
-room-requires c κs = search needs
-
-put-total-requires : tie.Need-put-total-requires
-put-total-requires c κs = search needs
-
 flush-requires : tie.Need-flush-requires
 flush-requires c κs =
     let total = c .before .before .before .put-total in
     let room = c .before .before .before .before .before .before .room in
     omega (arith, total-within _ _ _ (total .ensures) (room .ensures))
 
-same-length : tie.Need-same-length
-same-length c = search needs
-
-returns : tie.Need-returns
-returns c = search needs
-
 pub finish-spec : {M : Type 1} → statement M
 finish-spec =
-    tie.close (tie.spec room-requires put-total-requires flush-requires same-length returns)
+    tie.close (tie.spec (λ c κs. search needs) (λ c κs. search needs) flush-requires (λ c. search needs) (λ c. search needs))

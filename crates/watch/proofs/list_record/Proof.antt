@@ -4,21 +4,6 @@ use borrow.Author.Needs.{needs}
 use Rattle.watch.proofs.list_record.Statement.{statement}
 use Rattle.watch.proofs.list_record.Tie as tie
 
-request-of-requires : tie.Need-request-of-requires
-request-of-requires c κs = search needs
-
-more-requires : tie.Need-more-requires
-more-requires c κs = search needs
-
-put-step-requires : tie.Need-put-step-requires
-put-step-requires c κs = search needs
-
-count-requires : tie.Need-count-requires
-count-requires c κs = search needs
-
-same-length : tie.Need-same-length
-same-length c = search needs
-
 returns : tie.Need-returns
 returns c = record {
   text = record-text _ _ _ _ _ (c .before .before .before .before .before .before .request-of .ensures) (c .before .before .before .before .before .more .ensures) (c .before .before .before .put-step .ensures);
@@ -29,9 +14,9 @@ pub list-record-spec : {M : Type 1} → statement M
 list-record-spec =
     tie.close
     (tie.spec
-    request-of-requires
-    more-requires
-    put-step-requires
-    count-requires
-    same-length
+    (λ c κs. search needs)
+    (λ c κs. search needs)
+    (λ c κs. search needs)
+    (λ c κs. search needs)
+    (λ c. search needs)
     returns)

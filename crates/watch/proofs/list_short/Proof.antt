@@ -6,18 +6,6 @@ use borrow.Author.Needs.{needs}
 use Rattle.watch.proofs.list_short.Statement.{statement}
 use Rattle.watch.proofs.list_short.Tie as tie
 
-more-requires : tie.Need-more-requires
-more-requires c κs = search needs
-
-put-short-requires : tie.Need-put-short-requires
-put-short-requires c κs = search needs
-
-count-requires : tie.Need-count-requires
-count-requires c κs = search needs
-
-same-length : tie.Need-same-length
-same-length c = search needs
-
 returns : tie.Need-returns
 returns c =
     let step = c .before .before .before .before .before .more in
@@ -28,4 +16,4 @@ returns c =
 
 pub list-short-spec : {M : Type 1} → statement M
 list-short-spec =
-    tie.close (tie.spec more-requires put-short-requires count-requires same-length returns)
+    tie.close (tie.spec (λ c κs. search needs) (λ c κs. search needs) (λ c κs. search needs) (λ c. search needs) returns)

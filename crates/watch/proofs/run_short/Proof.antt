@@ -4,17 +4,8 @@ use borrow.Author.Needs.{needs}
 use Rattle.watch.proofs.run_short.Statement.{statement}
 use Rattle.watch.proofs.run_short.Tie as tie
 
-room-requires : tie.Need-room-requires
-room-requires c κs = search needs
-
-list-short-requires : tie.Need-list-short-requires
-list-short-requires c κs = search needs
-
-same-length : tie.Need-same-length
-same-length c = search needs
-
 returns : tie.Need-returns
 returns c = short-within _ (c .before .before .list-short .ensures) (c .before .before .before .before .room .ensures)
 
 pub run-short-spec : {M : Type 1} → statement M
-run-short-spec = tie.close (tie.spec room-requires list-short-requires same-length returns)
+run-short-spec = tie.close (tie.spec (λ c κs. search needs) (λ c κs. search needs) (λ c. search needs) returns)
