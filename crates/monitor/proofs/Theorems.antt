@@ -40,7 +40,8 @@ use Rattle.operations.specs.Effects.{rowsGood, sessionConditions}
 use Rattle.operations.proofs.PlacedRows.{Valid, placed-row, placed-other, placed-user, placed-long}
 use Rattle.monitor.specs.Steps.{stepAsked, stepConditions, refusalOf, stepAnswer, stepEffect}
 use Rattle.monitor.specs.Runs.{stepOn, runAnswers, runEffect, historyIn}
-use Rattle.monitor.specs.Traces.{traceRecords, lastOf, runReport, replayReport}
+use Rattle.records.specs.Traces.{traceRecords}
+use Rattle.monitor.specs.Traces.{lastOf, runReport, replayReport}
 use Rattle.monitor.proofs.StepLaws.{numbers, refused-at, refused-answer, refused-effect, step-long, step-record, step-receiver, step-laid, accepted-answer, accepted-effect, answered, answered-zero, faithful}
 use Rattle.monitor.proofs.AnswerLaws as answers
 use Rattle.monitor.proofs.AnswerLaws.{verdict-judged, new-quiet, number-told}

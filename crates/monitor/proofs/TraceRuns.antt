@@ -1,61 +1,23 @@
 -- A trace run record by record: what is left of it, told behind what was told so far, is the whole.
-use Prim.Native.Nat.{ℕ, suc, _+_, _-_, _/_, _≤_, _<_}
+use Prim.Native.Nat.{ℕ, _+_, _≤_, _<_}
 use native.Mathlib.Omega.{arith}
-use native.Mathlib.Decide.{decLt}
-use native.Mathlib.Nat.{add-sub-cancel-left}
-use mathlib.Core.Path.{_≡_, refl, sym, ap, _∙_}
+use mathlib.Core.Path.{_≡_, refl, ap, _∙_}
 use mathlib.Core.Bool.{true, false}
 use mathlib.Core.List.{List, [], _∷_}
 use lib.Dec.{eqb}
-use lib.ListN.{length, take, drop, length-take, length-drop, drop-of-length-le}
-use lib.Seq.{take-all, drop-drop}
+use lib.ListN.{length, take, drop}
 use borrow.Author.Tests.{eq-eqb, ne-eqb}
-use Rattle.fields.specs.Bytes.{cut}
 use Rattle.image.specs.Image.{policyIn}
 use Rattle.session.specs.Session.{startOf, startAnswer, startEffect}
 use Rattle.answers.specs.declared.Answer.{Answer}
 use Rattle.monitor.specs.declared.Replayed.{Replayed}
 use Rattle.records.specs.Records.{recordLength}
+use Rattle.records.specs.Traces.{traceRecords}
+use Rattle.records.proofs.TraceLaws.{next-record, no-record, record-length}
 use Rattle.monitor.specs.Steps.{stepAnswer, stepEffect}
 use Rattle.monitor.specs.Runs.{stepOn, runAnswers, runEffect}
 use Rattle.answers.specs.Tallies.{countedAll}
-use Rattle.monitor.specs.Traces.{traceRecords, lastOf, noReport, extended, runReport, replayReport, replayEffect}
-
--- ---- the next record
-
--- fewer than 8 bytes are left
-pub short-record : (t : List ℕ) (at : ℕ) → length t - at < recordLength → take (length t - at) (drop at t) ≡ take recordLength (drop at t)
-short-record t at h =
-    take-all (length t - at) (drop at t) (omega (arith, length-drop at t))
-    ∙ sym (take-all recordLength (drop at t) (omega (arith, length-drop at t)))
-
-pub whole-record : (t : List ℕ) (at : ℕ) → take (at + recordLength - at) (drop at t) ≡ take recordLength (drop at t)
-whole-record t at = rw add-sub-cancel-left
-
-one-more : (x : List ℕ) → 0 < length x → traceRecords x ≡ take recordLength x ∷ traceRecords (drop recordLength x)
-unfolding traceRecords cut
-one-more x h =
-    let e : (length x + (recordLength - 1)) / recordLength ≡ suc ((length (drop recordLength x) + (recordLength - 1)) / recordLength) = omega (arith, length-drop recordLength x) in
-    ap (λ (n : ℕ). cut recordLength n x) e
-
-behind : (t : List ℕ) (at : ℕ) → drop recordLength (drop at t) ≡ drop (at + length (take recordLength (drop at t))) t
-behind t at = drop-drop recordLength at t ∙ by (decLt (length t) (at + recordLength))
-  where
-    by : Dec (length t < at + recordLength) → drop (at + recordLength) t ≡ drop (at + length (take recordLength (drop at t))) t
-    by (yes h) =
-        drop-of-length-le t {i = at + recordLength} (omega arith)
-        ∙ sym (drop-of-length-le t {i = at + length (take recordLength (drop at t))} (omega (arith, length-take recordLength (drop at t), length-drop at t)))
-    by (no h) =
-        let e : at + recordLength ≡ at + length (take recordLength (drop at t)) = omega (arith, length-take recordLength (drop at t), length-drop at t) in
-        ap (λ (n : ℕ). drop n t) e
-
-next-record : (t : List ℕ) (at : ℕ) → at < length t → traceRecords (drop at t) ≡ take recordLength (drop at t) ∷ traceRecords (drop (at + length (take recordLength (drop at t))) t)
-next-record t at h =
-    one-more (drop at t) (omega (arith, length-drop at t)) ∙ ap (λ (x : List ℕ). take recordLength (drop at t) ∷ traceRecords x) (behind t at)
-
-no-record : (t : List ℕ) (at : ℕ) → length t ≤ at → traceRecords (drop at t) ≡ []
-unfolding traceRecords cut
-no-record t at h = rw (drop-of-length-le t {i = at} h)
+use Rattle.monitor.specs.Traces.{lastOf, noReport, extended, runReport, replayReport, replayEffect}
 
 -- ---- what is told of the records that are left
 
@@ -99,11 +61,6 @@ module _ (t s x s′ : List ℕ) (at : ℕ) (l : at < length t) (xe : x ≡ take
   leaves-next : (v : List ℕ) → runEffect s (traceRecords (drop at t)) ≡ v → runEffect s′ (traceRecords (drop (at + length x) t)) ≡ v
   unfolding runEffect stepOn
   leaves-next v h = rw (se, xe) (rw (next-record t at l) at h)
-
-pub record-length : (t x : List ℕ) (at : ℕ) → at < length t → x ≡ take recordLength (drop at t) → (1 ≤ length x) × (at + length x ≤ length t)
-record-length t x at l xe =
-    let e : length x ≡ length (take recordLength (drop at t)) = ap length xe in
-    (omega (arith, length-take recordLength (drop at t), length-drop at t), omega (arith, length-take recordLength (drop at t), length-drop at t))
 
 pub run-next : (t s₀ s x s′ : List ℕ) (total total′ : Replayed) (a : Answer) (at : ℕ) → Running t s₀ s total at → at < length t → x ≡ take recordLength (drop at t)
     → length s′ ≡ length s → s′ ≡ stepEffect s x → a ≡ stepAnswer s x → total′ ≡ extended total a → Running t s₀ s′ total′ (at + length x)

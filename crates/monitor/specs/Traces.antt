@@ -1,23 +1,17 @@
 -- A trace: the session is started from an image, and the records are run to the end. What is told of it, and the session that
 -- it leaves.
-use Prim.Native.Nat.{ℕ, _+_, _-_, _/_}
+use Prim.Native.Nat.{ℕ}
 use mathlib.Core.Bool.{cond}
 use mathlib.Core.List.{List, [], _∷_}
 use lib.Dec.{eqb}
-use lib.ListN.{length}
-use Rattle.fields.specs.Bytes.{cut}
 use Rattle.answers.specs.declared.Answer.{Answer}
 use Rattle.answers.specs.Answers.{refused}
 use Rattle.answers.specs.Tallies.{noTally, counted, countedAll}
 use Rattle.image.specs.Image.{policyIn}
 use Rattle.session.specs.Session.{startOf, startAnswer}
-use Rattle.records.specs.Records.{recordLength}
+use Rattle.records.specs.Traces.{traceRecords}
 use Rattle.monitor.specs.declared.Replayed.{Replayed}
 use Rattle.monitor.specs.Runs.{runAnswers, runEffect}
-
--- "A record has 8 bytes": the records of a trace; what is left at the end is a record too, which 7 refuses
-unfoldable pub traceRecords : List ℕ → List (List ℕ)
-traceRecords t = cut recordLength ((length t + (recordLength - 1)) / recordLength) t
 
 -- the last answer, z if there is none
 unfoldable pub lastOf : Answer → List Answer → Answer

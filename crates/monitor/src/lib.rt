@@ -1,14 +1,11 @@
 // The monitor: a record on a lent session, and a run over many records (the paper, "Operations" and "Refused ..").
 ghost use mathlib.Core.Path.{_≡_};
-ghost use Prim.Native.Nat.{_<_};
-ghost use lib.ListN.{length, take, drop};
-ghost use Rattle.records.specs.Records.{recordLength};
+ghost use Rattle.records.specs.Traces.{traceRecords};
 ghost use Rattle.monitor.specs.Steps.{stepAnswer, stepEffect};
 ghost use Rattle.monitor.specs.Runs.{runEffect};
-ghost use Rattle.monitor.specs.Traces.{traceRecords, noReport, extended, runReport, replayReport, replayEffect};
+ghost use Rattle.monitor.specs.Traces.{noReport, extended, runReport, replayReport, replayEffect};
 use answers::Answer;
 use answers::Tally;
-use records::RECORD_LENGTH;
 use session::SESSION_LENGTH;
 
 // One step: the record on the session, which must have 5,280 numbers. Any bytes and any numbers end in an answer.
@@ -56,17 +53,6 @@ fn extend(total: Replayed, answer: Answer) -> Replayed
     }
 }
 
-// The record that begins at a place of the trace: 8 bytes, or what is left.
-fn record_at(trace: &[u8], at: usize) -> &[u8]
-    requires { ⌜ at < length (now trace) ⌝ }
-    ensures { λ r. ⌜ now r ≡ take recordLength (drop at (now (trace .entry))) ⌝ }
-{
-    if trace.len() - at < RECORD_LENGTH {
-        return &trace[at..];
-    }
-    &trace[at..at + RECORD_LENGTH]
-}
-
 // The records of the trace on the session.
 fn run(trace: &[u8], session: &mut [u64]) -> Replayed
     ensures { λ r. ⌜ (r ≡ runReport (now (session .entry)) (traceRecords (now (trace .entry)))) × (now (session .exit) ≡ runEffect (now (session .entry)) (traceRecords (now (trace .entry)))) ⌝ }
@@ -74,7 +60,7 @@ fn run(trace: &[u8], session: &mut [u64]) -> Replayed
     let mut total = not_run(0);
     let mut at: usize = 0;
     while at < trace.len() {
-        let bytes = record_at(trace, at);
+        let bytes = records::record_at(trace, at);
         let answer = step(session, bytes);
         total = extend(total, answer);
         at += bytes.len();

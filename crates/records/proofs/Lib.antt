@@ -1,6 +1,7 @@
--- Theorems is the file to read: what is proved of codes and records. CodeLaws and RecordLaws are cited by other crates; TestLaws
--- serves inside.
+-- Theorems is the file to read: what is proved of codes and records. CodeLaws, RecordLaws and TraceLaws are cited by other
+-- crates; TestLaws serves inside.
 pub mod Theorems
 pub mod CodeLaws
 pub mod RecordLaws
 pub mod TestLaws
+pub mod TraceLaws

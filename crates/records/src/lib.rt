@@ -1,7 +1,7 @@
 // The operation record: the table of codes, and what a record of 8 bytes asks for (the paper, "Operations").
 ghost use mathlib.Core.Path.{_≡_};
 ghost use Prim.Native.Nat.{_≤_, _<_};
-ghost use lib.ListN.{length};
+ghost use lib.ListN.{length, take, drop};
 ghost use Rattle.records.specs.Codes.{codeCount, codeAt};
 ghost use Rattle.records.specs.Records.{recordLength, requestIn, userFits, recordGood};
 use image::CONTAINER_LIMIT;
@@ -157,4 +157,17 @@ pub fn record_good(bytes: &[u8]) -> bool
         return false;
     }
     q.o < CONTAINER_LIMIT
+}
+
+// ---- a trace
+
+// The record that begins at a place of the trace: 8 bytes, or what is left.
+pub fn record_at(trace: &[u8], at: usize) -> &[u8]
+    requires { ⌜ at < length (now trace) ⌝ }
+    ensures { λ r. ⌜ now r ≡ take recordLength (drop at (now (trace .entry))) ⌝ }
+{
+    if trace.len() - at < RECORD_LENGTH {
+        return &trace[at..];
+    }
+    &trace[at..at + RECORD_LENGTH]
 }

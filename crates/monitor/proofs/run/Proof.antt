@@ -3,7 +3,8 @@ use Prim.Native.Nat.{_-_}
 use native.Mathlib.Omega.{arith}
 use lib.ListN.{length}
 use borrow.Author.Needs.{needs}
-use Rattle.monitor.proofs.TraceRuns.{Running, run-start, run-next, run-end, record-length}
+use Rattle.monitor.proofs.TraceRuns.{Running, run-start, run-next, run-end}
+use Rattle.records.proofs.TraceLaws.{record-length}
 use Rattle.monitor.proofs.run.Statement.{statement}
 use Rattle.monitor.proofs.run.Tie as tie
 

@@ -1,8 +1,8 @@
--- `monitor::record_at`. Eight bytes are left, or fewer.
-use Rattle.monitor.proofs.TraceRuns.{short-record, whole-record}
+-- `records::record_at`. Eight bytes are left, or fewer.
+use Rattle.records.proofs.TraceLaws.{short-record, whole-record}
 use borrow.Author.Needs.{needs}
-use Rattle.monitor.proofs.record_at.Statement.{statement}
-use Rattle.monitor.proofs.record_at.Tie as tie
+use Rattle.records.proofs.record_at.Statement.{statement}
+use Rattle.records.proofs.record_at.Tie as tie
 
 returns : tie.Need-returns
 returns c = short-record (c .before .before .args .trace .now) (c .before .before .args .at) (c .before .if1 .taken)

@@ -1,0 +1,52 @@
+-- The records of a trace one by one: the record that begins at a place, and those behind it.
+use Prim.Native.Nat.{ℕ, suc, _+_, _-_, _/_, _≤_, _<_}
+use native.Mathlib.Omega.{arith}
+use native.Mathlib.Decide.{decLt}
+use native.Mathlib.Nat.{add-sub-cancel-left}
+use mathlib.Core.Path.{_≡_, sym, ap, _∙_}
+use mathlib.Core.List.{List, [], _∷_}
+use lib.ListN.{length, take, drop, length-take, length-drop, drop-of-length-le}
+use lib.Seq.{take-all, drop-drop}
+use Rattle.fields.specs.Bytes.{cut}
+use Rattle.records.specs.Records.{recordLength}
+use Rattle.records.specs.Traces.{traceRecords}
+
+-- fewer than 8 bytes are left
+pub short-record : (t : List ℕ) (at : ℕ) → length t - at < recordLength → take (length t - at) (drop at t) ≡ take recordLength (drop at t)
+short-record t at h =
+    take-all (length t - at) (drop at t) (omega (arith, length-drop at t))
+    ∙ sym (take-all recordLength (drop at t) (omega (arith, length-drop at t)))
+
+pub whole-record : (t : List ℕ) (at : ℕ) → take (at + recordLength - at) (drop at t) ≡ take recordLength (drop at t)
+whole-record t at = rw add-sub-cancel-left
+
+one-more : (x : List ℕ) → 0 < length x → traceRecords x ≡ take recordLength x ∷ traceRecords (drop recordLength x)
+unfolding traceRecords cut
+one-more x h =
+    let e : (length x + (recordLength - 1)) / recordLength ≡ suc ((length (drop recordLength x) + (recordLength - 1)) / recordLength) = omega (arith, length-drop recordLength x) in
+    ap (λ (n : ℕ). cut recordLength n x) e
+
+behind : (t : List ℕ) (at : ℕ) → drop recordLength (drop at t) ≡ drop (at + length (take recordLength (drop at t))) t
+behind t at = drop-drop recordLength at t ∙ by (decLt (length t) (at + recordLength))
+  where
+    by : Dec (length t < at + recordLength) → drop (at + recordLength) t ≡ drop (at + length (take recordLength (drop at t))) t
+    by (yes h) =
+        drop-of-length-le t {i = at + recordLength} (omega arith)
+        ∙ sym (drop-of-length-le t {i = at + length (take recordLength (drop at t))} (omega (arith, length-take recordLength (drop at t), length-drop at t)))
+    by (no h) =
+        let e : at + recordLength ≡ at + length (take recordLength (drop at t)) = omega (arith, length-take recordLength (drop at t), length-drop at t) in
+        ap (λ (n : ℕ). drop n t) e
+
+pub next-record : (t : List ℕ) (at : ℕ) → at < length t → traceRecords (drop at t) ≡ take recordLength (drop at t) ∷ traceRecords (drop (at + length (take recordLength (drop at t))) t)
+next-record t at h =
+    one-more (drop at t) (omega (arith, length-drop at t)) ∙ ap (λ (x : List ℕ). take recordLength (drop at t) ∷ traceRecords x) (behind t at)
+
+pub no-record : (t : List ℕ) (at : ℕ) → length t ≤ at → traceRecords (drop at t) ≡ []
+unfolding traceRecords cut
+no-record t at h = rw (drop-of-length-le t {i = at} h)
+
+-- a record has a byte or more, and lies in the trace
+pub record-length : (t x : List ℕ) (at : ℕ) → at < length t → x ≡ take recordLength (drop at t) → (1 ≤ length x) × (at + length x ≤ length t)
+record-length t x at l xe =
+    let e : length x ≡ length (take recordLength (drop at t)) = ap length xe in
+    (omega (arith, length-take recordLength (drop at t), length-drop at t), omega (arith, length-take recordLength (drop at t), length-drop at t))
