@@ -72,6 +72,18 @@ pub history-first : (n : ℕ) (s : List ℕ) (rs : List (List ℕ)) → historyO
 unfolding historyIn runAnswers
 history-first n s rs = history-told start s (take n rs) ∙ ap (historyBehind start (take n rs)) (answers-take n s rs)
 
+-- ---- a run, and a run behind it
+
+pub runAnswers-append : (s : List ℕ) (qs rs : List (List ℕ)) → runAnswers s (qs ++ rs) ≡ runAnswers s qs ++ runAnswers (runEffect s qs) rs
+unfolding runAnswers runEffect
+runAnswers-append s [] rs = refl
+runAnswers-append s (q ∷ qs) rs = ap (λ l. stepOn s q .1 ∷ l) (runAnswers-append (stepOn s q .0) qs rs)
+
+pub runEffect-append : (s : List ℕ) (qs rs : List (List ℕ)) → runEffect s (qs ++ rs) ≡ runEffect (runEffect s qs) rs
+unfolding runEffect
+runEffect-append s [] rs = refl
+runEffect-append s (q ∷ qs) rs = runEffect-append (stepOn s q .0) qs rs
+
 -- ---- one more record
 
 pub answer-last : (s : List ℕ) (rs : List (List ℕ)) (r : List ℕ) → getElem? (answers stepOn s (rs ++ (r ∷ []))) (length rs) ≡ some (stepOn (runEffect s rs) r .1)
