@@ -1,12 +1,12 @@
 -- The records of a trace one by one: the record that begins at a place, and those behind it.
-use Prim.Native.Nat.{ℕ, suc, _+_, _-_, _/_, _≤_, _<_}
+use Prim.Native.Nat.{ℕ, zero, suc, _+_, _-_, _*_, _/_, _%_, _≤_, _<_}
 use native.Mathlib.Omega.{arith}
 use native.Mathlib.Decide.{decLt}
-use native.Mathlib.Nat.{add-sub-cancel-left}
-use mathlib.Core.Path.{_≡_, sym, ap, _∙_}
-use mathlib.Core.List.{List, [], _∷_}
-use lib.ListN.{length, take, drop, length-take, length-drop, drop-of-length-le}
-use lib.Seq.{take-all, drop-drop}
+use native.Mathlib.Nat.{add-sub-cancel-left, suc-mul}
+use mathlib.Core.Path.{_≡_, sym, ap, ap₂, _∙_}
+use mathlib.Core.List.{List, [], _∷_, _++_}
+use lib.ListN.{length, take, drop, length-append, length-take, length-drop, drop-of-length-le}
+use lib.Seq.{take-all, drop-drop, take-append-le, drop-append-le}
 use Rattle.fields.specs.Bytes.{cut}
 use Rattle.records.specs.Records.{recordLength}
 use Rattle.records.specs.Traces.{traceRecords}
@@ -50,3 +50,28 @@ pub record-length : (t x : List ℕ) (at : ℕ) → at < length t → x ≡ take
 record-length t x at l xe =
     let e : length x ≡ length (take recordLength (drop at t)) = ap length xe in
     (omega (arith, length-take recordLength (drop at t), length-drop at t), omega (arith, length-take recordLength (drop at t), length-drop at t))
+
+-- ---- a trace cut between records
+
+cut-append : (w k n : ℕ) (x y : List ℕ) → length x ≡ k * w → cut w (k + n) (x ++ y) ≡ cut w k x ++ cut w n y
+unfolding cut
+cut-append w zero n [] y h = let z : 0 + n ≡ n = omega arith in rw z
+cut-append w zero n (b ∷ x) y h = absurd (omega arith)
+cut-append w (suc k) n x y h =
+    let l : w ≤ length x = omega (arith, suc-mul k w) in
+    let z : suc k + n ≡ suc (k + n) = omega arith in
+    let e : length (drop w x) ≡ k * w = omega (arith, suc-mul k w, length-drop w x) in
+    rw z (ap₂ _∷_ (take-append-le w x y l) (ap (cut w (k + n)) (drop-append-le w x y l) ∙ cut-append w k n (drop w x) y e))
+
+-- the records of a part that ends with a whole record, then those behind it
+pub records-append : (x y : List ℕ) → length x % recordLength ≡ 0 → traceRecords (x ++ y) ≡ traceRecords x ++ traceRecords y
+unfolding traceRecords
+records-append x y h =
+    let k : ℕ = length x / recordLength in
+    let n : ℕ = (length y + (recordLength - 1)) / recordLength in
+    let e : (length (x ++ y) + (recordLength - 1)) / recordLength ≡ k + n = omega (arith, length-append x y) in
+    let f : (length x + (recordLength - 1)) / recordLength ≡ k = omega arith in
+    let g : length x ≡ k * recordLength = omega arith in
+    ap (λ (m : ℕ). cut recordLength m (x ++ y)) e
+    ∙ cut-append recordLength k n x y g
+    ∙ ap (λ (m : ℕ). cut recordLength m x ++ cut recordLength n y) (sym f)

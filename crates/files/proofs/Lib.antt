@@ -1,0 +1,2 @@
+-- How many bytes a call moved.
+pub mod MoveLaws

@@ -1,0 +1,2 @@
+-- What the contracts of this crate cite: a number of bytes within a buffer.
+pub mod Moves

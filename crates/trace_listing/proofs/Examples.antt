@@ -1,0 +1,52 @@
+-- The paper's listing, every byte: the listing of document 000's image of 110 bytes and of the trace of six records.
+use Prim.Native.Nat.{ℕ}
+use mathlib.Core.Path.{_≡_, refl, ap, _∙_}
+use mathlib.Core.List.{List, [], _∷_, _++_}
+use lib.ListN.{replicate}
+use borrow.Author.Tests.{eq-eqb}
+use Rattle.fields.specs.Bytes.{numberIn, field, cut}
+use Rattle.answers.specs.declared.Answer.{Answer}
+use Rattle.answers.specs.Answers.{quiet, alert, refused}
+use Rattle.answers.specs.Tallies.{noTally, counted, countedAll}
+use Rattle.image.specs.Image.{checkOf, policyIn}
+use Rattle.session.specs.Limits.{sessionLength}
+use Rattle.session.specs.Session.{startOf}
+use Rattle.session.proofs.Canonical.{effect-start}
+use Rattle.records.specs.Records.{requestIn}
+use Rattle.records.specs.Traces.{traceRecords}
+use Rattle.monitor.specs.Runs.{runAnswers}
+use Rattle.monitor.proofs.Examples.{trace, checked-runs}
+use Rattle.monitor.proofs.PaperListing.{image, read-image}
+use Rattle.listing.specs.Text.{ascii, digit, digits, decimalIn, decimal, hexadecimal}
+use Rattle.listing.specs.Lines.{line, operationWord, verdictWord, answerWord, answerFields, heading, stepLine, shortLine, totalLine}
+use Rattle.trace_listing.specs.Listings.{recordLine, linesOf, partText, partTally, totalOf, listingOf}
+use Rattle.trace_listing.specs.Parts.{together}
+
+-- the bytes of the trace
+abbrev pub traceBytes : List ℕ
+traceBytes =
+    1 ∷ 0 ∷ 4 ∷ 0 ∷ 2 ∷ 0 ∷ 255 ∷ 255
+    ∷ 3 ∷ 0 ∷ 4 ∷ 0 ∷ 0 ∷ 0 ∷ 255 ∷ 255
+    ∷ 1 ∷ 0 ∷ 5 ∷ 0 ∷ 0 ∷ 0 ∷ 255 ∷ 255
+    ∷ 3 ∷ 0 ∷ 5 ∷ 0 ∷ 1 ∷ 0 ∷ 255 ∷ 255
+    ∷ 2 ∷ 0 ∷ 6 ∷ 0 ∷ 1 ∷ 0 ∷ 255 ∷ 255
+    ∷ 1 ∷ 0 ∷ 6 ∷ 0 ∷ 9 ∷ 0 ∷ 255 ∷ 255
+    ∷ []
+
+abbrev given : List Answer
+given = quiet 4 4 ∷ quiet 0 5 ∷ quiet 5 5 ∷ alert 1 7 ∷ quiet 1 0 ∷ refused 12 ∷ []
+
+answered : runAnswers (startOf (policyIn image)) (traceRecords traceBytes) ≡ given
+unfolding traceRecords cut
+answered = ap (λ p. runAnswers (startOf p) trace) (read-image .spelled) ∙ checked-runs .listing
+
+spelled : heading ++ (linesOf noTally (traceRecords traceBytes) given ++ totalOf (countedAll noTally given))
+    ≡ ascii "step op p o verdict at tag\n1 read 4 2 quiet 4 0000000000000004\n2 append 4 0 quiet 0 0000000000000005\n3 read 5 0 quiet 5 0000000000000005\n4 append 5 1 alert 1 0000000000000007\n5 write 6 1 quiet 1 0000000000000000\n6 read 6 9 refused 12\ntotal 6 alerts 1 refused 1\n"
+unfolding traceRecords cut requestIn numberIn field counted countedAll recordLine linesOf totalOf heading stepLine totalLine operationWord answerWord answerFields verdictWord line decimal decimalIn hexadecimal digits digit ascii
+spelled = refl
+
+pub listing : listingOf image traceBytes
+    ≡ ascii "step op p o verdict at tag\n1 read 4 2 quiet 4 0000000000000004\n2 append 4 0 quiet 0 0000000000000005\n3 read 5 0 quiet 5 0000000000000005\n4 append 5 1 alert 1 0000000000000007\n5 write 6 1 quiet 1 0000000000000000\n6 read 6 9 refused 12\ntotal 6 alerts 1 refused 1\n"
+unfolding listingOf partText partTally
+listing =
+    rw (eq-eqb (checkOf image) 0 (effect-start image (replicate sessionLength 0) (read-image .unrefused) .0), answered) spelled

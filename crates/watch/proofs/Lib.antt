@@ -1,2 +1,0 @@
--- Where a line ends, and the line of a record.
-pub mod StepLaws
