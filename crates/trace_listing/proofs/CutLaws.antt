@@ -1,6 +1,6 @@
 -- A trace cut between records: text, tally and session of the whole are those of its parts, one behind the other.
 use Prim.Native.Nat.{ℕ, suc, _%_}
-use mathlib.Core.Path.{_≡_, refl, sym, ap, ap₂, _∙_}
+use mathlib.Core.Path.{_≡_, refl, sym, ap, _∙_}
 use mathlib.Core.List.{List, [], _∷_, _++_, append-assoc, append-nil}
 use lib.ListN.{length}
 use Rattle.answers.specs.declared.Answer.{Answer}
@@ -9,7 +9,6 @@ use Rattle.answers.specs.Tallies.{more, counted, countedAll}
 use Rattle.records.specs.Records.{recordLength}
 use Rattle.records.specs.Traces.{traceRecords}
 use Rattle.records.proofs.TraceLaws.{records-append}
-use Rattle.monitor.specs.Steps.{stepAnswer}
 use Rattle.monitor.specs.Runs.{stepOn, runAnswers, runEffect}
 use Rattle.monitor.proofs.RunLaws.{runAnswers-append, runEffect-append}
 use Rattle.trace_listing.specs.Listings.{recordLine, linesOf, partText, partTally, partSession}

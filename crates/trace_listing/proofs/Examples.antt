@@ -18,9 +18,8 @@ use Rattle.monitor.specs.Runs.{runAnswers}
 use Rattle.monitor.proofs.Examples.{trace, checked-runs}
 use Rattle.monitor.proofs.PaperListing.{image, read-image}
 use Rattle.listing.specs.Text.{ascii, digit, digits, decimalIn, decimal, hexadecimal}
-use Rattle.listing.specs.Lines.{line, operationWord, verdictWord, answerWord, answerFields, heading, stepLine, shortLine, totalLine}
+use Rattle.listing.specs.Lines.{line, operationWord, verdictWord, answerWord, answerFields, heading, stepLine, totalLine}
 use Rattle.trace_listing.specs.Listings.{recordLine, linesOf, partText, partTally, totalOf, listingOf}
-use Rattle.trace_listing.specs.Parts.{together}
 
 -- the bytes of the trace
 abbrev pub traceBytes : List ℕ

@@ -3,9 +3,9 @@
 -- program hands on are the texts of `list_heading`, of `list_part` for each part of the trace, and of `list_total`.
 use Prim.Native.Nat.{ℕ, suc, _%_, _^_, _<_}
 use native.Mathlib.Omega.{arith}
-use mathlib.Core.Path.{_≡_, refl, sym, ap, ap₂, _∙_}
+use mathlib.Core.Path.{_≡_}
 use mathlib.Core.Logic.{_≢_}
-use mathlib.Core.List.{List, [], _∷_, _++_}
+use mathlib.Core.List.{List, _∷_, _++_}
 use lib.ListN.{length}
 use borrow.Author.Tests.{eq-eqb, ne-eqb}
 use Rattle.answers.specs.declared.Tally.{Tally}

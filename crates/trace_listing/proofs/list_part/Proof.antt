@@ -1,6 +1,5 @@
 -- `trace_listing::list_part`. The first n bytes of the part are lent, or all of them.
 use native.Mathlib.Omega.{arith}
-use mathlib.Core.Path.{sym}
 use lib.ListN.{length-take}
 use lib.Seq.{take-all}
 use borrow.Author.Needs.{needs}
