@@ -1,0 +1,7 @@
+-- Theorems is the file to read first.
+pub mod Theorems
+pub mod TokenLaws
+pub mod LineLaws
+pub mod ReadingLaws
+pub mod GrammarLaws
+pub mod Examples

@@ -1,0 +1,1 @@
+// The text of profiles (change request No. 1).
