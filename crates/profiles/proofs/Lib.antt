@@ -4,4 +4,5 @@ pub mod TokenLaws
 pub mod LineLaws
 pub mod ReadingLaws
 pub mod GrammarLaws
+pub mod ScanLaws
 pub mod Examples

@@ -13,7 +13,7 @@ use Rattle.lists.specs.Lists.{every, joined}
 use Rattle.lists.proofs.Bools.{and-in, and-0, and-1, clash}
 use Rattle.lists.proofs.Every.{every-cons, every-all}
 use Rattle.lists.proofs.Places.{some-inj, none-some}
-use Rattle.profiles.specs.Profiles.{Mode, mode-r, mode-w, mode-a, mode-l, mode-m, mode-ix, mode-px, mode-Px, mode-ux, mode-Ux, Entry, ascii, slash, modeText, modesText, profileWord, profileEnd, modesStart, modesEnd, profileLine, entryLine, endLine, isDigit, isLetter, isPathByte, pathGood, modesGood, entryGood}
+use Rattle.profiles.specs.Profiles.{Mode, mode-r, mode-w, mode-a, mode-l, mode-m, mode-ix, mode-px, mode-Px, mode-ux, mode-Ux, Entry, ascii, slash, modeText, modesText, profileWord, profileEnd, modesStart, modesEnd, profileLine, entryLine, endLine, isBetween, isDigit, isLetter, isPathByte, pathGood, modesGood, entryGood}
 use Rattle.profiles.specs.Tokens.{starts, tokens}
 use Rattle.profiles.specs.Reading.{Line, opens, enters, closes, lineText, lineGood, pathByteIn, byteText, pathIn, modeAmong, allModes, modeIn, modesIn, entryIn, linesToTry, lineAmong, lineIn, linesIn, linesText}
 use Rattle.profiles.proofs.TokenLaws.{starts-seam, tokens-stop, tokens-front, tokens-every, tokens-back}
@@ -57,7 +57,7 @@ path-back p r h e =
     ap (λ (q : List ℕ). tokens pathByteIn byteText (q ++ r)) (sym (joined-bytes p)) ∙ tokens-back pathByteIn byteText isPathByte byte-long path-byte-back p r h e
 
 pub path-bytes : (p : List ℕ) → pathGood p ≡ true → every isPathByte p ≡ true
-unfolding pathGood isPathByte isLetter isDigit
+unfolding pathGood isPathByte isLetter isDigit isBetween
 path-bytes [] h = clash h refl
 path-bytes (b ∷ p) h =
     every-cons isPathByte b p (ap isPathByte (eqb-true b slash (and-0 (eqb b slash) _ h)))
@@ -164,7 +164,7 @@ unfolding lineGood entryGood entryIn pathIn pathGood
 no-entry-line t h = rw (tokens-stop pathByteIn byteText t h)
 
 profile-path : (p r : List ℕ) → pathGood p ≡ true → pathIn (drop (length profileWord) (profileLine p ++ r)) ≡ p
-unfolding profileLine profileWord profileEnd ascii pathByteIn isPathByte isLetter isDigit
+unfolding profileLine profileWord profileEnd ascii pathByteIn isPathByte isLetter isDigit isBetween
 profile-path p r h = ap pathIn (append-assoc p profileEnd r) ∙ path-back p (profileEnd ++ r) (path-bytes p h) refl
 
 profile-back : (p r : List ℕ) → pathGood p ≡ true → lineIn (profileLine p ++ r) ≡ some (opens p)
@@ -180,7 +180,7 @@ module _ (p : List ℕ) (ms : List Mode) (r : List ℕ) (h : pathGood p ≡ true
   entry-split = append-assoc p (32 ∷ (modesText ms ++ modesEnd)) r
 
   entry-path : pathIn (p ++ (32 ∷ ((modesText ms ++ modesEnd) ++ r))) ≡ p
-  unfolding pathByteIn isPathByte isLetter isDigit
+  unfolding pathByteIn isPathByte isLetter isDigit isBetween
   entry-path = path-back p (32 ∷ ((modesText ms ++ modesEnd) ++ r)) (path-bytes p h) refl
 
   entry-modes : modesIn (drop (length p + 1) (p ++ (32 ∷ ((modesText ms ++ modesEnd) ++ r)))) ≡ ms
@@ -212,7 +212,7 @@ entry-back e r h =
     ∙ line-taken (enters e) (closes ∷ []) t h (starts-seam (entryLine e) r)
 
 end-back : (r : List ℕ) → lineIn (endLine ++ r) ≡ some closes
-unfolding lineIn linesToTry lineGood lineText endLine ascii pathByteIn isPathByte isLetter isDigit
+unfolding lineIn linesToTry lineGood lineText endLine ascii pathByteIn isPathByte isLetter isDigit isBetween
 end-back r =
     let t = endLine ++ r in
     line-passed (opens (pathIn (drop (length profileWord) t))) (enters (entryIn t) ∷ closes ∷ []) t (no-profile-line (pathIn (drop (length profileWord) t)) t (λ q. omega arith))

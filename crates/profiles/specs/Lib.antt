@@ -5,3 +5,4 @@ pub mod Grammar
 pub mod Tokens
 pub mod Reading
 pub mod Texts
+pub mod Scanning

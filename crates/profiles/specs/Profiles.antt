@@ -94,12 +94,15 @@ slash = 47
 abbrev pub dot : ℕ
 dot = 46
 
+unfoldable pub isBetween : ℕ → ℕ → ℕ → Bool
+isBetween low high b = leb low b && leb b high
+
 -- of ASCII
 unfoldable pub isDigit : ℕ → Bool
-isDigit b = leb 48 b && leb b 57
+isDigit b = isBetween 48 57 b
 
 unfoldable pub isLetter : ℕ → Bool
-isLetter b = (leb 65 b && leb b 90) || (leb 97 b && leb b 122)
+isLetter b = isBetween 97 122 b || isBetween 65 90 b
 
 -- "letters, digits, dots or slashes"
 unfoldable pub isPathByte : ℕ → Bool
