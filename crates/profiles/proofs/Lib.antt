@@ -5,4 +5,6 @@ pub mod LineLaws
 pub mod ReadingLaws
 pub mod GrammarLaws
 pub mod ScanLaws
+pub mod PathLaws
+pub mod ModeLaws
 pub mod Examples

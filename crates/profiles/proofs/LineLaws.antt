@@ -29,7 +29,7 @@ unfolding pathByteIn starts
 path-byte-front [] b h = absurd (none-some h)
 path-byte-front (c ∷ t) b h = and-in (eq-eqb b c (sym (byte-cond c b (isPathByte c) h .0))) refl
 
-path-byte-good : (t : List ℕ) (b : ℕ) → pathByteIn t ≡ some b → isPathByte b ≡ true
+pub path-byte-good : (t : List ℕ) (b : ℕ) → pathByteIn t ≡ some b → isPathByte b ≡ true
 unfolding pathByteIn
 path-byte-good [] b h = absurd (none-some h)
 path-byte-good (c ∷ t) b h = let g = byte-cond c b (isPathByte c) h in ap isPathByte (sym (g .0)) ∙ g .1
@@ -38,7 +38,7 @@ path-byte-back : (b : ℕ) (r : List ℕ) → isPathByte b ≡ true → pathByte
 unfolding pathByteIn
 path-byte-back b r h = rw h
 
-byte-long : (b : ℕ) → 0 < length (byteText b)
+pub byte-long : (b : ℕ) → 0 < length (byteText b)
 byte-long b = omega arith
 
 pub joined-bytes : (p : List ℕ) → joined (map byteText p) ≡ p
@@ -87,11 +87,11 @@ mode-among (n ∷ ms) t m h = by (starts (modeText n) t) refl h (mode-among ms t
     by true q h ih = ap (λ (x : Mode). starts (modeText x) t) (sym (some-inj h)) ∙ q
     by false q h ih = ih h
 
-mode-front : (t : List ℕ) (m : Mode) → modeIn t ≡ some m → starts (modeText m) t ≡ true
+pub mode-front : (t : List ℕ) (m : Mode) → modeIn t ≡ some m → starts (modeText m) t ≡ true
 unfolding modeIn
 mode-front t m h = mode-among allModes t m h
 
-mode-back : (m : Mode) (r : List ℕ) → true ≡ true → modeIn (modeText m ++ r) ≡ some m
+pub mode-back : (m : Mode) (r : List ℕ) → true ≡ true → modeIn (modeText m ++ r) ≡ some m
 unfolding modeIn modeAmong allModes modeText ascii starts
 mode-back mode-r r h = refl
 mode-back mode-w r h = refl
@@ -196,7 +196,7 @@ module _ (p : List ℕ) (ms : List Mode) (r : List ℕ) (h : pathGood p ≡ true
       = ap (λ (q : List ℕ). modesIn (drop (length q + 1) (p ++ (32 ∷ ((modesText ms ++ modesEnd) ++ r))))) entry-path ∙ entry-modes in
       λ i. record { path = entry-path i; modes = e i })
 
-slash-first : (p r : List ℕ) → pathGood p ≡ true → getD (p ++ r) 0 0 ≡ slash
+pub slash-first : (p r : List ℕ) → pathGood p ≡ true → getD (p ++ r) 0 0 ≡ slash
 unfolding pathGood
 slash-first [] r h = clash h refl
 slash-first (b ∷ p) r h = eqb-true b slash (and-0 (eqb b slash) _ h)

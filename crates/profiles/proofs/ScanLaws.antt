@@ -17,7 +17,7 @@ use Rattle.profiles.specs.Tokens.{starts, tokens}
 use Rattle.profiles.specs.Reading.{pathByteIn, byteText, pathIn}
 use Rattle.profiles.proofs.TokenLaws.{starts-split, tokens-stop, tokens-step}
 
-drop-next : (t : List ℕ) (i : ℕ) → i < length t → drop i t ≡ getD t i 0 ∷ drop (i + 1) t
+pub drop-next : (t : List ℕ) (i : ℕ) → i < length t → drop i t ≡ getD t i 0 ∷ drop (i + 1) t
 drop-next t i l = drop-cons t i 0 l ∙ ap (λ (k : ℕ). getD t i 0 ∷ drop k t) (sym (add-one i))
 
 -- ---- a word

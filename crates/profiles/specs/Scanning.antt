@@ -1,9 +1,11 @@
 -- Lines of a text in numbers, as the code that walks a text hands them on: what sort of line stands at a place, where its
 -- path is, its modes as a set, and where the next line begins. A text that has a reading is, line by line, the lines of it.
 use Prim.Native.Nat.{ℕ, _+_}
+use mathlib.Core.Bool.{cond}
 use mathlib.Core.List.{List, [], _∷_}
 use mathlib.Core.Option.{Option, none, some}
 use lib.Bits.{bitOr}
+use lib.Dec.{eqb}
 use lib.ListN.{length, drop}
 use Rattle.profiles.specs.Profiles.{
   Mode,
@@ -54,6 +56,10 @@ modeBits ms = withModes 0 ms
 unfoldable pub modeScan : Option Mode → ScannedMode
 modeScan none = record { bit = 0; width = 0 }
 modeScan (some m) = record { bit = modeBit m; width = length (modeText m) }
+
+-- the mode of two letters that has this bit, if the second is x
+unfoldable pub withX : ℕ → ℕ → ScannedMode
+withX second bit = cond (eqb second 120) (record { bit = bit; width = 2 }) (record { bit = 0; width = 0 })
 
 unfoldable pub modeAt : List ℕ → ℕ → ScannedMode
 modeAt t at = modeScan (modeIn (drop at t))

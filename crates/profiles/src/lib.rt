@@ -5,7 +5,41 @@ ghost use lib.ListN.{length, getD, drop};
 ghost use Rattle.profiles.specs.Profiles.{isBetween, isPathByte, pathGood};
 ghost use Rattle.profiles.specs.Tokens.{starts};
 ghost use Rattle.profiles.specs.Reading.{pathIn};
-ghost use Rattle.profiles.specs.Scanning.{modeAt, modesAt, lineAt};
+ghost use Rattle.profiles.specs.Scanning.{withX, modeAt, modesAt};
+
+// ---- the bytes and numbers of the format
+
+const DOT: u8 = 46;
+
+const SLASH: u8 = 47;
+
+const X: u8 = 120;
+
+// The least and the most bytes of a path.
+const PATH_LEAST: usize = 2;
+
+const PATH_MOST: usize = 64;
+
+// The bits of the modes r, w, a, l, m, ix, px, Px, ux, Ux.
+pub const MODE_R: u64 = 1;
+
+pub const MODE_W: u64 = 2;
+
+pub const MODE_A: u64 = 4;
+
+pub const MODE_L: u64 = 8;
+
+pub const MODE_M: u64 = 16;
+
+pub const MODE_IX: u64 = 32;
+
+pub const MODE_PX: u64 = 64;
+
+pub const MODE_PX_SCRUBBED: u64 = 128;
+
+pub const MODE_UX: u64 = 256;
+
+pub const MODE_UX_SCRUBBED: u64 = 512;
 
 // ---- bytes
 
@@ -82,20 +116,102 @@ fn path_end(text: &[u8], at: usize) -> usize
     i
 }
 
-const DOT: u8 = 46;
+// A slash and 1 to 63 bytes behind it, `end` being the place behind the bytes of a path.
+fn path_good(text: &[u8], at: usize, end: usize) -> bool
+    requires { ⌜ end ≡ at + length (pathIn (drop at (now text))) ⌝ }
+    ensures { λ r. ⌜ r ≡ pathGood (pathIn (drop at (now (text .entry)))) ⌝ }
+{
+    if byte(text, at) != SLASH {
+        return false;
+    }
+    if end - at < PATH_LEAST {
+        return false;
+    }
+    end - at <= PATH_MOST
+}
 
-const SLASH: u8 = 47;
+// ---- modes
 
-// ---- lines
-
+// A mode's bit and its length; 0 and 0 where there is no mode.
 pub struct ScannedMode {
     pub bit: u64,
     pub width: usize,
 }
 
+// The bits of modes, and the place behind them.
 pub struct ScannedModes {
     pub bits: u64,
     pub next: usize,
+}
+
+// The mode of two letters that has this bit, if the second is x.
+fn with_x(second: u8, bit: u64) -> ScannedMode
+    ensures { λ r. ⌜ r ≡ withX second bit ⌝ }
+{
+    if second == X {
+        return ScannedMode { bit: bit, width: 2 };
+    }
+    ScannedMode { bit: 0, width: 0 }
+}
+
+// The mode at a place.
+fn mode_at(text: &[u8], at: usize) -> ScannedMode
+    requires { ⌜ at < length (now text) ⌝ }
+    ensures { λ r. ⌜ r ≡ modeAt (now (text .entry)) at ⌝ }
+{
+    let second = byte(text, at + 1);
+    match byte(text, at) {
+        114 => ScannedMode {
+            bit: MODE_R,
+            width: 1,
+        },
+        119 => ScannedMode {
+            bit: MODE_W,
+            width: 1,
+        },
+        97 => ScannedMode {
+            bit: MODE_A,
+            width: 1,
+        },
+        108 => ScannedMode {
+            bit: MODE_L,
+            width: 1,
+        },
+        109 => ScannedMode {
+            bit: MODE_M,
+            width: 1,
+        },
+        105 => with_x(second, MODE_IX),
+        112 => with_x(second, MODE_PX),
+        80 => with_x(second, MODE_PX_SCRUBBED),
+        117 => with_x(second, MODE_UX),
+        85 => with_x(second, MODE_UX_SCRUBBED),
+        _ => ScannedMode { bit: 0, width: 0 },
+    }
+}
+
+// The modes at a place.
+fn modes_at(text: &[u8], at: usize) -> ScannedModes
+    requires { ⌜ at ≤ length (now text) ⌝ }
+    ensures { λ r. ⌜ r ≡ modesAt (now (text .entry)) at ⌝ }
+{
+    let mut i = at;
+    let mut bits: u64 = 0;
+    while i < text.len() {
+        let mode = mode_at(text, i);
+        if mode.width == 0 {
+            return ScannedModes {
+                bits: bits,
+                next: i,
+            };
+        }
+        i += mode.width;
+        bits = bits | mode.bit;
+    }
+    ScannedModes {
+        bits: bits,
+        next: i,
+    }
 }
 
 pub struct ScannedLine {
