@@ -7,4 +7,5 @@ pub mod GrammarLaws
 pub mod ScanLaws
 pub mod PathLaws
 pub mod ModeLaws
+pub mod LineScans
 pub mod Examples

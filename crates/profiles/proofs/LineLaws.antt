@@ -10,13 +10,13 @@ use lib.ListN.{length, getD, drop, length-append}
 use lib.Seq.{drop-append-add}
 use borrow.Author.Tests.{eqb-true, eq-eqb, ne-eqb}
 use Rattle.lists.specs.Lists.{every, joined}
-use Rattle.lists.proofs.Bools.{and-in, and-0, and-1, clash}
+use Rattle.lists.proofs.Bools.{and-in, and-0, and-1, clash, refuted}
 use Rattle.lists.proofs.Every.{every-cons, every-all}
 use Rattle.lists.proofs.Places.{some-inj, none-some}
 use Rattle.profiles.specs.Profiles.{Mode, mode-r, mode-w, mode-a, mode-l, mode-m, mode-ix, mode-px, mode-Px, mode-ux, mode-Ux, Entry, ascii, slash, modeText, modesText, profileWord, profileEnd, modesStart, modesEnd, profileLine, entryLine, endLine, isBetween, isDigit, isLetter, isPathByte, pathGood, modesGood, entryGood}
 use Rattle.profiles.specs.Tokens.{starts, tokens}
 use Rattle.profiles.specs.Reading.{Line, opens, enters, closes, lineText, lineGood, pathByteIn, byteText, pathIn, modeAmong, allModes, modeIn, modesIn, entryIn, linesToTry, lineAmong, lineIn, linesIn, linesText}
-use Rattle.profiles.proofs.TokenLaws.{starts-seam, tokens-stop, tokens-front, tokens-every, tokens-back}
+use Rattle.profiles.proofs.TokenLaws.{starts-split, starts-seam, tokens-stop, tokens-front, tokens-every, tokens-back}
 
 -- ---- paths
 
@@ -140,15 +140,15 @@ line-long closes = omega arith
 
 -- a line is read back
 
-line-taken : (l : Line) (ls : List Line) (t : List ℕ) → lineGood l ≡ true → starts (lineText l) t ≡ true → lineAmong (l ∷ ls) t ≡ some l
+pub line-taken : (l : Line) (ls : List Line) (t : List ℕ) → lineGood l ≡ true → starts (lineText l) t ≡ true → lineAmong (l ∷ ls) t ≡ some l
 unfolding lineAmong
 line-taken l ls t g h = rw (g, h)
 
-line-passed : (l : Line) (ls : List Line) (t : List ℕ) → (lineGood l && starts (lineText l) t) ≡ false → lineAmong (l ∷ ls) t ≡ lineAmong ls t
+pub line-passed : (l : Line) (ls : List Line) (t : List ℕ) → (lineGood l && starts (lineText l) t) ≡ false → lineAmong (l ∷ ls) t ≡ lineAmong ls t
 unfolding lineAmong
 line-passed l ls t h = rw h
 
-and-false : (a : Bool) → (a && false) ≡ false
+pub and-false : (a : Bool) → (a && false) ≡ false
 and-false true = refl
 and-false false = refl
 
@@ -158,10 +158,24 @@ unfolding lineText profileLine profileWord ascii starts
 no-profile-line p [] n = and-false (lineGood (opens p))
 no-profile-line p (b ∷ t) n = let e : eqb 112 b ≡ false = ne-eqb 112 b n in rw e (and-false (lineGood (opens p)))
 
--- a text that begins with no byte of a path is no entry's line
-pub no-entry-line : (t : List ℕ) → pathByteIn t ≡ none → (lineGood (enters (entryIn t)) && starts (lineText (enters (entryIn t))) t) ≡ false
-unfolding lineGood entryGood entryIn pathIn pathGood
-no-entry-line t h = rw (tokens-stop pathByteIn byteText t h)
+slash-first : (p r : List ℕ) → pathGood p ≡ true → getD (p ++ r) 0 0 ≡ slash
+unfolding pathGood
+slash-first [] r h = clash h refl
+slash-first (b ∷ p) r h = eqb-true b slash (and-0 (eqb b slash) _ h)
+
+-- a text that does not begin with a slash is no entry's line
+pub no-entry-line : (t : List ℕ) → (slash ≡ getD t 0 0 → ⊥) → (lineGood (enters (entryIn t)) && starts (lineText (enters (entryIn t))) t) ≡ false
+unfolding lineGood lineText entryGood entryIn
+no-entry-line t n =
+    refuted (lineGood (enters (entryIn t)) && starts (lineText (enters (entryIn t))) t)
+    (λ h. n (sym (ap (λ (u : List ℕ). getD u 0 0) (sym (starts-split (pathIn t) t (path-front t))) ∙ slash-first (pathIn t) (drop (length (pathIn t)) t)
+    (and-0 (pathGood (pathIn t)) (modesGood (entryIn t .modes)) (and-0 (entryGood (entryIn t)) (starts (lineText (enters (entryIn t))) t) h)))))
+
+-- a text that begins with another byte than `}` is no profile's last line
+pub no-end-line : (t : List ℕ) → (125 ≡ getD t 0 0 → ⊥) → (lineGood closes && starts (lineText closes) t) ≡ false
+unfolding lineGood lineText endLine ascii starts
+no-end-line [] n = refl
+no-end-line (b ∷ t) n = let e : eqb 125 b ≡ false = ne-eqb 125 b n in rw e
 
 profile-path : (p r : List ℕ) → pathGood p ≡ true → pathIn (drop (length profileWord) (profileLine p ++ r)) ≡ p
 unfolding profileLine profileWord profileEnd ascii pathByteIn isPathByte isLetter isDigit isBetween
@@ -196,11 +210,6 @@ module _ (p : List ℕ) (ms : List Mode) (r : List ℕ) (h : pathGood p ≡ true
       = ap (λ (q : List ℕ). modesIn (drop (length q + 1) (p ++ (32 ∷ ((modesText ms ++ modesEnd) ++ r))))) entry-path ∙ entry-modes in
       λ i. record { path = entry-path i; modes = e i })
 
-pub slash-first : (p r : List ℕ) → pathGood p ≡ true → getD (p ++ r) 0 0 ≡ slash
-unfolding pathGood
-slash-first [] r h = clash h refl
-slash-first (b ∷ p) r h = eqb-true b slash (and-0 (eqb b slash) _ h)
-
 entry-back : (e : Entry) (r : List ℕ) → entryGood e ≡ true → lineIn (entryLine e ++ r) ≡ some (enters e)
 unfolding lineIn linesToTry lineGood lineText entryGood
 entry-back e r h =
@@ -216,7 +225,7 @@ unfolding lineIn linesToTry lineGood lineText endLine ascii pathByteIn isPathByt
 end-back r =
     let t = endLine ++ r in
     line-passed (opens (pathIn (drop (length profileWord) t))) (enters (entryIn t) ∷ closes ∷ []) t (no-profile-line (pathIn (drop (length profileWord) t)) t (λ q. omega arith))
-    ∙ line-passed (enters (entryIn t)) (closes ∷ []) t (no-entry-line t refl)
+    ∙ line-passed (enters (entryIn t)) (closes ∷ []) t (no-entry-line t (λ q. omega arith))
     ∙ line-taken closes [] t refl (starts-seam endLine r)
 
 pub line-back : (l : Line) (r : List ℕ) → lineGood l ≡ true → lineIn (lineText l ++ r) ≡ some l

@@ -1,11 +1,12 @@
 // The text of profiles (change request No. 1): the test of a text, and its lines one by one.
 ghost use mathlib.Core.Path.{_≡_};
+ghost use mathlib.Core.Logic.{_≢_};
 ghost use Prim.Native.Nat.{_+_, _≤_, _<_};
 ghost use lib.ListN.{length, getD, drop};
 ghost use Rattle.profiles.specs.Profiles.{isBetween, isPathByte, pathGood};
 ghost use Rattle.profiles.specs.Tokens.{starts};
 ghost use Rattle.profiles.specs.Reading.{pathIn};
-ghost use Rattle.profiles.specs.Scanning.{withX, modeAt, modesAt};
+ghost use Rattle.profiles.specs.Scanning.{withX, modeAt, modesAt, noScan, lineAt};
 
 // ---- the bytes and numbers of the format
 
@@ -13,7 +14,11 @@ const DOT: u8 = 46;
 
 const SLASH: u8 = 47;
 
+const P: u8 = 112;
+
 const X: u8 = 120;
+
+const BRACE: u8 = 125;
 
 // The least and the most bytes of a path.
 const PATH_LEAST: usize = 2;
@@ -214,10 +219,121 @@ fn modes_at(text: &[u8], at: usize) -> ScannedModes
     }
 }
 
+// ---- lines
+
+// What a line is: nothing of the grammar, or one of its three.
+const NO_LINE: usize = 0;
+
+pub const PROFILE_LINE: usize = 1;
+
+pub const ENTRY_LINE: usize = 2;
+
+pub const END_LINE: usize = 3;
+
+// A line: what it is, where its path begins and how long that is, the bits of its modes, and where the next line begins.
 pub struct ScannedLine {
     pub kind: usize,
     pub path: usize,
     pub length: usize,
     pub modes: u64,
     pub next: usize,
+}
+
+fn no_line() -> ScannedLine
+    ensures { λ r. ⌜ r ≡ noScan ⌝ }
+{
+    ScannedLine {
+        kind: NO_LINE,
+        path: 0,
+        length: 0,
+        modes: 0,
+        next: 0,
+    }
+}
+
+// The line `profile PATH {` at a place that has the letter p.
+fn profile_line(text: &[u8], at: usize) -> ScannedLine
+    requires { ⌜ (at ≤ length (now text)) × (getD (now text) at 0 ≡ 112) ⌝ }
+    ensures { λ r. ⌜ r ≡ lineAt (now (text .entry)) at ⌝ }
+{
+    if !starts(text, at, b"profile ") {
+        return no_line();
+    }
+    let path = at + 8;
+    let end = path_end(text, path);
+    if !path_good(text, path, end) {
+        return no_line();
+    }
+    if !starts(text, end, b" {\n") {
+        return no_line();
+    }
+    ScannedLine {
+        kind: PROFILE_LINE,
+        path: path,
+        length: end - path,
+        modes: 0,
+        next: end + 3,
+    }
+}
+
+// The line `PATH MODES,` at a place.
+fn entry_line(text: &[u8], at: usize) -> ScannedLine
+    requires { ⌜ (at ≤ length (now text)) × (getD (now text) at 0 ≢ 112) × (getD (now text) at 0 ≢ 125) ⌝ }
+    ensures { λ r. ⌜ r ≡ lineAt (now (text .entry)) at ⌝ }
+{
+    let end = path_end(text, at);
+    if !path_good(text, at, end) {
+        return no_line();
+    }
+    if !starts(text, end, b" ") {
+        return no_line();
+    }
+    let first = end + 1;
+    let modes = modes_at(text, first);
+    let next = modes.next;
+    if next == first {
+        return no_line();
+    }
+    if !starts(text, next, b",\n") {
+        return no_line();
+    }
+    ScannedLine {
+        kind: ENTRY_LINE,
+        path: at,
+        length: end - at,
+        modes: modes.bits,
+        next: next + 2,
+    }
+}
+
+// The line `}` at a place that has this byte.
+fn end_line(text: &[u8], at: usize) -> ScannedLine
+    requires { ⌜ (at ≤ length (now text)) × (getD (now text) at 0 ≡ 125) ⌝ }
+    ensures { λ r. ⌜ r ≡ lineAt (now (text .entry)) at ⌝ }
+{
+    if !starts(text, at, b"}\n") {
+        return no_line();
+    }
+    ScannedLine {
+        kind: END_LINE,
+        path: at,
+        length: 0,
+        modes: 0,
+        next: at + 2,
+    }
+}
+
+// The line at a place.
+pub fn line_at(text: &[u8], at: usize) -> ScannedLine
+    requires { ⌜ at ≤ length (now text) ⌝ }
+    ensures { λ r. ⌜ r ≡ lineAt (now (text .entry)) at ⌝ }
+{
+    let first = byte(text, at);
+    if first == P {
+        return profile_line(text, at);
+    }
+    if first == BRACE {
+        return end_line(text, at);
+    }
+    entry_line(text, at)
 }
