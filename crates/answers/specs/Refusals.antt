@@ -1,4 +1,5 @@
--- The refusal numbers (the paper, "Refused because of the input" and "Refused because of the session"), each named once.
+-- The refusal numbers (the paper, "Refused because of the input" and "Refused because of the session"; change request No. 1),
+-- each named once.
 use Prim.Native.Nat.{ℕ}
 
 -- "1 image under 18 or over 20,480 bytes"
@@ -60,3 +61,11 @@ notDeclared = 14
 -- "15 a meet has over 8 mixtures"
 abbrev pub overLimit : ℕ
 overLimit = 15
+
+-- change request No. 1: "16 when the text is too long, breaks the grammar or profiles a path twice"
+abbrev pub profileText : ℕ
+profileText = 16
+
+-- "17 when it has over 32 paths or a rule over 8 mixtures in normal form"
+abbrev pub profileLimit : ℕ
+profileLimit = 17

@@ -51,6 +51,12 @@ pub const NOT_DECLARED: u32 = 14;
 // A meet of over 8 mixtures.
 pub const OVER_LIMIT: u32 = 15;
 
+// A text of profiles: its length, its grammar, or a path profiled twice.
+pub const PROFILE_TEXT: u32 = 16;
+
+// Profiles with over 32 paths, or with a rule of over 8 mixtures.
+pub const PROFILE_LIMIT: u32 = 17;
+
 // The number of an alert, apart from every refusal. That of a quiet answer is 0.
 pub const ALERT_NUMBER: u32 = 256;
 

@@ -1,0 +1,11 @@
+-- Theorems is the file to read first.
+pub mod Theorems
+pub mod TokenLaws
+pub mod LineLaws
+pub mod ReadingLaws
+pub mod GrammarLaws
+pub mod ScanLaws
+pub mod PathLaws
+pub mod ModeLaws
+pub mod LineScans
+pub mod Examples

@@ -1,0 +1,125 @@
+-- Profiles, and the text that they are (change request No. 1): "A text is any number of profiles, each a line
+-- `profile PATH {`, any number of lines `PATH MODES,` and a line `}`, with single spaces as shown and byte 10 after every line".
+use Prim.Native.Nat.{ℕ}
+use Prim.Native.Char.{code}
+use Prim.Native.String.{String, [] as ε, _∷_ as _◂_}
+use mathlib.Core.Bool.{Bool, true, false, _&&_, _||_}
+use mathlib.Core.List.{List, [], _∷_, _++_, map}
+use lib.Dec.{eqb, leb}
+use lib.ListN.{length}
+use Rattle.lists.specs.Lists.{every, joined}
+
+-- ---- profiles
+
+-- "modes are letters of source document 001's figure (r w a l m ix px Px ux Ux)"
+pub data Mode : Type 0 where
+  mode-r mode-w mode-a mode-l mode-m mode-ix mode-px mode-Px mode-ux mode-Ux : Mode
+
+-- a line `PATH MODES,`
+pub record Entry : Type 0 where
+  pub path : List ℕ
+  pub modes : List Mode
+
+pub record Profile : Type 0 where
+  pub path : List ℕ
+  pub entries : List Entry
+
+-- ---- their text
+
+-- the bytes of a quoted text in ASCII
+unfoldable pub ascii : String → List ℕ
+ascii ε = []
+ascii (c ◂ s) = code c ∷ ascii s
+
+-- "byte 10 after every line"
+abbrev pub newline : ℕ
+newline = 10
+
+unfoldable pub modeText : Mode → List ℕ
+modeText mode-r = ascii "r"
+modeText mode-w = ascii "w"
+modeText mode-a = ascii "a"
+modeText mode-l = ascii "l"
+modeText mode-m = ascii "m"
+modeText mode-ix = ascii "ix"
+modeText mode-px = ascii "px"
+modeText mode-Px = ascii "Px"
+modeText mode-ux = ascii "ux"
+modeText mode-Ux = ascii "Ux"
+
+-- "run together, read left to right"
+unfoldable pub modesText : List Mode → List ℕ
+modesText ms = joined (map modeText ms)
+
+-- what stands around the path and the modes of a line
+unfoldable pub profileWord : List ℕ
+profileWord = ascii "profile "
+
+unfoldable pub profileEnd : List ℕ
+profileEnd = ascii " {" ++ (newline ∷ [])
+
+unfoldable pub modesStart : List ℕ
+modesStart = ascii " "
+
+unfoldable pub modesEnd : List ℕ
+modesEnd = ascii "," ++ (newline ∷ [])
+
+-- "a line `profile PATH {`"
+unfoldable pub profileLine : List ℕ → List ℕ
+profileLine path = profileWord ++ (path ++ profileEnd)
+
+-- a line "`PATH MODES,`"
+unfoldable pub entryLine : Entry → List ℕ
+entryLine e = e .path ++ (modesStart ++ (modesText (e .modes) ++ modesEnd))
+
+-- "a line `}`"
+unfoldable pub endLine : List ℕ
+endLine = ascii "}" ++ (newline ∷ [])
+
+unfoldable pub entriesText : List Entry → List ℕ
+entriesText es = joined (map entryLine es)
+
+unfoldable pub profileText : Profile → List ℕ
+profileText p = profileLine (p .path) ++ (entriesText (p .entries) ++ endLine)
+
+-- "any number of profiles"
+unfoldable pub textOf : List Profile → List ℕ
+textOf ps = joined (map profileText ps)
+
+-- ---- which paths and modes there are
+
+abbrev pub slash : ℕ
+slash = 47
+
+abbrev pub dot : ℕ
+dot = 46
+
+unfoldable pub isBetween : ℕ → ℕ → ℕ → Bool
+isBetween low high b = leb low b && leb b high
+
+-- of ASCII
+unfoldable pub isDigit : ℕ → Bool
+isDigit b = isBetween 48 57 b
+
+unfoldable pub isLetter : ℕ → Bool
+isLetter b = isBetween 97 122 b || isBetween 65 90 b
+
+-- "letters, digits, dots or slashes"
+unfoldable pub isPathByte : ℕ → Bool
+isPathByte b = isLetter b || (isDigit b || (eqb b dot || eqb b slash))
+
+-- "a path is `/` and 1 to 63 letters, digits, dots or slashes"
+unfoldable pub pathGood : List ℕ → Bool
+pathGood [] = false
+pathGood (b ∷ p) = eqb b slash && ((leb 1 (length p) && leb (length p) 63) && every isPathByte p)
+
+-- "at least one"
+unfoldable pub modesGood : List Mode → Bool
+modesGood [] = false
+modesGood (m ∷ ms) = true
+
+unfoldable pub entryGood : Entry → Bool
+entryGood e = pathGood (e .path) && modesGood (e .modes)
+
+unfoldable pub profileGood : Profile → Bool
+profileGood p = pathGood (p .path) && every entryGood (p .entries)

@@ -1,0 +1,37 @@
+-- The test of a text (change request No. 1): "16 when the text is too long, breaks the grammar or profiles a path twice".
+use Prim.Native.Nat.{ℕ}
+use mathlib.Core.Bool.{Bool, true, false, not, _&&_, _||_}
+use mathlib.Core.List.{List, [], _∷_, map}
+use mathlib.Core.Option.{Option, none, some}
+use lib.Dec.{leb}
+use lib.ListN.{length}
+use Rattle.lists.specs.Lists.{sameList}
+use Rattle.profiles.specs.Profiles.{Profile}
+use Rattle.profiles.specs.Reading.{readingOf}
+
+-- "profile text of up to 16,384 bytes"
+abbrev pub textLimit : ℕ
+textLimit = 16384
+
+-- the path is one of the list
+unfoldable pub isAmong : List ℕ → List (List ℕ) → Bool
+isAmong p [] = false
+isAmong p (q ∷ qs) = sameList p q || isAmong p qs
+
+-- no path stands in the list twice
+unfoldable pub noRepeat : List (List ℕ) → Bool
+noRepeat [] = true
+noRepeat (p ∷ ps) = not (isAmong p ps) && noRepeat ps
+
+-- no path is profiled twice
+unfoldable pub profiledOnce : List Profile → Bool
+profiledOnce ps = noRepeat (map (λ p. p .path) ps)
+
+-- there is a reading, and no path is profiled twice
+unfoldable pub readsWell : Option (List Profile) → Bool
+readsWell none = false
+readsWell (some ps) = profiledOnce ps
+
+-- 16 is refused where this fails
+unfoldable pub textGood : List ℕ → Bool
+textGood t = leb (length t) textLimit && readsWell (readingOf t)

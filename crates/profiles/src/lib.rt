@@ -1,0 +1,339 @@
+// The text of profiles (change request No. 1): the test of a text, and its lines one by one.
+ghost use mathlib.Core.Path.{_≡_};
+ghost use mathlib.Core.Logic.{_≢_};
+ghost use Prim.Native.Nat.{_+_, _≤_, _<_};
+ghost use lib.ListN.{length, getD, drop};
+ghost use Rattle.profiles.specs.Profiles.{isBetween, isPathByte, pathGood};
+ghost use Rattle.profiles.specs.Tokens.{starts};
+ghost use Rattle.profiles.specs.Reading.{pathIn};
+ghost use Rattle.profiles.specs.Scanning.{withX, modeAt, modesAt, noScan, lineAt};
+
+// ---- the bytes and numbers of the format
+
+const DOT: u8 = 46;
+
+const SLASH: u8 = 47;
+
+const P: u8 = 112;
+
+const X: u8 = 120;
+
+const BRACE: u8 = 125;
+
+// The least and the most bytes of a path.
+const PATH_LEAST: usize = 2;
+
+const PATH_MOST: usize = 64;
+
+// The bits of the modes r, w, a, l, m, ix, px, Px, ux, Ux.
+pub const MODE_R: u64 = 1;
+
+pub const MODE_W: u64 = 2;
+
+pub const MODE_A: u64 = 4;
+
+pub const MODE_L: u64 = 8;
+
+pub const MODE_M: u64 = 16;
+
+pub const MODE_IX: u64 = 32;
+
+pub const MODE_PX: u64 = 64;
+
+pub const MODE_PX_SCRUBBED: u64 = 128;
+
+pub const MODE_UX: u64 = 256;
+
+pub const MODE_UX_SCRUBBED: u64 = 512;
+
+// ---- bytes
+
+// The byte at a place, 0 behind the end.
+fn byte(text: &[u8], at: usize) -> u8
+    ensures { λ r. ⌜ r ≡ getD (now (text .entry)) at 0 ⌝ }
+{
+    if at < text.len() {
+        return text[at];
+    }
+    0
+}
+
+// The word stands at a place.
+fn starts(text: &[u8], at: usize, word: &[u8]) -> bool
+    requires { ⌜ at ≤ length (now text) ⌝ }
+    ensures { λ r. ⌜ r ≡ starts (now (word .entry)) (drop at (now (text .entry))) ⌝ }
+{
+    if text.len() - at < word.len() {
+        return false;
+    }
+    let mut i = 0;
+    while i < word.len() {
+        if text[at + i] != word[i] {
+            return false;
+        }
+        i += 1;
+    }
+    true
+}
+
+fn is_between(low: u8, high: u8, b: u8) -> bool
+    ensures { λ r. ⌜ r ≡ isBetween low high b ⌝ }
+{
+    if b < low {
+        return false;
+    }
+    b <= high
+}
+
+// A small letter, a capital, a digit, a dot or a slash.
+fn is_path_byte(b: u8) -> bool
+    ensures { λ r. ⌜ r ≡ isPathByte b ⌝ }
+{
+    if is_between(97, 122, b) {
+        return true;
+    }
+    if is_between(65, 90, b) {
+        return true;
+    }
+    if is_between(48, 57, b) {
+        return true;
+    }
+    if b == DOT {
+        return true;
+    }
+    b == SLASH
+}
+
+// ---- paths
+
+// The place behind the bytes of a path.
+fn path_end(text: &[u8], at: usize) -> usize
+    requires { ⌜ at ≤ length (now text) ⌝ }
+    ensures { λ r. ⌜ r ≡ at + length (pathIn (drop at (now (text .entry)))) ⌝ }
+{
+    let mut i = at;
+    while i < text.len() {
+        if !is_path_byte(text[i]) {
+            return i;
+        }
+        i += 1;
+    }
+    i
+}
+
+// A slash and 1 to 63 bytes behind it, `end` being the place behind the bytes of a path.
+fn path_good(text: &[u8], at: usize, end: usize) -> bool
+    requires { ⌜ end ≡ at + length (pathIn (drop at (now text))) ⌝ }
+    ensures { λ r. ⌜ r ≡ pathGood (pathIn (drop at (now (text .entry)))) ⌝ }
+{
+    if byte(text, at) != SLASH {
+        return false;
+    }
+    if end - at < PATH_LEAST {
+        return false;
+    }
+    end - at <= PATH_MOST
+}
+
+// ---- modes
+
+// A mode's bit and its length; 0 and 0 where there is no mode.
+pub struct ScannedMode {
+    pub bit: u64,
+    pub width: usize,
+}
+
+// The bits of modes, and the place behind them.
+pub struct ScannedModes {
+    pub bits: u64,
+    pub next: usize,
+}
+
+// The mode of two letters that has this bit, if the second is x.
+fn with_x(second: u8, bit: u64) -> ScannedMode
+    ensures { λ r. ⌜ r ≡ withX second bit ⌝ }
+{
+    if second == X {
+        return ScannedMode { bit: bit, width: 2 };
+    }
+    ScannedMode { bit: 0, width: 0 }
+}
+
+// The mode at a place.
+fn mode_at(text: &[u8], at: usize) -> ScannedMode
+    requires { ⌜ at < length (now text) ⌝ }
+    ensures { λ r. ⌜ r ≡ modeAt (now (text .entry)) at ⌝ }
+{
+    let second = byte(text, at + 1);
+    match byte(text, at) {
+        114 => ScannedMode {
+            bit: MODE_R,
+            width: 1,
+        },
+        119 => ScannedMode {
+            bit: MODE_W,
+            width: 1,
+        },
+        97 => ScannedMode {
+            bit: MODE_A,
+            width: 1,
+        },
+        108 => ScannedMode {
+            bit: MODE_L,
+            width: 1,
+        },
+        109 => ScannedMode {
+            bit: MODE_M,
+            width: 1,
+        },
+        105 => with_x(second, MODE_IX),
+        112 => with_x(second, MODE_PX),
+        80 => with_x(second, MODE_PX_SCRUBBED),
+        117 => with_x(second, MODE_UX),
+        85 => with_x(second, MODE_UX_SCRUBBED),
+        _ => ScannedMode { bit: 0, width: 0 },
+    }
+}
+
+// The modes at a place.
+fn modes_at(text: &[u8], at: usize) -> ScannedModes
+    requires { ⌜ at ≤ length (now text) ⌝ }
+    ensures { λ r. ⌜ r ≡ modesAt (now (text .entry)) at ⌝ }
+{
+    let mut i = at;
+    let mut bits: u64 = 0;
+    while i < text.len() {
+        let mode = mode_at(text, i);
+        if mode.width == 0 {
+            return ScannedModes {
+                bits: bits,
+                next: i,
+            };
+        }
+        i += mode.width;
+        bits = bits | mode.bit;
+    }
+    ScannedModes {
+        bits: bits,
+        next: i,
+    }
+}
+
+// ---- lines
+
+// What a line is: nothing of the grammar, or one of its three.
+const NO_LINE: usize = 0;
+
+pub const PROFILE_LINE: usize = 1;
+
+pub const ENTRY_LINE: usize = 2;
+
+pub const END_LINE: usize = 3;
+
+// A line: what it is, where its path begins and how long that is, the bits of its modes, and where the next line begins.
+pub struct ScannedLine {
+    pub kind: usize,
+    pub path: usize,
+    pub length: usize,
+    pub modes: u64,
+    pub next: usize,
+}
+
+fn no_line() -> ScannedLine
+    ensures { λ r. ⌜ r ≡ noScan ⌝ }
+{
+    ScannedLine {
+        kind: NO_LINE,
+        path: 0,
+        length: 0,
+        modes: 0,
+        next: 0,
+    }
+}
+
+// The line `profile PATH {` at a place that has the letter p.
+fn profile_line(text: &[u8], at: usize) -> ScannedLine
+    requires { ⌜ (at ≤ length (now text)) × (getD (now text) at 0 ≡ 112) ⌝ }
+    ensures { λ r. ⌜ r ≡ lineAt (now (text .entry)) at ⌝ }
+{
+    if !starts(text, at, b"profile ") {
+        return no_line();
+    }
+    let path = at + 8;
+    let end = path_end(text, path);
+    if !path_good(text, path, end) {
+        return no_line();
+    }
+    if !starts(text, end, b" {\n") {
+        return no_line();
+    }
+    ScannedLine {
+        kind: PROFILE_LINE,
+        path: path,
+        length: end - path,
+        modes: 0,
+        next: end + 3,
+    }
+}
+
+// The line `PATH MODES,` at a place.
+fn entry_line(text: &[u8], at: usize) -> ScannedLine
+    requires { ⌜ (at ≤ length (now text)) × (getD (now text) at 0 ≢ 112) × (getD (now text) at 0 ≢ 125) ⌝ }
+    ensures { λ r. ⌜ r ≡ lineAt (now (text .entry)) at ⌝ }
+{
+    let end = path_end(text, at);
+    if !path_good(text, at, end) {
+        return no_line();
+    }
+    if !starts(text, end, b" ") {
+        return no_line();
+    }
+    let first = end + 1;
+    let modes = modes_at(text, first);
+    let next = modes.next;
+    if next == first {
+        return no_line();
+    }
+    if !starts(text, next, b",\n") {
+        return no_line();
+    }
+    ScannedLine {
+        kind: ENTRY_LINE,
+        path: at,
+        length: end - at,
+        modes: modes.bits,
+        next: next + 2,
+    }
+}
+
+// The line `}` at a place that has this byte.
+fn end_line(text: &[u8], at: usize) -> ScannedLine
+    requires { ⌜ (at ≤ length (now text)) × (getD (now text) at 0 ≡ 125) ⌝ }
+    ensures { λ r. ⌜ r ≡ lineAt (now (text .entry)) at ⌝ }
+{
+    if !starts(text, at, b"}\n") {
+        return no_line();
+    }
+    ScannedLine {
+        kind: END_LINE,
+        path: at,
+        length: 0,
+        modes: 0,
+        next: at + 2,
+    }
+}
+
+// The line at a place.
+pub fn line_at(text: &[u8], at: usize) -> ScannedLine
+    requires { ⌜ at ≤ length (now text) ⌝ }
+    ensures { λ r. ⌜ r ≡ lineAt (now (text .entry)) at ⌝ }
+{
+    let first = byte(text, at);
+    if first == P {
+        return profile_line(text, at);
+    }
+    if first == BRACE {
+        return end_line(text, at);
+    }
+    entry_line(text, at)
+}
