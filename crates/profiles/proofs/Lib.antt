@@ -8,4 +8,6 @@ pub mod ScanLaws
 pub mod PathLaws
 pub mod ModeLaws
 pub mod LineScans
+pub mod TextLaws
+pub mod Walks
 pub mod Examples

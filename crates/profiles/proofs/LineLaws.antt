@@ -177,7 +177,7 @@ unfolding lineGood lineText endLine ascii starts
 no-end-line [] n = refl
 no-end-line (b ∷ t) n = let e : eqb 125 b ≡ false = ne-eqb 125 b n in rw e
 
-profile-path : (p r : List ℕ) → pathGood p ≡ true → pathIn (drop (length profileWord) (profileLine p ++ r)) ≡ p
+pub profile-path : (p r : List ℕ) → pathGood p ≡ true → pathIn (drop (length profileWord) (profileLine p ++ r)) ≡ p
 unfolding profileLine profileWord profileEnd ascii pathByteIn isPathByte isLetter isDigit isBetween
 profile-path p r h = ap pathIn (append-assoc p profileEnd r) ∙ path-back p (profileEnd ++ r) (path-bytes p h) refl
 

@@ -6,3 +6,4 @@ pub mod Tokens
 pub mod Reading
 pub mod Texts
 pub mod Scanning
+pub mod Notes

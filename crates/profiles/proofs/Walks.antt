@@ -1,0 +1,222 @@
+-- What a scanned line tells of the text, and the walk through a text that has a reading: it is, line by line, the lines of it.
+use Prim.Native.Nat.{ℕ, zero, suc, _+_, _-_, _≤_, _<_}
+use mathlib.Core.Path.{_≡_, refl, sym, ap, ap₂, _∙_, subst}
+use mathlib.Core.Bool.{Bool, true, false, cond, _&&_}
+use mathlib.Core.List.{List, [], _∷_, _++_, append-assoc, append-nil}
+use mathlib.Core.Option.{Option, none, some}
+use native.Mathlib.Omega.{arith}
+use lib.ListN.{length, take, drop, length-append, length-drop, drop-of-length-le}
+use lib.Seq.{take-append-seam, drop-append-seam, drop-drop}
+use Rattle.lists.specs.Lists.{every, joined}
+use Rattle.lists.proofs.Bools.{and-0, and-1}
+use Rattle.lists.proofs.Every.{every-0, every-1}
+use Rattle.lists.proofs.Places.{some-inj}
+use Rattle.profiles.specs.Profiles.{
+  Entry,
+  Profile,
+  ascii,
+  modesText,
+  profileWord,
+  profileEnd,
+  modesStart,
+  modesEnd,
+  profileLine,
+  entryLine,
+  textOf,
+  pathGood,
+  modesGood,
+  entryGood,
+}
+use Rattle.profiles.specs.Grammar.{Grammar}
+use Rattle.profiles.specs.Tokens.{given, starts}
+use Rattle.profiles.specs.Reading.{Line, opens, enters, closes, lineText, lineGood, linesOf, pathIn, lineIn, linesText}
+use Rattle.profiles.specs.Scanning.{modeBits, noLine, profileKind, entryKind, endKind, lineScan, noScan, lineAt}
+use Rattle.profiles.specs.declared.ScannedLine.{ScannedLine}
+use Rattle.profiles.proofs.TokenLaws.{starts-split}
+use Rattle.profiles.proofs.LineLaws.{line-front, line-good, line-back, line-long, profile-path}
+use Rattle.profiles.proofs.LineScans.{starts-room}
+use Rattle.profiles.proofs.ReadingLaws.{text-lines, lines-of-good}
+use Rattle.profiles.proofs.PathLaws.{path-parts}
+
+-- ---- where the parts of a line are
+
+line-split : (t : List ℕ) (at : ℕ) (l : Line) → lineIn (drop at t) ≡ some l → lineText l ++ drop (at + length (lineText l)) t ≡ drop at t
+line-split t at l e =
+    ap (λ (u : List ℕ). lineText l ++ u) (sym (drop-drop (length (lineText l)) at t)) ∙ starts-split (lineText l) (drop at t) (line-front (drop at t) l e)
+
+-- a path's bytes, behind `a` bytes of the line
+path-behind : (t w p r : List ℕ) (at : ℕ) → w ++ (p ++ r) ≡ drop at t → drop (at + length w) t ≡ p ++ r
+path-behind t w p r at e = sym (drop-drop (length w) at t) ∙ ap (drop (length w)) (sym e) ∙ drop-append-seam w (p ++ r)
+
+-- ---- a scanned line by its kind
+
+pub record ProfileAt (t : List ℕ) (at : ℕ) (s : ScannedLine) : Type 0 where
+  pub path : List ℕ
+  pub reads : lineIn (drop at t) ≡ some (opens path)
+  pub good : pathGood path ≡ true
+  pub text : take (s .length) (drop (s .path) t) ≡ path
+  pub found : pathIn (drop (s .path) t) ≡ path
+  pub size : s .length ≡ length path
+  pub next : s .next ≡ at + length (lineText (opens path))
+  pub start : s .path ≡ at + 8
+  pub room : s .path + s .length + 3 ≡ s .next
+  pub ahead : s .next ≤ length t
+
+pub record EntryAt (t : List ℕ) (at : ℕ) (s : ScannedLine) : Type 0 where
+  pub entry : Entry
+  pub reads : lineIn (drop at t) ≡ some (enters entry)
+  pub good : entryGood entry ≡ true
+  pub text : take (s .length) (drop (s .path) t) ≡ entry .path
+  pub size : s .length ≡ length (entry .path)
+  pub modes : s .modes ≡ modeBits (entry .modes)
+  pub next : s .next ≡ at + length (lineText (enters entry))
+  pub start : s .path ≡ at
+  pub ahead : s .next ≤ length t
+
+pub record EndAt (t : List ℕ) (at : ℕ) (s : ScannedLine) : Type 0 where
+  pub reads : lineIn (drop at t) ≡ some closes
+  pub next : s .next ≡ at + length (lineText closes)
+  pub ahead : s .next ≤ length t
+
+-- a line in front is scanned so
+pub scanned : (t : List ℕ) (at : ℕ) (l : Line) → lineIn (drop at t) ≡ some l → lineAt t at ≡ lineScan at l
+unfolding lineAt
+scanned t at l e = rw e
+
+unscanned : (t : List ℕ) (at : ℕ) → lineIn (drop at t) ≡ none → lineAt t at ≡ noScan
+unfolding lineAt
+unscanned t at e = rw e
+
+module _ (t : List ℕ) (at : ℕ) (l : at ≤ length t) where
+  ahead : (x : Line) → lineIn (drop at t) ≡ some x → at + length (lineText x) ≤ length t
+  ahead x e = starts-room (lineText x) t at (line-front (drop at t) x e) l
+
+  profile-here : (p : List ℕ) → lineIn (drop at t) ≡ some (opens p) → ProfileAt t at (lineScan at (opens p))
+  unfolding lineScan lineGood lineText profileLine profileWord profileEnd ascii
+  profile-here p e =
+      let g : pathGood p ≡ true = line-good (drop at t) (opens p) e in
+      let r = drop (at + length (lineText (opens p))) t in
+      let u : drop (at + 8) t ≡ p ++ (profileEnd ++ r)
+      = path-behind t profileWord p (profileEnd ++ r) at (ap (λ (v : List ℕ). profileWord ++ v) (sym (append-assoc p profileEnd r)) ∙ line-split t at (opens p) e) in
+      record {
+        path = p;
+        reads = e;
+        good = g;
+        text = ap (take (length p)) u ∙ take-append-seam p (profileEnd ++ r);
+        found = ap pathIn (sym (drop-drop 8 at t) ∙ ap (drop 8) (sym (line-split t at (opens p) e))) ∙ profile-path p r g;
+        size = refl;
+        next = refl;
+        start = refl;
+        room = omega (arith, length-append p profileEnd);
+        ahead = ahead (opens p) e;
+      }
+
+  entry-here : (x : Entry) → lineIn (drop at t) ≡ some (enters x) → EntryAt t at (lineScan at (enters x))
+  unfolding lineScan lineGood lineText entryLine
+  entry-here x e =
+      let r = drop (at + length (lineText (enters x))) t in
+      let w = modesStart ++ (modesText (x .modes) ++ modesEnd) in
+      record {
+        entry = x;
+        reads = e;
+        good = line-good (drop at t) (enters x) e;
+        text = ap (take (length (x .path))) (sym (sym (append-assoc (x .path) w r) ∙ line-split t at (enters x) e)) ∙ take-append-seam (x .path) (w ++ r);
+        size = refl;
+        modes = refl;
+        next = refl;
+        start = refl;
+        ahead = ahead (enters x) e;
+      }
+
+  end-here : lineIn (drop at t) ≡ some closes → EndAt t at (lineScan at closes)
+  unfolding lineScan
+  end-here e = record { reads = e; next = refl; ahead = ahead closes e }
+
+  module _ (s : ScannedLine) (q : s ≡ lineAt t at) where
+    is-line : (x : Line) → lineIn (drop at t) ≡ some x → s ≡ lineScan at x
+    is-line x e = q ∙ scanned t at x e
+
+    kind-of : (x : Line) → lineIn (drop at t) ≡ some x → s .kind ≡ lineScan at x .kind
+    kind-of x e = ap (λ (y : ScannedLine). y .kind) (is-line x e)
+
+    no-kind : lineIn (drop at t) ≡ none → s .kind ≡ noLine
+    unfolding noScan
+    no-kind e = ap (λ (y : ScannedLine). y .kind) (q ∙ unscanned t at e)
+
+    pub profile-at : s .kind ≡ profileKind → ProfileAt t at s
+    unfolding lineScan
+    profile-at k = by (lineIn (drop at t)) refl
+      where
+        by : (o : Option Line) → lineIn (drop at t) ≡ o → ProfileAt t at s
+        by none e = absurd (omega (arith, no-kind e))
+        by (some (opens p)) e = subst (ProfileAt t at) (sym (is-line (opens p) e)) (profile-here p e)
+        by (some (enters x)) e = absurd (omega (arith, kind-of (enters x) e))
+        by (some closes) e = absurd (omega (arith, kind-of closes e))
+
+    pub entry-at : s .kind ≡ entryKind → EntryAt t at s
+    unfolding lineScan
+    entry-at k = by (lineIn (drop at t)) refl
+      where
+        by : (o : Option Line) → lineIn (drop at t) ≡ o → EntryAt t at s
+        by none e = absurd (omega (arith, no-kind e))
+        by (some (opens p)) e = absurd (omega (arith, kind-of (opens p) e))
+        by (some (enters x)) e = subst (EntryAt t at) (sym (is-line (enters x) e)) (entry-here x e)
+        by (some closes) e = absurd (omega (arith, kind-of closes e))
+
+    pub end-at : s .kind ≡ endKind → EndAt t at s
+    unfolding lineScan
+    end-at k = by (lineIn (drop at t)) refl
+      where
+        by : (o : Option Line) → lineIn (drop at t) ≡ o → EndAt t at s
+        by none e = absurd (omega (arith, no-kind e))
+        by (some (opens p)) e = absurd (omega (arith, kind-of (opens p) e))
+        by (some (enters x)) e = absurd (omega (arith, kind-of (enters x) e))
+        by (some closes) e = subst (EndAt t at) (sym (is-line closes e)) (end-here e)
+
+    pub no-line-at : (s .kind ≡ profileKind → ⊥) → (s .kind ≡ entryKind → ⊥) → (s .kind ≡ endKind → ⊥) → lineIn (drop at t) ≡ none
+    unfolding lineScan
+    no-line-at a b c = by (lineIn (drop at t)) refl
+      where
+        by : (o : Option Line) → lineIn (drop at t) ≡ o → o ≡ none
+        by none e = refl
+        by (some (opens p)) e = absurd (a (kind-of (opens p) e))
+        by (some (enters x)) e = absurd (b (kind-of (enters x) e))
+        by (some closes) e = absurd (c (kind-of closes e))
+
+-- ---- the walk through a text that has a reading
+
+-- from the place on, the text is that of these good lines
+pub record Walk (t : List ℕ) (at : ℕ) (ls : List Line) : Type 0 where
+  pub place : at ≤ length t
+  pub left : drop at t ≡ linesText ls
+  pub good : every lineGood ls ≡ true
+
+pub walk-start : (t : List ℕ) (ps : List Profile) → Grammar t ps → Walk t 0 (linesOf ps)
+walk-start t ps (e, g) = record { place = omega arith; left = sym e ∙ text-lines ps; good = lines-of-good ps g }
+
+module _ (t : List ℕ) (at : ℕ) (l : Line) (ls : List Line) (w : Walk t at (l ∷ ls)) where
+  pub walk-reads : lineIn (drop at t) ≡ some l
+  unfolding linesText joined
+  walk-reads = ap lineIn (w .left) ∙ line-back l (linesText ls) (every-0 lineGood l ls (w .good))
+
+  -- the line at the place is the next one
+  pub walk-line : lineAt t at ≡ lineScan at l
+  walk-line = scanned t at l walk-reads
+
+  pub walk-next : Walk t (at + length (lineText l)) ls
+  unfolding linesText joined
+  walk-next =
+      record {
+        place = starts-room (lineText l) t at (line-front (drop at t) l walk-reads) (w .place);
+        left = sym (drop-drop (length (lineText l)) at t) ∙ ap (drop (length (lineText l))) (w .left) ∙ drop-append-seam (lineText l) (linesText ls);
+        good = every-1 lineGood l ls (w .good);
+      }
+
+-- the walk ends with the text
+pub walk-end : (t : List ℕ) (at : ℕ) (ls : List Line) → Walk t at ls → length t ≤ at → ls ≡ []
+walk-end t at [] w h = refl
+walk-end t at (l ∷ ls) w h = absurd (omega (arith, walk-next t at l ls w .place, line-long l))
+
+pub walk-more : (t : List ℕ) (at : ℕ) → Walk t at [] → length t ≤ at
+unfolding linesText joined
+walk-more t at w = omega (arith, ap length (w .left), length-drop at t, w .place)
