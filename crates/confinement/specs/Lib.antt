@@ -1,0 +1,5 @@
+-- What a reader must believe of this crate (change request No. 1): the policy that profiles stand for, and the image that is written.
+-- Tables is for the code's own contracts.
+pub mod Confinement
+pub mod Images
+pub mod Tables
