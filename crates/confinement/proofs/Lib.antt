@@ -1,2 +1,4 @@
 pub mod PathLaws
 pub mod PolicyLaws
+pub mod BitLaws
+pub mod TableLaws

@@ -1,12 +1,20 @@
 -- The paths in order of first appearance: each that is named is among them.
-use Prim.Native.Nat.{ℕ}
-use mathlib.Core.Path.{_≡_, refl}
-use mathlib.Core.Bool.{Bool, true, false, cond}
+use Prim.Native.Nat.{ℕ, zero, suc, _<_}
+use native.Mathlib.Omega.{arith}
+use native.Mathlib.Decide.{decLt}
+use mathlib.Core.Path.{_≡_, refl, sym, ap, _∙_}
+use mathlib.Core.Bool.{Bool, true, false, cond, _||_}
 use mathlib.Core.List.{List, [], _∷_, _++_, map}
-use Rattle.lists.specs.Lists.{every}
+use lib.Dec.{eqb}
+use lib.ListN.{length, getD, length-append}
+use borrow.Author.Tests.{eqb-true, eq-eqb}
+use Rattle.lists.specs.Lists.{every, sameList}
+use Rattle.lists.proofs.Bools.{or-0, or-1, clash, same-test}
+use Rattle.lists.proofs.Same.{same-refl, same-eq}
 use Rattle.lists.proofs.Every.{every-0, every-1, every-nil, every-cons, every-right}
-use Rattle.image.specs.Normal.{known}
-use Rattle.image.proofs.Numbering.{known-more, known-last}
+use Rattle.image.specs.Normal.{known, position}
+use Rattle.image.proofs.Numbering.{known-more, known-last, position-at}
+use Rattle.image.proofs.FirstUses.{position-stays}
 use Rattle.profiles.specs.Profiles.{Entry, Profile}
 use Rattle.confinement.specs.Confinement.{namesOf, withPath, withPaths, pathsOf}
 
@@ -53,3 +61,72 @@ profiles-named f (p ∷ ps) h =
 pub profiles-known : (ps : List Profile) → every (λ p. known (p .path) (pathsOf ps)) ps ≡ true
 unfolding pathsOf
 profiles-known ps = profiles-named (λ q. known q (withPaths [] (namesOf ps))) ps (paths-named [] (namesOf ps))
+
+-- ---- no path stands twice among them: each has the number of its place
+
+pub record Distinct (ns : List (List ℕ)) : Type 0 where
+  pub placed : (k : ℕ) → k < length ns → position (getD ns k []) ns ≡ k
+
+position-first : (q : List ℕ) (ns : List (List ℕ)) → position q (q ∷ ns) ≡ 0
+unfolding position
+position-first q ns = rw (same-refl q)
+
+-- a new path stands behind the others
+position-new : (q : List ℕ) (ns : List (List ℕ)) → known q ns ≡ false → position q (ns ++ (q ∷ [])) ≡ length ns
+unfolding position known
+position-new q [] h = position-first q []
+position-new q (x ∷ ns) h = by (sameList q x) refl h (position-new q ns)
+  where
+    by : (b : Bool) → sameList q x ≡ b → (b || known q ns) ≡ false → (known q ns ≡ false → position q (ns ++ (q ∷ [])) ≡ length ns)
+        → cond b 0 (suc (position q (ns ++ (q ∷ [])))) ≡ suc (length ns)
+    by true e g ih = clash (refl {a = true}) g
+    by false e g ih = ap suc (ih g)
+
+known-at : (ns : List (List ℕ)) (k : ℕ) → k < length ns → known (getD ns k []) ns ≡ true
+unfolding known
+known-at [] k h = absurd (omega arith)
+known-at (x ∷ ns) zero h = or-0 (sameList x x) (known x ns) (same-refl x)
+known-at (x ∷ ns) (suc k) h = or-1 (sameList (getD ns k []) x) (known (getD ns k []) ns) (known-at ns k (omega arith))
+
+last-at : (ns : List (List ℕ)) (q : List ℕ) → getD (ns ++ (q ∷ [])) (length ns) [] ≡ q
+last-at [] q = refl
+last-at (x ∷ ns) q = last-at ns q
+
+before-at : (ns ms : List (List ℕ)) (k : ℕ) → k < length ns → getD (ns ++ ms) k [] ≡ getD ns k []
+before-at [] ms k h = absurd (omega arith)
+before-at (x ∷ ns) ms zero h = refl
+before-at (x ∷ ns) ms (suc k) h = before-at ns ms k (omega arith)
+
+pub distinct-path : (ns : List (List ℕ)) (q : List ℕ) → Distinct ns → Distinct (withPath ns q)
+unfolding withPath
+distinct-path ns q d = by (known q ns) refl
+  where
+    by : (b : Bool) → known q ns ≡ b → Distinct (cond b ns (ns ++ (q ∷ [])))
+    by true e = d
+    by false e = record { placed = here }
+      where
+        here : (k : ℕ) → k < length (ns ++ (q ∷ [])) → position (getD (ns ++ (q ∷ [])) k []) (ns ++ (q ∷ [])) ≡ k
+        here k h = on (decLt k (length ns))
+          where
+            on : Dec (k < length ns) → position (getD (ns ++ (q ∷ [])) k []) (ns ++ (q ∷ [])) ≡ k
+            on (yes l) = rw (before-at ns (q ∷ []) k l) (position-stays (getD ns k []) ns (q ∷ []) (known-at ns k l) ∙ d .placed k l)
+            on (no l) =
+                let z : k ≡ length ns = omega (arith, length-append ns (q ∷ [])) in
+                rw (z, last-at ns q) (position-new q ns e)
+
+pub distinct-paths : (ns xs : List (List ℕ)) → Distinct ns → Distinct (withPaths ns xs)
+unfolding withPaths
+distinct-paths ns [] d = d
+distinct-paths ns (x ∷ xs) d = distinct-paths (withPath ns x) xs (distinct-path ns x d)
+
+pub paths-distinct : (ps : List Profile) → Distinct (pathsOf ps)
+unfolding pathsOf
+paths-distinct ps = distinct-paths [] (namesOf ps) (record { placed = λ k h. absurd (omega arith) })
+
+-- so a path that is among them has the number k exactly if it is the k-th
+pub number-tells : (ns : List (List ℕ)) → Distinct ns → (x : List ℕ) → known x ns ≡ true → (k : ℕ) → k < length ns
+    → eqb (position x ns) k ≡ sameList (getD ns k []) x
+number-tells ns d x h k l =
+    same-test (eqb (position x ns) k) (sameList (getD ns k []) x)
+    (λ e. let z : position x ns ≡ k = eqb-true (position x ns) k e in rw (← z, position-at x ns h) (same-refl x))
+    (λ e. let z : getD ns k [] ≡ x = same-eq (getD ns k []) x e in eq-eqb (position x ns) k (rw (← z) (d .placed k l)))

@@ -1,13 +1,20 @@
--- What the code keeps of a text that is good: paths by their places, and the modes of each program on each path.
-use Prim.Native.Nat.{ℕ, _+_, _*_, _≤_, _<_}
+-- What the code keeps of a text that is good: paths by their places, and the modes of each program on each path as bits. The
+-- rules of a path are worked out from these numbers.
+use Prim.Native.Nat.{ℕ, zero, suc, _+_, _*_, _^_, _≤_, _<_}
 use mathlib.Core.Path.{_≡_}
+use mathlib.Core.Bool.{Bool, not, cond}
 use mathlib.Core.List.{List, [], _∷_}
+use lib.Bits.{bitAnd, bitOr}
+use lib.Dec.{eqb}
 use lib.ListN.{length, getD, take, drop}
+use Rattle.image.specs.Policy.{unrestrictedRule}
 use Rattle.image.specs.Normal.{position}
 use Rattle.rules.specs.Answers.{dataWidth}
 use Rattle.profiles.specs.Profiles.{Profile}
 use Rattle.profiles.specs.Scanning.{modeBits}
-use Rattle.confinement.specs.Confinement.{modesOn}
+use Rattle.confinement.specs.Confinement.{modesOn, orElse}
+
+-- ---- paths
 
 -- a path by the place where it begins and its length
 abbrev pub pathAt : List ℕ → ℕ → ℕ → List ℕ
@@ -21,6 +28,8 @@ pub record PathTable (t : List ℕ) (ns : List (List ℕ)) (starts sizes : List 
   pub sizesLong : length sizes ≡ dataWidth
   pub paths : (k : ℕ) → k < n → pathAt t (getD starts k 0) (getD sizes k 0) ≡ getD ns k []
   pub within : (k : ℕ) → k < n → getD starts k 0 + getD sizes k 0 ≤ length t
+
+-- ---- programs
 
 abbrev pub noProfile : Profile
 noProfile = record { path = []; entries = [] }
@@ -37,3 +46,100 @@ pub record ProgramTable (ns : List (List ℕ)) (ps : List Profile) (own modes : 
   pub modesLong : length modes ≡ cellCount
   pub owns : (j : ℕ) → j < m → getD own j 0 ≡ position (getD ps j noProfile .path) ns
   pub cells : (j k : ℕ) → j < m → k < length ns → getD modes (j * dataWidth + k) 0 ≡ modeBits (modesOn (getD ps j noProfile) (getD ns k []))
+
+-- ---- modes as bits
+
+-- the bits of the wanted modes
+abbrev pub readingBits : ℕ
+readingBits = 17
+
+abbrev pub executingBits : ℕ
+executingBits = 992
+
+abbrev pub writingBits : ℕ
+writingBits = 6
+
+abbrev pub unconfinedBits : ℕ
+unconfinedBits = 768
+
+abbrev pub inheritingBits : ℕ
+inheritingBits = 32
+
+abbrev pub confinedBits : ℕ
+confinedBits = 192
+
+-- two sets of bits meet
+unfoldable pub meets : ℕ → ℕ → Bool
+meets bits wanted = not (eqb (bitAnd bits wanted) 0)
+
+-- the atoms of the path with atom k
+unfoldable pub fileBits : ℕ → ℕ → ℕ
+fileBits k bits = bitOr (cond (meets bits readingBits) (2 ^ k) 0) (cond (meets bits executingBits) (2 ^ (dataWidth + k)) 0)
+
+-- the atoms of paths from the k-th on, whose bits stand in a row
+unfoldable pub rowAtoms : ℕ → List ℕ → ℕ
+rowAtoms k [] = 0
+rowAtoms k (b ∷ bs) = bitOr (fileBits k b) (rowAtoms (suc k) bs)
+
+-- the run mixture of a program by the number of its own path and its row
+unfoldable pub rowMixture : ℕ → List ℕ → ℕ
+rowMixture own row = bitOr (2 ^ (dataWidth + own)) (rowAtoms 0 row)
+
+-- ---- lists by place
+
+-- n members from the j-th on
+unfoldable pub listFrom : (ℕ → ℕ) → ℕ → ℕ → List ℕ
+listFrom f j zero = []
+listFrom f j (suc n) = f j ∷ listFrom f (suc j) n
+
+-- the row of a program, of n paths
+abbrev pub rowAt : List ℕ → ℕ → ℕ → List ℕ
+rowAt modes n j = take n (drop (j * dataWidth) modes)
+
+-- the run mixtures of m programs
+abbrev pub mixtures : List ℕ → List ℕ → ℕ → ℕ → List ℕ
+mixtures own modes n m = listFrom (λ j. rowMixture (getD own j 0) (rowAt modes n j)) 0 m
+
+-- ---- the programs of a path
+
+-- the bits of m programs on the path with atom k
+abbrev pub columnAt : List ℕ → ℕ → ℕ → List ℕ
+columnAt modes k m = listFrom (λ j. getD modes (j * dataWidth + k) 0) 0 m
+
+-- of programs by their bits on a path and their run mixtures: the mixtures, with more atoms, of those that have a wanted mode
+unfoldable pub chosenBy : ℕ → ℕ → List ℕ → List ℕ → List ℕ
+chosenBy wanted more [] runs = []
+chosenBy wanted more (b ∷ bs) [] = []
+chosenBy wanted more (b ∷ bs) (r ∷ runs) =
+    cond (meets b wanted) (bitOr r more ∷ chosenBy wanted more bs runs) (chosenBy wanted more bs runs)
+
+-- of those whose own path has this number
+unfoldable pub chosenAt : ℕ → List ℕ → List ℕ → List ℕ
+chosenAt k [] runs = []
+chosenAt k (o ∷ own) [] = []
+chosenAt k (o ∷ own) (r ∷ runs) = cond (eqb o k) (r ∷ chosenAt k own runs) (chosenAt k own runs)
+
+-- the first rule if the list has a member, else the second
+unfoldable pub ifAny : List ℕ → List ℕ → List ℕ → List ℕ
+ifAny [] r z = z
+ifAny (m ∷ ms) r z = r
+
+-- the permit rule of the path with atom k, by the bits of programs on it and their run mixtures
+unfoldable pub permitFrom : ℕ → List ℕ → List ℕ → List ℕ
+permitFrom k bits runs = orElse (chosenBy writingBits (2 ^ k) bits runs) (2 ^ k ∷ [])
+
+-- its run rule, also by the numbers of their own paths
+unfoldable pub runFrom : ℕ → List ℕ → List ℕ → List ℕ → List ℕ
+runFrom k own bits runs =
+    orElse (chosenAt k own runs)
+    (ifAny (chosenBy unconfinedBits 0 bits runs) unrestrictedRule
+    (orElse (chosenBy inheritingBits 0 bits runs)
+    (ifAny (chosenBy confinedBits 0 bits runs) [] unrestrictedRule)))
+
+-- ---- what the functions give
+
+-- a list of m members stands at the front
+pub record Listed (l words : List ℕ) (m : ℕ) : Type 0 where
+  pub front : take m words ≡ l
+  pub count : m ≡ length l
+  pub long : length words ≡ dataWidth

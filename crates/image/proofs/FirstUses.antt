@@ -27,7 +27,7 @@ unfolding known
 known-every f r [] h e = clash h refl
 known-every f r (x ∷ us) h e = ⊎-elim (λ p. ap f (same-eq r x p) ∙ every-0 f x us e) (λ p. known-every f r us p (every-1 f x us e)) (or-cases (sameList r x) h)
 
-position-stays : (r : List ℕ) (us vs : List (List ℕ)) → known r us ≡ true → position r (us ++ vs) ≡ position r us
+pub position-stays : (r : List ℕ) (us vs : List (List ℕ)) → known r us ≡ true → position r (us ++ vs) ≡ position r us
 unfolding known position
 position-stays r [] vs h = clash h refl
 position-stays r (x ∷ us) vs h = by (sameList r x) h (position-stays r us vs)

@@ -150,7 +150,7 @@ position-lt r (x ∷ t) h = by (sameList r x) h (position-lt r t)
     by true k ih = omega arith
     by false k ih = omega (arith, ih k)
 
-position-at : (r : List ℕ) (t : List (List ℕ)) → known r t ≡ true → getD t (position r t) [] ≡ r
+pub position-at : (r : List ℕ) (t : List (List ℕ)) → known r t ≡ true → getD t (position r t) [] ≡ r
 unfolding known position
 position-at r [] h = clash h refl
 position-at r (x ∷ t) h = by (sameList r x) refl h (position-at r t)
