@@ -1,5 +1,5 @@
 -- The word is the line.
-use mathlib.Core.Path.{sym, _∙_}
+use mathlib.Core.Path.{_∙_}
 use Rattle.lists.proofs.Bools.{passes-test, fails-test}
 use Rattle.profiles.specs.Profiles.{ascii, endLine}
 use Rattle.profiles.proofs.LineScans.{end-no-line, end-scanned}

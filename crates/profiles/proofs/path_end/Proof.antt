@@ -1,8 +1,6 @@
 -- The bytes passed are those of a path.
 use Prim.Native.Nat.{_-_}
-use mathlib.Core.Path.{sym, _∙_}
 use lib.ListN.{length}
-use native.Mathlib.Omega.{arith}
 use Rattle.lists.proofs.Bools.{passes-test, fails-test}
 use Rattle.profiles.proofs.ScanLaws.{PathScanned, path-start, path-next, path-stop, path-end}
 use borrow.Author.Needs.{needs}
