@@ -19,7 +19,9 @@ loop-holds : tie.Need-loop-holds Inv-loop μ-loop
 loop-holds c = notes-start (c .before .before .args .text .now) (c .before .before .args .notes .now) (take (c .before .before .args .length) (drop (c .before .before .args .at) (c .before .before .args .text .now)))
 
 is-noted-requires : tie.Need-is-noted-requires Inv-loop μ-loop
-is-noted-requires c κs = (c .before .before .before .before .before .pre .0, every-getD (noteGood (c .before .before .before .before .before .args .text .now)) (c .before .before .before .before .before .args .notes .now) (c .before .before .loop .j) 0 (c .before .loop-test .taken) (c .before .before .before .before .before .pre .1))
+is-noted-requires c κs =
+    let start = c .before .before .before .before .before in
+    (start .pre .0, every-getD (noteGood (start .args .text .now)) (start .args .notes .now) (c .before .before .loop .j) 0 (c .before .loop-test .taken) (start .pre .1))
 
 returns : tie.Need-returns Inv-loop μ-loop
 returns c = notes-found _ _ _ _ (c .before .before .before .before .loop .inv) (c .before .before .before .loop-test .taken) (sym (c .before .is-noted .ensures) ∙ c .if1 .taken)
@@ -31,4 +33,17 @@ returns-2 : tie.Need-returns-2 Inv-loop μ-loop
 returns-2 c = notes-end _ _ _ _ (c .before .loop .inv) (c .loop-test .left)
 
 pub is-profiled-spec : {M : Type 1} → statement M
-is-profiled-spec = tie.close (tie.spec Inv-loop μ-loop loop-holds (λ c. search needs) (λ c. search needs) is-noted-requires returns (λ c. search needs) (λ c. search needs) loop-again returns-2)
+is-profiled-spec =
+    tie.close
+    (tie.spec
+    Inv-loop
+    μ-loop
+    loop-holds
+    (λ c. search needs)
+    (λ c. search needs)
+    is-noted-requires
+    returns
+    (λ c. search needs)
+    (λ c. search needs)
+    loop-again
+    returns-2)

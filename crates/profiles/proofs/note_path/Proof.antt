@@ -18,24 +18,51 @@ path-key-requires c κs = rw add-sub-cancel-left (c .before .before .before .pre
 
 is-profiled-requires : tie.Need-is-profiled-requires
 is-profiled-requires c κs =
-    let z : c .before .before .before .before .before .before .args .count - 0 ≡ c .before .before .before .before .before .before .args .count = omega arith in
-    (record { good = c .before .before .before .before .before .before .pre .good; fits = c .before .before .before .before .before .before .pre .fits; keyed = key-is (c .before .before) }, rw z (c .before .before .before .before .before .before .pre .noted))
+    let start = c .before .before .before .before .before .before in
+    let z : start .args .count - 0 ≡ start .args .count = omega arith in
+    (record { good = start .pre .good; fits = start .pre .fits; keyed = key-is (c .before .before) }, rw z (start .pre .noted))
 
 returns : tie.Need-returns
 returns c =
-    let z : c .before .before .before .before .before .before .before .before .args .count - 0 ≡ c .before .before .before .before .before .before .before .before .args .count = omega arith in
-    not-new (c .before .before .before .before .before .before .before .before .args .text .now) (c .before .before .before .before .before .before .before .before .args .notes .now) (c .before .before .before .before .before .before .before .before .args .count) (c .before .before .before .before .before .before .before .before .args .at) (c .before .before .before .before .before .before .before .before .args .length) (c .before .before .before .before .before .before .before .before .pre) _ (rw z at (c .before .is-profiled .ensures)) (c .if1 .taken)
+    let start = c .before .before .before .before .before .before .before .before in
+    let z : start .args .count - 0 ≡ start .args .count = omega arith in
+    not-new (start .args .text .now) (start .args .notes .now) (start .args .count) (start .args .at) (start .args .length) (start .pre) _ (rw z at (c .before .is-profiled .ensures)) (c .if1 .taken)
 
 mul-notes : tie.Need-mul-notes
-mul-notes c = omega (arith, note-small (c .before .before .before .before .before .before .before .before .args .text .now) (c .before .before .before .before .before .before .before .before .args .notes .now) (c .before .before .before .before .before .before .before .before .args .count) (c .before .before .before .before .before .before .before .before .args .at) (c .before .before .before .before .before .before .before .before .args .length) (c .before .before .before .before .before .before .before .before .pre) _ (key-is (c .before .before .before .before)))
+mul-notes c =
+    let start = c .before .before .before .before .before .before .before .before in
+    omega (arith, note-small (start .args .text .now) (start .args .notes .now) (start .args .count) (start .args .at) (start .args .length) (start .pre) _ (key-is (c .before .before .before .before)))
 
 add-notes : tie.Need-add-notes
-add-notes c = omega (arith, c .before .before .before .before .before .before .before .before .pre .place, note-small (c .before .before .before .before .before .before .before .before .args .text .now) (c .before .before .before .before .before .before .before .before .args .notes .now) (c .before .before .before .before .before .before .before .before .args .count) (c .before .before .before .before .before .before .before .before .args .at) (c .before .before .before .before .before .before .before .before .args .length) (c .before .before .before .before .before .before .before .before .pre) _ (key-is (c .before .before .before .before)))
+add-notes c =
+    let start = c .before .before .before .before .before .before .before .before in
+    omega (arith, start .pre .place, note-small (start .args .text .now) (start .args .notes .now) (start .args .count) (start .args .at) (start .args .length) (start .pre) _ (key-is (c .before .before .before .before)))
 
 returns-2 : tie.Need-returns-2
 returns-2 c =
-    let z : c .before .before .before .before .before .before .before .before .args .count - 0 ≡ c .before .before .before .before .before .before .before .before .args .count = omega arith in
-    is-new (c .before .before .before .before .before .before .before .before .args .text .now) (c .before .before .before .before .before .before .before .before .args .notes .now) (c .before .before .before .before .before .before .before .before .args .count) (c .before .before .before .before .before .before .before .before .args .at) (c .before .before .before .before .before .before .before .before .args .length) (c .before .before .before .before .before .before .before .before .pre) _ (rw z at (c .before .is-profiled .ensures)) (c .if1 .left) _ (key-is (c .before .before .before .before))
+    let start = c .before .before .before .before .before .before .before .before in
+    let z : start .args .count - 0 ≡ start .args .count = omega arith in
+    is-new (start .args .text .now) (start .args .notes .now) (start .args .count) (start .args .at) (start .args .length) (start .pre) _ (rw z at (c .before .is-profiled .ensures))
+    (c .if1 .left) _ (key-is (c .before .before .before .before))
 
 pub note-path-spec : {M : Type 1} → statement M
-note-path-spec = tie.close (tie.spec (λ c. search needs) (λ c. search needs) (λ c. search needs) (λ c. search needs) path-key-requires (λ c. search needs) (λ c. search needs) (λ c. search needs) is-profiled-requires (λ c. search needs) returns mul-notes add-notes (λ c. search needs) (λ c. search needs) (λ c. search needs) returns-2)
+note-path-spec =
+    tie.close
+    (tie.spec
+    (λ c. search needs)
+    (λ c. search needs)
+    (λ c. search needs)
+    (λ c. search needs)
+    path-key-requires
+    (λ c. search needs)
+    (λ c. search needs)
+    (λ c. search needs)
+    is-profiled-requires
+    (λ c. search needs)
+    returns
+    mul-notes
+    add-notes
+    (λ c. search needs)
+    (λ c. search needs)
+    (λ c. search needs)
+    returns-2)

@@ -31,4 +31,17 @@ returns-3 : tie.Need-returns-3 Inv-loop μ-loop
 returns-3 c = same-ended _ _ _ (c .before .loop .inv .1) (c .before .before .if1 .left) (c .loop-test .left)
 
 pub same-spec : {M : Type 1} → statement M
-same-spec = tie.close (tie.spec Inv-loop μ-loop returns loop-holds (λ c. search needs) (λ c. search needs) returns-2 (λ c. search needs) (λ c. search needs) loop-again returns-3)
+same-spec =
+    tie.close
+    (tie.spec
+    Inv-loop
+    μ-loop
+    returns
+    loop-holds
+    (λ c. search needs)
+    (λ c. search needs)
+    returns-2
+    (λ c. search needs)
+    (λ c. search needs)
+    loop-again
+    returns-3)

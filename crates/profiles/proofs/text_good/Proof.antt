@@ -19,4 +19,11 @@ unfolding textGood
 returns-3 c = c .long-good .ensures ∙ simp (le-leb _ textLimit (c .before .before .if1 .left))
 
 pub text-good-spec : {M : Type 1} → statement M
-text-good-spec = tie.close (tie.spec returns (λ c κs. search needs) returns-2 (λ c κs. search needs) returns-3)
+text-good-spec =
+    tie.close
+    (tie.spec
+    returns
+    (λ c κs. search needs)
+    returns-2
+    (λ c κs. search needs)
+    returns-3)
