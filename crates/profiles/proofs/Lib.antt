@@ -10,4 +10,6 @@ pub mod ModeLaws
 pub mod LineScans
 pub mod TextLaws
 pub mod Walks
+pub mod NoteLaws
+pub mod TextScan
 pub mod Examples

@@ -16,7 +16,7 @@ use Rattle.lists.proofs.Places.{some-inj, none-some}
 use Rattle.profiles.specs.Profiles.{Mode, mode-r, mode-w, mode-a, mode-l, mode-m, mode-ix, mode-px, mode-Px, mode-ux, mode-Ux, Entry, ascii, slash, modeText, modesText, profileWord, profileEnd, modesStart, modesEnd, profileLine, entryLine, endLine, isBetween, isDigit, isLetter, isPathByte, pathGood, modesGood, entryGood}
 use Rattle.profiles.specs.Tokens.{starts, tokens}
 use Rattle.profiles.specs.Reading.{Line, opens, enters, closes, lineText, lineGood, pathByteIn, byteText, pathIn, modeAmong, allModes, modeIn, modesIn, entryIn, linesToTry, lineAmong, lineIn, linesIn, linesText}
-use Rattle.profiles.proofs.TokenLaws.{starts-split, starts-seam, tokens-stop, tokens-front, tokens-every, tokens-back}
+use Rattle.profiles.proofs.TokenLaws.{starts-split, starts-seam, tokens-front, tokens-every, tokens-back}
 
 -- ---- paths
 

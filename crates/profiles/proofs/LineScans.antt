@@ -1,6 +1,6 @@
 -- A line that is scanned from a place of the text: its parts are tested one after the other, as the tests of a line are.
-use Prim.Native.Nat.{ℕ, suc, _+_, _-_, _≤_, _<_}
-use mathlib.Core.Path.{_≡_, refl, sym, ap, ap₂, _∙_, subst}
+use Prim.Native.Nat.{ℕ, _+_, _-_, _≤_}
+use mathlib.Core.Path.{_≡_, refl, sym, ap, ap₂, _∙_}
 use mathlib.Core.Logic.{_≢_}
 use mathlib.Core.Bool.{Bool, true, false, cond, _&&_}
 use mathlib.Core.List.{List, [], _∷_, _++_}
@@ -9,28 +9,10 @@ use native.Mathlib.Omega.{arith}
 use lib.ListN.{length, getD, drop, length-append, length-drop}
 use lib.Seq.{getD-drop, drop-drop}
 use Rattle.lists.specs.Lists.{joined}
-use Rattle.profiles.specs.Profiles.{
-  Mode,
-  Entry,
-  ascii,
-  slash,
-  modeText,
-  modesText,
-  profileWord,
-  profileEnd,
-  modesStart,
-  modesEnd,
-  profileLine,
-  entryLine,
-  endLine,
-  pathGood,
-  modesGood,
-  entryGood,
-}
+use Rattle.profiles.specs.Profiles.{Mode, Entry, ascii, modeText, modesText, profileWord, profileEnd, modesStart, modesEnd, profileLine, entryLine, endLine, pathGood, modesGood, entryGood}
 use Rattle.profiles.specs.Tokens.{given, starts}
 use Rattle.profiles.specs.Reading.{Line, opens, enters, closes, lineText, lineGood, pathIn, modesIn, entryIn, linesToTry, lineAmong, lineIn}
 use Rattle.profiles.specs.Scanning.{modeBits, profileKind, entryKind, endKind, lineScan, noScan, lineAt}
-use Rattle.profiles.specs.declared.ScannedLine.{ScannedLine}
 use Rattle.profiles.proofs.TokenLaws.{starts-split, starts-append}
 use Rattle.profiles.proofs.LineLaws.{and-false, path-front, mode-long, modes-front, line-passed, no-profile-line, no-entry-line, no-end-line}
 

@@ -1,8 +1,8 @@
 -- Modes that are scanned from a place of the text: one by its first byte and the one behind it, then one after the other.
-use Prim.Native.Nat.{ℕ, suc, _+_, _-_, _≤_, _<_}
+use Prim.Native.Nat.{ℕ, _+_, _-_, _≤_, _<_}
 use mathlib.Core.Path.{_≡_, refl, sym, ap, _∙_, subst}
 use mathlib.Core.Bool.{Bool, true, false, cond, _&&_}
-use mathlib.Core.List.{List, [], _∷_, _++_}
+use mathlib.Core.List.{List, [], _∷_}
 use mathlib.Core.Option.{Option, none, some}
 use native.Mathlib.Omega.{arith}
 use lib.Bits.{bitOr}
@@ -17,9 +17,8 @@ use Rattle.profiles.specs.Tokens.{starts, tokens}
 use Rattle.profiles.specs.Reading.{modeAmong, allModes, modeIn, modesIn}
 use Rattle.profiles.specs.Scanning.{modeBit, withModes, modeBits, modeScan, withX, modeAt, modesScan, modesAt}
 use Rattle.profiles.specs.declared.ScannedMode.{ScannedMode}
-use Rattle.profiles.specs.declared.ScannedModes.{ScannedModes}
 use Rattle.profiles.proofs.TokenLaws.{starts-split, tokens-stop, tokens-step}
-use Rattle.profiles.proofs.LineLaws.{mode-long, mode-front, mode-back}
+use Rattle.profiles.proofs.LineLaws.{mode-long, mode-front}
 use Rattle.profiles.proofs.ScanLaws.{drop-next}
 
 -- ---- a mode by its first byte

@@ -1,8 +1,8 @@
 -- A text is judged line by line, from the lines that are left, whether one is inside a profile, and the paths profiled so far.
-use Prim.Native.Nat.{ℕ, suc, _+_, _-_, _≤_, _<_}
-use mathlib.Core.Path.{_≡_, refl, sym, ap, ap₂, _∙_}
+use Prim.Native.Nat.{ℕ, _+_, _-_, _≤_, _<_}
+use mathlib.Core.Path.{_≡_, refl, ap, _∙_}
 use mathlib.Core.Bool.{Bool, true, false, not, cond, _&&_, _||_}
-use mathlib.Core.List.{List, [], _∷_, _++_, map, append-nil}
+use mathlib.Core.List.{List, [], _∷_, _++_, map}
 use mathlib.Core.Option.{Option, none, some}
 use native.Mathlib.Omega.{arith}
 use lib.Dec.{eqb}
@@ -14,27 +14,10 @@ use Rattle.lists.proofs.Bools.{same-test}
 use Rattle.lists.proofs.Same.{same-refl, same-eq}
 use Rattle.lists.proofs.Every.{every-all}
 use Rattle.profiles.specs.Profiles.{Entry, Profile}
-use Rattle.profiles.specs.Reading.{
-  Line,
-  opens,
-  enters,
-  closes,
-  lineText,
-  lineIn,
-  linesIn,
-  linesText,
-  Parsed,
-  outside,
-  inside,
-  broken,
-  behindLine,
-  parsed,
-  profilesOf,
-  readingOf,
-}
+use Rattle.profiles.specs.Reading.{Line, opens, enters, closes, lineText, lineIn, linesIn, linesText, Parsed, outside, inside, broken, behindLine, parsed, profilesOf, readingOf}
 use Rattle.profiles.specs.Tokens.{tokens}
 use Rattle.profiles.specs.Texts.{isAmong, noRepeat, profiledOnce, readsWell}
-use Rattle.profiles.proofs.TokenLaws.{starts-split, tokens-stop, tokens-step}
+use Rattle.profiles.proofs.TokenLaws.{tokens-stop, tokens-step}
 use Rattle.profiles.proofs.LineLaws.{and-false, line-front, line-long}
 use Rattle.profiles.proofs.LineScans.{starts-room}
 use Rattle.profiles.proofs.ReadingLaws.{no-line-left}

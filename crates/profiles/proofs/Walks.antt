@@ -1,34 +1,16 @@
 -- What a scanned line tells of the text, and the walk through a text that has a reading: it is, line by line, the lines of it.
-use Prim.Native.Nat.{ℕ, zero, suc, _+_, _-_, _≤_, _<_}
-use mathlib.Core.Path.{_≡_, refl, sym, ap, ap₂, _∙_, subst}
-use mathlib.Core.Bool.{Bool, true, false, cond, _&&_}
-use mathlib.Core.List.{List, [], _∷_, _++_, append-assoc, append-nil}
+use Prim.Native.Nat.{ℕ, _+_, _-_, _≤_}
+use mathlib.Core.Path.{_≡_, refl, sym, ap, _∙_, subst}
+use mathlib.Core.Bool.{true}
+use mathlib.Core.List.{List, [], _∷_, _++_, append-assoc}
 use mathlib.Core.Option.{Option, none, some}
 use native.Mathlib.Omega.{arith}
-use lib.ListN.{length, take, drop, length-append, length-drop, drop-of-length-le}
+use lib.ListN.{length, take, drop, length-append, length-drop}
 use lib.Seq.{take-append-seam, drop-append-seam, drop-drop}
 use Rattle.lists.specs.Lists.{every, joined}
-use Rattle.lists.proofs.Bools.{and-0, and-1}
 use Rattle.lists.proofs.Every.{every-0, every-1}
-use Rattle.lists.proofs.Places.{some-inj}
-use Rattle.profiles.specs.Profiles.{
-  Entry,
-  Profile,
-  ascii,
-  modesText,
-  profileWord,
-  profileEnd,
-  modesStart,
-  modesEnd,
-  profileLine,
-  entryLine,
-  textOf,
-  pathGood,
-  modesGood,
-  entryGood,
-}
+use Rattle.profiles.specs.Profiles.{Entry, Profile, ascii, modesText, profileWord, profileEnd, modesStart, modesEnd, profileLine, entryLine, pathGood, entryGood}
 use Rattle.profiles.specs.Grammar.{Grammar}
-use Rattle.profiles.specs.Tokens.{given, starts}
 use Rattle.profiles.specs.Reading.{Line, opens, enters, closes, lineText, lineGood, linesOf, pathIn, lineIn, linesText}
 use Rattle.profiles.specs.Scanning.{modeBits, noLine, profileKind, entryKind, endKind, lineScan, noScan, lineAt}
 use Rattle.profiles.specs.declared.ScannedLine.{ScannedLine}
@@ -36,7 +18,6 @@ use Rattle.profiles.proofs.TokenLaws.{starts-split}
 use Rattle.profiles.proofs.LineLaws.{line-front, line-good, line-back, line-long, profile-path}
 use Rattle.profiles.proofs.LineScans.{starts-room}
 use Rattle.profiles.proofs.ReadingLaws.{text-lines, lines-of-good}
-use Rattle.profiles.proofs.PathLaws.{path-parts}
 
 -- ---- where the parts of a line are
 

@@ -1,13 +1,15 @@
 -- How the code remembers the paths that are profiled: a number for each, from its place in the text and a key. The key only
 -- saves comparisons: no answer depends on it.
-use Prim.Native.Nat.{ℕ, _+_, _-_, _*_, _/_, _%_}
-use mathlib.Core.Bool.{Bool, _&&_}
-use mathlib.Core.List.{List}
+use Prim.Native.Nat.{ℕ, _+_, _-_, _*_, _/_, _%_, _≤_, _<_}
+use mathlib.Core.Path.{_≡_}
+use mathlib.Core.Bool.{Bool, true, not, cond, _&&_}
+use mathlib.Core.List.{List, map}
 use lib.Dec.{eqb}
-use lib.ListN.{length, getD, drop}
+use lib.ListN.{length, getD, take, drop, set}
+use Rattle.lists.specs.Lists.{every}
 use Rattle.profiles.specs.Profiles.{pathGood}
 use Rattle.profiles.specs.Reading.{pathIn}
-use Rattle.profiles.specs.Texts.{textLimit}
+use Rattle.profiles.specs.Texts.{textLimit, isAmong}
 
 -- above the length of every path
 abbrev pub lengthLimit : ℕ
@@ -31,3 +33,27 @@ notedPath t n = pathIn (drop (n % textLimit) t)
 -- the note is that of its path
 unfoldable pub noteGood : List ℕ → ℕ → Bool
 noteGood t n = pathGood (notedPath t n) && eqb (n / textLimit) (pathKey (notedPath t n))
+
+-- ---- what the functions take and give
+
+-- at the place there is a path of this length and key
+pub record PathAt (t : List ℕ) (at n key : ℕ) : Type 0 where
+  pub good : pathGood (take n (drop at t)) ≡ true
+  pub fits : at + n ≤ length t
+  pub keyed : key ≡ pathKey (take n (drop at t))
+
+-- the first `count` notes are good, there is room for one more, and the path at the place can be noted
+pub record ToNote (t notes : List ℕ) (count at n : ℕ) : Type 0 where
+  pub noted : every (noteGood t) (take count notes) ≡ true
+  pub room : count < length notes
+  pub good : pathGood (take n (drop at t)) ≡ true
+  pub fits : at + n ≤ length t
+  pub place : at < textLimit
+
+-- the path at the place is not noted yet
+unfoldable pub isNew : List ℕ → List ℕ → ℕ → ℕ → ℕ → Bool
+isNew t notes count at n = not (isAmong (take n (drop at t)) (map (notedPath t) (take count notes)))
+
+-- the notes with one of it, unless there is one
+unfoldable pub withNote : List ℕ → List ℕ → ℕ → ℕ → ℕ → List ℕ
+withNote t notes count at n = cond (isNew t notes count at n) (set notes count (noteOf at (take n (drop at t)))) notes

@@ -1,14 +1,28 @@
 // The text of profiles (change request No. 1): the test of a text, and its lines one by one.
 ghost use mathlib.Core.Path.{_≡_};
 ghost use mathlib.Core.Logic.{_≢_};
-ghost use Prim.Native.Nat.{_+_, _≤_, _<_};
-ghost use lib.ListN.{length, getD, drop};
+ghost use mathlib.Core.Bool.{true};
+ghost use mathlib.Core.List.{map};
+ghost use Prim.Native.Nat.{_+_, _*_, _≤_, _<_};
+ghost use lib.ListN.{length, getD, take, drop};
+ghost use Rattle.lists.specs.Lists.{every, sameList};
 ghost use Rattle.profiles.specs.Profiles.{isBetween, isPathByte, pathGood};
 ghost use Rattle.profiles.specs.Tokens.{starts};
-ghost use Rattle.profiles.specs.Reading.{pathIn};
+ghost use Rattle.profiles.specs.Reading.{pathIn, readingOf};
+ghost use Rattle.profiles.specs.Texts.{textLimit, isAmong, readsWell, textGood};
+ghost use Rattle.profiles.specs.Notes.{pathKey, notedPath, noteGood, PathAt, ToNote, isNew, withNote};
 ghost use Rattle.profiles.specs.Scanning.{withX, modeAt, modesAt, noScan, lineAt};
 
 // ---- the bytes and numbers of the format
+
+// The most bytes of a text.
+pub const TEXT_LIMIT: usize = 16384;
+
+// The most bytes of a text that has at most 64 profiles.
+const SHORT_LIMIT: usize = 832;
+
+// The places of a text, of which a note has one.
+const NOTE_PLACES: u64 = 16384;
 
 const DOT: u8 = 46;
 
@@ -336,4 +350,144 @@ pub fn line_at(text: &[u8], at: usize) -> ScannedLine
         return end_line(text, at);
     }
     entry_line(text, at)
+}
+
+// ---- paths profiled twice
+
+// Two texts are the same.
+pub fn same(a: &[u8], b: &[u8]) -> bool
+    ensures { λ r. ⌜ r ≡ sameList (now (a .entry)) (now (b .entry)) ⌝ }
+{
+    if a.len() != b.len() {
+        return false;
+    }
+    let mut i = 0;
+    while i < a.len() {
+        if a[i] != b[i] {
+            return false;
+        }
+        i += 1;
+    }
+    true
+}
+
+// The key of a path: its length, two bytes behind the slash, the last two and the middle one.
+pub fn path_key(path: &[u8]) -> u64
+    requires { ⌜ pathGood (now path) ≡ true ⌝ }
+    ensures { λ r. ⌜ r ≡ pathKey (now (path .entry)) ⌝ }
+{
+    let n = path.len();
+    let middle = byte(path, n / 2) as u64;
+    let last = (byte(path, n - 1) as u64) + 256 * ((byte(path, n - 2) as u64) + 256 * middle);
+    let first = (byte(path, 1) as u64) + 256 * ((byte(path, 2) as u64) + 256 * last);
+    (n as u64) + 128 * first
+}
+
+// The note is of the path at a place.
+fn is_noted(text: &[u8], note: u64, at: usize, length: usize, key: u64) -> bool
+    requires { ⌜ PathAt (now text) at length key × (noteGood (now text) note ≡ true) ⌝ }
+    ensures { λ r. ⌜ r ≡ sameList (take length (drop at (now (text .entry)))) (notedPath (now (text .entry)) note) ⌝ }
+{
+    if note / NOTE_PLACES != key {
+        return false;
+    }
+    let other = (note % NOTE_PLACES) as usize;
+    same(&text[at..at + length], &text[other..other + length])
+}
+
+// One of the notes is of the path at a place.
+fn is_profiled(text: &[u8], notes: &[u64], at: usize, length: usize, key: u64) -> bool
+    requires { ⌜ PathAt (now text) at length key × (every (noteGood (now text)) (now notes) ≡ true) ⌝ }
+    ensures { λ r. ⌜ r ≡ isAmong (take length (drop at (now (text .entry)))) (map (notedPath (now (text .entry))) (now (notes .entry))) ⌝ }
+{
+    let mut j = 0;
+    while j < notes.len() {
+        if is_noted(text, notes[j], at, length, key) {
+            return true;
+        }
+        j += 1;
+    }
+    false
+}
+
+// The path at a place is noted behind the notes so far, unless one of these is of it: whether it is new.
+fn note_path(text: &[u8], notes: &mut [u64], count: usize, at: usize, length: usize) -> bool
+    requires { ⌜ ToNote (now text) (now notes) count at length ⌝ }
+    ensures { λ r. ⌜ (r ≡ isNew (now (text .entry)) (now (notes .entry)) count at length) × (now (notes .exit) ≡ withNote (now (text .entry)) (now (notes .entry)) count at length) ⌝ }
+{
+    let key = path_key(&text[at..at + length]);
+    if is_profiled(text, &notes[0..count], at, length, key) {
+        return false;
+    }
+    notes[count] = key * NOTE_PLACES + at as u64;
+    true
+}
+
+// ---- the text
+
+// The lines of a text are profiles, and no path is profiled twice. A profile's first line has at least 13 bytes, so the notes
+// are not more than a thirteenth of the text.
+fn lines_good(text: &[u8], notes: &mut [u64]) -> bool
+    requires { ⌜ (length (now text) ≤ textLimit) × (length (now text) ≤ 13 * length (now notes)) ⌝ }
+    ensures { λ r. ⌜ r ≡ readsWell (readingOf (now (text .entry))) ⌝ }
+{
+    let mut at = 0;
+    let mut count = 0;
+    let mut inside = false;
+    while at < text.len() {
+        let line = line_at(text, at);
+        at = line.next;
+        if line.kind == PROFILE_LINE {
+            if inside {
+                return false;
+            }
+            if !note_path(text, notes, count, line.path, line.length) {
+                return false;
+            }
+            count += 1;
+            inside = true;
+        } else if line.kind == ENTRY_LINE {
+            if !inside {
+                return false;
+            }
+        } else if line.kind == END_LINE {
+            if !inside {
+                return false;
+            }
+            inside = false;
+        } else {
+            return false;
+        }
+    }
+    !inside
+}
+
+// The test of a short text, with few notes.
+fn short_good(text: &[u8]) -> bool
+    requires { ⌜ length (now text) ≤ 832 ⌝ }
+    ensures { λ r. ⌜ r ≡ readsWell (readingOf (now (text .entry))) ⌝ }
+{
+    let mut notes = [0u64; 64];
+    lines_good(text, &mut notes)
+}
+
+fn long_good(text: &[u8]) -> bool
+    requires { ⌜ length (now text) ≤ textLimit ⌝ }
+    ensures { λ r. ⌜ r ≡ readsWell (readingOf (now (text .entry))) ⌝ }
+{
+    let mut notes = [0u64; 1261];
+    lines_good(text, &mut notes)
+}
+
+// The text is not too long, has a reading, and profiles no path twice.
+pub fn text_good(text: &[u8]) -> bool
+    ensures { λ r. ⌜ r ≡ textGood (now (text .entry)) ⌝ }
+{
+    if TEXT_LIMIT < text.len() {
+        return false;
+    }
+    if text.len() <= SHORT_LIMIT {
+        return short_good(text);
+    }
+    long_good(text)
 }

@@ -18,7 +18,8 @@ path-fits c = omega (arith, c .path-end .ensures, path-room (c .before .before .
 
 space-fits : (c : tie.Else2) → c .before .before .before .before .before .path-end .result + 1 ≤ length (c .before .before .before .before .before .before .before .args .text .now)
 unfolding modesStart ascii
-space-fits c = starts-room modesStart (c .before .before .before .before .before .before .before .args .text .now) (c .before .before .before .before .before .path-end .result) (passes-test (c .before .starts .ensures) (c .if2 .left)) (path-fits (c .before .before .before .before .before))
+space-fits c = starts-room modesStart (c .before .before .before .before .before .before .before .args .text .now) (c .before .before .before .before .before .path-end .result)
+    (passes-test (c .before .starts .ensures) (c .if2 .left)) (path-fits (c .before .before .before .before .before))
 
 modes-end : (c : tie.After-modes-at) → c .modes-at .result .next ≡ c .before .before .before .before .before .before .path-end .result + 1 + length (modesText (modesIn (drop (c .before .before .before .before .before .before .path-end .result + 1) (c .before .before .before .before .before .before .before .before .args .text .now))))
 unfolding modesAt modesScan
@@ -28,14 +29,20 @@ modes-fit : (c : tie.After-modes-at) → c .modes-at .result .next ≤ length (c
 modes-fit c = omega (arith, modes-end c, modes-room (c .before .before .before .before .before .before .before .before .args .text .now) (c .before .before .before .before .before .before .path-end .result + 1) (space-fits (c .before)))
 
 returns : tie.Need-returns
-returns c = c .no-line .ensures ∙ entry-no-path (c .before .before .before .before .before .args .text .now) (c .before .before .before .before .before .args .at) _ _ (c .before .before .before .before .before .pre .1) (c .before .before .before .before .before .pre .2) (c .before .before .before .path-end .ensures) refl (fails-test (c .before .before .path-good .ensures) (c .before .if1 .taken))
+returns c =
+    let start = c .before .before .before .before .before in
+    c .no-line .ensures ∙ entry-no-path (start .args .text .now) (start .args .at) _ _ (start .pre .1) (start .pre .2) (c .before .before .before .path-end .ensures)
+    refl (fails-test (c .before .before .path-good .ensures) (c .before .if1 .taken))
 
 starts-requires : tie.Need-starts-requires
 starts-requires c κs = path-fits (c .before .before .before)
 
 returns-2 : tie.Need-returns-2
 unfolding modesStart ascii
-returns-2 c = c .no-line2 .ensures ∙ entry-no-space (c .before .before .before .before .before .before .before .before .args .text .now) (c .before .before .before .before .before .before .before .before .args .at) _ _ (c .before .before .before .before .before .before .before .before .pre .1) (c .before .before .before .before .before .before .before .before .pre .2) (c .before .before .before .before .before .before .path-end .ensures) refl (passes-test (c .before .before .before .before .before .path-good .ensures) (c .before .before .before .before .if1 .left)) (fails-test (c .before .before .starts .ensures) (c .before .if2 .taken))
+returns-2 c =
+    let start = c .before .before .before .before .before .before .before .before in
+    c .no-line2 .ensures ∙ entry-no-space (start .args .text .now) (start .args .at) _ _ (start .pre .1) (start .pre .2) (c .before .before .before .before .before .before .path-end .ensures)
+    refl (passes-test (c .before .before .before .before .before .path-good .ensures) (c .before .before .before .before .if1 .left)) (fails-test (c .before .before .starts .ensures) (c .before .if2 .taken))
 
 add-first : tie.Need-add-first
 add-first c = omega (arith, path-fits (c .before .before .before .before .before))
@@ -46,9 +53,12 @@ modes-at-requires c κs = space-fits c
 returns-3 : tie.Need-returns-3
 unfolding modesStart ascii
 returns-3 c =
+    let start = c .before .before .before .before .before .before .before .before .before .before in
     c .no-line3 .ensures
-    ∙ entry-no-mode (c .before .before .before .before .before .before .before .before .before .before .args .text .now) (c .before .before .before .before .before .before .before .before .before .before .args .at) _ _ (c .before .before .before .before .before .before .before .before .before .before .pre .1) (c .before .before .before .before .before .before .before .before .before .before .pre .2) (c .before .before .before .before .before .before .before .before .path-end .ensures) (modes-end (c .before .before))
-    (passes-test (c .before .before .before .before .before .before .before .path-good .ensures) (c .before .before .before .before .before .before .if1 .left)) (passes-test (c .before .before .before .before .starts .ensures) (c .before .before .before .if2 .left)) (c .before .if3 .taken)
+    ∙ entry-no-mode (start .args .text .now) (start .args .at) _ _ (start .pre .1) (start .pre .2) (c .before .before .before .before .before .before .before .before .path-end .ensures)
+    (modes-end (c .before .before))
+    (passes-test (c .before .before .before .before .before .before .before .path-good .ensures) (c .before .before .before .before .before .before .if1 .left))
+    (passes-test (c .before .before .before .before .starts .ensures) (c .before .before .before .if2 .left)) (c .before .if3 .taken)
 
 starts-requires-2 : tie.Need-starts-requires-2
 starts-requires-2 c κs = modes-fit (c .before .before)
@@ -56,9 +66,13 @@ starts-requires-2 c κs = modes-fit (c .before .before)
 returns-4 : tie.Need-returns-4
 unfolding modesStart modesEnd ascii
 returns-4 c =
+    let start = c .before .before .before .before .before .before .before .before .before .before .before .before .before in
     c .no-line4 .ensures
-    ∙ entry-no-end (c .before .before .before .before .before .before .before .before .before .before .before .before .before .args .text .now) (c .before .before .before .before .before .before .before .before .before .before .before .before .before .args .at) _ _ (c .before .before .before .before .before .before .before .before .before .before .before .before .before .pre .1) (c .before .before .before .before .before .before .before .before .before .before .before .before .before .pre .2) (c .before .before .before .before .before .before .before .before .before .before .before .path-end .ensures) (modes-end (c .before .before .before .before .before))
-    (passes-test (c .before .before .before .before .before .before .before .before .before .before .path-good .ensures) (c .before .before .before .before .before .before .before .before .before .if1 .left)) (passes-test (c .before .before .before .before .before .before .before .starts .ensures) (c .before .before .before .before .before .before .if2 .left)) (c .before .before .before .before .if3 .left) (fails-test (c .before .before .starts2 .ensures) (c .before .if4 .taken))
+    ∙ entry-no-end (start .args .text .now) (start .args .at) _ _ (start .pre .1) (start .pre .2) (c .before .before .before .before .before .before .before .before .before .before .before .path-end .ensures)
+    (modes-end (c .before .before .before .before .before))
+    (passes-test (c .before .before .before .before .before .before .before .before .before .before .path-good .ensures) (c .before .before .before .before .before .before .before .before .before .if1 .left))
+    (passes-test (c .before .before .before .before .before .before .before .starts .ensures) (c .before .before .before .before .before .before .if2 .left))
+    (c .before .before .before .before .if3 .left) (fails-test (c .before .before .starts2 .ensures) (c .before .if4 .taken))
 
 add-t16 : tie.Need-add-t16
 add-t16 c = omega (arith, modes-fit (c .before .before .before .before))
@@ -66,9 +80,34 @@ add-t16 c = omega (arith, modes-fit (c .before .before .before .before))
 returns-5 : tie.Need-returns-5
 unfolding modesStart modesEnd ascii modesAt modesScan
 returns-5 c =
-    entry-scanned (c .before .before .before .before .before .before .before .before .before .before .before .before .args .text .now) (c .before .before .before .before .before .before .before .before .before .before .before .before .args .at) _ _ (c .before .before .before .before .before .before .before .before .before .before .before .before .pre .1) (c .before .before .before .before .before .before .before .before .before .before .before .before .pre .2) (c .before .before .before .before .before .before .before .before .before .before .path-end .ensures) (modes-end (c .before .before .before .before))
-    (passes-test (c .before .before .before .before .before .before .before .before .before .path-good .ensures) (c .before .before .before .before .before .before .before .before .if1 .left)) (passes-test (c .before .before .before .before .before .before .starts .ensures) (c .before .before .before .before .before .if2 .left)) (c .before .before .before .if3 .left) (passes-test (c .before .starts2 .ensures) (c .if4 .left))
+    let start = c .before .before .before .before .before .before .before .before .before .before .before .before in
+    entry-scanned (start .args .text .now) (start .args .at) _ _ (start .pre .1) (start .pre .2) (c .before .before .before .before .before .before .before .before .before .before .path-end .ensures)
+    (modes-end (c .before .before .before .before))
+    (passes-test (c .before .before .before .before .before .before .before .before .before .path-good .ensures) (c .before .before .before .before .before .before .before .before .if1 .left))
+    (passes-test (c .before .before .before .before .before .before .starts .ensures) (c .before .before .before .before .before .if2 .left)) (c .before .before .before .if3 .left)
+    (passes-test (c .before .starts2 .ensures) (c .if4 .left))
     _ (ap (λ (m : ScannedModes). m .bits) (c .before .before .before .before .modes-at .ensures))
 
 pub entry-line-spec : {M : Type 1} → statement M
-entry-line-spec = tie.close (tie.spec (λ c κs. search needs) (λ c κs. search needs) (λ c κs. search needs) returns (λ c. search needs) starts-requires (λ c κs. search needs) returns-2 add-first modes-at-requires (λ c κs. search needs) returns-3 (λ c. search needs) starts-requires-2 (λ c κs. search needs) returns-4 (λ c. search needs) add-t16 returns-5)
+entry-line-spec =
+    tie.close
+    (tie.spec
+    (λ c κs. search needs)
+    (λ c κs. search needs)
+    (λ c κs. search needs)
+    returns
+    (λ c. search needs)
+    starts-requires
+    (λ c κs. search needs)
+    returns-2
+    add-first
+    modes-at-requires
+    (λ c κs. search needs)
+    returns-3
+    (λ c. search needs)
+    starts-requires-2
+    (λ c κs. search needs)
+    returns-4
+    (λ c. search needs)
+    add-t16
+    returns-5)

@@ -44,4 +44,14 @@ returns-5 c =
     )
 
 pub is-path-byte-spec : {M : Type 1} → statement M
-is-path-byte-spec = tie.close (tie.spec (λ c κs. search needs) returns (λ c κs. search needs) returns-2 (λ c κs. search needs) returns-3 returns-4 returns-5)
+is-path-byte-spec =
+    tie.close
+    (tie.spec
+    (λ c κs. search needs)
+    returns
+    (λ c κs. search needs)
+    returns-2
+    (λ c κs. search needs)
+    returns-3
+    returns-4
+    returns-5)

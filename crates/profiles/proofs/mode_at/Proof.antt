@@ -11,23 +11,28 @@ use Rattle.profiles.proofs.mode_at.Tie as tie
 
 returns : tie.Need-returns
 unfolding modeIn modeAmong allModes modeText modeBit modeScan ascii starts
-returns c = one-letter (c .before .before .before .before .args .text .now) (c .before .before .before .before .args .at) (c .before .before .before .before .pre) _ (sym (c .before .byte2 .ensures) ∙ c .match .keys1) mode-r (λ u. refl)
+returns c = one-letter (c .before .before .before .before .args .text .now) (c .before .before .before .before .args .at) (c .before .before .before .before .pre)
+    _ (sym (c .before .byte2 .ensures) ∙ c .match .keys1) mode-r (λ u. refl)
 
 returns-2 : tie.Need-returns-2
 unfolding modeIn modeAmong allModes modeText modeBit modeScan ascii starts
-returns-2 c = one-letter (c .before .before .before .before .args .text .now) (c .before .before .before .before .args .at) (c .before .before .before .before .pre) _ (sym (c .before .byte2 .ensures) ∙ c .match .keys2) mode-w (λ u. refl)
+returns-2 c = one-letter (c .before .before .before .before .args .text .now) (c .before .before .before .before .args .at) (c .before .before .before .before .pre)
+    _ (sym (c .before .byte2 .ensures) ∙ c .match .keys2) mode-w (λ u. refl)
 
 returns-3 : tie.Need-returns-3
 unfolding modeIn modeAmong allModes modeText modeBit modeScan ascii starts
-returns-3 c = one-letter (c .before .before .before .before .args .text .now) (c .before .before .before .before .args .at) (c .before .before .before .before .pre) _ (sym (c .before .byte2 .ensures) ∙ c .match .keys3) mode-a (λ u. refl)
+returns-3 c = one-letter (c .before .before .before .before .args .text .now) (c .before .before .before .before .args .at) (c .before .before .before .before .pre)
+    _ (sym (c .before .byte2 .ensures) ∙ c .match .keys3) mode-a (λ u. refl)
 
 returns-4 : tie.Need-returns-4
 unfolding modeIn modeAmong allModes modeText modeBit modeScan ascii starts
-returns-4 c = one-letter (c .before .before .before .before .args .text .now) (c .before .before .before .before .args .at) (c .before .before .before .before .pre) _ (sym (c .before .byte2 .ensures) ∙ c .match .keys4) mode-l (λ u. refl)
+returns-4 c = one-letter (c .before .before .before .before .args .text .now) (c .before .before .before .before .args .at) (c .before .before .before .before .pre)
+    _ (sym (c .before .byte2 .ensures) ∙ c .match .keys4) mode-l (λ u. refl)
 
 returns-5 : tie.Need-returns-5
 unfolding modeIn modeAmong allModes modeText modeBit modeScan ascii starts
-returns-5 c = one-letter (c .before .before .before .before .args .text .now) (c .before .before .before .before .args .at) (c .before .before .before .before .pre) _ (sym (c .before .byte2 .ensures) ∙ c .match .keys5) mode-m (λ u. refl)
+returns-5 c = one-letter (c .before .before .before .before .args .text .now) (c .before .before .before .before .args .at) (c .before .before .before .before .pre)
+    _ (sym (c .before .byte2 .ensures) ∙ c .match .keys5) mode-m (λ u. refl)
 
 returns-6 : tie.Need-returns-6
 unfolding modeIn modeAmong allModes modeText modeBit modeScan ascii starts
@@ -56,4 +61,25 @@ returns-11 c =
     (no-mode _ (c .match .rest .0 .0 .0 .0 .0 .0 .0 .0 .0 .1) (c .match .rest .0 .0 .0 .0 .0 .0 .0 .0 .1) (c .match .rest .0 .0 .0 .0 .0 .0 .0 .1) (c .match .rest .0 .0 .0 .0 .0 .0 .1) (c .match .rest .0 .0 .0 .0 .0 .1) (c .match .rest .0 .0 .0 .0 .1) (c .match .rest .0 .0 .0 .1) (c .match .rest .0 .0 .1) (c .match .rest .0 .1) (c .match .rest .1))
 
 pub mode-at-spec : {M : Type 1} → statement M
-mode-at-spec = tie.close (tie.spec (λ c. search needs) (λ c κs. search needs) (λ c κs. search needs) (λ c κs. search needs) (λ c κs. search needs) (λ c κs. search needs) (λ c κs. search needs) (λ c κs. search needs) returns returns-2 returns-3 returns-4 returns-5 returns-6 returns-7 returns-8 returns-9 returns-10 returns-11)
+mode-at-spec =
+    tie.close
+    (tie.spec
+    (λ c. search needs)
+    (λ c κs. search needs)
+    (λ c κs. search needs)
+    (λ c κs. search needs)
+    (λ c κs. search needs)
+    (λ c κs. search needs)
+    (λ c κs. search needs)
+    (λ c κs. search needs)
+    returns
+    returns-2
+    returns-3
+    returns-4
+    returns-5
+    returns-6
+    returns-7
+    returns-8
+    returns-9
+    returns-10
+    returns-11)

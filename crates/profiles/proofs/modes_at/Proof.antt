@@ -23,10 +23,22 @@ add-i : tie.Need-add-i Inv-loop μ-loop
 add-i c = omega (arith, mode-fits _ _ _ _ (c .before .before .before .before .before .loop .inv) _ (c .before .before .before .mode-at .ensures) (c .before .before .before .before .loop-test .taken))
 
 loop-again : tie.Need-loop-again Inv-loop μ-loop
-loop-again c = modes-next _ _ _ _ (c .before .before .before .before .before .before .loop .inv) _ (c .before .before .before .before .mode-at .ensures) (c .before .before .before .before .before .loop-test .taken) (c .before .before .if1 .left)
+loop-again c = modes-next _ _ _ _ (c .before .before .before .before .before .before .loop .inv) _ (c .before .before .before .before .mode-at .ensures)
+    (c .before .before .before .before .before .loop-test .taken) (c .before .before .if1 .left)
 
 returns-2 : tie.Need-returns-2 Inv-loop μ-loop
 returns-2 c = modes-end _ _ _ _ (c .before .loop .inv) (c .loop-test .left)
 
 pub modes-at-spec : {M : Type 1} → statement M
-modes-at-spec = tie.close (tie.spec Inv-loop μ-loop loop-holds (λ c κs. search needs) returns add-i (λ c. search needs) loop-again returns-2)
+modes-at-spec =
+    tie.close
+    (tie.spec
+    Inv-loop
+    μ-loop
+    loop-holds
+    (λ c κs. search needs)
+    returns
+    add-i
+    (λ c. search needs)
+    loop-again
+    returns-2)

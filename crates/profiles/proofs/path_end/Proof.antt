@@ -1,8 +1,6 @@
 -- The bytes passed are those of a path.
 use Prim.Native.Nat.{_-_}
-use mathlib.Core.Path.{sym, _∙_}
 use lib.ListN.{length}
-use native.Mathlib.Omega.{arith}
 use Rattle.lists.proofs.Bools.{passes-test, fails-test}
 use Rattle.profiles.proofs.ScanLaws.{PathScanned, path-start, path-next, path-stop, path-end}
 use borrow.Author.Needs.{needs}
@@ -28,4 +26,16 @@ returns-2 : tie.Need-returns-2 Inv-loop μ-loop
 returns-2 c = path-end _ _ _ (c .before .loop .inv) (c .loop-test .left)
 
 pub path-end-spec : {M : Type 1} → statement M
-path-end-spec = tie.close (tie.spec Inv-loop μ-loop loop-holds (λ c. search needs) (λ c κs. search needs) returns (λ c. search needs) (λ c. search needs) loop-again returns-2)
+path-end-spec =
+    tie.close
+    (tie.spec
+    Inv-loop
+    μ-loop
+    loop-holds
+    (λ c. search needs)
+    (λ c κs. search needs)
+    returns
+    (λ c. search needs)
+    (λ c. search needs)
+    loop-again
+    returns-2)

@@ -24,4 +24,12 @@ returns-3 c =
     ap (λ (n : ℕ). leb n 64) e ∙ path-fits text at (sym (c .before .before .byte .ensures) ∙ c .before .if1 .left) (omega arith)
 
 pub path-good-spec : {M : Type 1} → statement M
-path-good-spec = tie.close (tie.spec (λ c κs. search needs) returns (λ c. search needs) returns-2 (λ c. search needs) returns-3)
+path-good-spec =
+    tie.close
+    (tie.spec
+    (λ c κs. search needs)
+    returns
+    (λ c. search needs)
+    returns-2
+    (λ c. search needs)
+    returns-3)
