@@ -16,7 +16,7 @@ use Rattle.image.specs.Normal.{known, position}
 use Rattle.profiles.specs.Profiles.{Mode, Profile}
 use Rattle.profiles.specs.Scanning.{modeBits}
 use Rattle.confinement.specs.Confinement.{someOf, reading, executing, writing, unconfined, inheriting, confined, modesOn, fileAtoms, atomsFrom, runMixture, programsWith, profilesAt, orElse, ifSome, permitMixtures, runMixtures}
-use Rattle.confinement.specs.Tables.{noProfile, ProgramTable, readingBits, executingBits, writingBits, unconfinedBits, inheritingBits, confinedBits, meets, fileBits, rowAtoms, rowMixture, listFrom, rowAt, mixtures, columnAt, chosenBy, chosenAt, ifAny, permitFrom, runFrom}
+use Rattle.confinement.specs.Tables.{noProfile, ProgramTable, readingBits, executingBits, writingBits, unconfinedBits, inheritingBits, confinedBits, meets, fileBits, rowAtoms, rowMixture, listFrom, rowAt, mixtures, columnAt, chosenBy, chosenAt, ifAny, permitFrom, inheritedFrom, runFrom}
 use Rattle.confinement.proofs.BitLaws.{Spelt, some-bits, reading-spelt, executing-spelt, writing-spelt, unconfined-spelt, inheriting-spelt, confined-spelt}
 
 -- ---- run mixtures
@@ -90,7 +90,7 @@ module _ (ns : List (List ℕ)) (q : List ℕ) where
 
   pub run-from : (k : ℕ) (ps : List Profile) → ((j : ℕ) → j < length ps → Tells k (getD ps j noProfile))
       → runFrom k (map (λ p. position (p .path) ns) ps) (bitsOn q ps) (map (runMixture ns) ps) ≡ runMixtures ns ps q
-  unfolding runFrom runMixtures
+  unfolding runFrom inheritedFrom runMixtures
   run-from k ps t =
       let last : List ℕ = ifAny (chosenBy confinedBits 0 (bitsOn q ps) (map (runMixture ns) ps)) [] unrestrictedRule in
       let rest : List ℕ = orElse (chosenBy inheritingBits 0 (bitsOn q ps) (map (runMixture ns) ps)) last in

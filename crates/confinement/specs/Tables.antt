@@ -5,11 +5,13 @@ use mathlib.Core.Path.{_≡_}
 use mathlib.Core.Bool.{Bool, not, cond}
 use mathlib.Core.List.{List, [], _∷_}
 use lib.Bits.{bitAnd, bitOr}
-use lib.Dec.{eqb}
+use lib.Dec.{eqb, leb}
 use lib.ListN.{length, getD, take, drop}
 use Rattle.image.specs.Policy.{unrestrictedRule}
 use Rattle.image.specs.Normal.{position}
-use Rattle.rules.specs.Answers.{dataWidth}
+use Rattle.rules.specs.Rules.{normal}
+use Rattle.rules.specs.Answers.{dataWidth, mixtureLimit}
+use Rattle.rule_words.specs.Words.{wordsOf}
 use Rattle.profiles.specs.Profiles.{Profile}
 use Rattle.profiles.specs.Scanning.{modeBits}
 use Rattle.confinement.specs.Confinement.{modesOn, orElse}
@@ -128,13 +130,14 @@ ifAny (m ∷ ms) r z = r
 unfoldable pub permitFrom : ℕ → List ℕ → List ℕ → List ℕ
 permitFrom k bits runs = orElse (chosenBy writingBits (2 ^ k) bits runs) (2 ^ k ∷ [])
 
+-- its run rule where no program is profiled under it or names it unconfined
+unfoldable pub inheritedFrom : List ℕ → List ℕ → List ℕ
+inheritedFrom bits runs = orElse (chosenBy inheritingBits 0 bits runs) (ifAny (chosenBy confinedBits 0 bits runs) [] unrestrictedRule)
+
 -- its run rule, also by the numbers of their own paths
 unfoldable pub runFrom : ℕ → List ℕ → List ℕ → List ℕ → List ℕ
 runFrom k own bits runs =
-    orElse (chosenAt k own runs)
-    (ifAny (chosenBy unconfinedBits 0 bits runs) unrestrictedRule
-    (orElse (chosenBy inheritingBits 0 bits runs)
-    (ifAny (chosenBy confinedBits 0 bits runs) [] unrestrictedRule)))
+    orElse (chosenAt k own runs) (ifAny (chosenBy unconfinedBits 0 bits runs) unrestrictedRule (inheritedFrom bits runs))
 
 -- ---- what the functions give
 
@@ -143,3 +146,8 @@ pub record Listed (l words : List ℕ) (m : ℕ) : Type 0 where
   pub front : take m words ≡ l
   pub count : m ≡ length l
   pub long : length words ≡ dataWidth
+
+-- the normal form of a rule was put as words, if it fits; else all is as it was
+pub record FormPut (r before after : List ℕ) (fits : Bool) : Type 0 where
+  pub told : fits ≡ leb (length (normal r)) mixtureLimit
+  pub words : after ≡ cond fits (wordsOf (normal r)) before

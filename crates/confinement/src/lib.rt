@@ -2,8 +2,10 @@
 ghost use mathlib.Core.Path.{_≡_};
 ghost use Prim.Native.Nat.{ℕ, _+_, _*_, _^_, _≤_, _<_};
 ghost use lib.ListN.{length, getD, take};
-ghost use Rattle.rules.specs.Answers.{dataWidth};
-ghost use Rattle.confinement.specs.Tables.{cellCount, meets, fileBits, rowMixture, mixtures, columnAt, chosenBy, chosenAt, permitFrom, runFrom, Listed};
+ghost use mathlib.Core.Bool.{cond};
+ghost use Rattle.rules.specs.Answers.{dataWidth, tagWidth};
+ghost use Rattle.rule_words.specs.Words.{ruleWidth};
+ghost use Rattle.confinement.specs.Tables.{cellCount, meets, fileBits, rowMixture, mixtures, columnAt, chosenBy, chosenAt, permitFrom, inheritedFrom, runFrom, Listed, FormPut};
 
 // As many paths, and as many programs, as there are data atoms.
 const PATHS: usize = 32;
@@ -30,12 +32,15 @@ fn meets(bits: u64, wanted: u64) -> bool
     bits & wanted != 0
 }
 
-// The mixture of one atom.
-fn atom(k: usize) -> u64
-    requires { ⌜ k < 64 ⌝ }
-    ensures { λ r. ⌜ r ≡ 2 ^ k ⌝ }
+// The mixture of one atom, or none.
+fn atom_if(there: bool, k: usize) -> u64
+    requires { ⌜ k < tagWidth ⌝ }
+    ensures { λ r. ⌜ r ≡ cond there (2 ^ k) 0 ⌝ }
 {
-    1 << k
+    if there {
+        return 1 << k;
+    }
+    0
 }
 
 // The atoms of the path with atom k that a program has by these modes on it.
@@ -43,14 +48,7 @@ fn file_atoms(k: usize, bits: u64) -> u64
     requires { ⌜ k < dataWidth ⌝ }
     ensures { λ r. ⌜ r ≡ fileBits k bits ⌝ }
 {
-    let mut atoms: u64 = 0;
-    if meets(bits, READING) {
-        atoms = atom(k);
-    }
-    if meets(bits, EXECUTING) {
-        return atoms | atom(PATHS + k);
-    }
-    atoms
+    atom_if(meets(bits, READING), k) | atom_if(meets(bits, EXECUTING), PATHS + k)
 }
 
 // The run mixture of a program by the number of its own path and its modes on each path.
@@ -58,7 +56,7 @@ fn run_mixture(own: usize, row: &[u64]) -> u64
     requires { ⌜ (own < dataWidth) × (length (now row) ≤ dataWidth) ⌝ }
     ensures { λ r. ⌜ r ≡ rowMixture own (now (row .entry)) ⌝ }
 {
-    let mut mixture = atom(PATHS + own);
+    let mut mixture = atom_if(true, PATHS + own);
     let mut k = 0;
     while k < row.len() {
         mixture = mixture | file_atoms(k, row[k]);
@@ -118,4 +116,67 @@ fn choose_own(words: &mut [u64], own: &[usize], runs: &[u64], k: usize) -> usize
         }
     }
     count
+}
+
+// ---- the rules of a path
+
+// The permit rule of the path with atom k as it is stated: how many mixtures.
+fn list_permit(words: &mut [u64], modes: &[u64], runs: &[u64], k: usize) -> usize
+    requires { ⌜ (k < dataWidth) × (length (now words) ≡ dataWidth) × (length (now runs) ≤ dataWidth) × (length (now modes) ≡ cellCount) ⌝ }
+    ensures { λ r. ⌜ Listed (permitFrom k (columnAt (now (modes .entry)) k (length (now (runs .entry)))) (now (runs .entry))) (now (words .exit)) r ⌝ }
+{
+    let own = atom_if(true, k);
+    let count = choose(words, modes, runs, k, WRITING, own);
+    if count != 0 {
+        return count;
+    }
+    words[0] = own;
+    1
+}
+
+// Its run rule where no program is profiled under it or names it unconfined.
+fn list_inherited(words: &mut [u64], modes: &[u64], runs: &[u64], k: usize) -> usize
+    requires { ⌜ (k < dataWidth) × (length (now words) ≡ dataWidth) × (length (now runs) ≤ dataWidth) × (length (now modes) ≡ cellCount) ⌝ }
+    ensures { λ r. ⌜ Listed (inheritedFrom (columnAt (now (modes .entry)) k (length (now (runs .entry)))) (now (runs .entry))) (now (words .exit)) r ⌝ }
+{
+    let count = choose(words, modes, runs, k, INHERITING, 0);
+    if count != 0 {
+        return count;
+    }
+    if choose(words, modes, runs, k, CONFINED, 0) != 0 {
+        return 0;
+    }
+    words[0] = rules::ALL_ATOMS;
+    1
+}
+
+// Its run rule as it is stated: how many mixtures.
+fn list_run(words: &mut [u64], own: &[usize], modes: &[u64], runs: &[u64], k: usize) -> usize
+    requires { ⌜ (k < dataWidth) × (length (now words) ≡ dataWidth) × (length (now own) ≡ length (now runs)) × (length (now runs) ≤ dataWidth) × (length (now modes) ≡ cellCount) ⌝ }
+    ensures { λ r. ⌜ Listed (runFrom k (now (own .entry)) (columnAt (now (modes .entry)) k (length (now (runs .entry)))) (now (runs .entry))) (now (words .exit)) r ⌝ }
+{
+    let count = choose_own(words, own, runs, k);
+    if count != 0 {
+        return count;
+    }
+    if choose(words, modes, runs, k, UNCONFINED, 0) != 0 {
+        words[0] = rules::ALL_ATOMS;
+        return 1;
+    }
+    list_inherited(words, modes, runs, k)
+}
+
+// ---- the rules as words
+
+// The normal form of the mixtures as nine words, if it fits.
+fn put_form(form: &mut [u64], mixtures: &[u64]) -> bool
+    requires { ⌜ (length (now form) ≡ ruleWidth) × (length (now mixtures) ≤ dataWidth) ⌝ }
+    ensures { λ r. ⌜ FormPut (now (mixtures .entry)) (now (form .entry)) (now (form .exit)) r ⌝ }
+{
+    let rule = rules::normal(mixtures);
+    if !rule.fits {
+        return false;
+    }
+    rule_words::put_rule(form, rule);
+    true
 }

@@ -1,0 +1,86 @@
+-- Lists at the front of a buffer: of one member, of none, and the first of two that has a member.
+use Prim.Native.Nat.{ℕ, _-_, _^_}
+use native.Mathlib.Omega.{arith}
+use mathlib.Core.Path.{_≡_, refl, sym, ap, _∙_, subst}
+use mathlib.Core.Bool.{Bool, true, false, not, cond}
+use mathlib.Core.List.{List, [], _∷_, _++_}
+use lib.Dec.{leb}
+use lib.ListN.{length, take, set, replicate, length-set}
+use lib.Seq.{take-suc-set}
+use borrow.Author.Tests.{leb-true, not-true, not-false}
+use Rattle.rules.specs.Rules.{normal, unrestricted}
+use Rattle.rules.specs.Answers.{dataWidth, tagWidth, mixtureLimit, padded, boundedOf}
+use Rattle.rules.specs.declared.Bounded.{Bounded}
+use Rattle.rule_words.proofs.WordLaws.{bounded-words}
+use Rattle.image.specs.Policy.{unrestrictedRule}
+use Rattle.confinement.specs.Confinement.{orElse}
+use Rattle.confinement.specs.Tables.{ifAny, Listed, FormPut}
+
+-- ---- lists
+
+pub one-listed : (x : ℕ) (words : List ℕ) → length words ≡ dataWidth → Listed (x ∷ []) (set words 0 x) 1
+one-listed x words l = record { front = take-suc-set words 0 x (omega arith); count = refl; long = length-set words 0 x ∙ l }
+
+pub all-listed : (words : List ℕ) → length words ≡ dataWidth → Listed unrestrictedRule (set words 0 (2 ^ tagWidth - 1)) 1
+unfolding unrestrictedRule unrestricted
+all-listed words l = one-listed (2 ^ tagWidth - 1) words l
+
+pub none-listed : (words : List ℕ) → length words ≡ dataWidth → Listed [] words 0
+none-listed words l = record { front = refl; count = refl; long = l }
+
+pub listed-as : {l m words : List ℕ} {r : ℕ} → l ≡ m → Listed l words r → Listed m words r
+listed-as {words = words} {r = r} e h = subst (λ (x : List ℕ). Listed x words r) e h
+
+some-else : (l z : List ℕ) → (length l ≡ 0 → ⊥) → l ≡ orElse l z
+unfolding orElse
+some-else [] z h = absurd (h refl)
+some-else (x ∷ l) z h = refl
+
+no-else : (l z : List ℕ) → length l ≡ 0 → z ≡ orElse l z
+unfolding orElse
+no-else [] z h = refl
+no-else (x ∷ l) z h = absurd (omega arith)
+
+some-any : (l x z : List ℕ) → (length l ≡ 0 → ⊥) → x ≡ ifAny l x z
+unfolding ifAny
+some-any [] x z h = absurd (h refl)
+some-any (y ∷ l) x z h = refl
+
+no-any : (l x z : List ℕ) → length l ≡ 0 → z ≡ ifAny l x z
+unfolding ifAny
+no-any [] x z h = refl
+no-any (y ∷ l) x z h = absurd (omega arith)
+
+module _ {l words : List ℕ} {r : ℕ} (h : Listed l words r) where
+  -- the list has a member, so it counts
+  pub listed-first : (z : List ℕ) → (r ≡ 0 → ⊥) → Listed (orElse l z) words r
+  listed-first z d = listed-as (some-else l z (λ e. d (h .count ∙ e))) h
+
+  -- it has none, so the other counts
+  pub listed-other : (z : List ℕ) {after : List ℕ} {n : ℕ} → r ≡ 0 → Listed z after n → Listed (orElse l z) after n
+  listed-other z e g = listed-as (no-else l z (sym (h .count) ∙ e)) g
+
+  pub any-listed : (x z : List ℕ) {after : List ℕ} {n : ℕ} → (r ≡ 0 → ⊥) → Listed x after n → Listed (ifAny l x z) after n
+  any-listed x z d g = listed-as (some-any l x z (λ e. d (h .count ∙ e))) g
+
+  pub other-listed : (x z : List ℕ) {after : List ℕ} {n : ℕ} → r ≡ 0 → Listed z after n → Listed (ifAny l x z) after n
+  other-listed x z e g = listed-as (no-any l x z (sym (h .count) ∙ e)) g
+
+-- ---- normal forms
+
+module _ (r : List ℕ) (b : Bounded) (e : b ≡ boundedOf (normal r)) where
+  fits-told : b .fits ≡ leb (length (normal r)) mixtureLimit
+  unfolding boundedOf
+  fits-told = ap (λ (x : Bounded). x .fits) e ∙ by (leb (length (normal r)) mixtureLimit)
+    where
+      by : (t : Bool) → cond {A = Bounded} t (record { fits = true; count = length (normal r); mixtures = padded (normal r) }) (record { fits = false; count = 0; mixtures = replicate mixtureLimit 0 }) .fits ≡ t
+      by true = refl
+      by false = refl
+
+  pub form-over : (before : List ℕ) → not (b .fits) ≡ true → FormPut r before before false
+  form-over before h = record { told = sym (not-true (b .fits) h) ∙ fits-told; words = refl }
+
+  pub form-put : (before after : List ℕ) → not (b .fits) ≡ false → after ≡ b .count ∷ b .mixtures → FormPut r before after true
+  form-put before after h w =
+      let f : true ≡ leb (length (normal r)) mixtureLimit = sym (not-false (b .fits) h) ∙ fits-told in
+      record { told = f; words = w ∙ bounded-words (normal r) b e (leb-true (length (normal r)) mixtureLimit (sym f)) }

@@ -1,0 +1,22 @@
+-- `confinement::atom_if`. A shift by less than 64 loses nothing.
+use borrow.Author.Needs.{needs}
+use native.Mathlib.Omega.{arith}
+use native.Mathlib.Nat.{mod-eq-of-lt, one-mul}
+use lib.Pow.{pow-lt}
+use Prim.Native.Nat.{_^_, _*_, _<_}
+use mathlib.Core.Path.{_≡_, ap, _∙_}
+use Rattle.rules.specs.Answers.{tagWidth}
+use Rattle.confinement.proofs.atom_if.Statement.{statement}
+use Rattle.confinement.proofs.atom_if.Tie as tie
+
+shl-result : tie.Need-shl-result
+shl-result c = search needs
+
+returns : tie.Need-returns
+returns c = let l : 2 ^ (c .before .args .k) < 2 ^ tagWidth = pow-lt (c .before .pre) in rw (c .if1 .taken) (omega arith)
+
+returns-2 : tie.Need-returns-2
+returns-2 c = search needs
+
+pub atom-if-spec : {M : Type 1} → statement M
+atom-if-spec = tie.close (tie.spec shl-result returns returns-2)

@@ -1,0 +1,52 @@
+-- `confinement::list_inherited`. The inherited mixtures, or none, or all atoms.
+use borrow.Author.Needs.{needs}
+use lib.ListN.{length-set}
+use mathlib.Core.Path.{sym, _∙_}
+use Rattle.confinement.specs.Tables.{inheritedFrom}
+use Rattle.confinement.proofs.ListedLaws.{all-listed, none-listed, listed-first, listed-other, any-listed, other-listed}
+use Rattle.confinement.proofs.list_inherited.Statement.{statement}
+use Rattle.confinement.proofs.list_inherited.Tie as tie
+
+choose-requires : tie.Need-choose-requires
+choose-requires c κs = search needs
+
+same-length : tie.Need-same-length
+same-length c = search needs
+
+returns : tie.Need-returns
+unfolding inheritedFrom
+returns c = listed-first (c .before .before .before .choose .ensures) _ (c .if1 .taken)
+
+choose-requires-2 : tie.Need-choose-requires-2
+choose-requires-2 c κs = search needs
+
+same-length-2 : tie.Need-same-length-2
+same-length-2 c = search needs
+
+returns-2 : tie.Need-returns-2
+unfolding inheritedFrom
+returns-2 c = listed-other (c .before .before .before .before .before .before .before .before .choose .ensures) _ (c .before .before .before .before .before .if1 .left) (any-listed (c .before .before .before .choose2 .ensures) _ _ (c .if2 .taken) (none-listed _ (c .before .before .before .choose2 .ensures .long)))
+
+slice-write-words : tie.Need-slice-write-words
+slice-write-words c = search needs
+
+same-length-3 : tie.Need-same-length-3
+same-length-3 c = simp length-set (c .before .before .before .choose2 .ensures .long ∙ sym (c .before .before .before .before .before .before .before .before .before .before .before .before .before .pre .1))
+
+returns-3 : tie.Need-returns-3
+unfolding inheritedFrom
+returns-3 c = listed-other (c .before .before .before .before .before .before .before .before .choose .ensures) _ (c .before .before .before .before .before .if1 .left) (other-listed (c .before .before .before .choose2 .ensures) _ _ (c .if2 .left) (all-listed (c .before .before .before .choose2 .last .0) (c .before .before .before .choose2 .ensures .long)))
+
+pub list-inherited-spec : {M : Type 1} → statement M
+list-inherited-spec =
+    tie.close
+    (tie.spec
+    choose-requires
+    same-length
+    returns
+    choose-requires-2
+    same-length-2
+    returns-2
+    slice-write-words
+    same-length-3
+    returns-3)

@@ -1,0 +1,56 @@
+-- `confinement::list_run`. The own profile's mixture, or all atoms, or what is inherited.
+use borrow.Author.Needs.{needs}
+use lib.ListN.{length-set}
+use mathlib.Core.Path.{sym, _∙_}
+use Rattle.confinement.specs.Tables.{runFrom}
+use Rattle.confinement.proofs.ListedLaws.{all-listed, listed-first, listed-other, any-listed, other-listed}
+use Rattle.confinement.proofs.list_run.Statement.{statement}
+use Rattle.confinement.proofs.list_run.Tie as tie
+
+choose-own-requires : tie.Need-choose-own-requires
+choose-own-requires c κs = search needs
+
+same-length : tie.Need-same-length
+same-length c = search needs
+
+returns : tie.Need-returns
+unfolding runFrom
+returns c = listed-first (c .before .before .before .choose-own .ensures) _ (c .if1 .taken)
+
+choose-requires : tie.Need-choose-requires
+choose-requires c κs = search needs
+
+slice-write-words : tie.Need-slice-write-words
+slice-write-words c = search needs
+
+same-length-2 : tie.Need-same-length-2
+same-length-2 c = simp length-set (c .before .before .before .choose .ensures .long ∙ sym (c .before .before .before .before .before .before .before .before .before .before .before .before .before .before .pre .1))
+
+returns-2 : tie.Need-returns-2
+unfolding runFrom
+returns-2 c = listed-other (c .before .before .before .before .before .before .before .before .choose-own .ensures) _ (c .before .before .before .before .before .if1 .left) (any-listed (c .before .before .before .choose .ensures) _ _ (c .if2 .taken) (all-listed (c .before .before .before .choose .last .0) (c .before .before .before .choose .ensures .long)))
+
+list-inherited-requires : tie.Need-list-inherited-requires
+list-inherited-requires c κs = search needs
+
+same-length-3 : tie.Need-same-length-3
+same-length-3 c = search needs
+
+returns-3 : tie.Need-returns-3
+unfolding runFrom
+returns-3 c = listed-other (c .before .before .before .before .before .before .before .before .before .before .before .before .choose-own .ensures) _ (c .before .before .before .before .before .before .before .before .before .if1 .left) (other-listed (c .before .before .before .before .before .before .before .choose .ensures) _ _ (c .before .before .before .before .if2 .left) (c .before .before .list-inherited .ensures))
+
+pub list-run-spec : {M : Type 1} → statement M
+list-run-spec =
+    tie.close
+    (tie.spec
+    choose-own-requires
+    same-length
+    returns
+    choose-requires
+    slice-write-words
+    same-length-2
+    returns-2
+    list-inherited-requires
+    same-length-3
+    returns-3)
