@@ -4,3 +4,4 @@ pub mod BitLaws
 pub mod TableLaws
 pub mod LoopLaws
 pub mod ListedLaws
+pub mod FormLaws

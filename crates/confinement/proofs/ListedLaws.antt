@@ -1,20 +1,20 @@
 -- Lists at the front of a buffer: of one member, of none, and the first of two that has a member.
-use Prim.Native.Nat.{ℕ, _-_, _^_}
+use Prim.Native.Nat.{ℕ, _-_, _/_, _%_, _^_, _≤_}
 use native.Mathlib.Omega.{arith}
 use mathlib.Core.Path.{_≡_, refl, sym, ap, _∙_, subst}
 use mathlib.Core.Bool.{Bool, true, false, not, cond}
 use mathlib.Core.List.{List, [], _∷_, _++_}
 use lib.Dec.{leb}
-use lib.ListN.{length, take, set, replicate, length-set}
+use lib.ListN.{length, take, set, replicate, length-set, length-take}
 use lib.Seq.{take-suc-set}
-use borrow.Author.Tests.{leb-true, not-true, not-false}
+use borrow.Author.Tests.{leb-true, not-true, not-false, eq-eqb, ne-eqb}
 use Rattle.rules.specs.Rules.{normal, unrestricted}
 use Rattle.rules.specs.Answers.{dataWidth, tagWidth, mixtureLimit, padded, boundedOf}
 use Rattle.rules.specs.declared.Bounded.{Bounded}
 use Rattle.rule_words.proofs.WordLaws.{bounded-words}
 use Rattle.image.specs.Policy.{unrestrictedRule}
 use Rattle.confinement.specs.Confinement.{orElse}
-use Rattle.confinement.specs.Tables.{ifAny, Listed, FormPut}
+use Rattle.confinement.specs.Tables.{columnAt, ifAny, permitFrom, runFrom, Listed, FormPut, ruleFrom}
 
 -- ---- lists
 
@@ -84,3 +84,27 @@ module _ (r : List ℕ) (b : Bounded) (e : b ≡ boundedOf (normal r)) where
   form-put before after h w =
       let f : true ≡ leb (length (normal r)) mixtureLimit = sym (not-false (b .fits) h) ∙ fits-told in
       record { told = f; words = w ∙ bounded-words (normal r) b e (leb-true (length (normal r)) mixtureLimit (sym f)) }
+
+-- ---- a list that is handed on
+
+module _ {l words : List ℕ} {r : ℕ} (h : Listed l words r) where
+  pub listed-few : r ≤ length words
+  listed-few = omega (arith, ap length (h .front), h .count, length-take r words)
+
+  pub listed-size : r ≡ length (take r words)
+  listed-size = omega (arith, ap length (h .front), h .count)
+
+  -- its normal form is that of the rule
+  pub listed-form : {before after : List ℕ} {fits : Bool} → FormPut (take r words) before after fits → FormPut l before after fits
+  listed-form {before} {after} {fits} w = subst (λ (x : List ℕ). FormPut x before after fits) (h .front) w
+
+module _ (own modes runs : List ℕ) (i : ℕ) where
+  pub permit-rule : i % 2 ≡ 0 → {before after : List ℕ} {fits : Bool} → FormPut (permitFrom (i / 2) (columnAt modes (i / 2) (length runs)) runs) before after fits
+      → FormPut (ruleFrom own modes runs i) before after fits
+  unfolding ruleFrom
+  permit-rule e w = rw (eq-eqb (i % 2) 0 e) w
+
+  pub run-rule : (i % 2 ≡ 0 → ⊥) → {before after : List ℕ} {fits : Bool} → FormPut (runFrom (i / 2) own (columnAt modes (i / 2) (length runs)) runs) before after fits
+      → FormPut (ruleFrom own modes runs i) before after fits
+  unfolding ruleFrom
+  run-rule d w = rw (ne-eqb (i % 2) 0 d) w

@@ -1,9 +1,9 @@
 -- What the code keeps of a text that is good: paths by their places, and the modes of each program on each path as bits. The
 -- rules of a path are worked out from these numbers.
-use Prim.Native.Nat.{ℕ, zero, suc, _+_, _*_, _^_, _≤_, _<_}
+use Prim.Native.Nat.{ℕ, zero, suc, _+_, _*_, _/_, _%_, _^_, _≤_, _<_}
 use mathlib.Core.Path.{_≡_}
-use mathlib.Core.Bool.{Bool, not, cond}
-use mathlib.Core.List.{List, [], _∷_}
+use mathlib.Core.Bool.{Bool, true, not, cond}
+use mathlib.Core.List.{List, [], _∷_, map}
 use lib.Bits.{bitAnd, bitOr}
 use lib.Dec.{eqb, leb}
 use lib.ListN.{length, getD, take, drop}
@@ -11,7 +11,8 @@ use Rattle.image.specs.Policy.{unrestrictedRule}
 use Rattle.image.specs.Normal.{position}
 use Rattle.rules.specs.Rules.{normal}
 use Rattle.rules.specs.Answers.{dataWidth, mixtureLimit}
-use Rattle.rule_words.specs.Words.{wordsOf}
+use Rattle.lists.specs.Lists.{every, joined}
+use Rattle.rule_words.specs.Words.{ruleWidth, wordsOf}
 use Rattle.profiles.specs.Profiles.{Profile}
 use Rattle.profiles.specs.Scanning.{modeBits}
 use Rattle.confinement.specs.Confinement.{modesOn, orElse}
@@ -151,3 +152,29 @@ pub record Listed (l words : List ℕ) (m : ℕ) : Type 0 where
 pub record FormPut (r before after : List ℕ) (fits : Bool) : Type 0 where
   pub told : fits ≡ leb (length (normal r)) mixtureLimit
   pub words : after ≡ cond fits (wordsOf (normal r)) before
+
+-- ---- all rules
+
+-- the i-th rule as it is stated: permit rule and run rule of each path in turn
+unfoldable pub ruleFrom : List ℕ → List ℕ → List ℕ → ℕ → List ℕ
+ruleFrom own modes runs i =
+    cond (eqb (i % 2) 0)
+    (permitFrom (i / 2) (columnAt modes (i / 2) (length runs)) runs)
+    (runFrom (i / 2) own (columnAt modes (i / 2) (length runs)) runs)
+
+-- n rules from the j-th on, in normal form
+unfoldable pub formsFrom : (ℕ → List ℕ) → ℕ → ℕ → List (List ℕ)
+formsFrom f j zero = []
+formsFrom f j (suc n) = normal (f j) ∷ formsFrom f (suc j) n
+
+abbrev pub shortRule : List ℕ → Bool
+shortRule r = leb (length r) mixtureLimit
+
+-- two rules for each path
+abbrev pub ruleCount : ℕ
+ruleCount = 2 * dataWidth
+
+-- the words of all rules were put, if each fits
+pub record FormsPut (f : ℕ → List ℕ) (count : ℕ) (forms : List ℕ) (fits : Bool) : Type 0 where
+  pub told : fits ≡ every shortRule (formsFrom f 0 count)
+  pub words : fits ≡ true → take (count * ruleWidth) forms ≡ joined (map wordsOf (formsFrom f 0 count))

@@ -1,11 +1,17 @@
 // The policy that profiles stand for, written as a normal image (change request No. 1).
 ghost use mathlib.Core.Path.{_≡_};
 ghost use Prim.Native.Nat.{ℕ, _+_, _*_, _^_, _≤_, _<_};
-ghost use lib.ListN.{length, getD, take};
+ghost use lib.ListN.{length, getD, take, replicate};
 ghost use mathlib.Core.Bool.{cond};
 ghost use Rattle.rules.specs.Answers.{dataWidth, tagWidth};
 ghost use Rattle.rule_words.specs.Words.{ruleWidth};
-ghost use Rattle.confinement.specs.Tables.{cellCount, meets, fileBits, rowMixture, mixtures, columnAt, chosenBy, chosenAt, permitFrom, inheritedFrom, runFrom, Listed, FormPut};
+ghost use Rattle.confinement.specs.Tables.{cellCount, meets, fileBits, rowMixture, mixtures, columnAt, chosenBy, chosenAt, permitFrom, inheritedFrom, runFrom, Listed, FormPut, ruleFrom, ruleCount, FormsPut};
+ghost use Rattle.confinement.specs.Confinement.{filesFrom};
+ghost use Rattle.fields.specs.Writing.{Wrote};
+ghost use Rattle.lists.specs.Lists.{joined};
+ghost use Rattle.image.specs.Limits.{containerSize};
+ghost use Rattle.image.specs.Normal.{containerBytes};
+ghost use mathlib.Core.List.{[], map};
 
 // As many paths, and as many programs, as there are data atoms.
 const PATHS: usize = 32;
@@ -179,4 +185,78 @@ fn put_form(form: &mut [u64], mixtures: &[u64]) -> bool
     }
     rule_words::put_rule(form, rule);
     true
+}
+
+// The i-th rule, of permit rule and run rule of each path in turn.
+fn put_path_rule(
+    form: &mut [u64],
+    words: &mut [u64],
+    own: &[usize],
+    modes: &[u64],
+    runs: &[u64],
+    i: usize,
+) -> bool
+    requires { ⌜ (length (now form) ≡ ruleWidth) × (length (now words) ≡ dataWidth) × (i < ruleCount) × (length (now own) ≡ length (now runs)) × (length (now runs) ≤ dataWidth) × (length (now modes) ≡ cellCount) ⌝ }
+    ensures { λ r. ⌜ FormPut (ruleFrom (now (own .entry)) (now (modes .entry)) (now (runs .entry)) i) (now (form .entry)) (now (form .exit)) r ⌝ }
+{
+    let k = i / 2;
+    if i % 2 == 0 {
+        let permits = list_permit(words, modes, runs, k);
+        return put_form(form, &words[..permits]);
+    }
+    let mixtures = list_run(words, own, modes, runs, k);
+    put_form(form, &words[..mixtures])
+}
+
+// The words of the first rules, if each fits.
+fn put_rules(
+    forms: &mut [u64],
+    words: &mut [u64],
+    own: &[usize],
+    modes: &[u64],
+    runs: &[u64],
+    count: usize,
+) -> bool
+    requires { ⌜ (length (now forms) ≡ ruleCount * ruleWidth) × (length (now words) ≡ dataWidth) × (count ≤ ruleCount) × (length (now own) ≡ length (now runs)) × (length (now runs) ≤ dataWidth) × (length (now modes) ≡ cellCount) ⌝ }
+    ensures { λ r. ⌜ FormsPut (ruleFrom (now (own .entry)) (now (modes .entry)) (now (runs .entry))) count (now (forms .exit)) r ⌝ }
+{
+    let mut i = 0;
+    while i < count {
+        let at = i * rule_words::RULE_WIDTH;
+        if !put_path_rule(
+            &mut forms[at..at + rule_words::RULE_WIDTH],
+            words,
+            own,
+            modes,
+            runs,
+            i,
+        ) {
+            return false;
+        }
+        i += 1;
+    }
+    true
+}
+
+// ---- the policy
+
+// Writes n files, each with its atom and its two rules.
+fn put_files(out: &mut [u8], n: usize) -> usize
+    requires { ⌜ (n ≤ dataWidth) × (n * containerSize ≤ length (now out)) ⌝ }
+    ensures { λ r. ⌜ Wrote (joined (map containerBytes (filesFrom 0 (replicate n [])))) (now (out .entry)) (now (out .exit)) 0 r ⌝ }
+{
+    let mut at = 0;
+    let mut k = 0;
+    while k < n {
+        at = normaliser::put_container(
+            out,
+            at,
+            image::FILE_KIND as usize,
+            k,
+            2 * k,
+            2 * k + 1,
+        );
+        k += 1;
+    }
+    at
 }
