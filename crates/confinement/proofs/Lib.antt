@@ -2,3 +2,7 @@ pub mod PathLaws
 pub mod PolicyLaws
 pub mod BitLaws
 pub mod TableLaws
+pub mod ScanLaws
+pub mod LineWalks
+pub mod PathScan
+pub mod ProgramScan

@@ -5,6 +5,8 @@ ghost use lib.ListN.{length, getD, take};
 ghost use Rattle.rules.specs.Answers.{dataWidth};
 ghost use Rattle.confinement.specs.Tables.{cellCount, meets, fileBits, rowMixture, mixtures, columnAt, chosenBy, chosenAt, permitFrom, runFrom, Listed};
 
+mod scan;
+
 // As many paths, and as many programs, as there are data atoms.
 const PATHS: usize = 32;
 
