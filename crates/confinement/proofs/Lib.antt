@@ -5,3 +5,7 @@ pub mod TableLaws
 pub mod LoopLaws
 pub mod ListedLaws
 pub mod FormLaws
+pub mod ScanLaws
+pub mod LineWalks
+pub mod PathScan
+pub mod ProgramScan

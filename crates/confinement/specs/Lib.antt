@@ -3,3 +3,4 @@
 pub mod Confinement
 pub mod Images
 pub mod Tables
+pub mod Scans

@@ -13,6 +13,8 @@ ghost use Rattle.image.specs.Limits.{containerSize};
 ghost use Rattle.image.specs.Normal.{containerBytes};
 ghost use mathlib.Core.List.{[], map};
 
+mod scan;
+
 // As many paths, and as many programs, as there are data atoms.
 const PATHS: usize = 32;
 

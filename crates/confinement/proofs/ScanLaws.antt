@@ -1,0 +1,221 @@
+-- The search for a path in a table, and a table with one more path.
+use Prim.Native.Nat.{ℕ, zero, suc, _+_, _-_, _≤_, _<_}
+use native.Mathlib.Omega.{arith}
+use native.Mathlib.Decide.{decLt}
+use native.Mathlib.Numerals.{add-one}
+use mathlib.Core.Path.{_≡_, refl, sym, ap, ap₂, _∙_}
+use mathlib.Core.Bool.{Bool, true, false, cond, _||_}
+use mathlib.Core.List.{List, [], _∷_, _++_}
+use lib.ListN.{length, getD, take, drop, set, length-drop, length-set}
+use lib.Seq.{length-take-le, getD-take, getD-drop, ext-getD, getD-set-same, getD-set-other}
+use Rattle.lists.specs.Lists.{sameList}
+use Rattle.lists.proofs.Bools.{clash, refuted}
+use Rattle.lists.proofs.Same.{same-refl, same-eq}
+use Rattle.rules.specs.Answers.{dataWidth}
+use Rattle.image.specs.Normal.{known, position}
+use Rattle.confinement.specs.Tables.{pathAt, PathTable}
+use Rattle.confinement.specs.Scans.{pathsFrom, tablePaths, Places}
+
+-- ---- the bytes of two paths
+
+module _ (t : List ℕ) (a size : ℕ) (h : a + size ≤ length t) where
+  pub path-length : length (pathAt t a size) ≡ size
+  path-length = length-take-le size (drop a t) (omega (arith, length-drop a t))
+
+  path-byte : (k : ℕ) → k < size → getD (pathAt t a size) k 0 ≡ getD t (a + k) 0
+  path-byte k l = getD-take size (drop a t) k 0 l ∙ getD-drop a t k 0
+
+-- paths of different lengths differ
+pub sizes-differ : (t : List ℕ) (a size b other : ℕ) → a + size ≤ length t → b + other ≤ length t → (size ≡ other → ⊥)
+    → false ≡ sameList (pathAt t a size) (pathAt t b other)
+sizes-differ t a size b other h k d =
+    sym (refuted (sameList (pathAt t a size) (pathAt t b other))
+    (λ s. d (sym (path-length t a size h) ∙ ap length (same-eq (pathAt t a size) (pathAt t b other) s) ∙ path-length t b other k)))
+
+-- from the i-th byte on, two paths are the same
+pub record SameTail (t : List ℕ) (a b size i : ℕ) : Type 0 where
+  pub room : i ≤ size
+  pub first : a + size ≤ length t
+  pub second : b + size ≤ length t
+  pub tail : (k : ℕ) → i ≤ k → k < size → getD t (a + k) 0 ≡ getD t (b + k) 0
+
+pub tail-start : (t : List ℕ) (a b size : ℕ) → a + size ≤ length t → b + size ≤ length t → SameTail t a b size size
+tail-start t a b size h k = record { room = omega arith; first = h; second = k; tail = λ k l m. absurd (omega arith) }
+
+module _ (t : List ℕ) (a b size i : ℕ) (g : SameTail t a b size i) where
+  pub tail-next : 0 < i → getD t (a + (i - 1)) 0 ≡ getD t (b + (i - 1)) 0 → SameTail t a b size (i - 1)
+  tail-next p e = record { room = omega (arith, g .room); first = g .first; second = g .second; tail = λ k l m. by k l m (decLt k i) }
+    where
+      by : (k : ℕ) → i - 1 ≤ k → k < size → Dec (k < i) → getD t (a + k) 0 ≡ getD t (b + k) 0
+      by k l m (yes n) = let z : k ≡ i - 1 = omega arith in rw z e
+      by k l m (no n) = g .tail k (omega arith) m
+
+  pub tail-differs : 0 < i → (getD t (a + (i - 1)) 0 ≡ getD t (b + (i - 1)) 0 → ⊥) → false ≡ sameList (pathAt t a size) (pathAt t b size)
+  tail-differs p d =
+      let l : i - 1 < size = omega (arith, g .room) in
+      sym (refuted (sameList (pathAt t a size) (pathAt t b size))
+      (λ s. d (sym (path-byte t a size (g .first) (i - 1) l)
+      ∙ ap (λ (x : List ℕ). getD x (i - 1) 0) (same-eq (pathAt t a size) (pathAt t b size) s)
+      ∙ path-byte t b size (g .second) (i - 1) l)))
+
+  pub tail-end : i ≤ 0 → true ≡ sameList (pathAt t a size) (pathAt t b size)
+  tail-end z = sym (ap (sameList (pathAt t a size)) (sym same) ∙ same-refl (pathAt t a size))
+    where
+      same : pathAt t a size ≡ pathAt t b size
+      same =
+          ext-getD 0 (pathAt t a size) (pathAt t b size) (path-length t a size (g .first) ∙ sym (path-length t b size (g .second)))
+          (λ k h. let l : k < size = omega (arith, path-length t a size (g .first)) in
+          path-byte t a size (g .first) k l ∙ g .tail k (omega arith) l ∙ sym (path-byte t b size (g .second) k l))
+
+-- ---- the paths of a table
+
+module _ (t : List ℕ) where
+  pub paths-length : (starts sizes : List ℕ) (j n : ℕ) → length (pathsFrom t starts sizes j n) ≡ n
+  unfolding pathsFrom
+  paths-length starts sizes j zero = refl
+  paths-length starts sizes j (suc n) = ap suc (paths-length starts sizes (suc j) n)
+
+  paths-at : (starts sizes : List ℕ) (j n k : ℕ) → k < n → getD (pathsFrom t starts sizes j n) k [] ≡ pathAt t (getD starts (j + k) 0) (getD sizes (j + k) 0)
+  unfolding pathsFrom
+  paths-at starts sizes j zero k h = absurd (omega arith)
+  paths-at starts sizes j (suc n) zero h = let z : j ≡ j + 0 = omega arith in ap (λ (i : ℕ). pathAt t (getD starts i 0) (getD sizes i 0)) z
+  paths-at starts sizes j (suc n) (suc k) h =
+      let z : suc j + k ≡ j + suc k = omega arith in
+      paths-at starts sizes (suc j) n k (omega arith) ∙ ap (λ (i : ℕ). pathAt t (getD starts i 0) (getD sizes i 0)) z
+
+  paths-snoc : (starts sizes : List ℕ) (j n : ℕ)
+      → pathsFrom t starts sizes j (suc n) ≡ pathsFrom t starts sizes j n ++ (pathAt t (getD starts (j + n) 0) (getD sizes (j + n) 0) ∷ [])
+  unfolding pathsFrom
+  paths-snoc starts sizes j zero = let z : j ≡ j + 0 = omega arith in ap (λ (i : ℕ). pathAt t (getD starts i 0) (getD sizes i 0) ∷ []) z
+  paths-snoc starts sizes j (suc n) =
+      let z : suc j + n ≡ j + suc n = omega arith in
+      ap (λ (l : List (List ℕ)). pathAt t (getD starts j 0) (getD sizes j 0) ∷ l)
+      (paths-snoc starts sizes (suc j) n ∙ ap (λ (i : ℕ). pathsFrom t starts sizes (suc j) n ++ (pathAt t (getD starts i 0) (getD sizes i 0) ∷ [])) z)
+
+  table-at : (starts sizes : List ℕ) (n k : ℕ) → k < n → getD (tablePaths t starts sizes n) k [] ≡ pathAt t (getD starts k 0) (getD sizes k 0)
+  table-at starts sizes n k h =
+      let z : 0 + k ≡ k = omega arith in
+      paths-at starts sizes 0 n k h ∙ ap (λ (i : ℕ). pathAt t (getD starts i 0) (getD sizes i 0)) z
+
+  table-snoc : (starts sizes : List ℕ) (n : ℕ)
+      → tablePaths t starts sizes (suc n) ≡ tablePaths t starts sizes n ++ (pathAt t (getD starts n 0) (getD sizes n 0) ∷ [])
+  table-snoc starts sizes n =
+      let z : 0 + n ≡ n = omega arith in
+      paths-snoc starts sizes 0 n ∙ ap (λ (i : ℕ). tablePaths t starts sizes n ++ (pathAt t (getD starts i 0) (getD sizes i 0) ∷ [])) z
+
+  -- a place behind them may be written
+  paths-set : (starts sizes : List ℕ) (i a b j n : ℕ) → j + n ≤ i → pathsFrom t (set starts i a) (set sizes i b) j n ≡ pathsFrom t starts sizes j n
+  unfolding pathsFrom
+  paths-set starts sizes i a b j zero h = refl
+  paths-set starts sizes i a b j (suc n) h =
+      ap₂ _∷_
+      (ap₂ (λ (x y : ℕ). pathAt t x y) (getD-set-other starts i j a 0 (λ e. omega arith)) (getD-set-other sizes i j b 0 (λ e. omega arith)))
+      (paths-set starts sizes i a b (suc j) n (omega arith))
+
+  pub paths-more : (starts sizes : List ℕ) (n a b : ℕ) → n < length starts → n < length sizes
+      → tablePaths t (set starts n a) (set sizes n b) (n + 1) ≡ tablePaths t starts sizes n ++ (pathAt t a b ∷ [])
+  paths-more starts sizes n a b h k =
+      ap (tablePaths t (set starts n a) (set sizes n b)) (add-one n)
+      ∙ table-snoc (set starts n a) (set sizes n b) n
+      ∙ ap₂ (λ (l : List (List ℕ)) (p : List ℕ). l ++ (p ∷ [])) (paths-set starts sizes n a b 0 n (omega arith))
+      (ap₂ (λ (x y : ℕ). pathAt t x y) (getD-set-same starts n a 0 h) (getD-set-same sizes n b 0 k))
+
+  -- ---- tables
+
+  module _ (ns : List (List ℕ)) (starts sizes : List ℕ) (n : ℕ) where
+    pub table-places : PathTable t ns starts sizes n → Places t starts sizes n
+    table-places g = record { few = g .few; startsLong = g .startsLong; sizesLong = g .sizesLong; within = g .within }
+
+    pub table-paths : PathTable t ns starts sizes n → tablePaths t starts sizes n ≡ ns
+    table-paths g =
+        ext-getD [] (tablePaths t starts sizes n) ns (paths-length starts sizes 0 n ∙ g .count)
+        (λ k h. let l : k < n = omega (arith, paths-length starts sizes 0 n) in
+        table-at starts sizes n k l ∙ g .paths k l)
+
+    pub places-table : Places t starts sizes n → tablePaths t starts sizes n ≡ ns → PathTable t ns starts sizes n
+    places-table g e =
+        record {
+          count = sym (paths-length starts sizes 0 n) ∙ ap length e;
+          few = g .few;
+          startsLong = g .startsLong;
+          sizesLong = g .sizesLong;
+          paths = λ k l. sym (table-at starts sizes n k l) ∙ ap (λ (x : List (List ℕ)). getD x k []) e;
+          within = g .within;
+        }
+
+  -- one more place
+  pub places-more : (starts sizes : List ℕ) (n a b : ℕ) → Places t starts sizes n → n < dataWidth → a + b ≤ length t
+      → Places t (set starts n a) (set sizes n b) (n + 1)
+  places-more starts sizes n a b g h k =
+      record {
+        few = omega arith;
+        startsLong = length-set starts n a ∙ g .startsLong;
+        sizesLong = length-set sizes n b ∙ g .sizesLong;
+        within = λ i l. by i l (decLt i n);
+      }
+    where
+      by : (i : ℕ) → i < n + 1 → Dec (i < n) → getD (set starts n a) i 0 + getD (set sizes n b) i 0 ≤ length t
+      by i l (yes m) = omega (arith, getD-set-other starts n i a 0 (λ e. omega arith), getD-set-other sizes n i b 0 (λ e. omega arith), g .within i m)
+      by i l (no m) =
+          let z : i ≡ n = omega arith in
+          rw z (omega (arith, getD-set-same starts n a 0 (omega (arith, g .startsLong)), getD-set-same sizes n b 0 (omega (arith, g .sizesLong))))
+
+-- ---- the search
+
+-- the path is not among the first j: its place is told by the others
+pub record Searched (t : List ℕ) (q : List ℕ) (starts sizes : List ℕ) (n j : ℕ) : Type 0 where
+  pub places : Places t starts sizes n
+  pub room : j ≤ n
+  pub rest : position q (pathsFrom t starts sizes j (n - j)) + j ≡ position q (tablePaths t starts sizes n)
+
+pub search-start : (t q starts sizes : List ℕ) (n : ℕ) → Places t starts sizes n → Searched t q starts sizes n 0
+search-start t q starts sizes n g =
+    let z : n - 0 ≡ n = omega arith in
+    record { places = g; room = omega arith; rest = omega (arith, ap (λ (k : ℕ). position q (pathsFrom t starts sizes 0 k)) z) }
+
+module _ (t q starts sizes : List ℕ) (n j : ℕ) (g : Searched t q starts sizes n j) where
+  step : j < n
+      → position q (pathsFrom t starts sizes j (n - j))
+      ≡ cond (sameList q (pathAt t (getD starts j 0) (getD sizes j 0))) 0 (suc (position q (pathsFrom t starts sizes (j + 1) (n - (j + 1)))))
+  unfolding position pathsFrom
+  step h =
+      let e : n - j ≡ suc (n - (j + 1)) = omega arith in
+      ap (λ (k : ℕ). position q (pathsFrom t starts sizes j k)) e
+      ∙ ap (λ (k : ℕ). cond (sameList q (pathAt t (getD starts j 0) (getD sizes j 0))) 0 (suc (position q (pathsFrom t starts sizes k (n - (j + 1))))))
+      (sym (add-one j))
+
+  module _ (h : j < n) (r : Bool) (e : r ≡ sameList q (pathAt t (getD starts j 0) (getD sizes j 0))) where
+    pub search-hit : r ≡ true → j ≡ position q (tablePaths t starts sizes n)
+    search-hit p = omega (arith, rw (sym e ∙ p) at (step h), g .rest)
+
+    pub search-next : r ≡ false → Searched t q starts sizes n (j + 1)
+    search-next p =
+        record {
+          places = g .places;
+          room = omega arith;
+          rest = omega (arith, rw (sym e ∙ p) at (step h), g .rest);
+        }
+
+  pub search-end : n ≤ j → n ≡ position q (tablePaths t starts sizes n)
+  unfolding position pathsFrom
+  search-end h =
+      let z : n - j ≡ 0 = omega (arith, g .room) in
+      let w : position q (pathsFrom t starts sizes j (n - j)) ≡ 0 = ap (λ (k : ℕ). position q (pathsFrom t starts sizes j k)) z in
+      omega (arith, g .room, g .rest)
+
+-- a path that is not known has the number behind the last
+position-none : (q : List ℕ) (ns : List (List ℕ)) → known q ns ≡ false → position q ns ≡ length ns
+unfolding known position
+position-none q [] h = refl
+position-none q (x ∷ ns) h = by (sameList q x) h (position-none q ns)
+  where
+    by : (b : Bool) → (b || known q ns) ≡ false → (known q ns ≡ false → position q ns ≡ length ns) → cond b 0 (suc (position q ns)) ≡ suc (length ns)
+    by true g ih = clash (refl {a = true}) g
+    by false g ih = ap suc (ih g)
+
+pub position-known : (q : List ℕ) (ns : List (List ℕ)) → (position q ns ≡ length ns → ⊥) → known q ns ≡ true
+position-known q ns h = by (known q ns) refl
+  where
+    by : (b : Bool) → known q ns ≡ b → b ≡ true
+    by true e = refl
+    by false e = absurd (h (position-none q ns e))
