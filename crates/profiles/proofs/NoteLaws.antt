@@ -1,55 +1,55 @@
 -- Notes of paths: a note has its path's key and place, and paths with different keys differ.
-use Prim.Native.Nat.{ℕ, zero, suc, _+_, _-_, _*_, _/_, _%_, _^_, _≤_, _<_}
+use Prim.Native.Nat.{ℕ, _+_, _-_, _*_, _/_, _%_, _^_, _≤_, _<_}
 use mathlib.Core.Path.{_≡_, refl, sym, ap, ap₂, _∙_}
 use mathlib.Core.Bool.{Bool, true, false, _||_}
 use mathlib.Core.List.{List, [], _∷_, map}
-use mathlib.Core.Logic.{⊎-elim}
 use native.Mathlib.Omega.{arith}
 use native.Mathlib.Numerals.{add-one}
-use lib.Dec.{eqb, leb}
+use lib.Dec.{eqb}
 use lib.ListN.{length, getD, take, drop, set, length-append, length-drop, drop-of-length-le}
 use lib.Seq.{length-take-le, take-append-seam, drop-cons}
-use borrow.Author.Tests.{eqb-true, leb-true}
-use Rattle.lists.specs.Lists.{every, sameList}
-use Rattle.lists.proofs.Bools.{and-0, and-1, or-cases, refuted}
-use Rattle.lists.proofs.Every.{every-0, every-1}
+use borrow.Author.Tests.{eqb-true}
+use Rattle.lists.specs.Lists.{sameList}
+use Rattle.lists.proofs.Bools.{and-0, and-1, refuted}
 use Rattle.lists.proofs.Same.{same-eq}
-use Rattle.profiles.specs.Profiles.{dot, slash, isBetween, isDigit, isLetter, isPathByte, pathGood}
+use Rattle.profiles.specs.Profiles.{pathGood}
 use Rattle.profiles.specs.Reading.{pathIn}
 use Rattle.profiles.specs.Texts.{textLimit, isAmong}
-use Rattle.profiles.specs.Notes.{pathKey, noteOf, notedPath, noteGood, PathAt, ToNote, isNew, withNote}
+use Rattle.profiles.specs.Notes.{lengthLimit, keyFrom, pathKey, noteOf, notedPath, noteGood, PathAt, ToNote, isNew, withNote}
 use Rattle.profiles.proofs.TokenLaws.{starts-split}
-use Rattle.profiles.proofs.LineLaws.{path-bytes, path-front}
+use Rattle.profiles.proofs.LineLaws.{path-front}
+use Rattle.profiles.proofs.ScanLaws.{drop-next}
 use Rattle.profiles.proofs.LineScans.{path-room}
 use Rattle.profiles.proofs.PathLaws.{path-parts}
 
 -- ---- keys
 
-between-high : (low high b : ℕ) → isBetween low high b ≡ true → b ≤ high
-unfolding isBetween
-between-high low high b h = leb-true b high (and-1 (leb low b) h)
+key-below : (p : List ℕ) (k : ℕ) → k < 2 ^ 42 → keyFrom k p < 2 ^ 42
+unfolding keyFrom
+key-below [] k l = l
+key-below (b ∷ p) k l = key-below p ((k * 1000003 + b) % 2 ^ 42) (omega arith)
 
-path-byte-small : (b : ℕ) → isPathByte b ≡ true → b < 128
-unfolding isPathByte isLetter isDigit
-path-byte-small b h =
-    ⊎-elim
-    (λ l. ⊎-elim (λ x. omega (arith, between-high 97 122 b x)) (λ x. omega (arith, between-high 65 90 b x)) (or-cases (isBetween 97 122 b) l))
-    (λ r. ⊎-elim
-    (λ d. omega (arith, between-high 48 57 b d))
-    (λ s. ⊎-elim (λ e. omega (arith, eqb-true b dot e)) (λ e. omega (arith, eqb-true b slash e)) (or-cases (eqb b dot) s))
-    (or-cases (isDigit b) r))
-    (or-cases (isLetter b) h)
-
-bytes-small : (p : List ℕ) (i : ℕ) → every isPathByte p ≡ true → getD p i 0 < 128
-bytes-small [] i h = omega arith
-bytes-small (b ∷ p) zero h = path-byte-small b (every-0 isPathByte b p h)
-bytes-small (b ∷ p) (suc i) h = bytes-small p i (every-1 isPathByte b p h)
-
-pub key-small : (p : List ℕ) → pathGood p ≡ true → pathKey p * textLimit < 2 ^ 62
+pub key-small : (p : List ℕ) → pathGood p ≡ true → pathKey p * textLimit < 2 ^ 63
 unfolding pathKey
-key-small p h =
-    let g = path-bytes p h in
-    omega (arith, path-parts p h .2, bytes-small p 1 g, bytes-small p 2 g, bytes-small p (length p - 1) g, bytes-small p (length p - 2) g, bytes-small p (length p / 2) g)
+key-small p h = omega (arith, path-parts p h .2, key-below p 0 (omega arith))
+
+-- the bytes up to i are in the sum
+pub record Summed (p : List ℕ) (i k : ℕ) : Type 0 where
+  pub place : i ≤ length p
+  pub below : k < 2 ^ 42
+  pub rest : keyFrom k (drop i p) ≡ keyFrom 0 p
+
+pub sum-start : (p : List ℕ) → Summed p 0 0
+sum-start p = record { place = omega arith; below = omega arith; rest = refl }
+
+module _ (p : List ℕ) (i k : ℕ) (g : Summed p i k) where
+  pub sum-next : i < length p → Summed p (i + 1) ((k * 1000003 + getD p i 0) % 2 ^ 42)
+  unfolding keyFrom
+  sum-next l = record { place = omega arith; below = omega arith; rest = sym (ap (keyFrom k) (drop-next p i l)) ∙ g .rest }
+
+  pub sum-end : length p ≤ i → length p + lengthLimit * k ≡ pathKey p
+  unfolding keyFrom pathKey
+  sum-end l = ap (λ (n : ℕ). length p + lengthLimit * n) (rw (drop-of-length-le p l) at (g .rest))
 
 same-length : (p q : List ℕ) → pathGood p ≡ true → pathGood q ≡ true → pathKey p ≡ pathKey q → length p ≡ length q
 unfolding pathKey
@@ -138,5 +138,5 @@ module _ (t notes : List ℕ) (count at n : ℕ) (g : ToNote t notes count at n)
   unfolding isNew withNote noteOf
   is-new r e h key k = let a : isAmong (take n (drop at t)) (map (notedPath t) (take count notes)) ≡ false = sym e ∙ h in (rw a, rw (a, k))
 
-  pub note-small : (key : ℕ) → key ≡ pathKey (take n (drop at t)) → key * textLimit < 2 ^ 62
+  pub note-small : (key : ℕ) → key ≡ pathKey (take n (drop at t)) → key * textLimit < 2 ^ 63
   note-small key k = rw k (key-small (take n (drop at t)) (g .good))

@@ -1,11 +1,11 @@
 -- How the code remembers the paths that are profiled: a number for each, from its place in the text and a key. The key only
 -- saves comparisons: no answer depends on it.
-use Prim.Native.Nat.{ℕ, _+_, _-_, _*_, _/_, _%_, _≤_, _<_}
+use Prim.Native.Nat.{ℕ, _+_, _*_, _/_, _%_, _^_, _≤_, _<_}
 use mathlib.Core.Path.{_≡_}
 use mathlib.Core.Bool.{Bool, true, not, cond, _&&_}
-use mathlib.Core.List.{List, map}
+use mathlib.Core.List.{List, [], _∷_, map}
 use lib.Dec.{eqb}
-use lib.ListN.{length, getD, take, drop, set}
+use lib.ListN.{length, take, drop, set}
 use Rattle.lists.specs.Lists.{every}
 use Rattle.profiles.specs.Profiles.{pathGood}
 use Rattle.profiles.specs.Reading.{pathIn}
@@ -15,12 +15,14 @@ use Rattle.profiles.specs.Texts.{textLimit, isAmong}
 abbrev pub lengthLimit : ℕ
 lengthLimit = 128
 
--- the length and five bytes: two behind the slash, the last two and the middle one
+-- the sum of the bytes, each times a power of 1,000,003, behind bytes with the sum k
+unfoldable pub keyFrom : ℕ → List ℕ → ℕ
+keyFrom k [] = k
+keyFrom k (b ∷ p) = keyFrom ((k * 1000003 + b) % 2 ^ 42) p
+
+-- the length and the sum of the bytes
 unfoldable pub pathKey : List ℕ → ℕ
-pathKey p =
-    length p
-    + lengthLimit
-    * (getD p 1 0 + 256 * (getD p 2 0 + 256 * (getD p (length p - 1) 0 + 256 * (getD p (length p - 2) 0 + 256 * getD p (length p / 2) 0))))
+pathKey p = length p + lengthLimit * keyFrom 0 p
 
 -- the note of a path at a place
 unfoldable pub noteOf : ℕ → List ℕ → ℕ

@@ -371,16 +371,17 @@ pub fn same(a: &[u8], b: &[u8]) -> bool
     true
 }
 
-// The key of a path: its length, two bytes behind the slash, the last two and the middle one.
+// The key of a path: its length, and a sum of its bytes.
 pub fn path_key(path: &[u8]) -> u64
-    requires { ⌜ pathGood (now path) ≡ true ⌝ }
     ensures { λ r. ⌜ r ≡ pathKey (now (path .entry)) ⌝ }
 {
-    let n = path.len();
-    let middle = byte(path, n / 2) as u64;
-    let last = (byte(path, n - 1) as u64) + 256 * ((byte(path, n - 2) as u64) + 256 * middle);
-    let first = (byte(path, 1) as u64) + 256 * ((byte(path, 2) as u64) + 256 * last);
-    (n as u64) + 128 * first
+    let mut sum: u64 = 0;
+    let mut i = 0;
+    while i < path.len() {
+        sum = (sum * 1000003 + path[i] as u64) % 4398046511104;
+        i += 1;
+    }
+    (path.len() as u64) + 128 * sum
 }
 
 // The note is of the path at a place.

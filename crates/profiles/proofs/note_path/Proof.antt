@@ -13,9 +13,6 @@ use Rattle.profiles.proofs.note_path.Tie as tie
 key-is : (c : tie.After-path-key) → c .path-key .result ≡ pathKey (take (c .before .before .before .before .args .length) (drop (c .before .before .before .before .args .at) (c .before .before .before .before .args .text .now)))
 key-is c = rw add-sub-cancel-left at (c .path-key .ensures)
 
-path-key-requires : tie.Need-path-key-requires
-path-key-requires c κs = rw add-sub-cancel-left (c .before .before .before .pre .good)
-
 is-profiled-requires : tie.Need-is-profiled-requires
 is-profiled-requires c κs =
     let start = c .before .before .before .before .before .before in
@@ -53,7 +50,7 @@ note-path-spec =
     (λ c. search needs)
     (λ c. search needs)
     (λ c. search needs)
-    path-key-requires
+    (λ c κs. search needs)
     (λ c. search needs)
     (λ c. search needs)
     (λ c. search needs)
