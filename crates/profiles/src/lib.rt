@@ -9,8 +9,8 @@ ghost use Rattle.lists.specs.Lists.{every, sameList};
 ghost use Rattle.profiles.specs.Profiles.{isBetween, isPathByte, pathGood};
 ghost use Rattle.profiles.specs.Tokens.{starts};
 ghost use Rattle.profiles.specs.Reading.{pathIn, readingOf};
-ghost use Rattle.profiles.specs.Texts.{textLimit, isAmong, readsWell, textGood};
-ghost use Rattle.profiles.specs.Notes.{pathKey, notedPath, noteGood, PathAt, ToNote, isNew, withNote};
+ghost use Rattle.profiles.specs.Texts.{textLimit, readsWell, textGood};
+ghost use Rattle.profiles.specs.Notes.{pathKey, notedPath, noteGood, PathAt, ToNote, placeAmong, notedPlace, withNote};
 ghost use Rattle.profiles.specs.Scanning.{withX, modeAt, modesAt, noScan, lineAt};
 
 // ---- the bytes and numbers of the format
@@ -355,7 +355,7 @@ pub fn line_at(text: &[u8], at: usize) -> ScannedLine
 // ---- paths profiled twice
 
 // Two texts are the same.
-pub fn same(a: &[u8], b: &[u8]) -> bool
+fn same(a: &[u8], b: &[u8]) -> bool
     ensures { λ r. ⌜ r ≡ sameList (now (a .entry)) (now (b .entry)) ⌝ }
 {
     if a.len() != b.len() {
@@ -372,7 +372,7 @@ pub fn same(a: &[u8], b: &[u8]) -> bool
 }
 
 // The key of a path: its length, and a sum of its bytes.
-pub fn path_key(path: &[u8]) -> u64
+fn path_key(path: &[u8]) -> u64
     ensures { λ r. ⌜ r ≡ pathKey (now (path .entry)) ⌝ }
 {
     let mut sum: u64 = 0;
@@ -396,32 +396,33 @@ fn is_noted(text: &[u8], note: u64, at: usize, length: usize, key: u64) -> bool
     same(&text[at..at + length], &text[other..other + length])
 }
 
-// One of the notes is of the path at a place.
-fn is_profiled(text: &[u8], notes: &[u64], at: usize, length: usize, key: u64) -> bool
+// The place of the path among those of the notes, their number if none is of it.
+fn find_path(text: &[u8], notes: &[u64], at: usize, length: usize, key: u64) -> usize
     requires { ⌜ PathAt (now text) at length key × (every (noteGood (now text)) (now notes) ≡ true) ⌝ }
-    ensures { λ r. ⌜ r ≡ isAmong (take length (drop at (now (text .entry)))) (map (notedPath (now (text .entry))) (now (notes .entry))) ⌝ }
+    ensures { λ r. ⌜ r ≡ placeAmong (take length (drop at (now (text .entry)))) (map (notedPath (now (text .entry))) (now (notes .entry))) ⌝ }
 {
     let mut j = 0;
     while j < notes.len() {
         if is_noted(text, notes[j], at, length, key) {
-            return true;
+            return j;
         }
         j += 1;
     }
-    false
+    j
 }
 
-// The path at a place is noted behind the notes so far, unless one of these is of it: whether it is new.
-fn note_path(text: &[u8], notes: &mut [u64], count: usize, at: usize, length: usize) -> bool
+// The place of the path among those of the first `count` notes; if none is of it, that is `count`, and it is noted there.
+pub fn note_path(text: &[u8], notes: &mut [u64], count: usize, at: usize, length: usize) -> usize
     requires { ⌜ ToNote (now text) (now notes) count at length ⌝ }
-    ensures { λ r. ⌜ (r ≡ isNew (now (text .entry)) (now (notes .entry)) count at length) × (now (notes .exit) ≡ withNote (now (text .entry)) (now (notes .entry)) count at length) ⌝ }
+    ensures { λ r. ⌜ (r ≡ notedPlace (now (text .entry)) (now (notes .entry)) count at length) × (now (notes .exit) ≡ withNote (now (text .entry)) (now (notes .entry)) count at length) ⌝ }
 {
     let key = path_key(&text[at..at + length]);
-    if is_profiled(text, &notes[0..count], at, length, key) {
-        return false;
+    let place = find_path(text, &notes[0..count], at, length, key);
+    if place < count {
+        return place;
     }
     notes[count] = key * NOTE_PLACES + at as u64;
-    true
+    place
 }
 
 // ---- the text
@@ -442,7 +443,7 @@ fn lines_good(text: &[u8], notes: &mut [u64]) -> bool
             if inside {
                 return false;
             }
-            if !note_path(text, notes, count, line.path, line.length) {
+            if note_path(text, notes, count, line.path, line.length) < count {
                 return false;
             }
             count += 1;
