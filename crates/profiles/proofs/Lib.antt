@@ -12,4 +12,6 @@ pub mod TextLaws
 pub mod Walks
 pub mod NoteLaws
 pub mod TextScan
+pub mod BitLaws
+pub mod RepeatLaws
 pub mod Examples

@@ -7,7 +7,6 @@ use mathlib.Core.Option.{Option, none, some}
 use native.Mathlib.Omega.{arith}
 use lib.Dec.{eqb}
 use lib.ListN.{length, drop, length-append, length-drop, drop-of-length-le}
-use lib.Seq.{drop-drop}
 use borrow.Author.Tests.{eqb-true, eq-eqb, ne-eqb}
 use Rattle.lists.specs.Lists.{every, joined, sameList}
 use Rattle.lists.proofs.Bools.{same-test}
@@ -15,10 +14,9 @@ use Rattle.lists.proofs.Same.{same-refl, same-eq}
 use Rattle.lists.proofs.Every.{every-all}
 use Rattle.profiles.specs.Profiles.{Entry, Profile}
 use Rattle.profiles.specs.Reading.{Line, opens, enters, closes, lineText, lineIn, linesIn, linesText, Parsed, outside, inside, broken, behindLine, parsed, profilesOf, readingOf}
-use Rattle.profiles.specs.Tokens.{tokens}
 use Rattle.profiles.specs.Texts.{isAmong, noRepeat, profiledOnce, readsWell}
-use Rattle.profiles.proofs.TokenLaws.{tokens-stop, tokens-step}
-use Rattle.profiles.proofs.LineLaws.{and-false, line-front, line-long}
+use Rattle.profiles.proofs.TokenLaws.{tokens-stop}
+use Rattle.profiles.proofs.LineLaws.{and-false, line-front}
 use Rattle.profiles.proofs.LineScans.{starts-room, lines-more}
 use Rattle.profiles.proofs.ReadingLaws.{no-line-left}
 

@@ -1,21 +1,18 @@
 -- The text is judged from its lines, one after the other, with a note of each path that is profiled.
-use Prim.Native.Nat.{ℕ, _+_, _-_, _*_, _/_, _%_, _≤_, _<_}
+use Prim.Native.Nat.{ℕ, _+_, _-_, _*_, _≤_, _<_}
 use mathlib.Core.Path.{_≡_, refl, sym, ap, ap₂, _∙_}
 use mathlib.Core.Bool.{Bool, true, false, not}
-use mathlib.Core.List.{List, [], _∷_, _++_, map, map-append}
+use mathlib.Core.List.{List, [], _∷_, _++_}
 use native.Mathlib.Omega.{arith}
-use native.Mathlib.Numerals.{add-one}
-use lib.ListN.{length, take, drop, set, length-set}
-use lib.Seq.{take-suc-set}
-use borrow.Author.Tests.{eq-eqb, not-true, not-false}
+use lib.ListN.{length, take, drop}
+use borrow.Author.Tests.{not-true, not-false}
 use Rattle.lists.specs.Lists.{every}
-use Rattle.lists.proofs.Bools.{and-in}
-use Rattle.lists.proofs.Every.{every-nil, every-cons, every-append}
+use Rattle.lists.proofs.Every.{every-nil}
 use Rattle.profiles.specs.Profiles.{pathGood}
 use Rattle.profiles.specs.Reading.{opens, enters, closes, pathIn, readingOf}
 use Rattle.profiles.specs.Texts.{textLimit, isAmong, readsWell}
 use Rattle.profiles.specs.Scanning.{profileKind, entryKind, endKind, lineAt}
-use Rattle.profiles.specs.Notes.{pathKey, noteOf, notedPath, noteGood, ToNote, notedPaths, notedPlace, withNote}
+use Rattle.profiles.specs.Notes.{noteGood, ToNote, notedPaths, notedPlace, withNote}
 use Rattle.profiles.proofs.NoteLaws.{is-known, is-new, notes-long, notes-good, paths-more}
 use Rattle.profiles.specs.declared.ScannedLine.{ScannedLine}
 use Rattle.profiles.proofs.LineLaws.{line-long}

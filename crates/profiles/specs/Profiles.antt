@@ -7,7 +7,7 @@ use mathlib.Core.Bool.{Bool, true, false, _&&_, _||_}
 use mathlib.Core.List.{List, [], _∷_, _++_, map}
 use lib.Dec.{eqb, leb}
 use lib.ListN.{length}
-use Rattle.lists.specs.Lists.{every, joined}
+use Rattle.lists.specs.Lists.{every, joined, sameList}
 
 -- ---- profiles
 
@@ -117,6 +117,11 @@ pathGood (b ∷ p) = eqb b slash && ((leb 1 (length p) && leb (length p) 63) && 
 unfoldable pub modesGood : List Mode → Bool
 modesGood [] = false
 modesGood (m ∷ ms) = true
+
+-- the mode is one of them
+unfoldable pub hasMode : Mode → List Mode → Bool
+hasMode m [] = false
+hasMode m (n ∷ ms) = sameList (modeText m) (modeText n) || hasMode m ms
 
 unfoldable pub entryGood : Entry → Bool
 entryGood e = pathGood (e .path) && modesGood (e .modes)

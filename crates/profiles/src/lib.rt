@@ -11,7 +11,7 @@ ghost use Rattle.profiles.specs.Tokens.{starts};
 ghost use Rattle.profiles.specs.Reading.{pathIn, readingOf};
 ghost use Rattle.profiles.specs.Texts.{textLimit, readsWell, textGood};
 ghost use Rattle.profiles.specs.Notes.{pathKey, notedPath, noteGood, PathAt, ToNote, placeAmong, notedPlace, withNote};
-ghost use Rattle.profiles.specs.Scanning.{withX, modeAt, modesAt, noScan, lineAt};
+ghost use Rattle.profiles.specs.Scanning.{hasBit, withX, modeAt, modesAt, noScan, lineAt};
 
 // ---- the bytes and numbers of the format
 
@@ -161,6 +161,14 @@ pub struct ScannedMode {
 pub struct ScannedModes {
     pub bits: u64,
     pub next: usize,
+}
+
+// A mode's bit is in the set.
+pub fn has_bit(bits: u64, bit: u64) -> bool
+    requires { ⌜ 0 < bit ⌝ }
+    ensures { λ r. ⌜ r ≡ hasBit bits bit ⌝ }
+{
+    bits / bit % 2 == 1
 }
 
 // The mode of two letters that has this bit, if the second is x.

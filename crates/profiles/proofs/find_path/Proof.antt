@@ -2,7 +2,6 @@
 use Prim.Native.Nat.{_-_}
 use mathlib.Core.Path.{sym, _∙_}
 use lib.ListN.{length, take, drop}
-use native.Mathlib.Omega.{arith}
 use Rattle.lists.proofs.Every.{every-getD}
 use Rattle.profiles.specs.Notes.{noteGood}
 use Rattle.profiles.proofs.NoteLaws.{NotesPassed, notes-start, notes-found, notes-next, notes-end}
