@@ -79,12 +79,13 @@ endLine = ascii "}" ++ (newline ∷ [])
 unfoldable pub entriesText : List Entry → List ℕ
 entriesText es = joined (map entryLine es)
 
-unfoldable pub profileText : Profile → List ℕ
-profileText p = profileLine (p .path) ++ (entriesText (p .entries) ++ endLine)
+-- one profile
+unfoldable pub textOfOne : Profile → List ℕ
+textOfOne p = profileLine (p .path) ++ (entriesText (p .entries) ++ endLine)
 
 -- "any number of profiles"
 unfoldable pub textOf : List Profile → List ℕ
-textOf ps = joined (map profileText ps)
+textOf ps = joined (map textOfOne ps)
 
 -- ---- which paths and modes there are
 

@@ -24,6 +24,13 @@ const SHORT_LIMIT: usize = 832;
 // The places of a text, of which a note has one.
 const NOTE_PLACES: u64 = 16384;
 
+// The key of a path: above every length, the factor of the sum, and its limit.
+const LENGTH_LIMIT: u64 = 128;
+
+const KEY_FACTOR: u64 = 1000003;
+
+const KEY_LIMIT: u64 = 4398046511104;
+
 const DOT: u8 = 46;
 
 const SLASH: u8 = 47;
@@ -243,6 +250,13 @@ fn modes_at(text: &[u8], at: usize) -> ScannedModes
 
 // ---- lines
 
+// The bytes of `profile ` before a path, of ` {` and byte 10 behind it, and of `,` or `}` and byte 10.
+const WORD_LENGTH: usize = 8;
+
+const PROFILE_END: usize = 3;
+
+const LINE_END: usize = 2;
+
 // What a line is: nothing of the grammar, or one of its three.
 const NO_LINE: usize = 0;
 
@@ -281,7 +295,7 @@ fn profile_line(text: &[u8], at: usize) -> ScannedLine
     if !starts(text, at, b"profile ") {
         return no_line();
     }
-    let path = at + 8;
+    let path = at + WORD_LENGTH;
     let end = path_end(text, path);
     if !path_good(text, path, end) {
         return no_line();
@@ -294,7 +308,7 @@ fn profile_line(text: &[u8], at: usize) -> ScannedLine
         path: path,
         length: end - path,
         modes: 0,
-        next: end + 3,
+        next: end + PROFILE_END,
     }
 }
 
@@ -324,7 +338,7 @@ fn entry_line(text: &[u8], at: usize) -> ScannedLine
         path: at,
         length: end - at,
         modes: modes.bits,
-        next: next + 2,
+        next: next + LINE_END,
     }
 }
 
@@ -341,7 +355,7 @@ fn end_line(text: &[u8], at: usize) -> ScannedLine
         path: at,
         length: 0,
         modes: 0,
-        next: at + 2,
+        next: at + LINE_END,
     }
 }
 
@@ -386,10 +400,10 @@ fn path_key(path: &[u8]) -> u64
     let mut sum: u64 = 0;
     let mut i = 0;
     while i < path.len() {
-        sum = (sum * 1000003 + path[i] as u64) % 4398046511104;
+        sum = (sum * KEY_FACTOR + path[i] as u64) % KEY_LIMIT;
         i += 1;
     }
-    (path.len() as u64) + 128 * sum
+    (path.len() as u64) + LENGTH_LIMIT * sum
 }
 
 // The note is of the path at a place.
