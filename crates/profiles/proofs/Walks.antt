@@ -17,7 +17,7 @@ use Rattle.profiles.specs.Reading.{Line, opens, enters, closes, lineText
 use Rattle.profiles.specs.Scanning.{modeBits, noLine, profileKind, entryKind, endKind, lineScan, noScan, lineAt}
 use Rattle.profiles.specs.declared.ScannedLine.{ScannedLine}
 use Rattle.profiles.proofs.TokenLaws.{starts-split, tokens-stop}
-use Rattle.profiles.proofs.LineLaws.{line-front, line-good, profile-path, entry-path-read}
+use Rattle.profiles.proofs.LineLaws.{line-front, line-good, line-long, profile-path, entry-path-read}
 use Rattle.profiles.proofs.LineScans.{starts-room, lines-more}
 use Rattle.profiles.proofs.ReadingLaws.{text-lines, lines-read, no-line-left}
 
@@ -200,6 +200,30 @@ module _ (t : List ℕ) (at : ℕ) (w : Walk t at) where
         },
         q,
       )
+
+-- the line at a place of the walk, whichever it is
+pub record LineHere (t : List ℕ) (at : ℕ) (s : ScannedLine) : Type 0 where
+  pub line : Line
+  pub reads : lineIn (drop at t) ≡ some line
+  pub is : s ≡ lineScan at line
+  pub next : s .next ≡ at + length (lineText line)
+  pub on : at < s .next
+  pub ahead : s .next ≤ length t
+
+scan-next : (at : ℕ) (l : Line) → lineScan at l .next ≡ at + length (lineText l)
+unfolding lineScan
+scan-next at (opens p) = refl
+scan-next at (enters e) = refl
+scan-next at closes = refl
+
+pub walk-line : (t : List ℕ) (at : ℕ) → Walk t at → at < length t → (s : ScannedLine) → s ≡ lineAt t at → LineHere t at s
+walk-line t at w i s q = by (lineIn (drop at t)) refl
+  where
+    by : (o : Option Line) → lineIn (drop at t) ≡ o → LineHere t at s
+    by none e = absurd (walk-on t at w i e)
+    by (some l) e =
+        let n : s .next ≡ at + length (lineText l) = ap (λ (x : ScannedLine). x .next) (q ∙ scanned t at l e) ∙ scan-next at l in
+        record { line = l; reads = e; is = q ∙ scanned t at l e; next = n; on = omega (arith, n, line-long l); ahead = omega (arith, n, ahead t at (omega arith) l e) }
 
 -- at the end there is none
 pub walk-end : (t : List ℕ) (at : ℕ) → length t ≤ at → linesIn (drop at t) ≡ []
