@@ -201,14 +201,15 @@ module _ (t : List ℕ) (at : ℕ) (w : Walk t at) where
         q,
       )
 
--- the line at a place of the walk, whichever it is
+-- the line at a place of the walk, whichever it is, and the walk behind it
 pub record LineHere (t : List ℕ) (at : ℕ) (s : ScannedLine) : Type 0 where
   pub line : Line
   pub reads : lineIn (drop at t) ≡ some line
   pub is : s ≡ lineScan at line
   pub next : s .next ≡ at + length (lineText line)
   pub on : at < s .next
-  pub ahead : s .next ≤ length t
+  pub walk : Walk t (s .next)
+  pub lines : linesIn (drop at t) ≡ line ∷ linesIn (drop (s .next) t)
 
 scan-next : (at : ℕ) (l : Line) → lineScan at l .next ≡ at + length (lineText l)
 unfolding lineScan
@@ -223,7 +224,16 @@ walk-line t at w i s q = by (lineIn (drop at t)) refl
     by none e = absurd (walk-on t at w i e)
     by (some l) e =
         let n : s .next ≡ at + length (lineText l) = ap (λ (x : ScannedLine). x .next) (q ∙ scanned t at l e) ∙ scan-next at l in
-        record { line = l; reads = e; is = q ∙ scanned t at l e; next = n; on = omega (arith, n, line-long l); ahead = omega (arith, n, ahead t at (omega arith) l e) }
+        let g = walk-next t at w l i e in
+        record {
+          line = l;
+          reads = e;
+          is = q ∙ scanned t at l e;
+          next = n;
+          on = omega (arith, n, line-long l);
+          walk = subst (Walk t) (sym n) (g .0);
+          lines = g .1 ∙ ap (λ (k : ℕ). l ∷ linesIn (drop k t)) (sym n);
+        }
 
 -- at the end there is none
 pub walk-end : (t : List ℕ) (at : ℕ) → length t ≤ at → linesIn (drop at t) ≡ []
