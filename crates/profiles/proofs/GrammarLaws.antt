@@ -6,7 +6,7 @@ use mathlib.Core.List.{List, [], _∷_, _++_, append-assoc, append-nil}
 use Rattle.lists.specs.Lists.{every, joined}
 use Rattle.lists.proofs.Bools.{and-in, and-0, and-1, clash}
 use Rattle.lists.proofs.Every.{every-0, every-1, every-nil, every-cons}
-use Rattle.profiles.specs.Profiles.{Mode, Entry, Profile, ascii, modeText, modesText, profileWord, profileEnd, modesStart, modesEnd, profileLine, entryLine, endLine, entriesText, profileText, textOf, pathGood, modesGood, entryGood, profileGood}
+use Rattle.profiles.specs.Profiles.{Mode, Entry, Profile, ascii, modeText, modesText, profileWord, profileEnd, modesStart, modesEnd, profileLine, entryLine, endLine, entriesText, textOfOne, textOf, pathGood, modesGood, entryGood, profileGood}
 use Rattle.profiles.specs.Grammar.{Grammar, ModesIn, lastMode, nextMode, EntriesIn, noEntry, nextEntry, ProfilesIn, noProfile, nextProfile}
 
 -- ---- modes
@@ -57,8 +57,8 @@ entries-out (nextEntry {p} {s} {t} {ms} {es} g m d) =
 
 -- ---- profiles
 
-profile-text : (p : Profile) (t : List ℕ) → profileText p ++ t ≡ profileWord ++ (p .path ++ (profileEnd ++ (entriesText (p .entries) ++ (endLine ++ t))))
-unfolding profileText profileLine profileWord profileEnd ascii
+profile-text : (p : Profile) (t : List ℕ) → textOfOne p ++ t ≡ profileWord ++ (p .path ++ (profileEnd ++ (entriesText (p .entries) ++ (endLine ++ t))))
+unfolding textOfOne profileLine profileWord profileEnd ascii
 profile-text p t =
     append-assoc (profileLine (p .path)) (entriesText (p .entries) ++ endLine) t
     ∙ ap (λ (u : List ℕ). profileLine (p .path) ++ u) (append-assoc (entriesText (p .entries)) endLine t)

@@ -1,15 +1,17 @@
--- Theorems is the file to read first.
+-- Theorems is the file to read first. Walks, NoteLaws and BitLaws are cited by code that walks a text.
 pub mod Theorems
+pub mod Examples
+pub mod Walks
+pub mod NoteLaws
+pub mod BitLaws
 pub mod TokenLaws
 pub mod LineLaws
 pub mod ReadingLaws
 pub mod GrammarLaws
+pub mod RepeatLaws
 pub mod ScanLaws
 pub mod PathLaws
 pub mod ModeLaws
 pub mod LineScans
 pub mod TextLaws
-pub mod Walks
-pub mod NoteLaws
 pub mod TextScan
-pub mod Examples

@@ -202,6 +202,9 @@ module _ (p : List ℕ) (ms : List Mode) (r : List ℕ) (h : pathGood p ≡ true
   entry-modes =
       ap modesIn (drop-append-add p (32 ∷ ((modesText ms ++ modesEnd) ++ r)) 1 ∙ append-assoc (modesText ms) modesEnd r) ∙ modes-back ms (modesEnd ++ r) refl
 
+  pub entry-path-read : pathIn (entryLine (record { path = p; modes = ms }) ++ r) ≡ p
+  entry-path-read = ap pathIn entry-split ∙ entry-path
+
   entry-is : entryIn (entryLine (record { path = p; modes = ms }) ++ r) ≡ record { path = p; modes = ms }
   unfolding entryIn
   entry-is =

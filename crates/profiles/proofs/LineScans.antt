@@ -1,5 +1,5 @@
 -- A line that is scanned from a place of the text: its parts are tested one after the other, as the tests of a line are.
-use Prim.Native.Nat.{ℕ, _+_, _-_, _≤_}
+use Prim.Native.Nat.{ℕ, _+_, _-_, _≤_, _<_}
 use mathlib.Core.Path.{_≡_, refl, sym, ap, ap₂, _∙_}
 use mathlib.Core.Logic.{_≢_}
 use mathlib.Core.Bool.{Bool, true, false, cond, _&&_}
@@ -10,11 +10,11 @@ use lib.ListN.{length, getD, drop, length-append, length-drop}
 use lib.Seq.{getD-drop, drop-drop}
 use Rattle.lists.specs.Lists.{joined}
 use Rattle.profiles.specs.Profiles.{Mode, Entry, ascii, modeText, modesText, profileWord, profileEnd, modesStart, modesEnd, profileLine, entryLine, endLine, pathGood, modesGood, entryGood}
-use Rattle.profiles.specs.Tokens.{given, starts}
-use Rattle.profiles.specs.Reading.{Line, opens, enters, closes, lineText, lineGood, pathIn, modesIn, entryIn, linesToTry, lineAmong, lineIn}
+use Rattle.profiles.specs.Tokens.{given, starts, tokens}
+use Rattle.profiles.specs.Reading.{Line, opens, enters, closes, lineText, lineGood, pathIn, modesIn, entryIn, linesToTry, lineAmong, lineIn, linesIn}
 use Rattle.profiles.specs.Scanning.{modeBits, profileKind, entryKind, endKind, lineScan, noScan, lineAt}
-use Rattle.profiles.proofs.TokenLaws.{starts-split, starts-append}
-use Rattle.profiles.proofs.LineLaws.{and-false, path-front, mode-long, modes-front, line-passed, no-profile-line, no-entry-line, no-end-line}
+use Rattle.profiles.proofs.TokenLaws.{starts-split, starts-append, tokens-step}
+use Rattle.profiles.proofs.LineLaws.{and-false, path-front, mode-long, modes-front, line-long, line-passed, no-profile-line, no-entry-line, no-end-line}
 
 -- ---- what is scanned ends within the text
 
@@ -209,3 +209,11 @@ module _ (t : List ℕ) (at : ℕ) (f : getD t at 0 ≡ 125) where
   pub end-scanned : starts endLine (drop at t) ≡ true → record { kind = endKind; path = at; length = 0; modes = 0; next = at + 2 } ≡ lineAt t at
   unfolding lineScan lineText endLine ascii
   end-scanned a = sym (rw a at end-scan)
+
+-- ---- one line after the other
+
+pub lines-more : (t : List ℕ) (at : ℕ) (l : Line) → at < length t → lineIn (drop at t) ≡ some l → linesIn (drop at t) ≡ l ∷ linesIn (drop (at + length (lineText l)) t)
+unfolding linesIn
+lines-more t at l i e =
+    tokens-step lineIn lineText (drop at t) l e (omega (arith, length-drop at t)) (line-long l)
+    ∙ ap (λ (u : List ℕ). l ∷ tokens lineIn lineText u) (drop-drop (length (lineText l)) at t)

@@ -1,55 +1,56 @@
--- Notes of paths: a note has its path's key and place, and paths with different keys differ.
-use Prim.Native.Nat.{ℕ, zero, suc, _+_, _-_, _*_, _/_, _%_, _^_, _≤_, _<_}
+-- Notes of paths: a note has its path's key and place, paths with different keys differ, and a path is found among the notes.
+use Prim.Native.Nat.{ℕ, suc, _+_, _*_, _/_, _%_, _^_, _≤_, _<_}
 use mathlib.Core.Path.{_≡_, refl, sym, ap, ap₂, _∙_}
-use mathlib.Core.Bool.{Bool, true, false, _||_}
-use mathlib.Core.List.{List, [], _∷_, map}
-use mathlib.Core.Logic.{⊎-elim}
+use mathlib.Core.Bool.{Bool, true, false, cond, _||_}
+use mathlib.Core.List.{List, [], _∷_, _++_, map, map-append}
 use native.Mathlib.Omega.{arith}
 use native.Mathlib.Numerals.{add-one}
-use lib.Dec.{eqb, leb}
-use lib.ListN.{length, getD, take, drop, set, length-append, length-drop, drop-of-length-le}
-use lib.Seq.{length-take-le, take-append-seam, drop-cons}
-use borrow.Author.Tests.{eqb-true, leb-true}
+use lib.Dec.{eqb, ltb}
+use lib.ListN.{length, getD, take, drop, set, length-append, length-drop, length-set, length-map, drop-of-length-le}
+use lib.Seq.{length-take-le, take-append-seam, drop-cons, take-suc-set}
+use borrow.Author.Tests.{eqb-true, eq-eqb, ltb-true, lt-ltb, le-ltb}
 use Rattle.lists.specs.Lists.{every, sameList}
-use Rattle.lists.proofs.Bools.{and-0, and-1, or-cases, refuted}
-use Rattle.lists.proofs.Every.{every-0, every-1}
+use Rattle.lists.proofs.Bools.{and-in, and-0, and-1, refuted, same-test}
+use Rattle.lists.proofs.Every.{every-nil, every-cons, every-append}
 use Rattle.lists.proofs.Same.{same-eq}
-use Rattle.profiles.specs.Profiles.{dot, slash, isBetween, isDigit, isLetter, isPathByte, pathGood}
+use Rattle.profiles.specs.Profiles.{pathGood}
 use Rattle.profiles.specs.Reading.{pathIn}
 use Rattle.profiles.specs.Texts.{textLimit, isAmong}
-use Rattle.profiles.specs.Notes.{pathKey, noteOf, notedPath, noteGood, PathAt, ToNote, isNew, withNote}
+use Rattle.profiles.specs.Notes.{lengthLimit, keyFrom, pathKey, noteOf, notedPath, noteGood, PathAt, ToNote, placeAmong, notedPaths, notedPlace, withNote}
 use Rattle.profiles.proofs.TokenLaws.{starts-split}
-use Rattle.profiles.proofs.LineLaws.{path-bytes, path-front}
+use Rattle.profiles.proofs.LineLaws.{path-front}
+use Rattle.profiles.proofs.ScanLaws.{drop-next}
 use Rattle.profiles.proofs.LineScans.{path-room}
 use Rattle.profiles.proofs.PathLaws.{path-parts}
 
 -- ---- keys
 
-between-high : (low high b : ℕ) → isBetween low high b ≡ true → b ≤ high
-unfolding isBetween
-between-high low high b h = leb-true b high (and-1 (leb low b) h)
+key-below : (p : List ℕ) (k : ℕ) → k < 2 ^ 42 → keyFrom k p < 2 ^ 42
+unfolding keyFrom
+key-below [] k l = l
+key-below (b ∷ p) k l = key-below p ((k * 1000003 + b) % 2 ^ 42) (omega arith)
 
-path-byte-small : (b : ℕ) → isPathByte b ≡ true → b < 128
-unfolding isPathByte isLetter isDigit
-path-byte-small b h =
-    ⊎-elim
-    (λ l. ⊎-elim (λ x. omega (arith, between-high 97 122 b x)) (λ x. omega (arith, between-high 65 90 b x)) (or-cases (isBetween 97 122 b) l))
-    (λ r. ⊎-elim
-    (λ d. omega (arith, between-high 48 57 b d))
-    (λ s. ⊎-elim (λ e. omega (arith, eqb-true b dot e)) (λ e. omega (arith, eqb-true b slash e)) (or-cases (eqb b dot) s))
-    (or-cases (isDigit b) r))
-    (or-cases (isLetter b) h)
-
-bytes-small : (p : List ℕ) (i : ℕ) → every isPathByte p ≡ true → getD p i 0 < 128
-bytes-small [] i h = omega arith
-bytes-small (b ∷ p) zero h = path-byte-small b (every-0 isPathByte b p h)
-bytes-small (b ∷ p) (suc i) h = bytes-small p i (every-1 isPathByte b p h)
-
-pub key-small : (p : List ℕ) → pathGood p ≡ true → pathKey p * textLimit < 2 ^ 62
+pub key-small : (p : List ℕ) → pathGood p ≡ true → pathKey p * textLimit < 2 ^ 63
 unfolding pathKey
-key-small p h =
-    let g = path-bytes p h in
-    omega (arith, path-parts p h .2, bytes-small p 1 g, bytes-small p 2 g, bytes-small p (length p - 1) g, bytes-small p (length p - 2) g, bytes-small p (length p / 2) g)
+key-small p h = omega (arith, path-parts p h .2, key-below p 0 (omega arith))
+
+-- the bytes up to i are in the sum
+pub record Summed (p : List ℕ) (i k : ℕ) : Type 0 where
+  pub place : i ≤ length p
+  pub below : k < 2 ^ 42
+  pub rest : keyFrom k (drop i p) ≡ keyFrom 0 p
+
+pub sum-start : (p : List ℕ) → Summed p 0 0
+sum-start p = record { place = omega arith; below = omega arith; rest = refl }
+
+module _ (p : List ℕ) (i k : ℕ) (g : Summed p i k) where
+  pub sum-next : i < length p → Summed p (i + 1) ((k * 1000003 + getD p i 0) % 2 ^ 42)
+  unfolding keyFrom
+  sum-next l = record { place = omega arith; below = omega arith; rest = sym (ap (keyFrom k) (drop-next p i l)) ∙ g .rest }
+
+  pub sum-end : length p ≤ i → length p + lengthLimit * k ≡ pathKey p
+  unfolding keyFrom pathKey
+  sum-end l = ap (λ (n : ℕ). length p + lengthLimit * n) (rw (drop-of-length-le p l) at (g .rest))
 
 same-length : (p q : List ℕ) → pathGood p ≡ true → pathGood q ≡ true → pathKey p ≡ pathKey q → length p ≡ length q
 unfolding pathKey
@@ -105,38 +106,108 @@ module _ (t : List ℕ) (note at n key : ℕ) (p : PathAt t at n key) (g : noteG
 
 pub record NotesPassed (t notes : List ℕ) (p : List ℕ) (j : ℕ) : Type 0 where
   pub place : j ≤ length notes
-  pub rest : isAmong p (map (notedPath t) (drop j notes)) ≡ isAmong p (map (notedPath t) notes)
+  pub rest : j + placeAmong p (map (notedPath t) (drop j notes)) ≡ placeAmong p (map (notedPath t) notes)
 
 pub notes-start : (t notes p : List ℕ) → NotesPassed t notes p 0
-notes-start t notes p = record { place = omega arith; rest = refl }
+notes-start t notes p = record { place = omega arith; rest = omega arith }
 
 module _ (t notes p : List ℕ) (j : ℕ) (g : NotesPassed t notes p j) where
-  notes-step : j < length notes → isAmong p (map (notedPath t) (drop j notes)) ≡ (sameList p (notedPath t (getD notes j 0)) || isAmong p (map (notedPath t) (drop (j + 1) notes)))
-  unfolding isAmong
+  notes-step : j < length notes
+      → placeAmong p (map (notedPath t) (drop j notes)) ≡ cond (sameList p (notedPath t (getD notes j 0))) 0 (suc (placeAmong p (map (notedPath t) (drop (j + 1) notes))))
+  unfolding placeAmong
   notes-step l = rw (add-one, drop-cons notes j 0 l)
 
-  pub notes-found : j < length notes → sameList p (notedPath t (getD notes j 0)) ≡ true → true ≡ isAmong p (map (notedPath t) notes)
-  notes-found l h = sym (rw h at (notes-step l)) ∙ g .rest
+  pub notes-found : j < length notes → sameList p (notedPath t (getD notes j 0)) ≡ true → j ≡ placeAmong p (map (notedPath t) notes)
+  notes-found l h = let e : placeAmong p (map (notedPath t) (drop j notes)) ≡ 0 = rw h at (notes-step l) in omega (arith, g .rest)
 
   pub notes-next : j < length notes → sameList p (notedPath t (getD notes j 0)) ≡ false → NotesPassed t notes p (j + 1)
-  notes-next l h = record { place = omega arith; rest = sym (rw h at (notes-step l)) ∙ g .rest }
+  notes-next l h =
+      let e : placeAmong p (map (notedPath t) (drop j notes)) ≡ suc (placeAmong p (map (notedPath t) (drop (j + 1) notes))) = rw h at (notes-step l) in
+      record { place = omega arith; rest = omega (arith, g .rest) }
 
-  pub notes-end : length notes ≤ j → false ≡ isAmong p (map (notedPath t) notes)
-  unfolding isAmong
-  notes-end l = rw (drop-of-length-le notes l) at (g .rest)
+  pub notes-end : length notes ≤ j → j ≡ placeAmong p (map (notedPath t) notes)
+  unfolding placeAmong
+  notes-end l = let e : placeAmong p (map (notedPath t) (drop j notes)) ≡ 0 = rw (drop-of-length-le notes l) in omega (arith, g .rest)
+
+ltb-suc : (a b : ℕ) → ltb (suc a) (suc b) ≡ ltb a b
+ltb-suc a b =
+    same-test (ltb (suc a) (suc b)) (ltb a b) (λ h. lt-ltb a b (omega (arith, ltb-true (suc a) (suc b) h))) (λ h. lt-ltb (suc a) (suc b) (omega (arith, ltb-true a b h)))
+
+-- a path that has a place is there
+pub place-among : (p : List ℕ) (qs : List (List ℕ)) → ltb (placeAmong p qs) (length qs) ≡ isAmong p qs
+unfolding placeAmong isAmong
+place-among p [] = refl
+place-among p (q ∷ qs) = by (sameList p q) (place-among p qs)
+  where
+    by : (b : Bool) → ltb (placeAmong p qs) (length qs) ≡ isAmong p qs → ltb (cond b 0 (suc (placeAmong p qs))) (suc (length qs)) ≡ (b || isAmong p qs)
+    by true h = lt-ltb 0 (suc (length qs)) (omega arith)
+    by false h = ltb-suc (placeAmong p qs) (length qs) ∙ h
 
 -- ---- one note more
 
 module _ (t notes : List ℕ) (count at n : ℕ) (g : ToNote t notes count at n) where
-  pub not-new : (r : Bool) → r ≡ isAmong (take n (drop at t)) (map (notedPath t) (take count notes)) → r ≡ true
-      → (false ≡ isNew t notes count at n) × (notes ≡ withNote t notes count at n)
-  unfolding isNew withNote
-  not-new r e h = let a : isAmong (take n (drop at t)) (map (notedPath t) (take count notes)) ≡ true = sym e ∙ h in (rw a, rw a)
+  pub noted-small : (key : ℕ) → key ≡ pathKey (take n (drop at t)) → key * textLimit < 2 ^ 63
+  noted-small key k = rw k (key-small (take n (drop at t)) (g .good))
 
-  pub is-new : (r : Bool) → r ≡ isAmong (take n (drop at t)) (map (notedPath t) (take count notes)) → r ≡ false → (key : ℕ) → key ≡ pathKey (take n (drop at t))
-      → (true ≡ isNew t notes count at n) × (set notes count (key * textLimit + at) ≡ withNote t notes count at n)
-  unfolding isNew withNote noteOf
-  is-new r e h key k = let a : isAmong (take n (drop at t)) (map (notedPath t) (take count notes)) ≡ false = sym e ∙ h in (rw a, rw (a, k))
+  module _ (r : ℕ) (e : r ≡ notedPlace t notes count at n) where
+    pub known-note : r < count → notes ≡ withNote t notes count at n
+    unfolding withNote
+    known-note l = rw (lt-ltb (notedPlace t notes count at n) count (omega arith))
 
-  pub note-small : (key : ℕ) → key ≡ pathKey (take n (drop at t)) → key * textLimit < 2 ^ 62
-  note-small key k = rw k (key-small (take n (drop at t)) (g .good))
+    pub new-note : count ≤ r → (key : ℕ) → key ≡ pathKey (take n (drop at t)) → set notes count (key * textLimit + at) ≡ withNote t notes count at n
+    unfolding withNote noteOf
+    new-note l key k = rw (le-ltb (notedPlace t notes count at n) count (omega arith), k)
+
+    known-is : ltb r count ≡ isAmong (take n (drop at t)) (notedPaths t notes count)
+    unfolding notedPlace notedPaths
+    known-is =
+        let m : length (map (notedPath t) (take count notes)) ≡ count = length-map (take count notes) (notedPath t) ∙ length-take-le count notes (omega (arith, g .room)) in
+        ap₂ ltb e (sym m) ∙ place-among (take n (drop at t)) (map (notedPath t) (take count notes))
+
+    pub is-known : r < count → isAmong (take n (drop at t)) (notedPaths t notes count) ≡ true
+    is-known l = sym known-is ∙ lt-ltb r count l
+
+    module _ (l : count ≤ r) where
+      pub is-new : isAmong (take n (drop at t)) (notedPaths t notes count) ≡ false
+      is-new = sym known-is ∙ le-ltb r count l
+
+      module _ (after : List ℕ) (w : after ≡ withNote t notes count at n) where
+        after-is : after ≡ set notes count (noteOf at (take n (drop at t)))
+        unfolding withNote
+        after-is = w ∙ rw (le-ltb (notedPlace t notes count at n) count (omega arith))
+
+        pub notes-long : length after ≡ length notes
+        notes-long = ap length after-is ∙ length-set notes count (noteOf at (take n (drop at t)))
+
+        notes-are : take (count + 1) after ≡ take count notes ++ (noteOf at (take n (drop at t)) ∷ [])
+        notes-are = ap₂ take (add-one count) after-is ∙ take-suc-set notes count (noteOf at (take n (drop at t))) (g .room)
+
+        module _ (f : pathIn (drop at t) ≡ take n (drop at t)) where
+          note-is : notedPath t (noteOf at (take n (drop at t))) ≡ take n (drop at t)
+          unfolding notedPath noteOf
+          note-is =
+              let z : (pathKey (take n (drop at t)) * textLimit + at) % textLimit ≡ at = omega (arith, g .place) in
+              ap (λ (k : ℕ). pathIn (drop k t)) z ∙ f
+
+          note-keyed : noteOf at (take n (drop at t)) / textLimit ≡ pathKey (take n (drop at t))
+          unfolding noteOf
+          note-keyed = omega (arith, g .place)
+
+          note-good : noteGood t (noteOf at (take n (drop at t))) ≡ true
+          unfolding noteGood
+          note-good =
+              let x = noteOf at (take n (drop at t)) in
+              and-in (ap pathGood note-is ∙ g .good) (eq-eqb (x / textLimit) (pathKey (notedPath t x)) (note-keyed ∙ ap pathKey (sym note-is)))
+
+          pub notes-good : every (noteGood t) (take (count + 1) after) ≡ true
+          notes-good =
+              ap (every (noteGood t)) notes-are
+              ∙ every-append (noteGood t) (take count notes) (noteOf at (take n (drop at t)) ∷ []) (g .noted)
+              (every-cons (noteGood t) (noteOf at (take n (drop at t))) [] note-good (every-nil (noteGood t)))
+
+          pub paths-more : notedPaths t after (count + 1) ≡ notedPaths t notes count ++ (take n (drop at t) ∷ [])
+          unfolding notedPaths
+          paths-more =
+              ap (map (notedPath t)) notes-are
+              ∙ map-append (notedPath t) (take count notes) (noteOf at (take n (drop at t)) ∷ [])
+              ∙ ap (λ (p : List ℕ). map (notedPath t) (take count notes) ++ (p ∷ [])) note-is

@@ -12,7 +12,7 @@ use Rattle.lists.specs.Lists.{every, joined}
 use Rattle.lists.proofs.Bools.{and-in, and-0, and-1}
 use Rattle.lists.proofs.Every.{every-0, every-1, every-nil, every-cons}
 use Rattle.lists.proofs.Places.{some-inj, none-some}
-use Rattle.profiles.specs.Profiles.{Entry, Profile, entriesText, profileText, textOf, entryGood, profileGood, profileLine, entryLine, endLine, pathGood}
+use Rattle.profiles.specs.Profiles.{Entry, Profile, entriesText, textOfOne, textOf, entryGood, profileGood, profileLine, entryLine, endLine, pathGood}
 use Rattle.profiles.specs.Grammar.{Grammar}
 use Rattle.profiles.specs.Reading.{Line, opens, enters, closes, lineText, lineGood, entryLines, linesOf, lineIn, linesIn, linesText, Parsed, outside, inside, broken, behindLine, parsed, profilesOf, readingOf}
 use Rattle.profiles.proofs.TokenLaws.{starts-split}
@@ -27,7 +27,7 @@ entries-lines (e ∷ es) ls =
     append-assoc (entryLine e) (entriesText es) (linesText ls) ∙ ap (λ (t : List ℕ). entryLine e ++ t) (entries-lines es ls)
 
 pub text-lines : (ps : List Profile) → textOf ps ≡ linesText (linesOf ps)
-unfolding textOf profileText linesText linesOf joined lineText
+unfolding textOf textOfOne linesText linesOf joined lineText
 text-lines [] = refl
 text-lines (p ∷ ps) =
     append-assoc (profileLine (p .path)) (entriesText (p .entries) ++ endLine) (textOf ps)

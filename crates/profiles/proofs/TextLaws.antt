@@ -7,7 +7,6 @@ use mathlib.Core.Option.{Option, none, some}
 use native.Mathlib.Omega.{arith}
 use lib.Dec.{eqb}
 use lib.ListN.{length, drop, length-append, length-drop, drop-of-length-le}
-use lib.Seq.{drop-drop}
 use borrow.Author.Tests.{eqb-true, eq-eqb, ne-eqb}
 use Rattle.lists.specs.Lists.{every, joined, sameList}
 use Rattle.lists.proofs.Bools.{same-test}
@@ -15,11 +14,10 @@ use Rattle.lists.proofs.Same.{same-refl, same-eq}
 use Rattle.lists.proofs.Every.{every-all}
 use Rattle.profiles.specs.Profiles.{Entry, Profile}
 use Rattle.profiles.specs.Reading.{Line, opens, enters, closes, lineText, lineIn, linesIn, linesText, Parsed, outside, inside, broken, behindLine, parsed, profilesOf, readingOf}
-use Rattle.profiles.specs.Tokens.{tokens}
 use Rattle.profiles.specs.Texts.{isAmong, noRepeat, profiledOnce, readsWell}
-use Rattle.profiles.proofs.TokenLaws.{tokens-stop, tokens-step}
-use Rattle.profiles.proofs.LineLaws.{and-false, line-front, line-long}
-use Rattle.profiles.proofs.LineScans.{starts-room}
+use Rattle.profiles.proofs.TokenLaws.{tokens-stop}
+use Rattle.profiles.proofs.LineLaws.{and-false, line-front}
+use Rattle.profiles.proofs.LineScans.{starts-room, lines-more}
 use Rattle.profiles.proofs.ReadingLaws.{no-line-left}
 
 -- ---- paths that are not repeated, from the left
@@ -154,12 +152,6 @@ module _ (t : List ℕ) (seen : List (List ℕ)) (b : Bool) (at : ℕ) where
     line-room : at + length (lineText l) ≤ length t
     line-room = starts-room (lineText l) t at (line-front (drop at t) l e) (omega arith)
 
-    lines-more : linesIn (drop at t) ≡ l ∷ linesIn (drop (at + length (lineText l)) t)
-    unfolding linesIn
-    lines-more =
-        tokens-step lineIn lineText (drop at t) l e (omega (arith, length-drop at t)) (line-long l)
-        ∙ ap (λ (u : List ℕ). l ∷ tokens lineIn lineText u) (drop-drop (length (lineText l)) at t)
-
     same-end : eqb (length (linesText (l ∷ linesIn (drop (at + length (lineText l)) t)))) (length (drop at t))
         ≡ eqb (length (linesText (linesIn (drop (at + length (lineText l)) t)))) (length (drop (at + length (lineText l)) t))
     unfolding linesText joined
@@ -175,7 +167,7 @@ module _ (t : List ℕ) (seen : List (List ℕ)) (b : Bool) (at : ℕ) where
         ≡ (eqb (length (linesText (linesIn (drop (at + length (lineText l)) t)))) (length (drop (at + length (lineText l)) t)) && judged seen b (l ∷ linesIn (drop (at + length (lineText l)) t)))
     unfolding leftGood
     left-line =
-        ap (λ (ls : List Line). eqb (length (linesText ls)) (length (drop at t)) && judged seen b ls) lines-more
+        ap (λ (ls : List Line). eqb (length (linesText ls)) (length (drop at t)) && judged seen b ls) (lines-more t at l i e)
         ∙ ap (λ (c : Bool). c && judged seen b (l ∷ linesIn (drop (at + length (lineText l)) t))) same-end
 
 -- ---- one line of the text more

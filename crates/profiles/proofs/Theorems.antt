@@ -1,15 +1,21 @@
 -- "A text has a reading exactly when it is of this grammar, and only one."
-use Prim.Native.Nat.{ℕ}
-use mathlib.Core.Path.{_≡_, refl, sym, _∙_, subst}
+use Prim.Native.Nat.{ℕ, _≤_}
+use mathlib.Core.Path.{_≡_, refl, sym, ap, _∙_, subst}
 use mathlib.Core.Logic.{_↔_}
 use mathlib.Core.Bool.{true}
-use mathlib.Core.List.{List}
+use mathlib.Core.List.{List, map}
 use mathlib.Core.Option.{Option, none, some}
 use Rattle.lists.specs.Lists.{every}
+use lib.Dec.{leb}
+use lib.ListN.{length}
+use borrow.Author.Tests.{leb-true, le-leb}
+use Rattle.lists.proofs.Bools.{and-in, and-0, and-1, clash}
 use Rattle.lists.proofs.Places.{some-inj, none-some}
 use Rattle.profiles.specs.Profiles.{Profile, textOf, profileGood}
 use Rattle.profiles.specs.Grammar.{Grammar, ProfilesIn}
 use Rattle.profiles.specs.Reading.{readingOf}
+use Rattle.profiles.specs.Texts.{textLimit, Differ, profiledOnce, readsWell, textGood}
+use Rattle.profiles.proofs.RepeatLaws.{repeats-not, differ-once}
 use Rattle.profiles.proofs.GrammarLaws.{profiles-in, profiles-out}
 use Rattle.profiles.proofs.ReadingLaws.{print-read, read-print}
 
@@ -35,3 +41,18 @@ reads-none t = (λ e ps g. none-some (sym e ∙ read-print t ps g), by (readingO
     by : (o : Option (List Profile)) → readingOf t ≡ o → ((ps : List Profile) → Grammar t ps → ⊥) → o ≡ none
     by none e h = refl
     by (some ps) e h = absurd (h ps (print-read t ps e))
+
+-- "16 when the text is too long, breaks the grammar or profiles a path twice": the test passes exactly if none of these is so
+pub text-exactly : (t : List ℕ) → (textGood t ≡ true) ↔ ((length t ≤ 16384) × ((ps : List Profile) × Grammar t ps × Differ (map (λ p. p .path) ps)))
+unfolding textGood readsWell profiledOnce
+text-exactly t = (to, from)
+  where
+    read : (o : Option (List Profile)) → readingOf t ≡ o → readsWell o ≡ true → (ps : List Profile) × Grammar t ps × Differ (map (λ p. p .path) ps)
+    read none e h = clash h refl
+    read (some ps) e h = (ps, print-read t ps e, repeats-not (map (λ p. p .path) ps) h)
+
+    to : textGood t ≡ true → (length t ≤ 16384) × ((ps : List Profile) × Grammar t ps × Differ (map (λ p. p .path) ps))
+    to h = (leb-true (length t) textLimit (and-0 (leb (length t) textLimit) (readsWell (readingOf t)) h), read (readingOf t) refl (and-1 (leb (length t) textLimit) h))
+
+    from : (length t ≤ 16384) × ((ps : List Profile) × Grammar t ps × Differ (map (λ p. p .path) ps)) → textGood t ≡ true
+    from (l, (ps, g, d)) = and-in (le-leb (length t) textLimit l) (ap readsWell (read-print t ps g) ∙ differ-once (map (λ p. p .path) ps) d)

@@ -1,23 +1,25 @@
 -- What a scanned line tells of the text, and the walk through a text that has a reading: it is, line by line, the lines of it.
-use Prim.Native.Nat.{ℕ, _+_, _-_, _≤_}
+use Prim.Native.Nat.{ℕ, _+_, _≤_, _<_}
 use mathlib.Core.Path.{_≡_, refl, sym, ap, _∙_, subst}
 use mathlib.Core.Bool.{true}
-use mathlib.Core.List.{List, [], _∷_, _++_, append-assoc}
+use mathlib.Core.List.{List, [], _∷_, _++_, map, append-assoc}
 use mathlib.Core.Option.{Option, none, some}
 use native.Mathlib.Omega.{arith}
-use lib.ListN.{length, take, drop, length-append, length-drop}
+use lib.ListN.{length, take, drop, length-append, length-drop, drop-of-length-le}
 use lib.Seq.{take-append-seam, drop-append-seam, drop-drop}
-use Rattle.lists.specs.Lists.{every, joined}
-use Rattle.lists.proofs.Every.{every-0, every-1}
-use Rattle.profiles.specs.Profiles.{Entry, Profile, ascii, modesText, profileWord, profileEnd, modesStart, modesEnd, profileLine, entryLine, pathGood, entryGood}
+use Rattle.lists.specs.Lists.{joined}
+use Rattle.lists.proofs.Bools.{and-0}
+use Rattle.lists.proofs.Every.{append-apart}
+use Rattle.profiles.specs.Profiles.{Entry, Profile, ascii, modesText, profileWord, profileEnd, modesStart, modesEnd, profileLine, entryLine, pathGood, modesGood, entryGood}
 use Rattle.profiles.specs.Grammar.{Grammar}
-use Rattle.profiles.specs.Reading.{Line, opens, enters, closes, lineText, lineGood, linesOf, pathIn, lineIn, linesText}
+use Rattle.profiles.specs.Tokens.{tokens}
+use Rattle.profiles.specs.Reading.{Line, opens, enters, closes, lineText, lineGood, linesOf, pathIn, lineIn, linesIn, linesText}
 use Rattle.profiles.specs.Scanning.{modeBits, noLine, profileKind, entryKind, endKind, lineScan, noScan, lineAt}
 use Rattle.profiles.specs.declared.ScannedLine.{ScannedLine}
-use Rattle.profiles.proofs.TokenLaws.{starts-split}
-use Rattle.profiles.proofs.LineLaws.{line-front, line-good, line-back, line-long, profile-path}
-use Rattle.profiles.proofs.LineScans.{starts-room}
-use Rattle.profiles.proofs.ReadingLaws.{text-lines, lines-of-good}
+use Rattle.profiles.proofs.TokenLaws.{starts-split, tokens-stop}
+use Rattle.profiles.proofs.LineLaws.{line-front, line-good, line-long, profile-path, entry-path-read}
+use Rattle.profiles.proofs.LineScans.{starts-room, lines-more}
+use Rattle.profiles.proofs.ReadingLaws.{text-lines, lines-read, no-line-left}
 
 -- ---- where the parts of a line are
 
@@ -48,6 +50,7 @@ pub record EntryAt (t : List ℕ) (at : ℕ) (s : ScannedLine) : Type 0 where
   pub reads : lineIn (drop at t) ≡ some (enters entry)
   pub good : entryGood entry ≡ true
   pub text : take (s .length) (drop (s .path) t) ≡ entry .path
+  pub found : pathIn (drop (s .path) t) ≡ entry .path
   pub size : s .length ≡ length (entry .path)
   pub modes : s .modes ≡ modeBits (entry .modes)
   pub next : s .next ≡ at + length (lineText (enters entry))
@@ -93,7 +96,7 @@ module _ (t : List ℕ) (at : ℕ) (l : at ≤ length t) where
       }
 
   entry-here : (x : Entry) → lineIn (drop at t) ≡ some (enters x) → EntryAt t at (lineScan at (enters x))
-  unfolding lineScan lineGood lineText entryLine
+  unfolding lineScan lineGood lineText entryLine entryGood
   entry-here x e =
       let r = drop (at + length (lineText (enters x))) t in
       let w = modesStart ++ (modesText (x .modes) ++ modesEnd) in
@@ -102,6 +105,7 @@ module _ (t : List ℕ) (at : ℕ) (l : at ≤ length t) where
         reads = e;
         good = line-good (drop at t) (enters x) e;
         text = ap (take (length (x .path))) (sym (sym (append-assoc (x .path) w r) ∙ line-split t at (enters x) e)) ∙ take-append-seam (x .path) (w ++ r);
+        found = ap pathIn (sym (line-split t at (enters x) e)) ∙ entry-path-read (x .path) (x .modes) r (and-0 (pathGood (x .path)) (modesGood (x .modes)) (line-good (drop at t) (enters x) e));
         size = refl;
         modes = refl;
         next = refl;
@@ -166,38 +170,72 @@ module _ (t : List ℕ) (at : ℕ) (l : at ≤ length t) where
 
 -- ---- the walk through a text that has a reading
 
--- from the place on, the text is that of these good lines
-pub record Walk (t : List ℕ) (at : ℕ) (ls : List Line) : Type 0 where
+-- from the place on, the text is that of its lines
+pub record Walk (t : List ℕ) (at : ℕ) : Type 0 where
   pub place : at ≤ length t
-  pub left : drop at t ≡ linesText ls
-  pub good : every lineGood ls ≡ true
+  pub whole : linesText (linesIn (drop at t)) ≡ drop at t
 
-pub walk-start : (t : List ℕ) (ps : List Profile) → Grammar t ps → Walk t 0 (linesOf ps)
-walk-start t ps (e, g) = record { place = omega arith; left = sym e ∙ text-lines ps; good = lines-of-good ps g }
+-- at the start these are the lines of the reading
+pub walk-start : (t : List ℕ) (ps : List Profile) → Grammar t ps → Walk t 0 × (linesIn t ≡ linesOf ps)
+walk-start t ps (e, g) =
+    let q : linesIn t ≡ linesOf ps = lines-read t ps (e, g) in
+    (record { place = omega arith; whole = ap linesText q ∙ sym (text-lines ps) ∙ e }, q)
 
-module _ (t : List ℕ) (at : ℕ) (l : Line) (ls : List Line) (w : Walk t at (l ∷ ls)) where
-  pub walk-reads : lineIn (drop at t) ≡ some l
+module _ (t : List ℕ) (at : ℕ) (w : Walk t at) where
+  -- before the end there is a line
+  pub walk-on : at < length t → lineIn (drop at t) ≡ none → ⊥
+  unfolding linesIn linesText joined
+  walk-on i e = omega (arith, ap length (sym (w .whole) ∙ ap (λ (ls : List Line). joined (map lineText ls)) (tokens-stop lineIn lineText (drop at t) e)), length-drop at t)
+
+  -- behind a line the walk goes on with those behind it
+  pub walk-next : (l : Line) → at < length t → lineIn (drop at t) ≡ some l → Walk t (at + length (lineText l)) × (linesIn (drop at t) ≡ l ∷ linesIn (drop (at + length (lineText l)) t))
   unfolding linesText joined
-  walk-reads = ap lineIn (w .left) ∙ line-back l (linesText ls) (every-0 lineGood l ls (w .good))
+  walk-next l i e =
+      let q = lines-more t at l i e in
+      let next = at + length (lineText l) in
+      let split : lineText l ++ linesText (linesIn (drop next t)) ≡ lineText l ++ drop next t = ap linesText (sym q) ∙ w .whole ∙ sym (line-split t at l e) in (
+        record {
+          place = starts-room (lineText l) t at (line-front (drop at t) l e) (w .place);
+          whole = append-apart (lineText l) (lineText l) (linesText (linesIn (drop next t))) (drop next t) refl split .1;
+        },
+        q,
+      )
 
-  -- the line at the place is the next one
-  pub walk-line : lineAt t at ≡ lineScan at l
-  walk-line = scanned t at l walk-reads
+-- the line at a place of the walk, whichever it is, and the walk behind it
+pub record LineHere (t : List ℕ) (at : ℕ) (s : ScannedLine) : Type 0 where
+  pub line : Line
+  pub reads : lineIn (drop at t) ≡ some line
+  pub is : s ≡ lineScan at line
+  pub next : s .next ≡ at + length (lineText line)
+  pub on : at < s .next
+  pub walk : Walk t (s .next)
+  pub lines : linesIn (drop at t) ≡ line ∷ linesIn (drop (s .next) t)
 
-  pub walk-next : Walk t (at + length (lineText l)) ls
-  unfolding linesText joined
-  walk-next =
-      record {
-        place = starts-room (lineText l) t at (line-front (drop at t) l walk-reads) (w .place);
-        left = sym (drop-drop (length (lineText l)) at t) ∙ ap (drop (length (lineText l))) (w .left) ∙ drop-append-seam (lineText l) (linesText ls);
-        good = every-1 lineGood l ls (w .good);
-      }
+scan-next : (at : ℕ) (l : Line) → lineScan at l .next ≡ at + length (lineText l)
+unfolding lineScan
+scan-next at (opens p) = refl
+scan-next at (enters e) = refl
+scan-next at closes = refl
 
--- the walk ends with the text
-pub walk-end : (t : List ℕ) (at : ℕ) (ls : List Line) → Walk t at ls → length t ≤ at → ls ≡ []
-walk-end t at [] w h = refl
-walk-end t at (l ∷ ls) w h = absurd (omega (arith, walk-next t at l ls w .place, line-long l))
+pub walk-line : (t : List ℕ) (at : ℕ) → Walk t at → at < length t → (s : ScannedLine) → s ≡ lineAt t at → LineHere t at s
+walk-line t at w i s q = by (lineIn (drop at t)) refl
+  where
+    by : (o : Option Line) → lineIn (drop at t) ≡ o → LineHere t at s
+    by none e = absurd (walk-on t at w i e)
+    by (some l) e =
+        let n : s .next ≡ at + length (lineText l) = ap (λ (x : ScannedLine). x .next) (q ∙ scanned t at l e) ∙ scan-next at l in
+        let g = walk-next t at w l i e in
+        record {
+          line = l;
+          reads = e;
+          is = q ∙ scanned t at l e;
+          next = n;
+          on = omega (arith, n, line-long l);
+          walk = subst (Walk t) (sym n) (g .0);
+          lines = g .1 ∙ ap (λ (k : ℕ). l ∷ linesIn (drop k t)) (sym n);
+        }
 
-pub walk-more : (t : List ℕ) (at : ℕ) → Walk t at [] → length t ≤ at
-unfolding linesText joined
-walk-more t at w = omega (arith, ap length (w .left), length-drop at t, w .place)
+-- at the end there is none
+pub walk-end : (t : List ℕ) (at : ℕ) → length t ≤ at → linesIn (drop at t) ≡ []
+unfolding linesIn
+walk-end t at l = ap (tokens lineIn lineText) (drop-of-length-le t l) ∙ tokens-stop lineIn lineText [] no-line-left

@@ -1,26 +1,28 @@
 -- How the code remembers the paths that are profiled: a number for each, from its place in the text and a key. The key only
 -- saves comparisons: no answer depends on it.
-use Prim.Native.Nat.{ℕ, _+_, _-_, _*_, _/_, _%_, _≤_, _<_}
+use Prim.Native.Nat.{ℕ, suc, _+_, _*_, _/_, _%_, _^_, _≤_, _<_}
 use mathlib.Core.Path.{_≡_}
-use mathlib.Core.Bool.{Bool, true, not, cond, _&&_}
-use mathlib.Core.List.{List, map}
-use lib.Dec.{eqb}
-use lib.ListN.{length, getD, take, drop, set}
-use Rattle.lists.specs.Lists.{every}
+use mathlib.Core.Bool.{Bool, true, cond, _&&_}
+use mathlib.Core.List.{List, [], _∷_, map}
+use lib.Dec.{eqb, ltb}
+use lib.ListN.{length, take, drop, set}
+use Rattle.lists.specs.Lists.{every, sameList}
 use Rattle.profiles.specs.Profiles.{pathGood}
 use Rattle.profiles.specs.Reading.{pathIn}
-use Rattle.profiles.specs.Texts.{textLimit, isAmong}
+use Rattle.profiles.specs.Texts.{textLimit}
 
 -- above the length of every path
 abbrev pub lengthLimit : ℕ
 lengthLimit = 128
 
--- the length and five bytes: two behind the slash, the last two and the middle one
+-- the sum of the bytes, each times a power of 1,000,003, behind bytes with the sum k
+unfoldable pub keyFrom : ℕ → List ℕ → ℕ
+keyFrom k [] = k
+keyFrom k (b ∷ p) = keyFrom ((k * 1000003 + b) % 2 ^ 42) p
+
+-- the length and the sum of the bytes
 unfoldable pub pathKey : List ℕ → ℕ
-pathKey p =
-    length p
-    + lengthLimit
-    * (getD p 1 0 + 256 * (getD p 2 0 + 256 * (getD p (length p - 1) 0 + 256 * (getD p (length p - 2) 0 + 256 * getD p (length p / 2) 0))))
+pathKey p = length p + lengthLimit * keyFrom 0 p
 
 -- the note of a path at a place
 unfoldable pub noteOf : ℕ → List ℕ → ℕ
@@ -50,10 +52,19 @@ pub record ToNote (t notes : List ℕ) (count at n : ℕ) : Type 0 where
   pub fits : at + n ≤ length t
   pub place : at < textLimit
 
--- the path at the place is not noted yet
-unfoldable pub isNew : List ℕ → List ℕ → ℕ → ℕ → ℕ → Bool
-isNew t notes count at n = not (isAmong (take n (drop at t)) (map (notedPath t) (take count notes)))
+-- the place of a path in a list, its length if it is not there
+unfoldable pub placeAmong : List ℕ → List (List ℕ) → ℕ
+placeAmong p [] = 0
+placeAmong p (q ∷ qs) = cond (sameList p q) 0 (suc (placeAmong p qs))
 
--- the notes with one of it, unless there is one
+-- the paths of the first `count` notes
+unfoldable pub notedPaths : List ℕ → List ℕ → ℕ → List (List ℕ)
+notedPaths t notes count = map (notedPath t) (take count notes)
+
+-- the place among them of the path at a place of the text
+unfoldable pub notedPlace : List ℕ → List ℕ → ℕ → ℕ → ℕ → ℕ
+notedPlace t notes count at n = placeAmong (take n (drop at t)) (notedPaths t notes count)
+
+-- the notes with one of it behind them, unless there is one
 unfoldable pub withNote : List ℕ → List ℕ → ℕ → ℕ → ℕ → List ℕ
-withNote t notes count at n = cond (isNew t notes count at n) (set notes count (noteOf at (take n (drop at t)))) notes
+withNote t notes count at n = cond (ltb (notedPlace t notes count at n) count) notes (set notes count (noteOf at (take n (drop at t))))

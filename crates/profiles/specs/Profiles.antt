@@ -7,7 +7,7 @@ use mathlib.Core.Bool.{Bool, true, false, _&&_, _||_}
 use mathlib.Core.List.{List, [], _∷_, _++_, map}
 use lib.Dec.{eqb, leb}
 use lib.ListN.{length}
-use Rattle.lists.specs.Lists.{every, joined}
+use Rattle.lists.specs.Lists.{every, joined, sameList}
 
 -- ---- profiles
 
@@ -79,12 +79,13 @@ endLine = ascii "}" ++ (newline ∷ [])
 unfoldable pub entriesText : List Entry → List ℕ
 entriesText es = joined (map entryLine es)
 
-unfoldable pub profileText : Profile → List ℕ
-profileText p = profileLine (p .path) ++ (entriesText (p .entries) ++ endLine)
+-- one profile
+unfoldable pub textOfOne : Profile → List ℕ
+textOfOne p = profileLine (p .path) ++ (entriesText (p .entries) ++ endLine)
 
 -- "any number of profiles"
 unfoldable pub textOf : List Profile → List ℕ
-textOf ps = joined (map profileText ps)
+textOf ps = joined (map textOfOne ps)
 
 -- ---- which paths and modes there are
 
@@ -117,6 +118,11 @@ pathGood (b ∷ p) = eqb b slash && ((leb 1 (length p) && leb (length p) 63) && 
 unfoldable pub modesGood : List Mode → Bool
 modesGood [] = false
 modesGood (m ∷ ms) = true
+
+-- the mode is one of them
+unfoldable pub hasMode : Mode → List Mode → Bool
+hasMode m [] = false
+hasMode m (n ∷ ms) = sameList (modeText m) (modeText n) || hasMode m ms
 
 unfoldable pub entryGood : Entry → Bool
 entryGood e = pathGood (e .path) && modesGood (e .modes)

@@ -1,10 +1,11 @@
 -- The test of a text (change request No. 1): "16 when the text is too long, breaks the grammar or profiles a path twice".
-use Prim.Native.Nat.{ℕ}
+use Prim.Native.Nat.{ℕ, _<_}
+use mathlib.Core.Logic.{_≢_}
 use mathlib.Core.Bool.{Bool, true, false, not, _&&_, _||_}
 use mathlib.Core.List.{List, [], _∷_, map}
 use mathlib.Core.Option.{Option, none, some}
 use lib.Dec.{leb}
-use lib.ListN.{length}
+use lib.ListN.{length, getD}
 use Rattle.lists.specs.Lists.{sameList}
 use Rattle.profiles.specs.Profiles.{Profile}
 use Rattle.profiles.specs.Reading.{readingOf}
@@ -22,6 +23,10 @@ isAmong p (q ∷ qs) = sameList p q || isAmong p qs
 unfoldable pub noRepeat : List (List ℕ) → Bool
 noRepeat [] = true
 noRepeat (p ∷ ps) = not (isAmong p ps) && noRepeat ps
+
+-- the same, place by place: the paths at any two places differ
+abbrev pub Differ : List (List ℕ) → Type 0
+Differ ps = (i j : ℕ) → i < j → j < length ps → getD ps i [] ≢ getD ps j []
 
 -- no path is profiled twice
 unfoldable pub profiledOnce : List Profile → Bool

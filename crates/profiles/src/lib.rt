@@ -9,9 +9,9 @@ ghost use Rattle.lists.specs.Lists.{every, sameList};
 ghost use Rattle.profiles.specs.Profiles.{isBetween, isPathByte, pathGood};
 ghost use Rattle.profiles.specs.Tokens.{starts};
 ghost use Rattle.profiles.specs.Reading.{pathIn, readingOf};
-ghost use Rattle.profiles.specs.Texts.{textLimit, isAmong, readsWell, textGood};
-ghost use Rattle.profiles.specs.Notes.{pathKey, notedPath, noteGood, PathAt, ToNote, isNew, withNote};
-ghost use Rattle.profiles.specs.Scanning.{withX, modeAt, modesAt, noScan, lineAt};
+ghost use Rattle.profiles.specs.Texts.{textLimit, readsWell, textGood};
+ghost use Rattle.profiles.specs.Notes.{pathKey, notedPath, noteGood, PathAt, ToNote, placeAmong, notedPlace, withNote};
+ghost use Rattle.profiles.specs.Scanning.{hasBit, withX, modeAt, modesAt, noScan, lineAt};
 
 // ---- the bytes and numbers of the format
 
@@ -23,6 +23,13 @@ const SHORT_LIMIT: usize = 832;
 
 // The places of a text, of which a note has one.
 const NOTE_PLACES: u64 = 16384;
+
+// The key of a path: above every length, the factor of the sum, and its limit.
+const LENGTH_LIMIT: u64 = 128;
+
+const KEY_FACTOR: u64 = 1000003;
+
+const KEY_LIMIT: u64 = 4398046511104;
 
 const DOT: u8 = 46;
 
@@ -163,6 +170,14 @@ pub struct ScannedModes {
     pub next: usize,
 }
 
+// A mode's bit is in the set.
+pub fn has_bit(bits: u64, bit: u64) -> bool
+    requires { ⌜ 0 < bit ⌝ }
+    ensures { λ r. ⌜ r ≡ hasBit bits bit ⌝ }
+{
+    bits / bit % 2 == 1
+}
+
 // The mode of two letters that has this bit, if the second is x.
 fn with_x(second: u8, bit: u64) -> ScannedMode
     ensures { λ r. ⌜ r ≡ withX second bit ⌝ }
@@ -235,6 +250,13 @@ fn modes_at(text: &[u8], at: usize) -> ScannedModes
 
 // ---- lines
 
+// The bytes of `profile ` before a path, of ` {` and byte 10 behind it, and of `,` or `}` and byte 10.
+const WORD_LENGTH: usize = 8;
+
+const PROFILE_END: usize = 3;
+
+const LINE_END: usize = 2;
+
 // What a line is: nothing of the grammar, or one of its three.
 const NO_LINE: usize = 0;
 
@@ -273,7 +295,7 @@ fn profile_line(text: &[u8], at: usize) -> ScannedLine
     if !starts(text, at, b"profile ") {
         return no_line();
     }
-    let path = at + 8;
+    let path = at + WORD_LENGTH;
     let end = path_end(text, path);
     if !path_good(text, path, end) {
         return no_line();
@@ -286,7 +308,7 @@ fn profile_line(text: &[u8], at: usize) -> ScannedLine
         path: path,
         length: end - path,
         modes: 0,
-        next: end + 3,
+        next: end + PROFILE_END,
     }
 }
 
@@ -316,7 +338,7 @@ fn entry_line(text: &[u8], at: usize) -> ScannedLine
         path: at,
         length: end - at,
         modes: modes.bits,
-        next: next + 2,
+        next: next + LINE_END,
     }
 }
 
@@ -333,7 +355,7 @@ fn end_line(text: &[u8], at: usize) -> ScannedLine
         path: at,
         length: 0,
         modes: 0,
-        next: at + 2,
+        next: at + LINE_END,
     }
 }
 
@@ -355,7 +377,7 @@ pub fn line_at(text: &[u8], at: usize) -> ScannedLine
 // ---- paths profiled twice
 
 // Two texts are the same.
-pub fn same(a: &[u8], b: &[u8]) -> bool
+fn same(a: &[u8], b: &[u8]) -> bool
     ensures { λ r. ⌜ r ≡ sameList (now (a .entry)) (now (b .entry)) ⌝ }
 {
     if a.len() != b.len() {
@@ -371,16 +393,17 @@ pub fn same(a: &[u8], b: &[u8]) -> bool
     true
 }
 
-// The key of a path: its length, two bytes behind the slash, the last two and the middle one.
-pub fn path_key(path: &[u8]) -> u64
-    requires { ⌜ pathGood (now path) ≡ true ⌝ }
+// The key of a path: its length, and a sum of its bytes.
+fn path_key(path: &[u8]) -> u64
     ensures { λ r. ⌜ r ≡ pathKey (now (path .entry)) ⌝ }
 {
-    let n = path.len();
-    let middle = byte(path, n / 2) as u64;
-    let last = (byte(path, n - 1) as u64) + 256 * ((byte(path, n - 2) as u64) + 256 * middle);
-    let first = (byte(path, 1) as u64) + 256 * ((byte(path, 2) as u64) + 256 * last);
-    (n as u64) + 128 * first
+    let mut sum: u64 = 0;
+    let mut i = 0;
+    while i < path.len() {
+        sum = (sum * KEY_FACTOR + path[i] as u64) % KEY_LIMIT;
+        i += 1;
+    }
+    (path.len() as u64) + LENGTH_LIMIT * sum
 }
 
 // The note is of the path at a place.
@@ -395,32 +418,33 @@ fn is_noted(text: &[u8], note: u64, at: usize, length: usize, key: u64) -> bool
     same(&text[at..at + length], &text[other..other + length])
 }
 
-// One of the notes is of the path at a place.
-fn is_profiled(text: &[u8], notes: &[u64], at: usize, length: usize, key: u64) -> bool
+// The place of the path among those of the notes, their number if none is of it.
+fn find_path(text: &[u8], notes: &[u64], at: usize, length: usize, key: u64) -> usize
     requires { ⌜ PathAt (now text) at length key × (every (noteGood (now text)) (now notes) ≡ true) ⌝ }
-    ensures { λ r. ⌜ r ≡ isAmong (take length (drop at (now (text .entry)))) (map (notedPath (now (text .entry))) (now (notes .entry))) ⌝ }
+    ensures { λ r. ⌜ r ≡ placeAmong (take length (drop at (now (text .entry)))) (map (notedPath (now (text .entry))) (now (notes .entry))) ⌝ }
 {
     let mut j = 0;
     while j < notes.len() {
         if is_noted(text, notes[j], at, length, key) {
-            return true;
+            return j;
         }
         j += 1;
     }
-    false
+    j
 }
 
-// The path at a place is noted behind the notes so far, unless one of these is of it: whether it is new.
-fn note_path(text: &[u8], notes: &mut [u64], count: usize, at: usize, length: usize) -> bool
+// The place of the path among those of the first `count` notes; if none is of it, that is `count`, and it is noted there.
+pub fn note_path(text: &[u8], notes: &mut [u64], count: usize, at: usize, length: usize) -> usize
     requires { ⌜ ToNote (now text) (now notes) count at length ⌝ }
-    ensures { λ r. ⌜ (r ≡ isNew (now (text .entry)) (now (notes .entry)) count at length) × (now (notes .exit) ≡ withNote (now (text .entry)) (now (notes .entry)) count at length) ⌝ }
+    ensures { λ r. ⌜ (r ≡ notedPlace (now (text .entry)) (now (notes .entry)) count at length) × (now (notes .exit) ≡ withNote (now (text .entry)) (now (notes .entry)) count at length) ⌝ }
 {
     let key = path_key(&text[at..at + length]);
-    if is_profiled(text, &notes[0..count], at, length, key) {
-        return false;
+    let place = find_path(text, &notes[0..count], at, length, key);
+    if place < count {
+        return place;
     }
     notes[count] = key * NOTE_PLACES + at as u64;
-    true
+    place
 }
 
 // ---- the text
@@ -441,7 +465,7 @@ fn lines_good(text: &[u8], notes: &mut [u64]) -> bool
             if inside {
                 return false;
             }
-            if !note_path(text, notes, count, line.path, line.length) {
+            if note_path(text, notes, count, line.path, line.length) < count {
                 return false;
             }
             count += 1;

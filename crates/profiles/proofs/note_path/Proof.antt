@@ -4,8 +4,8 @@ use mathlib.Core.Path.{_≡_}
 use lib.ListN.{take, drop}
 use native.Mathlib.Omega.{arith}
 use native.Mathlib.Nat.{add-sub-cancel-left}
-use Rattle.profiles.specs.Notes.{pathKey}
-use Rattle.profiles.proofs.NoteLaws.{not-new, is-new, note-small}
+use Rattle.profiles.specs.Notes.{pathKey, notedPaths, notedPlace}
+use Rattle.profiles.proofs.NoteLaws.{noted-small, known-note, new-note}
 use borrow.Author.Needs.{needs}
 use Rattle.profiles.proofs.note_path.Statement.{statement}
 use Rattle.profiles.proofs.note_path.Tie as tie
@@ -13,11 +13,14 @@ use Rattle.profiles.proofs.note_path.Tie as tie
 key-is : (c : tie.After-path-key) → c .path-key .result ≡ pathKey (take (c .before .before .before .before .args .length) (drop (c .before .before .before .before .args .at) (c .before .before .before .before .args .text .now)))
 key-is c = rw add-sub-cancel-left at (c .path-key .ensures)
 
-path-key-requires : tie.Need-path-key-requires
-path-key-requires c κs = rw add-sub-cancel-left (c .before .before .before .pre .good)
+place-is : (c : tie.After-find-path) → c .find-path .result ≡ notedPlace (c .before .before .before .before .before .before .before .args .text .now) (c .before .before .before .before .before .before .before .args .notes .now)
+    (c .before .before .before .before .before .before .before .args .count) (c .before .before .before .before .before .before .before .args .at) (c .before .before .before .before .before .before .before .args .length)
+unfolding notedPlace notedPaths
+place-is c = let z : c .before .before .before .before .before .before .before .args .count - 0 ≡ c .before .before .before .before .before .before .before
+    .args .count = omega arith in rw z at (c .find-path .ensures)
 
-is-profiled-requires : tie.Need-is-profiled-requires
-is-profiled-requires c κs =
+find-path-requires : tie.Need-find-path-requires
+find-path-requires c κs =
     let start = c .before .before .before .before .before .before in
     let z : start .args .count - 0 ≡ start .args .count = omega arith in
     (record { good = start .pre .good; fits = start .pre .fits; keyed = key-is (c .before .before) }, rw z (start .pre .noted))
@@ -25,25 +28,22 @@ is-profiled-requires c κs =
 returns : tie.Need-returns
 returns c =
     let start = c .before .before .before .before .before .before .before .before in
-    let z : start .args .count - 0 ≡ start .args .count = omega arith in
-    not-new (start .args .text .now) (start .args .notes .now) (start .args .count) (start .args .at) (start .args .length) (start .pre) _ (rw z at (c .before .is-profiled .ensures)) (c .if1 .taken)
+    (place-is (c .before), known-note (start .args .text .now) (start .args .notes .now) (start .args .count) (start .args .at) (start .args .length) (start .pre) _ (place-is (c .before)) (c .if1 .taken))
 
 mul-notes : tie.Need-mul-notes
 mul-notes c =
     let start = c .before .before .before .before .before .before .before .before in
-    omega (arith, note-small (start .args .text .now) (start .args .notes .now) (start .args .count) (start .args .at) (start .args .length) (start .pre) _ (key-is (c .before .before .before .before)))
+    omega (arith, noted-small (start .args .text .now) (start .args .notes .now) (start .args .count) (start .args .at) (start .args .length) (start .pre) _ (key-is (c .before .before .before .before)))
 
 add-notes : tie.Need-add-notes
 add-notes c =
     let start = c .before .before .before .before .before .before .before .before in
-    omega (arith, start .pre .place, note-small (start .args .text .now) (start .args .notes .now) (start .args .count) (start .args .at) (start .args .length) (start .pre) _ (key-is (c .before .before .before .before)))
+    omega (arith, start .pre .place, noted-small (start .args .text .now) (start .args .notes .now) (start .args .count) (start .args .at) (start .args .length) (start .pre) _ (key-is (c .before .before .before .before)))
 
 returns-2 : tie.Need-returns-2
 returns-2 c =
     let start = c .before .before .before .before .before .before .before .before in
-    let z : start .args .count - 0 ≡ start .args .count = omega arith in
-    is-new (start .args .text .now) (start .args .notes .now) (start .args .count) (start .args .at) (start .args .length) (start .pre) _ (rw z at (c .before .is-profiled .ensures))
-    (c .if1 .left) _ (key-is (c .before .before .before .before))
+    (place-is (c .before), new-note (start .args .text .now) (start .args .notes .now) (start .args .count) (start .args .at) (start .args .length) (start .pre) _ (place-is (c .before)) (c .if1 .left) _ (key-is (c .before .before .before .before)))
 
 pub note-path-spec : {M : Type 1} → statement M
 note-path-spec =
@@ -53,11 +53,11 @@ note-path-spec =
     (λ c. search needs)
     (λ c. search needs)
     (λ c. search needs)
-    path-key-requires
+    (λ c κs. search needs)
     (λ c. search needs)
     (λ c. search needs)
     (λ c. search needs)
-    is-profiled-requires
+    find-path-requires
     (λ c. search needs)
     returns
     mul-notes

@@ -1,47 +1,47 @@
--- The sums of the definition.
+-- The bytes passed are in the sum.
+use Prim.Native.Nat.{_-_}
+use lib.ListN.{length}
 use native.Mathlib.Omega.{arith}
-use Rattle.profiles.specs.Notes.{pathKey}
-use Rattle.profiles.proofs.PathLaws.{path-parts}
+use Rattle.profiles.proofs.NoteLaws.{Summed, sum-start, sum-next, sum-end}
 use borrow.Author.Needs.{needs}
 use Rattle.profiles.proofs.path_key.Statement.{statement}
 use Rattle.profiles.proofs.path_key.Tie as tie
 
-sub-byte : tie.Need-sub-byte
-sub-byte c = omega (arith, path-parts (c .before .before .args .path .now) (c .before .before .pre) .1)
+abbrev Inv-loop : tie.InvT-loop
+Inv-loop path sum₀ i₀ sum i = Summed path i sum
 
-sub-byte-2 : tie.Need-sub-byte-2
-sub-byte-2 c =
-    let start = c .before .before .before in
-    path-parts (start .args .path .now) (start .pre) .1
+abbrev μ-loop : tie.MeasureT-loop
+μ-loop path sum₀ i₀ sum i = length path - i
 
-returns : tie.Need-returns
-unfolding pathKey
-returns c = rw (c .byte5 .ensures, c .before .byte4 .ensures, c .before .before .byte3 .ensures, c .before .before .before .byte2 .ensures, c .before .before .before .before .byte .ensures)
+loop-holds : tie.Need-loop-holds Inv-loop μ-loop
+loop-holds c = sum-start (c .args .path .now)
+
+cast-sum : tie.Need-cast-sum Inv-loop μ-loop
+cast-sum c = omega (arith, c .shared-slice-known .given (c .before .before .loop .i))
+
+add-sum : tie.Need-add-sum Inv-loop μ-loop
+add-sum c = omega (arith, c .shared-slice-known .given (c .before .before .loop .i), c .before .before .loop .inv .below)
+
+loop-again : tie.Need-loop-again Inv-loop μ-loop
+loop-again c = sum-next _ _ _ (c .before .before .loop .inv) (c .before .loop-test .taken)
+
+returns : tie.Need-returns Inv-loop μ-loop
+returns c = sum-end _ _ _ (c .before .loop .inv) (c .loop-test .left)
 
 pub path-key-spec : {M : Type 1} → statement M
 path-key-spec =
     tie.close
     (tie.spec
-    (λ c κs. search needs)
-    (λ c. search needs)
-    sub-byte
-    (λ c κs. search needs)
-    (λ c. search needs)
-    sub-byte-2
-    (λ c κs. search needs)
+    Inv-loop
+    μ-loop
+    loop-holds
     (λ c. search needs)
     (λ c. search needs)
+    cast-sum
+    add-sum
     (λ c. search needs)
     (λ c. search needs)
-    (λ c. search needs)
-    (λ c κs. search needs)
-    (λ c. search needs)
-    (λ c κs. search needs)
-    (λ c. search needs)
-    (λ c. search needs)
-    (λ c. search needs)
-    (λ c. search needs)
-    (λ c. search needs)
+    loop-again
     (λ c. search needs)
     (λ c. search needs)
     returns)

@@ -6,8 +6,8 @@ use Rattle.lists.proofs.Every.{every-getD}
 use Rattle.profiles.specs.Notes.{noteGood}
 use Rattle.profiles.proofs.NoteLaws.{NotesPassed, notes-start, notes-found, notes-next, notes-end}
 use borrow.Author.Needs.{needs}
-use Rattle.profiles.proofs.is_profiled.Statement.{statement}
-use Rattle.profiles.proofs.is_profiled.Tie as tie
+use Rattle.profiles.proofs.find_path.Statement.{statement}
+use Rattle.profiles.proofs.find_path.Tie as tie
 
 abbrev Inv-loop : tie.InvT-loop
 Inv-loop text notes at n key j₀ j = NotesPassed text notes (take n (drop at text)) j
@@ -32,8 +32,8 @@ loop-again c = notes-next _ _ _ _ (c .before .before .before .before .loop .inv)
 returns-2 : tie.Need-returns-2 Inv-loop μ-loop
 returns-2 c = notes-end _ _ _ _ (c .before .loop .inv) (c .loop-test .left)
 
-pub is-profiled-spec : {M : Type 1} → statement M
-is-profiled-spec =
+pub find-path-spec : {M : Type 1} → statement M
+find-path-spec =
     tie.close
     (tie.spec
     Inv-loop

@@ -1,0 +1,13 @@
+-- The test of the definition.
+use mathlib.Core.Path.{refl}
+use Rattle.profiles.specs.Scanning.{hasBit}
+use borrow.Author.Needs.{needs}
+use Rattle.profiles.proofs.has_bit.Statement.{statement}
+use Rattle.profiles.proofs.has_bit.Tie as tie
+
+returns : tie.Need-returns
+unfolding hasBit
+returns c = refl
+
+pub has-bit-spec : {M : Type 1} → statement M
+has-bit-spec = tie.close (tie.spec (λ c. search needs) returns)
