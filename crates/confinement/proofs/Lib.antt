@@ -1,3 +1,4 @@
+-- Inside this crate: the policy of profiles is one that an image can spell; the tables of numbers tell of the profiles; loops.
 pub mod PathLaws
 pub mod PolicyLaws
 pub mod BitLaws
@@ -9,3 +10,5 @@ pub mod ScanLaws
 pub mod LineWalks
 pub mod PathScan
 pub mod ProgramScan
+pub mod TablePolicy
+pub mod DeriveLaws

@@ -6,21 +6,29 @@ use mathlib.Core.Bool.{true}
 use mathlib.Core.List.{List, [], _∷_, _++_, map, append-assoc, append-nil}
 use mathlib.Core.Option.{Option, none, some}
 use lib.Dec.{leb}
-use lib.ListN.{length, length-append}
+use lib.ListN.{length, drop, length-append}
 use Rattle.lists.proofs.Bools.{and-1, clash}
 use Rattle.lists.proofs.Places.{some-inj}
 use Rattle.profiles.specs.Profiles.{Entry, Profile, entryLine, modesText, modesStart, modesEnd}
 use Rattle.profiles.specs.Grammar.{Grammar}
-use Rattle.profiles.specs.Reading.{Line, opens, enters, closes, lineText, entryLines, linesOf, readingOf}
+use Rattle.profiles.specs.Reading.{Line, opens, enters, closes, lineText, lineIn, linesIn, entryLines, linesOf, readingOf}
 use Rattle.profiles.specs.Scanning.{modeBits, profileKind, entryKind, endKind, lineScan, lineAt}
 use Rattle.profiles.specs.Texts.{textLimit, profiledOnce, readsWell, textGood}
 use Rattle.profiles.specs.declared.ScannedLine.{ScannedLine}
-use Rattle.profiles.proofs.LineLaws.{line-long}
 use Rattle.profiles.proofs.Theorems.{reads-exactly}
-use Rattle.profiles.proofs.Walks.{Walk, walk-start, walk-reads, walk-next, walk-more, walk-line, profile-at, entry-at, end-at}
+use Rattle.profiles.proofs.Walks.{Walk, walk-start, walk-line, walk-end, LineHere, profile-at, entry-at, end-at}
 use Rattle.confinement.specs.Confinement.{namesOf}
 use Rattle.confinement.specs.Images.{readProfiles, profilesIn}
 use Rattle.confinement.specs.Tables.{pathAt}
+
+-- ---- a walk with the lines that are left
+
+pub record Walked (t : List ℕ) (at : ℕ) (ls : List Line) : Type 0 where
+  pub walk : Walk t at
+  pub left : linesIn (drop at t) ≡ ls
+
+pub walked-end : (t : List ℕ) (at : ℕ) (ls : List Line) → Walked t at ls → length t ≤ at → ls ≡ []
+walked-end t at ls w l = sym (w .left) ∙ walk-end t at l
 
 -- ---- a good text is that of its profiles, none of which is repeated
 
@@ -45,8 +53,8 @@ module _ (t : List ℕ) (g : textGood t ≡ true) where
       by none h = clash h refl
       by (some ps) h = h
 
-  pub good-walk : Walk t 0 (linesOf (profilesIn t))
-  good-walk = walk-start t (profilesIn t) good-grammar
+  pub good-walk : Walked t 0 (linesOf (profilesIn t))
+  good-walk = let w = walk-start t (profilesIn t) good-grammar in record { walk = w .0; left = w .1 }
 
 -- ---- the paths that lines name
 
@@ -132,7 +140,7 @@ pub record Opens (t : List ℕ) (at : ℕ) (ls : List Line) (s : ScannedLine) : 
   pub path : List ℕ
   pub rest : List Line
   pub lines : ls ≡ opens path ∷ rest
-  pub walk : Walk t (s .next) rest
+  pub walk : Walked t (s .next) rest
   pub text : pathAt t (s .path) (s .length) ≡ path
   pub fits : s .path + s .length ≤ length t
   pub ahead : at < s .next
@@ -141,7 +149,7 @@ pub record Enters (t : List ℕ) (at : ℕ) (ls : List Line) (s : ScannedLine) :
   pub entry : Entry
   pub rest : List Line
   pub lines : ls ≡ enters entry ∷ rest
-  pub walk : Walk t (s .next) rest
+  pub walk : Walked t (s .next) rest
   pub text : pathAt t (s .path) (s .length) ≡ entry .path
   pub fits : s .path + s .length ≤ length t
   pub bits : s .modes ≡ modeBits (entry .modes)
@@ -150,7 +158,7 @@ pub record Enters (t : List ℕ) (at : ℕ) (ls : List Line) (s : ScannedLine) :
 pub record Closes (t : List ℕ) (at : ℕ) (ls : List Line) (s : ScannedLine) : Type 0 where
   pub rest : List Line
   pub lines : ls ≡ closes ∷ rest
-  pub walk : Walk t (s .next) rest
+  pub walk : Walked t (s .next) rest
   pub ahead : at < s .next
 
 -- one of the three
@@ -163,49 +171,43 @@ entry-long : (e : Entry) → length (e .path) ≤ length (lineText (enters e))
 unfolding lineText entryLine
 entry-long e = omega (arith, length-append (e .path) (modesStart ++ (modesText (e .modes) ++ modesEnd)))
 
-module _ (t : List ℕ) (at : ℕ) (s : ScannedLine) (q : s ≡ lineAt t at) where
-  next-walk : (l : Line) (rest : List Line) → Walk t at (l ∷ rest) → s .next ≡ at + length (lineText l) → Walk t (s .next) rest
-  next-walk l rest w e = subst (λ (k : ℕ). Walk t k rest) (sym e) (walk-next t at l rest w)
-
-  kind-is : (l : Line) (rest : List Line) → Walk t at (l ∷ rest) → s .kind ≡ lineScan at l .kind
-  kind-is l rest w = ap (λ (x : ScannedLine). x .kind) (q ∙ walk-line t at l rest w)
-
-  turn-of : (l : Line) (rest : List Line) → Walk t at (l ∷ rest) → Turn t at (l ∷ rest) s
+module _ (t : List ℕ) (at : ℕ) (place : at ≤ length t) (s : ScannedLine) (q : s ≡ lineAt t at) where
+  turn-of : (l : Line) → lineIn (drop at t) ≡ some l → s ≡ lineScan at l → (ls rest : List Line) → ls ≡ l ∷ rest → Walked t (s .next) rest → at < s .next → Turn t at ls s
   unfolding lineScan
-  turn-of (opens p) rest w =
-      let k : s .kind ≡ profileKind = kind-is (opens p) rest w in
-      let x = profile-at t at (w .place) s q k in
-      let e : opens (x .path) ≡ opens p = some-inj (sym (x .reads) ∙ walk-reads t at (opens p) rest w) in
+  turn-of (opens p) r is ls rest e w a =
+      let k : s .kind ≡ profileKind = ap (λ (x : ScannedLine). x .kind) is in
+      let x = profile-at t at place s q k in
+      let o : opens (x .path) ≡ opens p = some-inj (sym (x .reads) ∙ r) in
       is-profile k
       (record {
         path = x .path;
         rest = rest;
-        lines = ap (λ (l : Line). l ∷ rest) (sym e);
-        walk = next-walk (opens p) rest w (x .next ∙ ap (λ (l : Line). at + length (lineText l)) e);
+        lines = e ∙ ap (λ (l : Line). l ∷ rest) (sym o);
+        walk = w;
         text = x .text;
         fits = omega (arith, x .room, x .ahead);
-        ahead = omega (arith, x .next, line-long (opens (x .path)));
+        ahead = a;
       })
-  turn-of (enters y) rest w =
-      let k : s .kind ≡ entryKind = kind-is (enters y) rest w in
-      let x = entry-at t at (w .place) s q k in
-      let e : enters (x .entry) ≡ enters y = some-inj (sym (x .reads) ∙ walk-reads t at (enters y) rest w) in
+  turn-of (enters y) r is ls rest e w a =
+      let k : s .kind ≡ entryKind = ap (λ (x : ScannedLine). x .kind) is in
+      let x = entry-at t at place s q k in
+      let o : enters (x .entry) ≡ enters y = some-inj (sym (x .reads) ∙ r) in
       is-entry k
       (record {
         entry = x .entry;
         rest = rest;
-        lines = ap (λ (l : Line). l ∷ rest) (sym e);
-        walk = next-walk (enters y) rest w (x .next ∙ ap (λ (l : Line). at + length (lineText l)) e);
+        lines = e ∙ ap (λ (l : Line). l ∷ rest) (sym o);
+        walk = w;
         text = x .text;
         fits = omega (arith, x .start, x .size, x .next, x .ahead, entry-long (x .entry));
         bits = x .modes;
-        ahead = omega (arith, x .next, line-long (enters (x .entry)));
+        ahead = a;
       })
-  turn-of closes rest w =
-      let k : s .kind ≡ endKind = kind-is closes rest w in
-      let x = end-at t at (w .place) s q k in
-      is-end k (record { rest = rest; lines = refl; walk = next-walk closes rest w (x .next); ahead = omega (arith, x .next, line-long closes) })
+  turn-of closes r is ls rest e w a =
+      is-end (ap (λ (x : ScannedLine). x .kind) is) (record { rest = rest; lines = e; walk = w; ahead = a })
 
-  pub turn : (ls : List Line) → Walk t at ls → at < length t → Turn t at ls s
-  turn [] w h = absurd (omega (arith, walk-more t at w))
-  turn (l ∷ rest) w h = turn-of l rest w
+-- the line at a place of the walk, whichever it is
+pub turn : (t : List ℕ) (at : ℕ) (s : ScannedLine) → s ≡ lineAt t at → (ls : List Line) → Walked t at ls → at < length t → Turn t at ls s
+turn t at s q ls w h =
+    let x : LineHere t at s = walk-line t at (w .walk) h s q in
+    turn-of t at (w .walk .place) s q (x .line) (x .reads) (x .is) ls (linesIn (drop (s .next) t)) (sym (w .left) ∙ x .lines) (record { walk = x .walk; left = refl }) (x .on)

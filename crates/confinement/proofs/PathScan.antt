@@ -13,13 +13,12 @@ use Rattle.profiles.specs.Reading.{Line, linesOf}
 use Rattle.profiles.specs.Scanning.{endKind, lineAt}
 use Rattle.profiles.specs.Texts.{textGood}
 use Rattle.profiles.specs.declared.ScannedLine.{ScannedLine}
-use Rattle.profiles.proofs.Walks.{Walk, walk-end}
 use Rattle.confinement.specs.Confinement.{withPath, withPaths, pathsOf}
 use Rattle.confinement.specs.Images.{profilesIn}
 use Rattle.confinement.specs.Tables.{pathAt}
 use Rattle.confinement.specs.Scans.{pathsFrom, tablePaths, Places, PathsListed}
 use Rattle.confinement.proofs.ScanLaws.{paths-length, paths-more, places-table, places-more, position-known}
-use Rattle.confinement.proofs.LineWalks.{good-walk, lineNames, names-of, Turn, is-profile, is-entry, is-end, turn}
+use Rattle.confinement.proofs.LineWalks.{Walked, walked-end, good-walk, lineNames, names-of, Turn, is-profile, is-entry, is-end, turn}
 
 -- ---- more paths
 
@@ -49,14 +48,14 @@ path-new ns q h = rw h
 pub record Named (t : List ℕ) (ls : List Line) (at : ℕ) (s : ScannedLine) : Type 0 where
   pub rest : List Line
   pub names : lineNames ls ≡ pathAt t (s .path) (s .length) ∷ lineNames rest
-  pub walk : Walk t (s .next) rest
+  pub walk : Walked t (s .next) rest
   pub fits : s .path + s .length ≤ length t
   pub ahead : at < s .next
 
 pub record Nameless (t : List ℕ) (ls : List Line) (at : ℕ) (s : ScannedLine) : Type 0 where
   pub rest : List Line
   pub names : lineNames ls ≡ lineNames rest
-  pub walk : Walk t (s .next) rest
+  pub walk : Walked t (s .next) rest
   pub ahead : at < s .next
 
 module _ (t : List ℕ) (ls : List Line) (at : ℕ) (s : ScannedLine) where
@@ -79,7 +78,7 @@ module _ (t : List ℕ) (ls : List Line) (at : ℕ) (s : ScannedLine) where
 -- n paths are listed, and with those of the lines that are left they are all
 pub record PathScan (t starts sizes : List ℕ) (at n : ℕ) : Type 0 where
   pub left : List Line
-  pub walk : Walk t at left
+  pub walk : Walked t at left
   pub places : Places t starts sizes n
   pub paths : withPaths (tablePaths t starts sizes n) (lineNames left) ≡ pathsOf (profilesIn t)
 
@@ -99,7 +98,7 @@ module _ (t starts sizes : List ℕ) (at n : ℕ) (g : PathScan t starts sizes a
   paths-end h =
       record {
         few = λ _. places-table t (pathsOf (profilesIn t)) starts sizes n (g .places)
-            (sym (ap (λ (ls : List Line). withPaths (tablePaths t starts sizes n) (lineNames ls)) (walk-end t at (g .left) (g .walk) h)) ∙ g .paths);
+            (sym (ap (λ (ls : List Line). withPaths (tablePaths t starts sizes n) (lineNames ls)) (walked-end t at (g .left) (g .walk) h)) ∙ g .paths);
         many = λ l. absurd (omega (arith, g .places .few));
       }
 
@@ -113,7 +112,7 @@ module _ (t starts sizes : List ℕ) (at n : ℕ) (g : PathScan t starts sizes a
       end = nameless t (g .left) at s k this
 
       pub ended-less : length t - s .next < length t - at
-      ended-less = omega (arith, end .ahead, end .walk .place)
+      ended-less = omega (arith, end .ahead, end .walk .walk .place)
 
       pub ended-passed : PathScan t starts sizes (s .next) n
       ended-passed =
@@ -130,7 +129,7 @@ module _ (t starts sizes : List ℕ) (at n : ℕ) (g : PathScan t starts sizes a
       line = named t (g .left) at s k this
 
       pub named-less : length t - s .next < length t - at
-      named-less = omega (arith, line .ahead, line .walk .place)
+      named-less = omega (arith, line .ahead, line .walk .walk .place)
 
       pub named-fits : s .path + s .length ≤ length t
       named-fits = line .fits

@@ -23,7 +23,6 @@ use Rattle.profiles.specs.Reading.{Line, opens, enters, closes, linesOf}
 use Rattle.profiles.specs.Scanning.{withModes, modeBits, profileKind, entryKind, lineAt}
 use Rattle.profiles.specs.Texts.{isAmong, noRepeat, profiledOnce, textGood}
 use Rattle.profiles.specs.declared.ScannedLine.{ScannedLine}
-use Rattle.profiles.proofs.Walks.{Walk, walk-end}
 use Rattle.confinement.specs.Confinement.{withPaths, pathsOf, namesOf, modesAmong, modesOn}
 use Rattle.confinement.specs.Images.{profilesIn}
 use Rattle.confinement.specs.Tables.{pathAt, PathTable, noProfile, cellCount, ProgramTable}
@@ -31,7 +30,7 @@ use Rattle.confinement.specs.Scans.{tablePaths, Places}
 use Rattle.confinement.proofs.BitLaws.{bits-append}
 use Rattle.confinement.proofs.PathLaws.{paths-named, profiles-known, paths-distinct, number-tells}
 use Rattle.confinement.proofs.ScanLaws.{table-places, table-paths}
-use Rattle.confinement.proofs.LineWalks.{good-once, good-walk, lineNames, names-of, entered, opened, resumed, withEntry, resumed-whole, entered-length, resumed-grows, Opens, Enters, Closes, Turn, is-profile, is-entry, is-end, turn}
+use Rattle.confinement.proofs.LineWalks.{Walked, walked-end, good-once, good-walk, lineNames, names-of, entered, opened, resumed, withEntry, resumed-whole, entered-length, resumed-grows, Opens, Enters, Closes, Turn, is-profile, is-entry, is-end, turn}
 
 -- ---- no more programs than paths
 
@@ -162,7 +161,7 @@ not-end ps ls h = omega (arith, opening-first ps, ap isOpening h)
 pub record ProgramScan (t own modes : List ℕ) (at m : ℕ) : Type 0 where
   pub done : List Profile
   pub left : List Line
-  pub walk : Walk t at left
+  pub walk : Walked t at left
   pub whole : resumed done left ≡ profilesIn t
   pub begun : (1 ≤ m) ⊎ (left ≡ linesOf (profilesIn t))
   pub named : every (λ q. known q (pathsOf (profilesIn t))) (lineNames left) ≡ true
@@ -216,7 +215,7 @@ module _ (t starts sizes : List ℕ) (n : ℕ) (tb : PathTable t (pathsOf (profi
     pub programs-end : length t ≤ at → ProgramTable (pathsOf (profilesIn t)) (profilesIn t) own modes m
     unfolding resumed
     programs-end h =
-        let e : g .done ≡ profilesIn t = sym (ap (resumed (g .done)) (walk-end t at (g .left) (g .walk) h)) ∙ g .whole in
+        let e : g .done ≡ profilesIn t = sym (ap (resumed (g .done)) (walked-end t at (g .left) (g .walk) h)) ∙ g .whole in
         record {
           count = g .count ∙ ap length e;
           few = omega (arith, g .count, ap length e, g .few);
@@ -244,7 +243,7 @@ module _ (t starts sizes : List ℕ) (n : ℕ) (tb : PathTable t (pathsOf (profi
         opening-fits = opening .fits
 
         pub opening-less : length t - s .next < length t - at
-        opening-less = omega (arith, opening .ahead, opening .walk .place)
+        opening-less = omega (arith, opening .ahead, opening .walk .walk .place)
 
         opening-whole : resumed (g .done ++ (opened (opening .path) ∷ [])) (opening .rest) ≡ profilesIn t
         unfolding resumed
@@ -328,7 +327,7 @@ module _ (t starts sizes : List ℕ) (n : ℕ) (tb : PathTable t (pathsOf (profi
         entering-fits = entering .fits
 
         pub entering-less : length t - s .next < length t - at
-        entering-less = omega (arith, entering .ahead, entering .walk .place)
+        entering-less = omega (arith, entering .ahead, entering .walk .walk .place)
 
         entering-whole : resumed (entered (g .done) (entering .entry)) (entering .rest) ≡ profilesIn t
         unfolding resumed
@@ -452,7 +451,7 @@ module _ (t starts sizes : List ℕ) (n : ℕ) (tb : PathTable t (pathsOf (profi
             by (is-end e x) = x
 
         pub closing-less : length t - s .next < length t - at
-        closing-less = omega (arith, closing .ahead, closing .walk .place)
+        closing-less = omega (arith, closing .ahead, closing .walk .walk .place)
 
         closing-begun : 1 ≤ m
         closing-begun = ⊎-elim (λ h. h) (λ e. absurd (not-end (profilesIn t) (closing .rest) (sym e ∙ closing .lines))) (g .begun)

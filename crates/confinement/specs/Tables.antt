@@ -2,20 +2,23 @@
 -- rules of a path are worked out from these numbers.
 use Prim.Native.Nat.{ℕ, zero, suc, _+_, _*_, _/_, _%_, _^_, _≤_, _<_}
 use mathlib.Core.Path.{_≡_}
-use mathlib.Core.Bool.{Bool, true, not, cond}
-use mathlib.Core.List.{List, [], _∷_, map}
+use mathlib.Core.Bool.{Bool, true, false, not, cond}
+use mathlib.Core.List.{List, [], _∷_, _++_, map}
 use lib.Bits.{bitAnd, bitOr}
 use lib.Dec.{eqb, leb}
-use lib.ListN.{length, getD, take, drop}
-use Rattle.image.specs.Policy.{unrestrictedRule}
-use Rattle.image.specs.Normal.{position}
+use lib.ListN.{length, getD, take, drop, replicate}
+use Rattle.answers.specs.Refusals.{profileLimit}
+use Rattle.fields.specs.Writing.{Wrote}
+use Rattle.image.specs.Limits.{unrestrictedNumber}
+use Rattle.image.specs.Policy.{Policy, unrestrictedRule}
+use Rattle.image.specs.Normal.{position, normalImage}
 use Rattle.rules.specs.Rules.{normal}
 use Rattle.rules.specs.Answers.{dataWidth, mixtureLimit}
 use Rattle.lists.specs.Lists.{every, joined}
 use Rattle.rule_words.specs.Words.{ruleWidth, wordsOf}
 use Rattle.profiles.specs.Profiles.{Profile}
 use Rattle.profiles.specs.Scanning.{modeBits}
-use Rattle.confinement.specs.Confinement.{modesOn, orElse}
+use Rattle.confinement.specs.Confinement.{pathsOf, modesOn, orElse, filesFrom, initialProcess}
 
 -- ---- paths
 
@@ -178,3 +181,30 @@ ruleCount = 2 * dataWidth
 pub record FormsPut (f : ℕ → List ℕ) (count : ℕ) (forms : List ℕ) (fits : Bool) : Type 0 where
   pub told : fits ≡ every shortRule (formsFrom f 0 count)
   pub words : fits ≡ true → take (count * ruleWidth) forms ≡ joined (map wordsOf (formsFrom f 0 count))
+
+-- ---- the policy
+
+-- the policy of the tables: n files, a process, one unrestricted user
+unfoldable pub tablePolicy : List ℕ → List ℕ → ℕ → ℕ → Policy
+tablePolicy own modes n m =
+    record {
+      containers = filesFrom 0 (replicate n []) ++ (initialProcess ∷ []);
+      users = unrestrictedNumber ∷ [];
+      rules = formsFrom (ruleFrom (take m own) modes (mixtures own modes n m)) 0 (2 * n);
+    }
+
+-- the tables are those of profiles
+pub record Tabulated (ps : List Profile) (own modes : List ℕ) (n m : ℕ) : Type 0 where
+  pub paths : n ≡ length (pathsOf ps)
+  pub few : n ≤ dataWidth
+  pub programs : ProgramTable (pathsOf ps) ps own modes m
+
+-- of some profiles
+pub record TabulatedOfSome (own modes : List ℕ) (n m : ℕ) : Type 0 where
+  pub profiles : List Profile
+  pub tables : Tabulated profiles own modes n m
+
+-- 17 if a rule does not fit, else the length of the image, which is written
+pub record PolicyWritten (p : Policy) (before after : List ℕ) (r : ℕ) : Type 0 where
+  pub over : every shortRule (p .rules) ≡ false → (r ≡ profileLimit) × (after ≡ before)
+  pub fits : every shortRule (p .rules) ≡ true → Wrote (normalImage p) before after 0 r

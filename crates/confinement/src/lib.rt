@@ -5,11 +5,12 @@ ghost use lib.ListN.{length, getD, take, replicate};
 ghost use mathlib.Core.Bool.{cond};
 ghost use Rattle.rules.specs.Answers.{dataWidth, tagWidth};
 ghost use Rattle.rule_words.specs.Words.{ruleWidth};
-ghost use Rattle.confinement.specs.Tables.{cellCount, meets, fileBits, rowMixture, mixtures, columnAt, chosenBy, chosenAt, permitFrom, inheritedFrom, runFrom, Listed, FormPut, ruleFrom, ruleCount, FormsPut};
+ghost use Rattle.confinement.specs.Tables.{cellCount, meets, fileBits, rowMixture, mixtures, columnAt, chosenBy, chosenAt, permitFrom, inheritedFrom, runFrom, Listed, FormPut, ruleFrom, ruleCount, FormsPut, tablePolicy, TabulatedOfSome, PolicyWritten};
+ghost use Rattle.confinement.specs.Images.{profileAnswer, profileEffect};
 ghost use Rattle.confinement.specs.Confinement.{filesFrom};
 ghost use Rattle.fields.specs.Writing.{Wrote};
 ghost use Rattle.lists.specs.Lists.{joined};
-ghost use Rattle.image.specs.Limits.{containerSize};
+ghost use Rattle.image.specs.Limits.{containerSize, outputBound};
 ghost use Rattle.image.specs.Normal.{containerBytes};
 ghost use mathlib.Core.List.{[], map};
 
@@ -17,6 +18,13 @@ mod scan;
 
 // As many paths, and as many programs, as there are data atoms.
 const PATHS: usize = 32;
+
+// The places of the table of modes, the bytes of the most containers, and the words of the most rules.
+const CELLS: usize = PATHS * PATHS;
+
+const CONTAINER_BYTES: usize = (PATHS + 1) * image::CONTAINER_SIZE;
+
+const FORM_WORDS: usize = 2 * PATHS * rule_words::RULE_WIDTH;
 
 // The bits of the modes by which a file is read, executed, written, executed unconfined, by inheriting, and under its own profile.
 const READING: u64 = 17;
@@ -250,15 +258,66 @@ fn put_files(out: &mut [u8], n: usize) -> usize
     let mut at = 0;
     let mut k = 0;
     while k < n {
-        at = normaliser::put_container(
-            out,
-            at,
-            image::FILE_KIND as usize,
-            k,
-            2 * k,
-            2 * k + 1,
-        );
+        at = normaliser::put_container(out, at, image::FILE_KIND as usize, k, 2 * k, 2 * k + 1);
         k += 1;
     }
     at
+}
+
+// Writes the policy of the tables as a normal image and gives its length, or 17 where a rule does not fit.
+fn write_tables(own: &[usize], modes: &[u64], n: usize, m: usize, out: &mut [u8]) -> u32
+    requires { ⌜ TabulatedOfSome (now own) (now modes) n m × (outputBound ≤ length (now out)) ⌝ }
+    ensures { λ r. ⌜ PolicyWritten (tablePolicy (now (own .entry)) (now (modes .entry)) n m) (now (out .entry)) (now (out .exit)) r ⌝ }
+{
+    let mut runs = [0u64; PATHS];
+    put_mixtures(&mut runs, own, modes, n, m);
+    let mut words = [0u64; PATHS];
+    let mut forms = [0u64; FORM_WORDS];
+    let count = 2 * n;
+    if !put_rules(
+        &mut forms,
+        &mut words,
+        &own[0..m],
+        modes,
+        &runs[0..m],
+        count,
+    ) {
+        return answers::PROFILE_LIMIT;
+    }
+    let mut containers = [0u8; CONTAINER_BYTES];
+    let process = put_files(&mut containers, n);
+    let end = normaliser::put_container(
+        &mut containers,
+        process,
+        image::PROCESS_KIND as usize,
+        image::NO_ATOM,
+        image::UNRESTRICTED_NUMBER,
+        image::UNRESTRICTED_NUMBER,
+    );
+    let mut users = [0u8; image::USER_SIZE];
+    fields::put16(&mut users, 0, image::UNRESTRICTED_NUMBER);
+    let w = count * rule_words::RULE_WIDTH;
+    normaliser::write_policy(&containers[0..end], &users, &forms[0..w], out) as u32
+}
+
+// Writes the policy that a text of profiles stands for as a normal image and gives its length, or the refusal: 9, then 16, then 17.
+pub fn derive(text: &[u8], out: &mut [u8]) -> u32
+    ensures { λ r. ⌜ (r ≡ profileAnswer (now (text .entry)) (now (out .entry))) × (now (out .exit) ≡ profileEffect (now (text .entry)) (now (out .entry))) ⌝ }
+{
+    if out.len() < normaliser::OUTPUT_BOUND {
+        return answers::LENT_LENGTH;
+    }
+    if !profiles::text_good(text) {
+        return answers::PROFILE_TEXT;
+    }
+    let mut starts = [0usize; PATHS];
+    let mut sizes = [0usize; PATHS];
+    let n = scan::list_paths(text, &mut starts, &mut sizes);
+    if PATHS < n {
+        return answers::PROFILE_LIMIT;
+    }
+    let mut own = [0usize; PATHS];
+    let mut modes = [0u64; CELLS];
+    let m = scan::list_programs(text, &starts, &sizes, n, &mut own, &mut modes);
+    write_tables(&own, &modes, n, m, out)
 }

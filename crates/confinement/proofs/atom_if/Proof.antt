@@ -9,14 +9,8 @@ use Rattle.rules.specs.Answers.{tagWidth}
 use Rattle.confinement.proofs.atom_if.Statement.{statement}
 use Rattle.confinement.proofs.atom_if.Tie as tie
 
-shl-result : tie.Need-shl-result
-shl-result c = search needs
-
 returns : tie.Need-returns
 returns c = let l : 2 ^ (c .before .args .k) < 2 ^ tagWidth = pow-lt (c .before .pre) in rw (c .if1 .taken) (omega arith)
 
-returns-2 : tie.Need-returns-2
-returns-2 c = search needs
-
 pub atom-if-spec : {M : Type 1} → statement M
-atom-if-spec = tie.close (tie.spec shl-result returns returns-2)
+atom-if-spec = tie.close (tie.spec (λ c. search needs) returns (λ c. search needs))

@@ -18,44 +18,11 @@ abbrev μ-loop : tie.MeasureT-loop
 loop-holds : tie.Need-loop-holds Inv-loop μ-loop
 loop-holds c = choosing-start _ _ _ _ (c .pre .2) (c .pre .0) refl
 
-mul-number : tie.Need-mul-number Inv-loop μ-loop
-mul-number c = search needs
-
-shared-slice-read-number : tie.Need-shared-slice-read-number Inv-loop μ-loop
-shared-slice-read-number c = search needs
-
-mul-run : tie.Need-mul-run Inv-loop μ-loop
-mul-run c = search needs
-
-shared-slice-read-run : tie.Need-shared-slice-read-run Inv-loop μ-loop
-shared-slice-read-run c = search needs
-
-add-j : tie.Need-add-j Inv-loop μ-loop
-add-j c = search needs
-
-mul-words : tie.Need-mul-words Inv-loop μ-loop
-mul-words c = search needs
-
-slice-write-words : tie.Need-slice-write-words Inv-loop μ-loop
-slice-write-words c = search needs
-
-add-count : tie.Need-add-count Inv-loop μ-loop
-add-count c = search needs
-
-loop-less : tie.Need-loop-less Inv-loop μ-loop
-loop-less c = search needs
-
 loop-again : tie.Need-loop-again Inv-loop μ-loop
 loop-again c = choosing-keep (c .before .before .before .before .loop .inv) (c .before .before .before .loop-test .taken) _ _ (kept-at _ _ _ _ (c .before .before .before .before .before .pre .1) (c .before .before .before .loop-test .taken) (eq-eqb _ _ (c .if1 .taken)))
 
-loop-less-2 : tie.Need-loop-less-2 Inv-loop μ-loop
-loop-less-2 c = search needs
-
 loop-again-2 : tie.Need-loop-again-2 Inv-loop μ-loop
 loop-again-2 c = choosing-skip (c .before .before .before .before .loop .inv) (c .before .before .before .loop-test .taken) _ (skipped-at _ _ _ _ (c .before .before .before .before .before .pre .1) (c .before .before .before .loop-test .taken) (ne-eqb _ _ (c .if1 .left)))
-
-same-length : tie.Need-same-length Inv-loop μ-loop
-same-length c = search needs
 
 returns : tie.Need-returns Inv-loop μ-loop
 returns c = choosing-end (c .before .loop .inv) (none-at _ _ _ _ (c .before .before .pre .1) (c .loop-test .left))
@@ -67,17 +34,17 @@ choose-own-spec =
     Inv-loop
     μ-loop
     loop-holds
-    mul-number
-    shared-slice-read-number
-    mul-run
-    shared-slice-read-run
-    add-j
-    mul-words
-    slice-write-words
-    add-count
-    loop-less
+    (λ c. search needs)
+    (λ c. search needs)
+    (λ c. search needs)
+    (λ c. search needs)
+    (λ c. search needs)
+    (λ c. search needs)
+    (λ c. search needs)
+    (λ c. search needs)
+    (λ c. search needs)
     loop-again
-    loop-less-2
+    (λ c. search needs)
     loop-again-2
-    same-length
+    (λ c. search needs)
     returns)

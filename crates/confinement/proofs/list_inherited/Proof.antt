@@ -7,28 +7,13 @@ use Rattle.confinement.proofs.ListedLaws.{all-listed, none-listed, list
 use Rattle.confinement.proofs.list_inherited.Statement.{statement}
 use Rattle.confinement.proofs.list_inherited.Tie as tie
 
-choose-requires : tie.Need-choose-requires
-choose-requires c κs = search needs
-
-same-length : tie.Need-same-length
-same-length c = search needs
-
 returns : tie.Need-returns
 unfolding inheritedFrom
 returns c = listed-first (c .before .before .before .choose .ensures) _ (c .if1 .taken)
 
-choose-requires-2 : tie.Need-choose-requires-2
-choose-requires-2 c κs = search needs
-
-same-length-2 : tie.Need-same-length-2
-same-length-2 c = search needs
-
 returns-2 : tie.Need-returns-2
 unfolding inheritedFrom
 returns-2 c = listed-other (c .before .before .before .before .before .before .before .before .choose .ensures) _ (c .before .before .before .before .before .if1 .left) (any-listed (c .before .before .before .choose2 .ensures) _ _ (c .if2 .taken) (none-listed _ (c .before .before .before .choose2 .ensures .long)))
-
-slice-write-words : tie.Need-slice-write-words
-slice-write-words c = search needs
 
 same-length-3 : tie.Need-same-length-3
 same-length-3 c = simp length-set (c .before .before .before .choose2 .ensures .long ∙ sym (c .before .before .before .before .before .before .before .before .before .before .before .before .before .pre .1))
@@ -41,12 +26,12 @@ pub list-inherited-spec : {M : Type 1} → statement M
 list-inherited-spec =
     tie.close
     (tie.spec
-    choose-requires
-    same-length
+    (λ c κs. search needs)
+    (λ c. search needs)
     returns
-    choose-requires-2
-    same-length-2
+    (λ c κs. search needs)
+    (λ c. search needs)
     returns-2
-    slice-write-words
+    (λ c. search needs)
     same-length-3
     returns-3)

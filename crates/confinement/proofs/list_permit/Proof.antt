@@ -5,24 +5,9 @@ use Rattle.confinement.proofs.ListedLaws.{one-listed, listed-first, lis
 use Rattle.confinement.proofs.list_permit.Statement.{statement}
 use Rattle.confinement.proofs.list_permit.Tie as tie
 
-atom-if-requires : tie.Need-atom-if-requires
-atom-if-requires c κs = search needs
-
-choose-requires : tie.Need-choose-requires
-choose-requires c κs = search needs
-
-same-length : tie.Need-same-length
-same-length c = search needs
-
 returns : tie.Need-returns
 unfolding permitFrom
 returns c = listed-first (rw (c .before .before .before .before .before .atom-if .ensures) at (c .before .before .before .choose .ensures)) _ (c .if1 .taken)
-
-slice-write-words : tie.Need-slice-write-words
-slice-write-words c = search needs
-
-same-length-2 : tie.Need-same-length-2
-same-length-2 c = search needs
 
 returns-2 : tie.Need-returns-2
 unfolding permitFrom
@@ -32,10 +17,10 @@ pub list-permit-spec : {M : Type 1} → statement M
 list-permit-spec =
     tie.close
     (tie.spec
-    atom-if-requires
-    choose-requires
-    same-length
+    (λ c κs. search needs)
+    (λ c κs. search needs)
+    (λ c. search needs)
     returns
-    slice-write-words
-    same-length-2
+    (λ c. search needs)
+    (λ c. search needs)
     returns-2)

@@ -7,21 +7,9 @@ use Rattle.confinement.proofs.ListedLaws.{all-listed, listed-first, lis
 use Rattle.confinement.proofs.list_run.Statement.{statement}
 use Rattle.confinement.proofs.list_run.Tie as tie
 
-choose-own-requires : tie.Need-choose-own-requires
-choose-own-requires c κs = search needs
-
-same-length : tie.Need-same-length
-same-length c = search needs
-
 returns : tie.Need-returns
 unfolding runFrom
 returns c = listed-first (c .before .before .before .choose-own .ensures) _ (c .if1 .taken)
-
-choose-requires : tie.Need-choose-requires
-choose-requires c κs = search needs
-
-slice-write-words : tie.Need-slice-write-words
-slice-write-words c = search needs
 
 same-length-2 : tie.Need-same-length-2
 same-length-2 c = simp length-set (c .before .before .before .choose .ensures .long ∙ sym (c .before .before .before .before .before .before .before .before .before .before .before .before .before .before .pre .1))
@@ -29,12 +17,6 @@ same-length-2 c = simp length-set (c .before .before .before .choose .ensures .l
 returns-2 : tie.Need-returns-2
 unfolding runFrom
 returns-2 c = listed-other (c .before .before .before .before .before .before .before .before .choose-own .ensures) _ (c .before .before .before .before .before .if1 .left) (any-listed (c .before .before .before .choose .ensures) _ _ (c .if2 .taken) (all-listed (c .before .before .before .choose .last .0) (c .before .before .before .choose .ensures .long)))
-
-list-inherited-requires : tie.Need-list-inherited-requires
-list-inherited-requires c κs = search needs
-
-same-length-3 : tie.Need-same-length-3
-same-length-3 c = search needs
 
 returns-3 : tie.Need-returns-3
 unfolding runFrom
@@ -44,13 +26,13 @@ pub list-run-spec : {M : Type 1} → statement M
 list-run-spec =
     tie.close
     (tie.spec
-    choose-own-requires
-    same-length
+    (λ c κs. search needs)
+    (λ c. search needs)
     returns
-    choose-requires
-    slice-write-words
+    (λ c κs. search needs)
+    (λ c. search needs)
     same-length-2
     returns-2
-    list-inherited-requires
-    same-length-3
+    (λ c κs. search needs)
+    (λ c. search needs)
     returns-3)

@@ -16,23 +16,8 @@ abbrev μ-loop : tie.MeasureT-loop
 loop-holds : tie.Need-loop-holds Inv-loop μ-loop
 loop-holds c = files-start _ _ (c .before .pre .1)
 
-mul-put-container : tie.Need-mul-put-container Inv-loop μ-loop
-mul-put-container c = search needs
-
-mul-put-container-2 : tie.Need-mul-put-container-2 Inv-loop μ-loop
-mul-put-container-2 c = search needs
-
-add-put-container : tie.Need-add-put-container Inv-loop μ-loop
-add-put-container c = search needs
-
 put-container-requires : tie.Need-put-container-requires Inv-loop μ-loop
 put-container-requires c κs = files-room (c .before .before .loop .inv) (c .before .loop-test .taken)
-
-add-k : tie.Need-add-k Inv-loop μ-loop
-add-k c = search needs
-
-loop-less : tie.Need-loop-less Inv-loop μ-loop
-loop-less c = search needs
 
 loop-again : tie.Need-loop-again Inv-loop μ-loop
 loop-again c = files-next (c .before .before .before .before .before .loop .inv) (c .before .before .before .before .loop-test .taken) (c .before .before .put-container .ensures)
@@ -50,12 +35,12 @@ put-files-spec =
     Inv-loop
     μ-loop
     loop-holds
-    mul-put-container
-    mul-put-container-2
-    add-put-container
+    (λ c. search needs)
+    (λ c. search needs)
+    (λ c. search needs)
     put-container-requires
-    add-k
-    loop-less
+    (λ c. search needs)
+    (λ c. search needs)
     loop-again
     same-length
     returns)

@@ -20,50 +20,11 @@ abbrev μ-loop : tie.MeasureT-loop
 loop-holds : tie.Need-loop-holds Inv-loop μ-loop
 loop-holds c = filling-start _ _ _ (c .before .before .before .pre .2)
 
-mul-a : tie.Need-mul-a Inv-loop μ-loop
-mul-a c = search needs
-
-mul-run-mixture : tie.Need-mul-run-mixture Inv-loop μ-loop
-mul-run-mixture c = search needs
-
-shared-slice-read-run-mixture : tie.Need-shared-slice-read-run-mixture Inv-loop μ-loop
-shared-slice-read-run-mixture c = search needs
-
-add-run-mixture : tie.Need-add-run-mixture Inv-loop μ-loop
-add-run-mixture c = search needs
-
-mul-run-mixture-2 : tie.Need-mul-run-mixture-2 Inv-loop μ-loop
-mul-run-mixture-2 c = search needs
-
-sub-run-mixture : tie.Need-sub-run-mixture Inv-loop μ-loop
-sub-run-mixture c = search needs
-
-part-run-mixture-start : tie.Need-part-run-mixture-start Inv-loop μ-loop
-part-run-mixture-start c = search needs
-
-part-run-mixture-end : tie.Need-part-run-mixture-end Inv-loop μ-loop
-part-run-mixture-end c = search needs
-
 run-mixture-requires : tie.Need-run-mixture-requires Inv-loop μ-loop
 run-mixture-requires c κs = let start = c .before .before .before .before .before .before .before in (start .pre .5 _ (c .before .before .loop-test .taken), omega (arith, length-take (c .before .before .before .loop .j * dataWidth + start .args .n - c .before .before .before .loop .j * dataWidth) (drop (c .before .before .before .loop .j * dataWidth) (start .args .modes .now))))
 
-mul-runs : tie.Need-mul-runs Inv-loop μ-loop
-mul-runs c = search needs
-
-slice-write-runs : tie.Need-slice-write-runs Inv-loop μ-loop
-slice-write-runs c = search needs
-
-add-j : tie.Need-add-j Inv-loop μ-loop
-add-j c = search needs
-
-loop-less : tie.Need-loop-less Inv-loop μ-loop
-loop-less c = search needs
-
 loop-again : tie.Need-loop-again Inv-loop μ-loop
 loop-again c = let start = c .before .before .before .before .before .before .before .before in filling-next _ _ _ _ _ (c .before .before .before .before .loop .inv) (c .before .before .before .loop-test .taken) (start .pre .1) (rw add-sub-cancel-left at (c .run-mixture .ensures))
-
-same-length : tie.Need-same-length Inv-loop μ-loop
-same-length c = search needs
 
 returns : tie.Need-returns Inv-loop μ-loop
 returns c = filling-end _ _ _ _ (c .before .loop .inv) (c .loop-test .left)
@@ -75,19 +36,19 @@ put-mixtures-spec =
     Inv-loop
     μ-loop
     loop-holds
-    mul-a
-    mul-run-mixture
-    shared-slice-read-run-mixture
-    add-run-mixture
-    mul-run-mixture-2
-    sub-run-mixture
-    part-run-mixture-start
-    part-run-mixture-end
+    (λ c. search needs)
+    (λ c. search needs)
+    (λ c. search needs)
+    (λ c. search needs)
+    (λ c. search needs)
+    (λ c. search needs)
+    (λ c. search needs)
+    (λ c. search needs)
     run-mixture-requires
-    mul-runs
-    slice-write-runs
-    add-j
-    loop-less
+    (λ c. search needs)
+    (λ c. search needs)
+    (λ c. search needs)
+    (λ c. search needs)
     loop-again
-    same-length
+    (λ c. search needs)
     returns)

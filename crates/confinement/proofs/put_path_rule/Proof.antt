@@ -5,9 +5,6 @@ use Rattle.confinement.proofs.ListedLaws.{listed-few, listed-size, list
 use Rattle.confinement.proofs.put_path_rule.Statement.{statement}
 use Rattle.confinement.proofs.put_path_rule.Tie as tie
 
-list-permit-requires : tie.Need-list-permit-requires
-list-permit-requires c κs = search needs
-
 slice-reshare-prefix-put-form : tie.Need-slice-reshare-prefix-put-form
 slice-reshare-prefix-put-form c = listed-few (c .before .before .before .list-permit .ensures)
 
@@ -17,17 +14,8 @@ slice-aggregate-put-form c = listed-size (c .before .before .before .before .lis
 put-form-requires : tie.Need-put-form-requires
 put-form-requires c κs = (c .before .before .before .before .before .before .before .before .before .before .before .before .pre .0, omega (arith, listed-size (c .before .before .before .before .list-permit .ensures), listed-few (c .before .before .before .before .list-permit .ensures), c .before .before .before .before .list-permit .ensures .long))
 
-same-length : tie.Need-same-length
-same-length c = search needs
-
-same-length-2 : tie.Need-same-length-2
-same-length-2 c = search needs
-
 returns : tie.Need-returns
 returns c = permit-rule _ _ _ _ (c .before .before .before .before .before .before .before .before .before .if1 .taken) (listed-form (c .before .before .before .before .before .before .before .list-permit .ensures) (c .before .before .put-form .ensures))
-
-list-run-requires : tie.Need-list-run-requires
-list-run-requires c κs = search needs
 
 slice-reshare-prefix-put-form-2 : tie.Need-slice-reshare-prefix-put-form-2
 slice-reshare-prefix-put-form-2 c = listed-few (c .before .before .before .list-run .ensures)
@@ -38,12 +26,6 @@ slice-aggregate-put-form-2 c = listed-size (c .before .before .before .before .l
 put-form-requires-2 : tie.Need-put-form-requires-2
 put-form-requires-2 c κs = (c .before .before .before .before .before .before .before .before .before .before .before .before .pre .0, omega (arith, listed-size (c .before .before .before .before .list-run .ensures), listed-few (c .before .before .before .before .list-run .ensures), c .before .before .before .before .list-run .ensures .long))
 
-same-length-3 : tie.Need-same-length-3
-same-length-3 c = search needs
-
-same-length-4 : tie.Need-same-length-4
-same-length-4 c = search needs
-
 returns-2 : tie.Need-returns-2
 returns-2 c = run-rule _ _ _ _ (c .before .before .before .before .before .before .before .before .before .if1 .left) (listed-form (c .before .before .before .before .before .before .before .list-run .ensures) (c .before .before .put-form2 .ensures))
 
@@ -51,17 +33,17 @@ pub put-path-rule-spec : {M : Type 1} → statement M
 put-path-rule-spec =
     tie.close
     (tie.spec
-    list-permit-requires
+    (λ c κs. search needs)
     slice-reshare-prefix-put-form
     slice-aggregate-put-form
     put-form-requires
-    same-length
-    same-length-2
+    (λ c. search needs)
+    (λ c. search needs)
     returns
-    list-run-requires
+    (λ c κs. search needs)
     slice-reshare-prefix-put-form-2
     slice-aggregate-put-form-2
     put-form-requires-2
-    same-length-3
-    same-length-4
+    (λ c. search needs)
+    (λ c. search needs)
     returns-2)

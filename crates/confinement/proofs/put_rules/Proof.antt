@@ -21,50 +21,17 @@ abbrev μ-loop : tie.MeasureT-loop
 loop-holds : tie.Need-loop-holds Inv-loop μ-loop
 loop-holds c = let start = c .before .before .before .before .before in (forming-start _ _ _ (start .pre .2) (start .pre .0), start .pre .1)
 
-mul-at : tie.Need-mul-at Inv-loop μ-loop
-mul-at c = search needs
-
-add-put-path-rule : tie.Need-add-put-path-rule Inv-loop μ-loop
-add-put-path-rule c = search needs
-
-mul-put-path-rule : tie.Need-mul-put-path-rule Inv-loop μ-loop
-mul-put-path-rule c = search needs
-
-sub-put-path-rule : tie.Need-sub-put-path-rule Inv-loop μ-loop
-sub-put-path-rule c = search needs
-
-part-put-path-rule-start : tie.Need-part-put-path-rule-start Inv-loop μ-loop
-part-put-path-rule-start c = search needs
-
 part-put-path-rule-end : tie.Need-part-put-path-rule-end Inv-loop μ-loop
 part-put-path-rule-end c = form-room _ _ _ _ (c .before .loop .inv .0) (c .loop-test .taken)
 
 put-path-rule-requires : tie.Need-put-path-rule-requires Inv-loop μ-loop
 put-path-rule-requires c κs = let start = c .before .before .before .before .before .before .before .before .before in let inv = c .before .before .before .loop .inv .0 in (part-long _ _ _ (form-room _ _ _ _ inv (c .before .before .loop-test .taken)), c .before .before .before .loop .inv .1, omega (arith, start .pre .2, c .before .before .loop-test .taken), start .pre .3, start .pre .4, start .pre .5)
 
-same-length : tie.Need-same-length Inv-loop μ-loop
-same-length c = search needs
-
-same-length-2 : tie.Need-same-length-2 Inv-loop μ-loop
-same-length-2 c = search needs
-
 returns : tie.Need-returns Inv-loop μ-loop
 returns c = forming-stop _ _ _ (forming-over _ _ _ _ (c .before .before .before .before .before .before .before .before .before .loop .inv .0) (c .before .before .before .before .before .before .before .before .loop-test .taken) (c .before .before .before .before .before .put-path-rule .ensures) (not-true _ (c .if1 .taken)))
 
-add-i : tie.Need-add-i Inv-loop μ-loop
-add-i c = search needs
-
-loop-less : tie.Need-loop-less Inv-loop μ-loop
-loop-less c = search needs
-
 loop-again : tie.Need-loop-again Inv-loop μ-loop
 loop-again c = (forming-next _ _ _ _ (c .before .before .before .before .before .before .before .before .before .loop .inv .0) (c .before .before .before .before .before .before .before .before .loop-test .taken) _ (c .before .before .before .before .before .put-path-rule .ensures) (not-false _ (c .if1 .left)), search needs)
-
-same-length-3 : tie.Need-same-length-3 Inv-loop μ-loop
-same-length-3 c = search needs
-
-same-length-4 : tie.Need-same-length-4 Inv-loop μ-loop
-same-length-4 c = search needs
 
 returns-2 : tie.Need-returns-2 Inv-loop μ-loop
 returns-2 c = forming-end _ _ _ _ (c .before .loop .inv .0) (c .loop-test .left)
@@ -76,19 +43,19 @@ put-rules-spec =
     Inv-loop
     μ-loop
     loop-holds
-    mul-at
-    add-put-path-rule
-    mul-put-path-rule
-    sub-put-path-rule
-    part-put-path-rule-start
+    (λ c. search needs)
+    (λ c. search needs)
+    (λ c. search needs)
+    (λ c. search needs)
+    (λ c. search needs)
     part-put-path-rule-end
     put-path-rule-requires
-    same-length
-    same-length-2
+    (λ c. search needs)
+    (λ c. search needs)
     returns
-    add-i
-    loop-less
+    (λ c. search needs)
+    (λ c. search needs)
     loop-again
-    same-length-3
-    same-length-4
+    (λ c. search needs)
+    (λ c. search needs)
     returns-2)
