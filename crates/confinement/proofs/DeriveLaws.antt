@@ -2,10 +2,10 @@
 use Prim.Native.Nat.{ℕ, zero, suc, _+_, _-_, _*_, _≤_, _<_}
 use native.Mathlib.Omega.{arith}
 use mathlib.Core.Path.{_≡_, refl, sym, ap, ap₂, _∙_, subst}
-use mathlib.Core.Bool.{Bool, true, false, _&&_}
+use mathlib.Core.Bool.{Bool, true, false}
 use mathlib.Core.List.{List, [], _∷_, _++_, map, map-append}
 use lib.Dec.{leb}
-use lib.ListN.{length, take, drop, replicate, length-append}
+use lib.ListN.{length, take, drop, replicate}
 use lib.Seq.{take-at}
 use borrow.Author.Tests.{le-leb, lt-leb, leb-true}
 use Rattle.lists.specs.Lists.{every, joined}
@@ -24,7 +24,7 @@ use Rattle.rules.specs.Answers.{dataWidth}
 use Rattle.rules.proofs.RuleLaws.{normal-normal}
 use Rattle.rule_words.specs.Words.{ruleWidth, wordsOf}
 use Rattle.image.specs.Limits.{unrestrictedNumber, containerSize, userSize, outputBound}
-use Rattle.image.specs.Policy.{Container, Policy, Sound}
+use Rattle.image.specs.Policy.{Policy, Sound}
 use Rattle.image.specs.Normal.{containerBytes, normalImage}
 use Rattle.image.proofs.Encode.{container-wide}
 use Rattle.normaliser.specs.Writer.{formWords, policyAt, Tabled, Answered}

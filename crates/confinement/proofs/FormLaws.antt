@@ -3,10 +3,9 @@ use Prim.Native.Nat.{ℕ, zero, suc, _+_, _-_, _*_, _≤_, _<_}
 use native.Mathlib.Omega.{arith}
 use native.Mathlib.Numerals.{add-one}
 use mathlib.Core.Path.{_≡_, refl, sym, ap, ap₂, _∙_}
-use mathlib.Core.Bool.{Bool, true, false, cond}
-use mathlib.Core.List.{List, [], _∷_, _++_, map, map-append, append-nil}
-use lib.Dec.{leb}
-use lib.ListN.{length, getD, take, drop, replicate, length-append, length-map, length-take}
+use mathlib.Core.Bool.{Bool, true, false}
+use mathlib.Core.List.{List, [], _∷_, _++_, map, map-append}
+use lib.ListN.{length, getD, take, drop, replicate, length-append, length-map}
 use lib.Seq.{take-at, length-take-le}
 use borrow.Author.Tests.{leb-true}
 use borrow.Rule.Slice.PartMut.{putMid}
@@ -14,14 +13,13 @@ use Rattle.lists.specs.Lists.{every, joined}
 use Rattle.lists.proofs.Bools.{refuted, clash}
 use Rattle.lists.proofs.Every.{every-nil, every-cons, every-append, every-getD}
 use Rattle.lists.proofs.Joined.{joined-append, joined-one}
-use Rattle.lists.proofs.Places.{map-at}
 use Rattle.fields.specs.Writing.{overwritten, Wrote}
 use Rattle.fields.proofs.WritingLaws.{wrote-length}
 use Rattle.fields.proofs.ByteLaws.{joined-length}
 use Rattle.image.proofs.Encode.{container-wide}
 use Rattle.fields.proofs.RowWriting.{part-wrote, RowsWritten, rows-start, rows-room, rows-next, rows-end}
 use Rattle.rules.specs.Rules.{normal}
-use Rattle.rules.specs.Answers.{dataWidth, mixtureLimit}
+use Rattle.rules.specs.Answers.{mixtureLimit}
 use Rattle.rule_words.specs.Words.{ruleWidth, wordsOf}
 use Rattle.rule_words.proofs.WordLaws.{words-nine}
 use Rattle.image.specs.Limits.{containerSize}

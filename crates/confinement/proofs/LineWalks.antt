@@ -1,7 +1,7 @@
 -- The walk through a good text, line by line: the paths that its lines name, and the profiles that its lines make up.
 use Prim.Native.Nat.{ℕ, suc, _+_, _≤_, _<_}
 use native.Mathlib.Omega.{arith}
-use mathlib.Core.Path.{_≡_, refl, sym, ap, _∙_, subst}
+use mathlib.Core.Path.{_≡_, refl, sym, ap, _∙_}
 use mathlib.Core.Bool.{true}
 use mathlib.Core.List.{List, [], _∷_, _++_, map, append-assoc, append-nil}
 use mathlib.Core.Option.{Option, none, some}
@@ -16,7 +16,7 @@ use Rattle.profiles.specs.Scanning.{modeBits, profileKind, entryKind, endKind, 
 use Rattle.profiles.specs.Texts.{textLimit, profiledOnce, readsWell, textGood}
 use Rattle.profiles.specs.declared.ScannedLine.{ScannedLine}
 use Rattle.profiles.proofs.Theorems.{reads-exactly}
-use Rattle.profiles.proofs.Walks.{Walk, walk-start, walk-line, walk-end, LineHere, profile-at, entry-at, end-at}
+use Rattle.profiles.proofs.Walks.{Walk, walk-start, walk-line, walk-end, LineHere, profile-at, entry-at}
 use Rattle.confinement.specs.Confinement.{namesOf}
 use Rattle.confinement.specs.Images.{readProfiles, profilesIn}
 use Rattle.confinement.specs.Tables.{pathAt}

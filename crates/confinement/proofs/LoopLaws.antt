@@ -3,16 +3,16 @@ use Prim.Native.Nat.{ℕ, suc, _+_, _-_, _*_, _^_, _≤_, _<_}
 use native.Mathlib.Omega.{arith}
 use native.Mathlib.Numerals.{add-one}
 use mathlib.Core.Path.{_≡_, refl, sym, ap, ap₂, _∙_}
-use mathlib.Core.Bool.{Bool, true, false, cond}
+use mathlib.Core.Bool.{true, false, cond}
 use mathlib.Core.List.{List, [], _∷_, _++_, append-assoc, append-nil}
 use lib.Bits.{bitOr, or-zero-r}
 use lib.Dec.{eqb}
 use lib.ListN.{length, getD, take, drop, set, length-take, length-set, drop-of-length-le}
 use lib.Seq.{drop-cons, take-suc-set}
 use Rattle.rules.specs.Answers.{dataWidth}
-use Rattle.confinement.specs.Tables.{meets, fileBits, rowAtoms, rowMixture, listFrom, rowAt, mixtures, columnAt, chosenBy, chosenAt, Listed}
+use Rattle.confinement.specs.Tables.{meets, fileBits, rowAtoms, rowMixture, listFrom, columnAt, chosenBy, chosenAt, Listed}
 use Rattle.confinement.proofs.BitLaws.{or-assoc}
-use Rattle.confinement.proofs.TableLaws.{list-snoc, list-length}
+use Rattle.confinement.proofs.TableLaws.{list-snoc}
 
 -- ---- a run mixture, path by path
 

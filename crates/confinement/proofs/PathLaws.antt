@@ -2,7 +2,7 @@
 use Prim.Native.Nat.{ℕ, zero, suc, _<_}
 use native.Mathlib.Omega.{arith}
 use native.Mathlib.Decide.{decLt}
-use mathlib.Core.Path.{_≡_, refl, sym, ap, _∙_}
+use mathlib.Core.Path.{_≡_, refl, ap, _∙_}
 use mathlib.Core.Bool.{Bool, true, false, cond, _||_}
 use mathlib.Core.List.{List, [], _∷_, _++_, map}
 use lib.Dec.{eqb}
@@ -15,7 +15,7 @@ use Rattle.lists.proofs.Every.{every-0, every-1, every-nil, every-cons, every-r
 use Rattle.image.specs.Normal.{known, position}
 use Rattle.image.proofs.Numbering.{known-more, known-last, position-at}
 use Rattle.image.proofs.FirstUses.{position-stays}
-use Rattle.profiles.specs.Profiles.{Entry, Profile}
+use Rattle.profiles.specs.Profiles.{Profile}
 use Rattle.confinement.specs.Confinement.{namesOf, withPath, withPaths, pathsOf}
 
 -- ---- one more path

@@ -1,14 +1,14 @@
 -- The policy of profiles within the limits is one that an image can spell.
-use Prim.Native.Nat.{ℕ, zero, suc, _+_, _*_, _^_, _≤_, _<_}
+use Prim.Native.Nat.{ℕ, suc, _+_, _*_, _^_, _≤_, _<_}
 use native.Mathlib.Omega.{arith}
-use mathlib.Core.Path.{_≡_, refl, sym, ap, ap₂, _∙_}
+use mathlib.Core.Path.{_≡_, refl, ap, _∙_}
 use mathlib.Core.Bool.{Bool, true, false, cond}
-use mathlib.Core.List.{List, [], _∷_, _++_, map}
+use mathlib.Core.List.{List, [], _∷_, map}
 use lib.Pow.{pow-lt, pow-pos}
 use lib.Bits.{bitOr, or-lt}
 use lib.Dec.{eqb, ltb, leb}
 use lib.ListN.{length, length-append}
-use borrow.Author.Tests.{lt-ltb, ltb-true, leb-true, le-leb}
+use borrow.Author.Tests.{lt-ltb, leb-true}
 use Rattle.lists.specs.Lists.{every, elem}
 use Rattle.lists.proofs.Bools.{and-in, and-0, and-1, or-0, or-1}
 use Rattle.lists.proofs.Elem.{elem-here, elem-there}
@@ -17,7 +17,7 @@ use Rattle.rules.specs.Rules.{normal, unrestricted}
 use Rattle.rules.specs.Answers.{dataWidth, tagWidth, mixtureLimit}
 use Rattle.rules.proofs.RuleLaws.{normal-among}
 use Rattle.image.specs.Limits.{isFile, isVolatile, isProcess, unrestrictedNumber}
-use Rattle.image.specs.Policy.{Container, unrestrictedRule, named, containerGood, ruleGood, Sound}
+use Rattle.image.specs.Policy.{unrestrictedRule, named, containerGood, ruleGood, Sound}
 use Rattle.image.specs.Normal.{known, position}
 use Rattle.image.proofs.Numbering.{position-lt}
 use Rattle.profiles.specs.Profiles.{Mode, Profile}

@@ -1,25 +1,23 @@
 -- The policy of the tables is that of the profiles.
-use Prim.Native.Nat.{ℕ, zero, suc, _+_, _*_, _/_, _%_, _≤_, _<_}
+use Prim.Native.Nat.{ℕ, suc, _+_, _*_, _/_, _%_, _≤_, _<_}
 use native.Mathlib.Omega.{arith}
-use mathlib.Core.Path.{_≡_, refl, sym, ap, ap₂, _∙_}
-use mathlib.Core.Bool.{true}
+use mathlib.Core.Path.{_≡_, refl, sym, ap, _∙_}
 use mathlib.Core.List.{List, [], _∷_, _++_, map}
 use lib.Dec.{eqb}
 use lib.ListN.{length, getD, take, replicate, length-map}
 use borrow.Author.Tests.{eq-eqb, ne-eqb}
-use Rattle.lists.specs.Lists.{every}
 use Rattle.lists.proofs.Every.{every-getD}
 use Rattle.rules.specs.Rules.{normal}
 use Rattle.rules.specs.Answers.{dataWidth}
 use Rattle.image.specs.Limits.{unrestrictedNumber}
-use Rattle.image.specs.Policy.{Container, Policy}
+use Rattle.image.specs.Policy.{Container}
 use Rattle.image.specs.Normal.{known, position}
 use Rattle.image.proofs.Numbering.{position-lt}
 use Rattle.profiles.specs.Profiles.{Profile}
 use Rattle.confinement.specs.Confinement.{pathsOf, runMixture, permitMixtures, runMixtures, rulesFrom, rulesOf, filesFrom, initialProcess, profilePolicy}
-use Rattle.confinement.specs.Tables.{noProfile, ProgramTable, listFrom, mixtures, columnAt, permitFrom, runFrom, ruleFrom, formsFrom, tablePolicy, Tabulated}
+use Rattle.confinement.specs.Tables.{noProfile, mixtures, columnAt, ruleFrom, formsFrom, tablePolicy, Tabulated}
 use Rattle.confinement.proofs.PathLaws.{profiles-known, paths-distinct, number-tells}
-use Rattle.confinement.proofs.TableLaws.{bitsOn, permit-from, run-from, list-length, table-runs, table-column, table-own}
+use Rattle.confinement.proofs.TableLaws.{bitsOn, permit-from, run-from, table-runs, table-column, table-own}
 use Rattle.confinement.proofs.FormLaws.{files-same}
 
 -- ---- rules by turns

@@ -1,10 +1,8 @@
 -- `confinement::atom_if`. A shift by less than 64 loses nothing.
 use borrow.Author.Needs.{needs}
 use native.Mathlib.Omega.{arith}
-use native.Mathlib.Nat.{mod-eq-of-lt, one-mul}
 use lib.Pow.{pow-lt}
-use Prim.Native.Nat.{_^_, _*_, _<_}
-use mathlib.Core.Path.{_≡_, ap, _∙_}
+use Prim.Native.Nat.{_^_, _<_}
 use Rattle.rules.specs.Answers.{tagWidth}
 use Rattle.confinement.proofs.atom_if.Statement.{statement}
 use Rattle.confinement.proofs.atom_if.Tie as tie

@@ -18,10 +18,16 @@ loop-holds : tie.Need-loop-holds Inv-loop μ-loop
 loop-holds c = let start = c .before .before .before in choosing-start _ _ _ _ (start .pre .2) (start .pre .1) (all-by (start .args .wanted) (start .args .more) (start .args .modes .now) (start .args .k) (start .args .runs .now))
 
 loop-again : tie.Need-loop-again Inv-loop μ-loop
-loop-again c = let start = c .before .before .before .before .before .before .before .before .before in choosing-keep (c .before .before .before .before .before .loop .inv) (c .before .before .before .before .loop-test .taken) _ _ (kept-by (start .args .wanted) (start .args .more) (start .args .modes .now) (start .args .k) (start .args .runs .now) _ (c .before .before .before .before .loop-test .taken) (sym (c .before .meets .ensures) ∙ c .if1 .taken))
+loop-again c =
+    let start = c .before .before .before .before .before .before .before .before .before in
+    choosing-keep (c .before .before .before .before .before .loop .inv) (c .before .before .before .before .loop-test .taken) _ _ (kept-by (start .args .wanted) (start .args .more)
+    (start .args .modes .now) (start .args .k) (start .args .runs .now) _ (c .before .before .before .before .loop-test .taken) (sym (c .before .meets .ensures) ∙ c .if1 .taken))
 
 loop-again-2 : tie.Need-loop-again-2 Inv-loop μ-loop
-loop-again-2 c = let start = c .before .before .before .before .before .before .before .before .before in choosing-skip (c .before .before .before .before .before .loop .inv) (c .before .before .before .before .loop-test .taken) _ (skipped-by (start .args .wanted) (start .args .more) (start .args .modes .now) (start .args .k) (start .args .runs .now) _ (c .before .before .before .before .loop-test .taken) (sym (c .before .meets .ensures) ∙ c .if1 .left))
+loop-again-2 c =
+    let start = c .before .before .before .before .before .before .before .before .before in
+    choosing-skip (c .before .before .before .before .before .loop .inv) (c .before .before .before .before .loop-test .taken) _ (skipped-by (start .args .wanted) (start .args .more)
+    (start .args .modes .now) (start .args .k) (start .args .runs .now) _ (c .before .before .before .before .loop-test .taken) (sym (c .before .meets .ensures) ∙ c .if1 .left))
 
 returns : tie.Need-returns Inv-loop μ-loop
 returns c = let start = c .before .before .before .before .before in choosing-end (c .before .loop .inv) (none-by (start .args .wanted) (start .args .more) (start .args .modes .now) (start .args .k) (start .args .runs .now) _ (c .loop-test .left))

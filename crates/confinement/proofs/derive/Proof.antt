@@ -20,13 +20,39 @@ returns-3 : tie.Need-returns-3
 returns-3 c = derive-many _ _ (c .before .before .before .before .before .before .before .before .if1 .left) (passes-test (c .before .before .before .before .before .before .before .text-good .ensures) (c .before .before .before .before .before .before .if2 .left)) (c .before .before .before .list-paths .ensures .many (c .if3 .taken))
 
 list-programs-requires : tie.Need-list-programs-requires
-list-programs-requires c κs = ((passes-test (c .before .before .before .before .before .before .before .before .before .before .before .text-good .ensures) (c .before .before .before .before .before .before .before .before .before .before .if2 .left)), (c .before .before .before .before .before .before .before .list-paths .ensures .few (c .before .before .before .before .if3 .left)), search needs, refl)
+list-programs-requires c κs = (
+  (passes-test (c .before .before .before .before .before .before .before .before .before .before .before .text-good .ensures)
+      (c .before .before .before .before .before .before .before .before .before .before .if2 .left)),
+  (c .before .before .before .before .before .before .before .list-paths .ensures .few
+      (c .before .before .before .before .if3 .left)),
+  search needs,
+  refl,
+)
 
 write-tables-requires : tie.Need-write-tables-requires
-write-tables-requires c κs = let start = c .before .before .before .before .before .before .before .before .before .before .before .before .before .before .before .before .before .before .before .before .before in (record { profiles = profilesIn (start .args .text .now); tables = tabulated (c .before .before .before .before .before .before .before .before .before .before .before .before .before .list-paths .ensures .few (c .before .before .before .before .before .before .before .before .before .before .if3 .left)) (c .before .before .before .before .before .list-programs .ensures) }, c .before .before .before .before .before .before .before .before .before .before .before .before .before .before .before .before .before .before .if1 .left)
+write-tables-requires c κs =
+    let start = c .before .before .before .before .before .before .before .before .before .before .before .before .before .before .before .before .before .before .before .before .before in (
+      record {
+        profiles = profilesIn (start .args .text .now);
+        tables = tabulated
+            (c .before .before .before .before .before .before .before .before .before .before .before .before .before .list-paths .ensures .few
+            (c .before .before .before .before .before .before .before .before .before .before .if3 .left))
+            (c .before .before .before .before .before .list-programs .ensures);
+      },
+      c .before .before .before .before .before .before .before .before .before .before .before .before .before .before .before .before .before .before .if1 .left,
+    )
 
 returns-4 : tie.Need-returns-4
-returns-4 c = let start = c .before .before .before .before .before .before .before .before .before .before .before .before .before .before .before .before .before .before .before .before .before .before .before .before in derive-done (start .args .text .now) _ (c .before .before .before .before .before .before .before .before .before .before .before .before .before .before .before .before .before .before .before .before .before .if1 .left) (passes-test (c .before .before .before .before .before .before .before .before .before .before .before .before .before .before .before .before .before .before .before .before .text-good .ensures) (c .before .before .before .before .before .before .before .before .before .before .before .before .before .before .before .before .before .before .before .if2 .left)) _ _ _ _ (tabulated (c .before .before .before .before .before .before .before .before .before .before .before .before .before .before .before .before .list-paths .ensures .few (c .before .before .before .before .before .before .before .before .before .before .before .before .before .if3 .left)) (c .before .before .before .before .before .before .before .before .list-programs .ensures)) (c .before .before .write-tables .ensures)
+returns-4 c =
+    let start = c .before .before .before .before .before .before .before .before .before .before .before .before .before .before .before .before .before .before .before .before .before .before .before .before in
+    derive-done (start .args .text .now) _
+    (c .before .before .before .before .before .before .before .before .before .before .before .before .before .before .before .before .before .before .before .before .before .if1 .left)
+    (passes-test
+    (c .before .before .before .before .before .before .before .before .before .before .before .before .before .before .before .before .before .before .before .before .text-good .ensures)
+    (c .before .before .before .before .before .before .before .before .before .before .before .before .before .before .before .before .before .before .before .if2 .left)) _ _ _ _
+    (tabulated (c .before .before .before .before .before .before .before .before .before .before .before .before .before .before .before .before .list-paths .ensures .few
+    (c .before .before .before .before .before .before .before .before .before .before .before .before .before .if3 .left))
+    (c .before .before .before .before .before .before .before .before .list-programs .ensures)) (c .before .before .write-tables .ensures)
 
 pub derive-spec : {M : Type 1} → statement M
 derive-spec =

@@ -20,7 +20,10 @@ returns-2 c = listed-other (c .before .before .before .before .before .before .b
 
 returns-3 : tie.Need-returns-3
 unfolding runFrom
-returns-3 c = listed-other (c .before .before .before .before .before .before .before .before .before .before .before .before .choose-own .ensures) _ (c .before .before .before .before .before .before .before .before .before .if1 .left) (other-listed (c .before .before .before .before .before .before .before .choose .ensures) _ _ (c .before .before .before .before .if2 .left) (c .before .before .list-inherited .ensures))
+returns-3 c =
+    listed-other (c .before .before .before .before .before .before .before .before .before .before .before .before .choose-own .ensures) _
+    (c .before .before .before .before .before .before .before .before .before .if1 .left) (other-listed (c .before .before .before .before .before .before .before .choose .ensures) _ _
+    (c .before .before .before .before .if2 .left) (c .before .before .list-inherited .ensures))
 
 pub list-run-spec : {M : Type 1} → statement M
 list-run-spec =

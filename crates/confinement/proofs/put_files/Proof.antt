@@ -1,6 +1,5 @@
 -- `confinement::put_files`. The invariant: the files so far are written (`RowsWritten`).
 use borrow.Author.Needs.{needs}
-use native.Mathlib.Omega.{arith}
 use Prim.Native.Nat.{_-_}
 use Rattle.fields.proofs.RowWriting.{RowsWritten}
 use Rattle.confinement.proofs.FormLaws.{fileRows, files-start, files-room, files-next, files-end}

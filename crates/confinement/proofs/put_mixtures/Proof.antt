@@ -3,8 +3,7 @@ use borrow.Author.Needs.{needs}
 use native.Mathlib.Omega.{arith}
 use native.Mathlib.Nat.{add-sub-cancel-left}
 use Prim.Native.Nat.{_+_, _-_, _*_}
-use mathlib.Core.Path.{_∙_}
-use lib.ListN.{length, getD, drop, length-take}
+use lib.ListN.{getD, drop, length-take}
 use Rattle.rules.specs.Answers.{dataWidth}
 use Rattle.confinement.specs.Tables.{rowMixture, rowAt}
 use Rattle.confinement.proofs.LoopLaws.{Filling, filling-start, filling-next, filling-end}

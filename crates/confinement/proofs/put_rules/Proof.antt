@@ -25,7 +25,17 @@ part-put-path-rule-end : tie.Need-part-put-path-rule-end Inv-loop μ-loop
 part-put-path-rule-end c = form-room _ _ _ _ (c .before .loop .inv .0) (c .loop-test .taken)
 
 put-path-rule-requires : tie.Need-put-path-rule-requires Inv-loop μ-loop
-put-path-rule-requires c κs = let start = c .before .before .before .before .before .before .before .before .before in let inv = c .before .before .before .loop .inv .0 in (part-long _ _ _ (form-room _ _ _ _ inv (c .before .before .loop-test .taken)), c .before .before .before .loop .inv .1, omega (arith, start .pre .2, c .before .before .loop-test .taken), start .pre .3, start .pre .4, start .pre .5)
+put-path-rule-requires c κs =
+    let start = c .before .before .before .before .before .before .before .before .before in
+    let inv = c .before .before .before .loop .inv .0 in (
+      part-long _ _ _ (form-room _ _ _ _ inv (c .before .before .loop-test .taken)),
+      c .before .before .before .loop .inv .1,
+      omega
+          (arith, start .pre .2, c .before .before .loop-test .taken),
+      start .pre .3,
+      start .pre .4,
+      start .pre .5,
+    )
 
 returns : tie.Need-returns Inv-loop μ-loop
 returns c = forming-stop _ _ _ (forming-over _ _ _ _ (c .before .before .before .before .before .before .before .before .before .loop .inv .0) (c .before .before .before .before .before .before .before .before .loop-test .taken) (c .before .before .before .before .before .put-path-rule .ensures) (not-true _ (c .if1 .taken)))

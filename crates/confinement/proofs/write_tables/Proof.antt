@@ -12,32 +12,83 @@ put-mixtures-requires : tie.Need-put-mixtures-requires
 put-mixtures-requires c κs = let start = c .before .before .before .before in let t = start .pre .0 .tables in (t .few, t .programs .few, search needs, t .programs .ownLong, t .programs .modesLong, own-less (start .pre .0 .profiles) (start .args .own .now) (start .args .modes .now) (start .args .n) (start .args .m) (start .pre .0 .tables))
 
 returns : tie.Need-returns
-returns c = let start = c .before .before .before .before .before .before .before .before .before .before .before .before .before .before .before in over-limit (start .args .own .now) (start .args .modes .now) (start .args .n) (start .args .m) (forms-as (rule-lent (start .args .own .now) (start .args .modes .now) _ (start .args .n) (start .args .m) (c .before .before .before .before .before .before .before .before .before .before .put-mixtures .ensures)) (c .before .before .before .put-rules .ensures)) (not-true _ (c .if1 .taken)) _
+returns c =
+    let start = c .before .before .before .before .before .before .before .before .before .before .before .before .before .before .before in
+    over-limit (start .args .own .now) (start .args .modes .now) (start .args .n) (start .args .m) (forms-as (rule-lent (start .args .own .now) (start .args .modes .now) _
+    (start .args .n) (start .args .m) (c .before .before .before .before .before .before .before .before .before .before .put-mixtures .ensures))
+    (c .before .before .before .put-rules .ensures)) (not-true _ (c .if1 .taken)) _
 
 put-container-requires : tie.Need-put-container-requires
-put-container-requires c κs = let start = c .before .before .before .before .before .before .before .before .before .before .before .before .before .before .before .before .before .before .before in omega (arith, start .pre .0 .tables .few, files-end-at (start .pre .0 .profiles) (start .args .own .now) (start .args .modes .now) (start .args .n) (start .args .m) (start .pre .0 .tables) (c .before .before .put-files .ensures))
+put-container-requires c κs =
+    let start = c .before .before .before .before .before .before .before .before .before .before .before .before .before .before .before .before .before .before .before in
+    omega (
+      arith,
+      start .pre .0 .tables .few,
+      files-end-at (start .pre .0 .profiles) (start .args .own .now) (start .args .modes .now) (start .args .n) (start .args .m)
+          (start .pre .0 .tables) (c .before .before .put-files .ensures),
+    )
 
 mul-w : tie.Need-mul-w
 mul-w c = let start = c .before .before .before .before .before .before .before .before .before .before .before .before .before .before .before .before .before .before .before .before .before .before .before .before in omega (arith, start .pre .0 .tables .few)
 
 part-write-policy-end : tie.Need-part-write-policy-end
 unfolding initialProcess
-part-write-policy-end c = let start = c .before .before .before .before .before .before .before .before .before .before .before .before .before .before .before .before .before .before .before .before .before .before .before .before .before in omega (arith, start .pre .0 .tables .few, containers-end (start .pre .0 .profiles) (start .args .own .now) (start .args .modes .now) (start .args .n) (start .args .m) (start .pre .0 .tables) (c .before .before .before .before .before .before .before .before .put-files .ensures) (c .before .before .before .before .before .put-container .ensures))
+part-write-policy-end c =
+    let start = c .before .before .before .before .before .before .before .before .before .before .before .before .before .before .before .before .before .before .before .before .before .before .before .before .before in
+    omega (
+      arith,
+      start .pre .0 .tables .few,
+      containers-end (start .pre .0 .profiles) (start .args .own .now) (start .args .modes .now) (start .args .n) (start .args .m)
+          (start .pre .0 .tables) (c .before .before .before .before .before .before .before .before .put-files .ensures) (c .before .before .before .before .before .put-container .ensures),
+    )
 
 part-write-policy-end-2 : tie.Need-part-write-policy-end-2
 part-write-policy-end-2 c = let start = c .before .before .before .before .before .before .before .before .before .before .before .before .before .before .before .before .before .before .before .before .before .before .before .before .before .before .before .before in omega (arith, start .pre .0 .tables .few)
 
 write-policy-requires : tie.Need-write-policy-requires
 unfolding initialProcess
-write-policy-requires c κs = let start = c .before .before .before .before .before .before .before .before .before .before .before .before .before .before .before .before .before .before .before .before .before .before .before .before .before .before .before .before .before .before in (tables-tabled (start .pre .0 .profiles) (start .args .own .now) (start .args .modes .now) (start .args .n) (start .args .m) (start .pre .0 .tables) (c .before .before .before .before .before .before .before .before .before .before .before .before .before .put-files .ensures) (c .before .before .before .before .before .before .before .before .before .before .put-container .ensures) (c .before .before .before .before .before .before .before .put16 .ensures) (search needs) (forms-as (rule-lent (start .args .own .now) (start .args .modes .now) _ (start .args .n) (start .args .m) (c .before .before .before .before .before .before .before .before .before .before .before .before .before .before .before .before .before .before .before .before .before .before .before .before .before .put-mixtures .ensures)) (c .before .before .before .before .before .before .before .before .before .before .before .before .before .before .before .before .before .before .put-rules .ensures)) (not-false _ (c .before .before .before .before .before .before .before .before .before .before .before .before .before .before .before .if1 .left)), start .pre .1)
+write-policy-requires c κs =
+    let start = c .before .before .before .before .before .before .before .before .before .before .before .before .before .before .before .before .before .before .before .before .before .before .before .before .before .before .before .before .before .before in (
+      tables-tabled (start .pre .0 .profiles) (start .args .own .now) (start .args .modes .now) (start .args .n) (start .args .m) (start .pre .0 .tables)
+          (c .before .before .before .before .before .before .before .before .before .before .before .before .before .put-files .ensures)
+          (c .before .before .before .before .before .before .before .before .before .before .put-container .ensures) (c .before .before .before .before .before .before .before .put16 .ensures)
+          (search needs) (forms-as (rule-lent (start .args .own .now) (start .args .modes .now) _ (start .args .n) (start .args .m)
+          (c .before .before .before .before .before .before .before .before .before .before .before .before .before .before .before .before .before .before .before .before .before .before .before .before .before .put-mixtures .ensures))
+          (c .before .before .before .before .before .before .before .before .before .before .before .before .before .before .before .before .before .before .put-rules .ensures)) (not-false _
+          (c .before .before .before .before .before .before .before .before .before .before .before .before .before .before .before .if1 .left)),
+      start .pre .1,
+    )
 
 cast-result : tie.Need-cast-result
 unfolding initialProcess
-cast-result c = let start = c .before .before .before .before .before .before .before .before .before .before .before .before .before .before .before .before .before .before .before .before .before .before .before .before .before .before .before .before .before .before .before .before .before in omega (arith, tables-small (start .pre .0 .profiles) (start .args .own .now) (start .args .modes .now) (start .args .n) (start .args .m) (start .pre .0 .tables) (c .before .before .before .before .before .before .before .before .before .before .before .before .before .before .before .before .put-files .ensures) (c .before .before .before .before .before .before .before .before .before .before .before .before .before .put-container .ensures) (c .before .before .before .before .before .before .before .before .before .before .put16 .ensures) (search needs) (forms-as (rule-lent (start .args .own .now) (start .args .modes .now) _ (start .args .n) (start .args .m) (c .before .before .before .before .before .before .before .before .before .before .before .before .before .before .before .before .before .before .before .before .before .before .before .before .before .before .before .before .put-mixtures .ensures)) (c .before .before .before .before .before .before .before .before .before .before .before .before .before .before .before .before .before .before .before .before .before .put-rules .ensures)) (not-false _ (c .before .before .before .before .before .before .before .before .before .before .before .before .before .before .before .before .before .before .if1 .left)) (c .before .before .write-policy .ensures))
+cast-result c =
+    let start = c .before .before .before .before .before .before .before .before .before .before .before .before .before .before .before .before .before .before .before .before .before .before .before .before .before .before .before .before .before .before .before .before .before in
+    omega (
+      arith,
+      tables-small (start .pre .0 .profiles) (start .args .own .now) (start .args .modes .now) (start .args .n) (start .args .m) (start .pre .0 .tables)
+          (c .before .before .before .before .before .before .before .before .before .before .before .before .before .before .before .before .put-files .ensures)
+          (c .before .before .before .before .before .before .before .before .before .before .before .before .before .put-container .ensures)
+          (c .before .before .before .before .before .before .before .before .before .before .put16 .ensures) (search needs) (forms-as (rule-lent (start .args .own .now)
+          (start .args .modes .now) _ (start .args .n) (start .args .m)
+          (c .before .before .before .before .before .before .before .before .before .before .before .before .before .before .before .before .before .before .before .before .before .before .before .before .before .before .before .before .put-mixtures .ensures))
+          (c .before .before .before .before .before .before .before .before .before .before .before .before .before .before .before .before .before .before .before .before .before .put-rules .ensures))
+          (not-false _ (c .before .before .before .before .before .before .before .before .before .before .before .before .before .before .before .before .before .before .if1 .left))
+          (c .before .before .write-policy .ensures),
+    )
 
 returns-2 : tie.Need-returns-2
 unfolding initialProcess
-returns-2 c = let start = c .before .before .before .before .before .before .before .before .before .before .before .before .before .before .before .before .before .before .before .before .before .before .before .before .before .before .before .before .before .before .before .before .before in tables-written (start .pre .0 .profiles) (start .args .own .now) (start .args .modes .now) (start .args .n) (start .args .m) (start .pre .0 .tables) (c .before .before .before .before .before .before .before .before .before .before .before .before .before .before .before .before .put-files .ensures) (c .before .before .before .before .before .before .before .before .before .before .before .before .before .put-container .ensures) (c .before .before .before .before .before .before .before .before .before .before .put16 .ensures) (search needs) (forms-as (rule-lent (start .args .own .now) (start .args .modes .now) _ (start .args .n) (start .args .m) (c .before .before .before .before .before .before .before .before .before .before .before .before .before .before .before .before .before .before .before .before .before .before .before .before .before .before .before .before .put-mixtures .ensures)) (c .before .before .before .before .before .before .before .before .before .before .before .before .before .before .before .before .before .before .before .before .before .put-rules .ensures)) (not-false _ (c .before .before .before .before .before .before .before .before .before .before .before .before .before .before .before .before .before .before .if1 .left)) (c .before .before .write-policy .ensures)
+returns-2 c =
+    let start = c .before .before .before .before .before .before .before .before .before .before .before .before .before .before .before .before .before .before .before .before .before .before .before .before .before .before .before .before .before .before .before .before .before in
+    tables-written (start .pre .0 .profiles) (start .args .own .now) (start .args .modes .now) (start .args .n) (start .args .m) (start .pre .0 .tables)
+    (c .before .before .before .before .before .before .before .before .before .before .before .before .before .before .before .before .put-files .ensures)
+    (c .before .before .before .before .before .before .before .before .before .before .before .before .before .put-container .ensures)
+    (c .before .before .before .before .before .before .before .before .before .before .put16 .ensures) (search needs) (forms-as (rule-lent (start .args .own .now)
+    (start .args .modes .now) _ (start .args .n) (start .args .m)
+    (c .before .before .before .before .before .before .before .before .before .before .before .before .before .before .before .before .before .before .before .before .before .before .before .before .before .before .before .before .put-mixtures .ensures))
+    (c .before .before .before .before .before .before .before .before .before .before .before .before .before .before .before .before .before .before .before .before .before .put-rules .ensures))
+    (not-false _ (c .before .before .before .before .before .before .before .before .before .before .before .before .before .before .before .before .before .before .if1 .left))
+    (c .before .before .write-policy .ensures)
 
 pub write-tables-spec : {M : Type 1} → statement M
 write-tables-spec =

@@ -1,5 +1,5 @@
 -- Paths of different lengths differ; the bytes of others are compared.
-use mathlib.Core.Path.{_≡_, ap, _∙_}
+use mathlib.Core.Path.{ap, _∙_}
 use Prim.Native.Nat.{ℕ}
 use Rattle.lists.specs.Lists.{sameList}
 use Rattle.confinement.specs.Tables.{pathAt}
