@@ -11,12 +11,12 @@ use lib.ListN.{length, take, drop, getElem?, take-append-drop}
 use borrow.Author.Tests.{eqb-true, eqb-false, eq-eqb}
 use Rattle.lists.specs.Lists.{every}
 use Rattle.lists.specs.Conditions.{numbersOf, numberAt}
-use Rattle.lists.proofs.Bools.{and-in, clash}
+use Rattle.lists.proofs.Bools.{and-in, and-0, and-1, clash}
 use Rattle.answers.specs.Refusals.{lentLength}
 use Rattle.answers.specs.declared.Answer.{Answer}
 use Rattle.answers.specs.declared.Answer.the-variants.{Given, Refused}
 use Rattle.answers.specs.declared.Verdict.the-variants.{Quiet, Alert}
-use Rattle.answers.specs.Answers.{quiet, refused, isAlert, quietNumber, alertNumber, answerNumber}
+use Rattle.answers.specs.Answers.{quiet, refused, accepted, isAlert, quietNumber, alertNumber, answerNumber}
 use Rattle.session.specs.Limits.{sessionLength}
 use Rattle.session.specs.Session.{sessionLengthGood}
 use Rattle.records.specs.Records.{recordLength}
@@ -26,8 +26,8 @@ use Rattle.monitor.specs.declared.Ran.{Ran}
 use Rattle.monitor.specs.Steps.{stepConditions, refusalOf, stepAnswer, stepEffect}
 use Rattle.monitor.specs.Runs.{stepOn, runAnswers, runEffect}
 use Rattle.monitor.specs.Stops.{isQuiet, stopAnswer, stopCount, ran}
-use Rattle.monitor.proofs.StepLaws.{refused-effect, refused-at, effect-long}
-use Rattle.monitor.proofs.AnswerLaws.{number-told, number-refused}
+use Rattle.monitor.proofs.StepLaws.{refused-effect, refused-at, effect-long, answered}
+use Rattle.monitor.proofs.AnswerLaws.{number-refused}
 use Rattle.monitor.proofs.RunLaws.{runAnswers-append, runEffect-append}
 
 -- ---- answers up to and with the first that is not quiet
@@ -56,6 +56,16 @@ all-quiet (a ∷ l) q = by (isQuiet a) refl (all-quiet l) q
         → (cond b (stopAnswer l) a ≡ quiet 0 0) × (cond b (suc (stopCount l)) 1 ≡ suc (length l)) × (every isQuiet (a ∷ l) ≡ true)
     by true e h q = let g = h q in (g .0, ap suc (g .1), and-in e (g .2))
     by false e h q = clash q e
+
+pub quiet-stop : (l : List Answer) → every isQuiet l ≡ true → stopAnswer l ≡ quiet 0 0
+unfolding stopAnswer every
+quiet-stop [] q = refl
+quiet-stop (a ∷ l) q = let h : isQuiet a ≡ true = and-0 (isQuiet a) (every isQuiet l) q in rw h (quiet-stop l (and-1 (isQuiet a) q))
+
+pub alert-number : (a : Answer) → isAlert a ≡ true → answerNumber a ≡ alertNumber
+alert-number (Given Quiet e) k = clash k refl
+alert-number (Given Alert e) k = refl
+alert-number (Refused n) k = clash k refl
 
 -- ---- records up to and with it
 
@@ -107,26 +117,40 @@ step-keeps s r g = by (eqb (refusalOf s r) 0) refl
     by true e = unfold sessionLengthGood in (eq-eqb (length (stepEffect s r)) sessionLength (effect-long s r (eqb-true (refusalOf s r) 0 e)))
     by false e = ap sessionLengthGood (refused-effect s r (eqb-false (refusalOf s r) 0 e)) ∙ g
 
--- no record is answered 9 on a session of the right length
-record-never-9 : (s r : List ℕ) → sessionLengthGood s ≡ true → answerNumber (stepAnswer s r) ≢ lentLength
-record-never-9 s r g e = by (eqb (refusalOf s r) 0) refl
+-- the number of an answer tells quiet, alert and 9 from all others
+record Numbered (a : Answer) : Type 0 where
+  quietAlone : answerNumber a ≡ quietNumber → isQuiet a ≡ true
+  alertAlone : answerNumber a ≡ alertNumber → isAlert a ≡ true
+  never9 : answerNumber a ≢ lentLength
+
+accepted-numbered : (a : Answer) → accepted a ≡ true → Numbered a
+accepted-numbered (Given Quiet e) k = record { quietAlone = λ z. refl; alertAlone = λ z. absurd (omega arith); never9 = λ z. omega arith }
+accepted-numbered (Given Alert e) k = record { quietAlone = λ z. absurd (omega arith); alertAlone = λ z. refl; never9 = λ z. omega arith }
+accepted-numbered (Refused n) k = clash k refl
+
+-- so it is of each record's answer on a session of the right length
+step-numbered : (s r : List ℕ) → sessionLengthGood s ≡ true → Numbered (stepAnswer s r)
+step-numbered s r g = by (eqb (refusalOf s r) 0) refl
   where
-    told : (b : Bool) → cond b alertNumber quietNumber ≢ lentLength
-    told true e = omega arith
-    told false e = omega arith
+    by : (b : Bool) → eqb (refusalOf s r) 0 ≡ b → Numbered (stepAnswer s r)
+    by true z = accepted-numbered (stepAnswer s r) (answered s r (eqb-true (refusalOf s r) 0 z))
+    by false z =
+        let n = eqb-false (refusalOf s r) 0 z in
+        let h = number-refused s r n in
+        record {
+          quietAlone = λ e. absurd (n (sym (h .0) ∙ e));
+          alertAlone = λ e. absurd (h .1 (sym (h .0) ∙ e));
+          never9 = λ e. clash g (unfold stepConditions numberAt numbersOf in (refused-at s r 0 (omega arith) .0 (sym (h .0) ∙ e)));
+        }
 
-    by : (b : Bool) → eqb (refusalOf s r) 0 ≡ b → ⊥
-    by true z = told (isAlert (stepAnswer s r)) (sym (number-told s r (eqb-true (refusalOf s r) 0 z)) ∙ e)
-    by false z = clash g (unfold stepConditions numberAt numbersOf in (refused-at s r 0 (omega arith) .0 (sym (number-refused s r (eqb-false (refusalOf s r) 0 z) .0) ∙ e)))
-
-pub never-9 : (s : List ℕ) (rs : List (List ℕ)) → sessionLengthGood s ≡ true → answerNumber (stopAnswer (runAnswers s rs)) ≢ lentLength
+stop-numbered : (s : List ℕ) (rs : List (List ℕ)) → sessionLengthGood s ≡ true → Numbered (stopAnswer (runAnswers s rs))
 unfolding stopAnswer runAnswers stepOn
-never-9 s [] g e = omega arith
-never-9 s (x ∷ rs) g e = by (isQuiet (stepAnswer s x)) (never-9 (stepEffect s x) rs (step-keeps s x g)) e
+stop-numbered s [] g = accepted-numbered (quiet 0 0) refl
+stop-numbered s (x ∷ rs) g = by (isQuiet (stepAnswer s x)) (stop-numbered (stepEffect s x) rs (step-keeps s x g))
   where
-    by : (b : Bool) → answerNumber (stopAnswer (runAnswers (stepEffect s x) rs)) ≢ lentLength → answerNumber (cond b (stopAnswer (runAnswers (stepEffect s x) rs)) (stepAnswer s x)) ≢ lentLength
+    by : (b : Bool) → Numbered (stopAnswer (runAnswers (stepEffect s x) rs)) → Numbered (cond b (stopAnswer (runAnswers (stepEffect s x) rs)) (stepAnswer s x))
     by true h = h
-    by false h = record-never-9 s x g
+    by false h = step-numbered s x g
 
 -- ---- a trace
 
@@ -152,12 +176,30 @@ ran-alert s t qs r e = by (sessionLengthGood s) refl
     by true g = rw (ran-good s t g) (alert-of-last s (traceRecords t) qs r (rw (ran-good s t g) at e))
     by false g = absurd (nil-snoc qs r (rw (ran-bad s t g) at e))
 
-pub ran-number : (s t : List ℕ) → answerNumber (ran s t .answer) ≡ lentLength → sessionLengthGood s ≡ false
-ran-number s t e = by (sessionLengthGood s) refl
-  where
-    by : (b : Bool) → sessionLengthGood s ≡ b → b ≡ false
-    by true g = absurd (never-9 s (traceRecords t) g (sym (ap (λ (w : Ran). answerNumber (w .answer)) (ran-good s t g)) ∙ e))
-    by false g = refl
+module _ (s t : List ℕ) where
+  -- the number of a run's answer
+  by-number : {X : Type 0} (n : ℕ) → answerNumber (ran s t .answer) ≡ n → (sessionLengthGood s ≡ true → answerNumber (stopAnswer (runAnswers s (traceRecords t))) ≡ n → X)
+      → (sessionLengthGood s ≡ false → lentLength ≡ n → X) → X
+  by-number {X} n e good bad = by (sessionLengthGood s) refl
+    where
+      by : (b : Bool) → sessionLengthGood s ≡ b → X
+      by true g = good g (sym (ap (λ (w : Ran). answerNumber (w .answer)) (ran-good s t g)) ∙ e)
+      by false g = bad g (sym (ap (λ (w : Ran). answerNumber (w .answer)) (ran-bad s t g)) ∙ e)
+
+  pub number-9 : answerNumber (ran s t .answer) ≡ lentLength → sessionLengthGood s ≡ false
+  number-9 e = by-number lentLength e (λ g n. absurd (stop-numbered s (traceRecords t) g .never9 n)) (λ g n. g)
+
+  pub number-0 : answerNumber (ran s t .answer) ≡ quietNumber → (sessionLengthGood s ≡ true) × (every isQuiet (runAnswers s (traceRecords t)) ≡ true)
+  number-0 e =
+      by-number quietNumber e
+      (λ g n. (g, all-quiet (runAnswers s (traceRecords t)) (stop-numbered s (traceRecords t) g .quietAlone n) .2))
+      (λ g n. absurd (omega arith))
+
+  pub number-256 : answerNumber (ran s t .answer) ≡ alertNumber → isAlert (ran s t .answer) ≡ true
+  number-256 e =
+      by-number alertNumber e
+      (λ g n. ap (λ (w : Ran). isAlert (w .answer)) (ran-good s t g) ∙ stop-numbered s (traceRecords t) g .alertAlone n)
+      (λ g n. absurd (omega arith))
 
 -- the records that are left, run on the session that is left, are answered as in the whole
 module _ (s t : List ℕ) (n : ℕ) where

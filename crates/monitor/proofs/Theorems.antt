@@ -48,7 +48,7 @@ use Rattle.monitor.proofs.AnswerLaws.{verdict-judged, new-quiet, number
 use Rattle.monitor.proofs.StartView.{start-valid, start-view}
 use Rattle.monitor.proofs.RunLaws.{valid-run, never-10, runEffect-append}
 use Rattle.monitor.proofs.DemandLaws.{alert-at, tag-at, alert-last}
-use Rattle.monitor.proofs.StopLaws.{stopped, all-quiet, length-run, ran-good, ran-alert, ran-number, answers-split, effect-split}
+use Rattle.monitor.proofs.StopLaws.{stopped, all-quiet, quiet-stop, alert-number, length-run, ran-good, ran-alert, number-9, number-0, number-256, answers-split, effect-split}
 
 -- ---- DEMAND 3 (the paper, "Chains")
 
@@ -109,10 +109,17 @@ alert-next image lent bytes ok rs r e j = alert-last (startEffect image lent) (p
 
 -- ---- a run that stops, `run`: of any session and any bytes
 
+-- the number that a host sees: 0 exactly if the session has its length and each record is answered quiet, 256 exactly if it is an alert
+pub ran-0 : (s t : List ℕ) → (answerNumber (ran s t .answer) ≡ 0) ↔ ((sessionLengthGood s ≡ true) × (every isQuiet (runAnswers s (traceRecords t)) ≡ true))
+ran-0 s t = (number-0 s t, λ h. rw (ran-good s t (h .0), quiet-stop (runAnswers s (traceRecords t)) (h .1)))
+
+pub ran-256 : (s t : List ℕ) → (answerNumber (ran s t .answer) ≡ 256) ↔ (isAlert (ran s t .answer) ≡ true)
+ran-256 s t = (number-256 s t, alert-number (ran s t .answer))
+
 -- 9 exactly if the session has not its length; then nothing is taken, and nothing changed
 pub ran-9 : (s t : List ℕ) → (answerNumber (ran s t .answer) ≡ lentLength) ↔ (sessionLengthGood s ≡ false)
 unfolding ran
-ran-9 s t = (ran-number s t, λ g. rw g)
+ran-9 s t = (number-9 s t, λ g. rw g)
 
 pub ran-9-nothing : (s t : List ℕ) → sessionLengthGood s ≡ false → (ran s t .taken ≡ 0) × (ranEffect s t ≡ s)
 unfolding ran ranEffect runEffect
