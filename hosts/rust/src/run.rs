@@ -1,3 +1,6 @@
+use std::fmt;
+use std::iter::FusedIterator;
+
 use crate::{ffi, layout, refusal, Answer, Refusal, Verdict};
 
 /// Judges the records that lie one behind the other in a slice, on a lent session of exactly
@@ -17,7 +20,6 @@ pub fn run_in<'a>(session: &'a mut [u64], records: &'a [u8]) -> Run<'a> {
 /// What is not quiet of a batch of records, from [`Session::run`](crate::Session::run): each record's place in the
 /// slice, and its alert or refusal.
 #[must_use = "the records are judged as the iterator goes on"]
-#[derive(Debug)]
 pub struct Run<'a> {
     session: &'a mut [u64],
     /// Those not yet judged.
@@ -88,4 +90,10 @@ impl Iterator for Run<'_> {
     }
 }
 
-impl std::iter::FusedIterator for Run<'_> {}
+impl FusedIterator for Run<'_> {}
+
+impl fmt::Debug for Run<'_> {
+    fn fmt(&self, f: &mut fmt::Formatter<'_>) -> fmt::Result {
+        write!(f, "Run {{ {} records judged, {} bytes left }}", self.judged, self.records.len())
+    }
+}
