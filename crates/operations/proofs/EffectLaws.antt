@@ -18,8 +18,9 @@ use Rattle.rules.specs.Rules.{covers, meet, unrestricted}
 use Rattle.rules.specs.Answers.{dataWidth, tagWidth, mixtureLimit, boundedOf}
 use Rattle.rules.specs.declared.Bounded.{Bounded}
 use Rattle.rules.proofs.BoundedLaws.{bounded-some, padded-take}
-use Rattle.image.specs.Limits.{containerLimit, fileKind, volatileKind, processKind}
+use Rattle.image.specs.Limits.{containerLimit, userLimit, fileKind, volatileKind, processKind}
 use Rattle.image.specs.Policy.{unrestrictedRule}
+use Rattle.rule_words.specs.Words.{ruleOf}
 use Rattle.session.specs.Limits.{sessionLength, rowWidth, userWidth, usersAt, runAt, userRuleAt}
 use Rattle.session.specs.Rows.{Row, rowOf, rowWords, permitWords, runWords}
 use Rattle.session.proofs.PutLaws.{container-row-length, row-lent, row-returned}
@@ -28,10 +29,10 @@ use Rattle.chains.specs.Demand.{judged}
 use Rattle.chains.specs.Table.{readRow, writeRow, appendRow, execRow, forkRow, newFileRow, newVolatileRow, ruleOr, entry, fits, meetGood, alerts, verdict}
 use Rattle.operations.specs.View.{view}
 use Rattle.operations.specs.Effects.{acceptedAnswer, acceptedEffect}
-use Rattle.operations.specs.Parts.{Ready, UsedAt, Kept, contentWords, newWords, coverVerdict, coverAnswer, lateAnswer, lateEffect, sharedRun, absorbed, absorbAnswer, absorbEffect, launchAnswer, launchEffect}
+use Rattle.operations.specs.Parts.{Ready, UsedAt, Kept, wordsFrom, contentWords, newWords, coverVerdict, coverAnswer, lateAnswer, lateEffect, sharedRun, absorbed, absorbAnswer, absorbEffect, launchAnswer, launchEffect}
 use Rattle.operations.proofs.ViewLaws.{view-row}
 use Rattle.operations.proofs.ReadyLaws.{process-kind, ready-process, ready-object, ready-user}
-use Rattle.operations.proofs.RowSteps.{KeptAs, row-used, row-counts, row-long, run-kept, run-single, user-kept-as, content-row, new-row, fits-short, fits-made, rule-short}
+use Rattle.operations.proofs.RowSteps.{KeptAs, row-used, row-counts, row-long, run-kept, run-single, user-kept-as, met, content-row, new-row, fits-short, fits-made, rule-short}
 
 -- the answer a and the session s₁ afterwards are as the step t asks
 abbrev pub Done : List ℕ → Step → Answer → List ℕ → Type 0
@@ -204,8 +205,12 @@ module _ (s : List ℕ) (p o : ℕ) where
       replace-done s (fork p o) refl (forkRow (view s .row p)) refl m n a ws refl (process-kind s (fork p o) h) em (permit-short s p up) en (run-short s p up)
       (rw et at ea) (rw et at ew)
 
--- the two rules that an exec meets
+-- the two rules that an exec meets, and their places
 module _ (s : List ℕ) (p o u : ℕ) (h : Ready s (exec p o u)) where
+  pub exec-places : (length s ≡ sessionLength) × (o < containerLimit) × (u < userLimit)
+  unfolding entry
+  exec-places = (h .long, h .object, h .user u refl)
+
   pub exec-run : KeptAs s (o * rowWidth + runAt) (view s .row o .run)
   unfolding entry
   exec-run = run-kept s o (ready-object s (exec p o u) h refl)
@@ -213,6 +218,10 @@ module _ (s : List ℕ) (p o u : ℕ) (h : Ready s (exec p o u)) where
   pub exec-user : KeptAs s (usersAt + u * userWidth + userRuleAt) (ruleOr (view s .user u))
   unfolding entry
   exec-user = user-kept-as s u (ready-user s (exec p o u) h u refl)
+
+  pub exec-met : (m : Bounded) → m ≡ boundedOf (meet (ruleOf (wordsFrom s (o * rowWidth + runAt))) (ruleOf (wordsFrom s (usersAt + u * userWidth + userRuleAt))))
+      → m ≡ boundedOf (meet (view s .row o .run) (ruleOr (view s .user u)))
+  exec-met m e = met s _ _ _ _ m exec-run exec-user e
 
 pub one-fit : (x : ℕ) (m : Bounded) → m ≡ boundedOf (x ∷ []) → m .fits ≡ true
 unfolding boundedOf
