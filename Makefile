@@ -1,12 +1,11 @@
-# make demo    runs the watch program on the demonstration in demo/
+# make demo    runs the watch program on the demonstration in demo/, and names its alerts
 # make test    everything that can fail, as the gate runs it
 # make lib     target/lib: libyaslaurel.a, yaslaurel.h and yaslaurel.pc, for hosts in C and Rust
 # make bench   ratios against Rust, in one run
 .PHONY: demo test lib bench
 
 demo:
-	rt check watch
-	cd demo && python3 make.py > /dev/null && ../target/bin/watch
+	@demo/run
 
 test:
 	./.ci/run

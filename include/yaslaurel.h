@@ -7,10 +7,10 @@
  *
  * Every function returns one number.
  *
- *   0          accepted; for yaslaurel_step: quiet; for yaslaurel_matrix_verdict: consistent
+ *   0          accepted; for yaslaurel_step and yaslaurel_run: quiet; for yaslaurel_matrix_verdict: consistent
  *   1          yaslaurel_matrix_verdict alone: not consistent
  *   a length   YASLAUREL_HEADER_LENGTH or more: of the image written, from the two functions that write one
- *   256        yaslaurel_step alone: alert
+ *   256        yaslaurel_step and yaslaurel_run alone: alert
  *   1 to 15    otherwise: refused, with the number of the first condition that fails, in this order
  *
  *        9  the session is not YASLAUREL_SESSION_LENGTH numbers, or the output is under YASLAUREL_OUTPUT_LENGTH bytes
@@ -29,7 +29,8 @@
  *       14  the user is not declared
  *       15  a meet of two rules has over 8 mixtures
  *
- * A refused call changes no lent memory: neither a slice nor a number behind a pointer.
+ * A refused call changes no lent memory: neither a slice nor a number behind a pointer. The one exception is
+ * yaslaurel_run: a refusal other than 9 is its last record's alone, so the records before it stay done.
  *
  * What the host owes in each call. Given this, the contracts hold for ALL contents and ALL lengths: no content of an
  * image, a session, a record or a row makes a call misbehave.
@@ -45,7 +46,7 @@
  *   - Nobody else writes the lent memory during the call, and nobody else reads what the call may write. Calls on
  *     different sessions may run at the same time.
  *   - Between calls, the session is the host's memory. The promise about chains is for a session that only
- *     yaslaurel_session_start and yaslaurel_step write.
+ *     yaslaurel_session_start, yaslaurel_step and yaslaurel_run write.
  */
 #ifndef YASLAUREL_H
 #define YASLAUREL_H
@@ -155,6 +156,19 @@ uint32_t yaslaurel_session_start(const uint8_t *image, size_t image_len, uint64_
  */
 uint32_t yaslaurel_step(uint64_t *session, size_t session_len, const uint8_t *record, size_t record_len,
                         uint64_t *receiver, uint64_t *tag);
+
+/*
+ * Judges the records that lie one behind the other in `records`, each as yaslaurel_step does (the last may be short,
+ * and is then refused with 7), up to and with the first that is not answered quiet, or to the end.
+ * 0 if each was quiet, also if there is none; 256 alert, with `receiver` and `tag` as from yaslaurel_step; else that
+ * record's refusal, 7 or 10 to 15, which changes nothing of its own, while the records before it stay done. `taken` is
+ * then how many were judged, the last included; `receiver` and `tag` are written in an alert alone. 9 comes first, also
+ * without records, and nothing changes, `taken` neither.
+ * To go on, call again with the records behind: YASLAUREL_RECORD_LENGTH times `taken` bytes further, none left if that
+ * is `records_len` or more. The answers are those of yaslaurel_step on each record in turn.
+ */
+uint32_t yaslaurel_run(uint64_t *session, size_t session_len, const uint8_t *records, size_t records_len,
+                       size_t *taken, uint64_t *receiver, uint64_t *tag);
 
 /*
  * The verdict on an access matrix: `reads` and `writes` have one row for each subject, bit k for object k.

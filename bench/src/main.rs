@@ -7,7 +7,8 @@
 //!
 //! The library is called by its C functions, as every host calls it.
 //!
-//! `bench PROGRAM` also measures that watch program, `bench watch PROGRAM` measures it alone.
+//! `bench PROGRAM` also measures that watch program, `bench watch PROGRAM` measures it alone; `bench batches` measures runs
+//! of records alone.
 //! `bench listing` is the watch program in natural Rust (`BufWriter`, `writeln!`), for the comparison of whole programs;
 //! `bench trace COUNT` writes the policy and trace that both read.
 
@@ -151,6 +152,90 @@ fn operations() {
     for mixtures in 1..=8 {
         let session = started(&work::policy(mixtures, 6));
         line(&mixtures.to_string(), &steps(&session, &work::records(&[1], 1_024), 0));
+    }
+}
+
+/// A batch by the function that hosts call, as C sees it: what is not quiet is summed up as the step's answers are.
+fn library_run(session: &mut [u64], mut records: &[u8]) -> u64 {
+    let (words, length) = (session.as_mut_ptr(), session.len());
+    let mut sum = 0u64;
+    while !records.is_empty() {
+        let (mut taken, mut receiver, mut tag) = (0, 0, 0);
+        // SAFETY: the slices are valid and aligned for their lengths, and the three numbers are ours.
+        let number = unsafe {
+            ffi::yaslaurel_run(words, length, records.as_ptr(), records.len(), &mut taken, &mut receiver, &mut tag)
+        };
+        if number != ffi::QUIET {
+            sum = sum.rotate_left(5) ^ tag ^ receiver ^ u64::from(number);
+        }
+        records = &records[records.len().min(record::LENGTH * taken)..];
+    }
+    sum
+}
+
+/// The same by the iterator of the Rust interface.
+fn iterated_run(session: &mut [u64], records: &[u8]) -> u64 {
+    yaslaurel::run_in(session, records).fold(0, |sum: u64, (_, answer)| {
+        let (number, receiver, tag) = match answer {
+            Ok(alert) => (ffi::ALERT, u64::from(alert.receiver), alert.tag),
+            Err(refusal) => (refusal.number(), 0, 0),
+        };
+        sum.rotate_left(5) ^ tag ^ receiver ^ u64::from(number)
+    })
+}
+
+/// The same by single calls of a step.
+fn stepped_run(step: Step, session: &mut [u64], records: &[u8]) -> u64 {
+    records.chunks(record::LENGTH).fold(0, |sum: u64, bytes| match step(session, bytes) {
+        (ffi::QUIET, ..) => sum,
+        (number, receiver, tag) => sum.rotate_left(5) ^ tag ^ receiver ^ u64::from(number),
+    })
+}
+
+/// Batches of 1,024 records: the run against single calls, the Rust interface's iterator, and natural Rust.
+fn batches() {
+    println!("\n## A batch of 1,024 records\n");
+    println!("| records | library ns a record | to single calls | to the Rust iterator | to natural |\n|---|---|---|---|---|");
+    type Run = fn(&mut [u64], &[u8]) -> u64;
+    const RUNS: [(&str, Run); 4] = [
+        ("library", library_run),
+        ("single", |session, records| stepped_run(library_step, session, records)),
+        ("iterator", iterated_run),
+        ("natural", |session, records| stepped_run(plain::step::<Natural>, session, records)),
+    ];
+    let one = started(&work::policy(1, 6));
+    let mixed = &[1, 1, 2, 3, 4][..];
+    for (name, codes, damaged) in [
+        ("read, rules of 1", &[1][..], 0),
+        ("mixed, rules of 1", mixed, 0),
+        ("mixed, one in ten refused with 7", mixed, 10),
+    ] {
+        let mut records = work::records(codes, 1_024);
+        if damaged > 0 {
+            records.iter_mut().step_by(damaged).for_each(|bytes| bytes[record::CODE] = 200);
+        }
+        let bytes = records.concat();
+        let mut trial = one.clone();
+        let alerts = bytes.chunks(record::LENGTH).filter(|r| judge_step(&mut trial, r).0 == ffi::ALERT).count();
+        let mut copies: Vec<std::cell::RefCell<Vec<u64>>> = Vec::new();
+        copies.resize_with(RUNS.len(), || std::cell::RefCell::new(one.clone()));
+        let mut variants: Vec<Variant<'_>> = RUNS
+            .iter()
+            .zip(&copies)
+            .map(|((name, run), copy)| Variant {
+                name,
+                prepare: Box::new(|| copy.borrow_mut().copy_from_slice(&one)),
+                run: Box::new(|| run(&mut copy.borrow_mut(), std::hint::black_box(&bytes))),
+            })
+            .collect();
+        let outcome = race(ROUNDS, records.len(), &mut variants);
+        let ratio =
+            |column: &str| outcome.ratios.iter().find(|(name, _)| *name == column).map_or(0.0, |(_, ratio)| *ratio);
+        let (single, iterator, natural) = (ratio("single"), ratio("iterator"), ratio("natural"));
+        println!(
+            "| {name}, {alerts} alerts | {:.1} | {single:.2} | {iterator:.2} | {natural:.2} |",
+            outcome.nanoseconds
+        );
     }
 }
 
@@ -404,6 +489,10 @@ fn main() -> io::Result<()> {
     match words[..] {
         ["listing"] => return listing(),
         ["watch", program] => return watch(program),
+        ["batches"] => {
+            batches();
+            return Ok(());
+        }
         ["trace", count] => {
             fs::write("policy.bin", work::policy(1, 6))?;
             return fs::write("trace.bin", whole_trace(count.parse().expect("a number of records")));
@@ -412,6 +501,7 @@ fn main() -> io::Result<()> {
     }
     println!("Ratios are the library's time by the other's, medians of {ROUNDS} rounds in which all run by turns.");
     operations();
+    batches();
     images(&[
         (format!("smallest, {HEADER} bytes"), work::image(&[], &[], &[])),
         ("typical, 160 containers, rules of 1".into(), work::policy(1, 6)),

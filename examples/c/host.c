@@ -1,59 +1,68 @@
 /*
- * A small host in C: loads a policy and a trace, and prints each alert with the names of the sources that met.
+ * A small host in C: loads a policy, reads a trace in chunks, and prints each alert with the names of the sources that met.
  *
  *     gcc -std=c11 -Iinclude -o host examples/c/host.c target/lib/libyaslaurel.a
  *     host POLICY TRACE [NAMES]
  *
  * NAMES is a text of one name for each data atom, one on a line; without it an atom is named by its number.
- * Exit status: 0 no alert, 1 some alert, 2 the policy was refused, 3 a file could not be read.
+ *
+ * Exit status:
+ *   0  every record was quiet
+ *   1  some record gave an alert
+ *   2  some record was refused: the monitor has not followed it
+ *   3  both
+ *   4  the policy was refused
+ *   5  a failure: wrong arguments, a file that could not be read, an output that could not be written
  */
 #include <inttypes.h>
 #include <stdio.h>
-#include <stdlib.h>
 #include <string.h>
 
 #include "yaslaurel.h"
 
 enum { ATOMS = 32, NAME_LENGTH = 64 };
 
-/* A file's bytes. A file longer than `limit` is read up to there. */
-struct bytes {
-    uint8_t *at;
-    size_t length;
-};
+enum status { QUIET = 0, ALERTS = 1, REFUSALS = 2, POLICY_REFUSED = 4, FAILED = 5 };
 
-static int load(const char *path, size_t limit, struct bytes *into)
+/* Bytes of the trace that are read at a time: whole records. */
+enum { CHUNK = 8192 * YASLAUREL_RECORD_LENGTH };
+
+/* Reads up to so many bytes of a file. How many there were, or -1 with a message if it could not be read. */
+static long load(const char *path, uint8_t *into, size_t limit)
 {
     FILE *file = fopen(path, "rb");
     if (file == NULL) {
         perror(path);
-        return 0;
+        return -1;
     }
-    /* One byte at least, so that an empty file has an address too: no pointer passed to the library is null. */
-    into->at = malloc(limit > 0 ? limit : 1);
-    into->length = 0;
-    if (into->at != NULL) {
-        into->length = fread(into->at, 1, limit, file);
+    size_t length = fread(into, 1, limit, file);
+    int good = !ferror(file);
+    if (!good) {
+        perror(path);
     }
-    int good = into->at != NULL && !ferror(file);
     fclose(file);
-    return good;
+    return good ? (long)length : -1;
 }
 
-static size_t load_names(const char *path, char names[ATOMS][NAME_LENGTH])
+/* Reads the names of the sources. How many there were, or -1 with a message. */
+static long load_names(const char *path, char names[ATOMS][NAME_LENGTH])
 {
     FILE *file = fopen(path, "r");
-    size_t count = 0;
+    long count = 0;
     if (file == NULL) {
         perror(path);
-        return 0;
+        return -1;
     }
     while (count < ATOMS && fgets(names[count], NAME_LENGTH, file) != NULL) {
         names[count][strcspn(names[count], "\n")] = '\0';
         count++;
     }
+    int good = !ferror(file);
+    if (!good) {
+        perror(path);
+    }
     fclose(file);
-    return count;
+    return good ? count : -1;
 }
 
 /* Prints the sources of a tag; a source that was executed is marked. */
@@ -98,50 +107,88 @@ static const char *meaning(uint32_t refusal)
     }
 }
 
-int main(int argc, char **argv)
+/* What has been counted so far. */
+struct totals {
+    uint64_t steps, alerts, refusals;
+};
+
+/* Judges the records of a chunk and prints what is not quiet. */
+static void judge(uint64_t *session, const uint8_t *records, size_t length, struct totals *totals,
+                  char names[ATOMS][NAME_LENGTH], size_t name_count)
 {
-    static uint64_t session[YASLAUREL_SESSION_LENGTH];
-    char names[ATOMS][NAME_LENGTH];
-    size_t name_count = 0;
-    struct bytes policy, trace;
-    unsigned long steps = 0, alerts = 0, refusals = 0;
-
-    if (argc < 3 || argc > 4) {
-        fprintf(stderr, "host POLICY TRACE [NAMES]\n");
-        return 3;
-    }
-    /* One byte more than the limit: a policy that is too long is refused, not cut. */
-    if (!load(argv[1], YASLAUREL_IMAGE_LIMIT + 1, &policy) || !load(argv[2], (size_t)1 << 24, &trace)) {
-        return 3;
-    }
-    if (argc == 4) {
-        name_count = load_names(argv[3], names);
-    }
-
-    uint32_t refused = yaslaurel_session_start(policy.at, policy.length, session, YASLAUREL_SESSION_LENGTH);
-    if (refused != YASLAUREL_ACCEPTED) {
-        printf("policy refused %" PRIu32 "\n", refused);
-        return 2;
-    }
-    for (size_t at = 0; at < trace.length; at += YASLAUREL_RECORD_LENGTH) {
-        size_t left = trace.length - at;
-        size_t length = left < YASLAUREL_RECORD_LENGTH ? left : YASLAUREL_RECORD_LENGTH;
+    while (length > 0) {
+        size_t taken = 0;
         uint64_t receiver = 0, tag = 0;
         uint32_t answer =
-            yaslaurel_step(session, YASLAUREL_SESSION_LENGTH, trace.at + at, length, &receiver, &tag);
-        steps++;
+            yaslaurel_run(session, YASLAUREL_SESSION_LENGTH, records, length, &taken, &receiver, &tag);
+        totals->steps += taken;
         if (answer == YASLAUREL_ALERT) {
-            alerts++;
-            printf("step %lu: container %" PRIu64 " now holds", steps, receiver);
+            totals->alerts++;
+            printf("step %" PRIu64 ": container %" PRIu64 " now holds", totals->steps, receiver);
             print_sources(tag, names, name_count);
             printf("\n");
         } else if (answer != YASLAUREL_QUIET) {
-            refusals++;
-            printf("step %lu: refused %" PRIu32 ", %s\n", steps, answer, meaning(answer));
+            totals->refusals++;
+            printf("step %" PRIu64 ": refused %" PRIu32 ", %s\n", totals->steps, answer, meaning(answer));
+        }
+        /* The last record of a trace may be short. */
+        size_t bytes = taken * YASLAUREL_RECORD_LENGTH;
+        bytes = bytes < length ? bytes : length;
+        records += bytes;
+        length -= bytes;
+    }
+}
+
+int main(int argc, char **argv)
+{
+    static uint64_t session[YASLAUREL_SESSION_LENGTH];
+    /* One byte more than the limit: a policy that is too long is refused, not cut. */
+    static uint8_t policy[YASLAUREL_IMAGE_LIMIT + 1];
+    static uint8_t chunk[CHUNK];
+    static char names[ATOMS][NAME_LENGTH];
+    struct totals totals = {0, 0, 0};
+
+    if (argc < 3 || argc > 4) {
+        fprintf(stderr, "host POLICY TRACE [NAMES]\n");
+        return FAILED;
+    }
+    long policy_length = load(argv[1], policy, sizeof policy);
+    long name_count = argc == 4 ? load_names(argv[3], names) : 0;
+    FILE *trace = fopen(argv[2], "rb");
+    if (trace == NULL) {
+        perror(argv[2]);
+    }
+    if (policy_length < 0 || name_count < 0 || trace == NULL) {
+        return FAILED;
+    }
+
+    int status = QUIET;
+    uint32_t refused = yaslaurel_session_start(policy, (size_t)policy_length, session, YASLAUREL_SESSION_LENGTH);
+    if (refused != YASLAUREL_ACCEPTED) {
+        printf("policy refused %" PRIu32 "\n", refused);
+        status = POLICY_REFUSED;
+    } else {
+        /* A chunk is short at the end of the trace alone, so no record is cut. */
+        size_t length;
+        do {
+            length = fread(chunk, 1, sizeof chunk, trace);
+            if (!ferror(trace)) {
+                judge(session, chunk, length, &totals, names, (size_t)name_count);
+            }
+        } while (length == sizeof chunk);
+        if (ferror(trace)) {
+            perror(argv[2]);
+            status = FAILED;
+        } else {
+            printf("%" PRIu64 " steps, %" PRIu64 " alerts, %" PRIu64 " refused\n", totals.steps, totals.alerts,
+                   totals.refusals);
+            status = (totals.alerts > 0 ? ALERTS : QUIET) | (totals.refusals > 0 ? REFUSALS : QUIET);
         }
     }
-    printf("%lu steps, %lu alerts, %lu refused\n", steps, alerts, refusals);
-    free(policy.at);
-    free(trace.at);
-    return alerts > 0;
+    fclose(trace);
+    if (fflush(stdout) != 0 || ferror(stdout)) {
+        perror("output");
+        status = FAILED;
+    }
+    return status;
 }

@@ -4,10 +4,11 @@ ghost use Rattle.image.specs.Image.{checkOf};
 ghost use Rattle.session.specs.Session.{startAnswer, startEffect};
 ghost use Rattle.answers.specs.Answers.{answerNumber};
 ghost use Rattle.monitor.specs.Steps.{stepAnswer, stepEffect};
+ghost use Rattle.monitor.specs.Stops.{ran, ranEffect};
 ghost use Rattle.normaliser.specs.Normaliser.{normalAnswer, normalEffect};
 ghost use Rattle.matrix.specs.Verdicts.{matrixVerdict};
 ghost use Rattle.derivation.specs.Derived.{derivedAnswer, derivedEffect};
-ghost use Rattle.capi.specs.Hosts.{receiverAfter, tagAfter, valueAfter};
+ghost use Rattle.capi.specs.Hosts.{receiverAfter, tagAfter, takenAfter, alertReceiver, alertTag, valueAfter};
 use answers::Answer;
 use answers::Verdict;
 use matrix::Consistency;
@@ -64,6 +65,47 @@ pub extern "C" fn yaslaurel_step(
             }
         }
         Answer::Refused(n) => n,
+    }
+}
+
+// The records one behind the other, up to and with the first that is not answered quiet: 0 if each was, 256 alert, with receiver and
+// tag, or that record's refusal; taken is how many were run. 9 comes first, and everything is as it was.
+#[no_mangle]
+pub extern "C" fn yaslaurel_run(
+    session: &mut [u64],
+    records: &[u8],
+    taken: &mut usize,
+    receiver: &mut u64,
+    tag: &mut u64,
+) -> u32
+    ensures { λ r. ⌜
+        (r ≡ answerNumber (ran (now (session .entry)) (now (records .entry)) .answer))
+        × (now (session .exit) ≡ ranEffect (now (session .entry)) (now (records .entry)))
+        × (now (taken .exit) ≡ takenAfter (ran (now (session .entry)) (now (records .entry))) (now (taken .entry)))
+        × (now (receiver .exit) ≡ alertReceiver (ran (now (session .entry)) (now (records .entry)) .answer) (now (receiver .entry)))
+        × (now (tag .exit) ≡ alertTag (ran (now (session .entry)) (now (records .entry)) .answer) (now (tag .entry))) ⌝ }
+{
+    let ran = monitor::run(session, records);
+    let answer = ran.answer;
+    match answer {
+        Answer::Given(verdict, received) => {
+            *taken = ran.taken;
+            match verdict {
+                Verdict::Quiet => 0,
+                Verdict::Alert => {
+                    *receiver = received.receiver as u64;
+                    *tag = received.tag;
+                    answers::ALERT_NUMBER
+                }
+            }
+        }
+        Answer::Refused(n) => {
+            if n == answers::LENT_LENGTH {
+                return n;
+            }
+            *taken = ran.taken;
+            n
+        }
     }
 }
 

@@ -17,11 +17,13 @@ use Rattle.lists.specs.Lists.{joined, every}
 use Rattle.lists.proofs.Places.{map-at}
 use Rattle.fields.specs.Writing.{overwritten}
 use Rattle.fields.proofs.RowWriting.{RowsWritten, rows-start, rows-room, rows-next, rows-end, part-wrote, wrote-whole}
-use Rattle.rules.specs.Answers.{mixtureLimit, padded}
+use Rattle.rules.specs.Answers.{mixtureLimit, padded, boundedOf}
+use Rattle.rules.specs.declared.Bounded.{Bounded}
 use Rattle.rules.specs.Rules.{normal}
 use Rattle.rules.proofs.RuleLaws.{normal-length}
-use Rattle.rule_words.specs.Words.{ruleWidth, wordsOf}
-use Rattle.rule_words.proofs.WordLaws.{words-nine}
+use Rattle.rule_words.specs.Words.{ruleWidth, ruleOf, wordsOf, keptWell}
+use Rattle.rule_words.proofs.WordLaws.{words-nine, bounded-words}
+use Rattle.rule_words.proofs.KeptWords.{kept-normal}
 use Rattle.normaliser.specs.Writer.{formWords}
 use Rattle.normaliser.proofs.WriterLaws.{words-length}
 use Rattle.matrix.specs.Limits.{subjectLimit, objectLimit}
@@ -143,6 +145,23 @@ pub own-is : (b : ℕ) → b < objectLimit → 1 * 2 ^ b % 2 ^ 64 ≡ 2 ^ b
 own-is b l =
     let p : b < 64 = omega arith in
     ap (λ (x : ℕ). x % 2 ^ 64) (one-mul (2 ^ b)) ∙ mod-eq-of-lt (pow-lt p)
+
+-- ---- the words of a rule in normal form
+
+module _ (ws : List ℕ) (l : length (ruleOf ws) ≤ mixtureLimit) (e : ws ≡ wordsOf (ruleOf ws)) where
+  pub settle-long : length ws ≡ ruleWidth
+  settle-long = ap length e ∙ words-nine (ruleOf ws) l
+
+  pub settle-count : getD ws 0 0 ≤ mixtureLimit
+  unfolding wordsOf
+  settle-count = omega (arith, l, ap (λ (x : List ℕ). getD x 0 0) e)
+
+  pub settle-kept : keptWell ws ≡ true → ws ≡ wordsOf (normal (ruleOf ws))
+  settle-kept h = e ∙ ap wordsOf (sym (kept-normal ws h))
+
+  pub settle-made : (r : List ℕ) (m : Bounded) (out : List ℕ) → r ≡ ruleOf ws → m ≡ boundedOf (normal r) → out ≡ m .count ∷ m .mixtures → out ≡ wordsOf (normal (ruleOf ws))
+  settle-made r m out f g h =
+      h ∙ bounded-words (normal (ruleOf ws)) m (g ∙ ap (λ (x : List ℕ). boundedOf (normal x)) f) (omega (arith, l, normal-length (ruleOf ws)))
 
 -- ---- the objects, one after the other
 

@@ -6,7 +6,8 @@ ghost use lib.ListN.{length, replicate};
 ghost use Rattle.fields.specs.Writing.{Wrote};
 ghost use Rattle.lists.specs.Lists.{joined};
 ghost use Rattle.rules.specs.Rules.{normal};
-ghost use Rattle.rule_words.specs.Words.{ruleWidth, wordsOf};
+ghost use Rattle.rules.specs.Answers.{mixtureLimit};
+ghost use Rattle.rule_words.specs.Words.{ruleWidth, ruleOf, wordsOf};
 ghost use Rattle.image.specs.Limits.{containerSize};
 ghost use Rattle.image.specs.Normal.{containerBytes};
 ghost use Rattle.normaliser.specs.Writer.{formWords};
@@ -86,13 +87,26 @@ fn list_permit(words: &mut [u64], reads: &[u32], writes: &[u32], b: usize)
     words[0] = count as u64;
 }
 
-// The same in normal form.
+// The rule of the words in normal form: mostly it is so. Else the sieve makes it, so that the code which sorts first stands
+// where images are read and nowhere else.
+fn settle(words: &mut [u64])
+    requires { ⌜ (length (ruleOf (now words)) ≤ mixtureLimit) × (now words ≡ wordsOf (ruleOf (now words))) ⌝ }
+    ensures { λ _. ⌜ now (words .exit) ≡ wordsOf (normal (ruleOf (now (words .entry)))) ⌝ }
+{
+    if rule_words::kept_well(words) {
+        return;
+    }
+    let rule = rules::normal(rule_words::rule_of(words));
+    rule_words::put_rule(words, rule);
+}
+
+// The permit rule of object b in normal form.
 fn put_permit(words: &mut [u64], reads: &[u32], writes: &[u32], b: usize)
     requires { ⌜ (length (now writes) ≡ length (now reads)) × (length (now reads) ≤ subjectLimit) × (b < objectLimit) × (now words ≡ replicate ruleWidth 0) ⌝ }
     ensures { λ _. ⌜ now (words .exit) ≡ wordsOf (normal (permitOf (now (reads .entry)) (now (writes .entry)) b)) ⌝ }
 {
     list_permit(words, reads, writes, b);
-    rule_words::make_normal(words);
+    settle(words);
 }
 
 // The permit rules of the first n objects in words of zeros.

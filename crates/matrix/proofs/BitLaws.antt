@@ -1,7 +1,7 @@
 -- Bits of rows as tests.
-use Prim.Native.Nat.{ℕ, zero, suc, _+_, _-_, _/_, _%_, _^_, _≤_, _<_}
+use Prim.Native.Nat.{ℕ, zero, suc, _+_, _-_, _*_, _/_, _%_, _^_, _≤_, _<_}
 use mathlib.Core.Path.{_≡_, sym, ap, _∙_}
-use mathlib.Core.Bool.{Bool, true, false, not, _&&_, _||_}
+use mathlib.Core.Bool.{Bool, true, false, not, cond, _&&_, _||_}
 use mathlib.Core.Logic.{_⊎_, inl, inr}
 use native.Mathlib.Decide.{ℕ-discrete, decLt}
 use native.Mathlib.Nat.{lt-of-lt-of-le, div-one}
@@ -14,6 +14,7 @@ use Rattle.rules.specs.Sets.{atom}
 use Rattle.rules.proofs.SetLaws.{atom-le, atom-and, atom-or, atom-above, single-same, single-other, ext}
 use Rattle.lists.proofs.Bools.{decide}
 use Rattle.matrix.specs.Flows.{has}
+use Rattle.matrix.specs.Rows.{bitsOf}
 
 -- the test, as code makes it
 pub has-is : (row k : ℕ) → row / 2 ^ k % 2 ≡ 1 → has row k ≡ true
@@ -119,3 +120,42 @@ has-without w a g k p q = has-and a (2 ^ w - 1 - g) k ∙ by (decLt k w)
 pub has-at : (row n k : ℕ) → has row (n + k) ≡ has (row / 2 ^ n) k
 unfolding has atom
 has-at row n k = ap (λ (x : ℕ). eqb (x % 2) 1) (sym (shr-shr row n k))
+
+-- ---- the number of given bits
+
+bits-half : (t : Bool) (m : ℕ) → (cond t 1 0 + 2 * m) / 2 ≡ m
+bits-half true m = omega arith
+bits-half false m = omega arith
+
+bits-first : (t : Bool) (m : ℕ) → eqb ((cond t 1 0 + 2 * m) % 2) 1 ≡ t
+bits-first true m = eq-eqb ((1 + 2 * m) % 2) 1 (omega arith)
+bits-first false m = ne-eqb ((0 + 2 * m) % 2) 1 (λ q. omega arith)
+
+bits-small : (f : ℕ → Bool) (w : ℕ) → bitsOf f w < 2 ^ w
+unfolding bitsOf
+bits-small f zero = omega arith
+bits-small f (suc w) = by (f 0) (bits-small (λ k. f (suc k)) w)
+  where
+    by : (t : Bool) → bitsOf (λ k. f (suc k)) w < 2 ^ w → cond t 1 0 + 2 * bitsOf (λ k. f (suc k)) w < 2 ^ suc w
+    by true h = omega arith
+    by false h = omega arith
+
+pub bits-has : (f : ℕ → Bool) (w k : ℕ) → k < w → has (bitsOf f w) k ≡ f k
+unfolding bitsOf
+bits-has f zero k l = absurd (omega arith)
+bits-has f (suc w) zero l = has-first (cond (f 0) 1 0 + 2 * bitsOf (λ k. f (suc k)) w) ∙ bits-first (f 0) (bitsOf (λ k. f (suc k)) w)
+bits-has f (suc w) (suc k) l =
+    has-next (cond (f 0) 1 0 + 2 * bitsOf (λ k. f (suc k)) w) k
+    ∙ ap (λ (x : ℕ). has x k) (bits-half (f 0) (bitsOf (λ k. f (suc k)) w))
+    ∙ bits-has (λ k. f (suc k)) w k (omega arith)
+
+pub bits-above : (f : ℕ → Bool) (w k : ℕ) → w ≤ k → has (bitsOf f w) k ≡ false
+bits-above f w k l = has-above (bitsOf f w) w k (bits-small f w) l
+
+-- a number of w bits is the number of its bits
+pub bits-is : (x w : ℕ) (f : ℕ → Bool) → x < 2 ^ w → ((k : ℕ) → k < w → has x k ≡ f k) → x ≡ bitsOf f w
+bits-is x w f h e = has-ext x (bitsOf f w) (λ k. by k (decLt k w))
+  where
+    by : (k : ℕ) → Dec (k < w) → has x k ≡ has (bitsOf f w) k
+    by k (yes l) = e k l ∙ sym (bits-has f w k l)
+    by k (no l) = has-above x w k h (omega arith) ∙ sym (bits-above f w k (omega arith))

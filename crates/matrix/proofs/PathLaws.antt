@@ -103,14 +103,14 @@ module _ (f : ℕ → ℕ → Bool) where
 
 -- ---- the test goes by the relation's values
 
-pub within-same : (f g : ℕ → ℕ → Bool) (n k a b : ℕ) → k ≤ n → a < n → ((a b : ℕ) → a < n → f a b ≡ g a b) → within f k a b ≡ within g k a b
+pub within-same : (f g : ℕ → ℕ → Bool) (n m k a b : ℕ) → k ≤ n → n ≤ m → a < n → b < m → ((a b : ℕ) → a < n → b < m → f a b ≡ g a b) → within f k a b ≡ within g k a b
 unfolding within
-within-same f g n zero a b l p e = e a b p
-within-same f g n (suc k) a b l p e =
-    let ih : (a b : ℕ) → a < n → within f k a b ≡ within g k a b = λ a b p. within-same f g n k a b (omega arith) p e in
-    let x : within f k a b ≡ within g k a b = ih a b p in
-    let y : within f k a k ≡ within g k a k = ih a k p in
-    let z : within f k k b ≡ within g k k b = ih k b (omega arith) in
+within-same f g n m zero a b l w p q e = e a b p q
+within-same f g n m (suc k) a b l w p q e =
+    let ih : (a b : ℕ) → a < n → b < m → within f k a b ≡ within g k a b = λ a b p q. within-same f g n m k a b (omega arith) w p q e in
+    let x : within f k a b ≡ within g k a b = ih a b p q in
+    let y : within f k a k ≡ within g k a k = ih a k p (omega arith) in
+    let z : within f k k b ≡ within g k k b = ih k b (omega arith) q in
     ap₂ (λ (u v : Bool). u || v) x (ap₂ (λ (u v : Bool). u && v) y z)
 
 -- a number that nothing leads to

@@ -1,22 +1,23 @@
 -- What each turn of the loops over rows does: start, one turn, end.
-use Prim.Native.Nat.{ℕ, suc, _+_, _-_, _*_, _/_, _%_, _^_, _≤_, _<_}
+use Prim.Native.Nat.{ℕ, zero, suc, _+_, _-_, _*_, _/_, _%_, _^_, _≤_, _<_}
 use mathlib.Core.Path.{_≡_, refl, sym, ap, ap₂, _∙_}
 use mathlib.Core.Bool.{Bool, true, false, cond, _&&_, _||_}
-use mathlib.Core.List.{List}
-use native.Mathlib.Decide.{ℕ-discrete}
+use mathlib.Core.List.{List, _++_}
+use native.Mathlib.Decide.{ℕ-discrete, decLt}
 use native.Mathlib.Nat.{one-mul, mod-eq-of-lt}
 use native.Mathlib.Numerals.{add-one}
 use native.Mathlib.Omega.{arith}
 use lib.Pow.{pow-lt}
 use lib.Bits.{bitOr}
 use lib.Dec.{ltb}
-use lib.ListN.{length, getD, drop, set, length-set, drop-of-length-le}
-use lib.Seq.{drop-cons, getD-set-same, getD-set-other}
+use lib.ListN.{length, getD, drop, set, length-set, length-append, length-drop, List·getD-append, drop-of-length-le}
+use lib.Seq.{drop-cons, getD-append-add, getD-drop, getD-set-same, getD-set-other, ext-getD}
 use borrow.Author.Tests.{lt-ltb, le-ltb}
 use Rattle.lists.specs.Lists.{every}
 use Rattle.matrix.specs.Flows.{has, subjectCarries, granted, within, rowsWithin}
-use Rattle.matrix.specs.Rows.{bitAt, Spelt, joinedAt, Passed}
-use Rattle.matrix.proofs.BitLaws.{has-is, has-not, has-or, has-single}
+use Rattle.matrix.specs.Rows.{bitAt, bitsOf, rowsOf, spelling, joinedAt, Passed}
+use Rattle.matrix.specs.Limits.{objectLimit}
+use Rattle.matrix.proofs.BitLaws.{has-is, has-not, has-or, has-single, bits-has, bits-above, bits-is}
 
 -- ---- a row of the granted flows: the subjects before s are done
 
@@ -112,6 +113,54 @@ stored-next P n before rows a v s h p =
     by i l (yes e) = rw (e, getD-set-same rows a v 0 (omega (arith, s .long, s .fit))) p
     by i l (no d) = rw (getD-set-other rows a i v 0 d) (s .done i (omega arith))
 
+-- ---- a table whose first n rows spell a relation
+
+rows-length : (f : ℕ → ℕ → Bool) (n : ℕ) → length (rowsOf f n) ≡ n
+unfolding rowsOf
+rows-length f zero = refl
+rows-length f (suc n) = ap suc (rows-length (λ a. f (suc a)) n)
+
+rows-at : (f : ℕ → ℕ → Bool) (n a : ℕ) → a < n → getD (rowsOf f n) a 0 ≡ bitsOf (f a) objectLimit
+unfolding rowsOf
+rows-at f zero a l = absurd (omega arith)
+rows-at f (suc n) zero l = refl
+rows-at f (suc n) (suc a) l = rows-at (λ a. f (suc a)) n a (omega arith)
+
+module _ (f : ℕ → ℕ → Bool) (n : ℕ) (rows : List ℕ) where
+  spelling-length : n ≤ length rows → length (spelling f n rows) ≡ length rows
+  unfolding spelling
+  spelling-length h = omega (arith, length-append (rowsOf f n) (drop n rows), rows-length f n, length-drop n rows)
+
+  pub spelling-fits : (after : List ℕ) → after ≡ spelling f n rows → n ≤ length rows → n ≤ length after
+  spelling-fits after e h = omega (arith, ap length e, spelling-length h)
+
+  spelling-row : (a : ℕ) → a < n → getD (spelling f n rows) a 0 ≡ bitsOf (f a) objectLimit
+  unfolding spelling
+  spelling-row a l = List·getD-append (rowsOf f n) (drop n rows) 0 a (omega (arith, rows-length f n)) ∙ rows-at f n a l
+
+  spelling-behind : (a : ℕ) → n ≤ a → getD (spelling f n rows) a 0 ≡ getD rows a 0
+  unfolding spelling
+  spelling-behind a l =
+      let e : a ≡ length (rowsOf f n) + (a - n) = omega (arith, rows-length f n) in
+      let m : n + (a - n) ≡ a = omega arith in
+      ap (λ (k : ℕ). getD (rowsOf f n ++ drop n rows) k 0) e ∙ getD-append-add (rowsOf f n) (drop n rows) (a - n) 0 ∙ getD-drop n rows (a - n) 0 ∙ ap (λ (k : ℕ). getD rows k 0) m
+
+  pub spelling-bits : (a b : ℕ) → a < n → b < objectLimit → bitAt (spelling f n rows) a b ≡ f a b
+  unfolding bitAt
+  spelling-bits a b l h = ap (λ (x : ℕ). has x b) (spelling-row a l) ∙ bits-has (f a) objectLimit b h
+
+  pub spelling-above : (a b : ℕ) → a < n → objectLimit ≤ b → bitAt (spelling f n rows) a b ≡ false
+  unfolding bitAt
+  spelling-above a b l h = ap (λ (x : ℕ). has x b) (spelling-row a l) ∙ bits-above (f a) objectLimit b h
+
+  pub spelling-is : (after : List ℕ) → n ≤ length rows → length after ≡ length rows → ((a : ℕ) → a < n → getD after a 0 ≡ bitsOf (f a) objectLimit) → ((a : ℕ) → n ≤ a → getD after a 0 ≡ getD rows a 0)
+      → after ≡ spelling f n rows
+  spelling-is after h l e r = ext-getD 0 after (spelling f n rows) (l ∙ sym (spelling-length h)) (λ a m. by a (decLt a n))
+    where
+      by : (a : ℕ) → Dec (a < n) → getD after a 0 ≡ getD (spelling f n rows) a 0
+      by a (yes p) = e a p ∙ sym (spelling-row a p)
+      by a (no p) = r a (omega arith) ∙ sym (spelling-behind a (omega arith))
+
 -- ---- one pass for each object: the paths whose inner objects are below k are there
 
 pub record Closing (n : ℕ) (before rows : List ℕ) (k : ℕ) : Type 0 where
@@ -119,10 +168,12 @@ pub record Closing (n : ℕ) (before rows : List ℕ) (k : ℕ) : Type 0 where
   pub fit : n ≤ length before
   pub long : length rows ≡ length before
   pub bits : (a b : ℕ) → a < n → bitAt rows a b ≡ within (bitAt before) k a b
+  pub rest : (a : ℕ) → n ≤ a → getD rows a 0 ≡ getD before a 0
+  pub small : (a : ℕ) → getD rows a 0 < 2 ^ 32
 
-pub closing-start : (n : ℕ) (before : List ℕ) → n ≤ length before → Closing n before before 0
+pub closing-start : (n : ℕ) (before : List ℕ) → n ≤ length before → ((a : ℕ) → getD before a 0 < 2 ^ 32) → Closing n before before 0
 unfolding within
-closing-start n before h = record { place = omega arith; fit = h; long = refl; bits = λ a b l. refl }
+closing-start n before h w = record { place = omega arith; fit = h; long = refl; bits = λ a b l. refl; rest = λ a l. refl; small = w }
 
 joined-has : (k other row b : ℕ) → has (joinedAt k other row) b ≡ (has row b || (has row k && has other b))
 unfolding joinedAt
@@ -136,14 +187,16 @@ joined-has k other row b = by (has row k)
     by true = has-or row other b
     by false = or-false (has row b)
 
-pub closing-next : (n : ℕ) (before rows after : List ℕ) (k : ℕ) → Closing n before rows k → k < n → Passed k n rows after → Closing n before after (k + 1)
+pub closing-next : (n : ℕ) (before rows after : List ℕ) (k : ℕ) → Closing n before rows k → k < n → Passed k n rows after → ((a : ℕ) → getD after a 0 < 2 ^ 32) → Closing n before after (k + 1)
 unfolding within bitAt
-closing-next n before rows after k c h p =
+closing-next n before rows after k c h p w =
     record {
       place = omega arith;
       fit = c .fit;
       long = p .long ∙ c .long;
       bits = λ a b l. one a b l ∙ ap (λ (j : ℕ). within (bitAt before) j a b) (sym (add-one k));
+      rest = λ a l. p .rest a l ∙ c .rest a l;
+      small = w;
     }
   where
     one : (a b : ℕ) → a < n → bitAt after a b ≡ within (bitAt before) (suc k) a b
@@ -152,10 +205,13 @@ closing-next n before rows after k c h p =
         ∙ joined-has k (getD rows k 0) (getD rows a 0) b
         ∙ ap₂ (λ (x y : Bool). x || y) (c .bits a b l) (ap₂ (λ (x y : Bool). x && y) (c .bits a k l) (c .bits k b h))
 
-pub closing-end : (n : ℕ) (before rows : List ℕ) (k : ℕ) → Closing n before rows k → n ≤ k → Spelt (within (bitAt before) n) n rows
+pub closing-end : (n : ℕ) (before rows : List ℕ) (k : ℕ) → Closing n before rows k → n ≤ k → rows ≡ spelling (within (bitAt before) n) n before
+unfolding bitAt
 closing-end n before rows k c h =
     let e : k ≡ n = omega (arith, c .place) in
-    record { fit = omega (arith, c .fit, c .long); bits = λ a b l. c .bits a b l ∙ ap (λ (j : ℕ). within (bitAt before) j a b) e }
+    spelling-is (within (bitAt before) n) n before rows (c .fit) (c .long)
+    (λ a l. bits-is (getD rows a 0) objectLimit (within (bitAt before) n a) (c .small a) (λ b m. c .bits a b l ∙ ap (λ (j : ℕ). within (bitAt before) j a b) e))
+    (c .rest)
 
 -- ---- rows without a bit beyond the objects
 
@@ -192,12 +248,15 @@ checking-end objects rows s c h = rw (drop-of-length-le rows h) at (c .rest)
 -- ---- row i of the granted flows, stored
 
 abbrev pub GrantedAt : List ℕ → List ℕ → ℕ → ℕ → Type 0
-GrantedAt reads writes i x = (b : ℕ) → has x b ≡ granted reads writes i b
+GrantedAt reads writes i x = x ≡ bitsOf (granted reads writes i) objectLimit
 
-pub granted-end : (reads writes : List ℕ) (n : ℕ) (before rows : List ℕ) (a : ℕ) → Stored (GrantedAt reads writes) n before rows a → n ≤ a → Spelt (granted reads writes) n rows
-unfolding bitAt
+pub granted-is : (reads writes : List ℕ) (i x : ℕ) → x < 2 ^ 32 → ((b : ℕ) → has x b ≡ granted reads writes i b) → GrantedAt reads writes i x
+granted-is reads writes i x h e = bits-is x objectLimit (granted reads writes i) h (λ b l. e b)
+
+pub granted-end : (reads writes : List ℕ) (n : ℕ) (before rows : List ℕ) (a : ℕ) → Stored (GrantedAt reads writes) n before rows a → n ≤ a → rows ≡ spelling (granted reads writes) n before
 granted-end reads writes n before rows a s h =
-    record { fit = omega (arith, s .fit, s .long); bits = λ i b l. s .done i (omega arith) b }
+    let e : a ≡ n = omega (arith, s .place) in
+    spelling-is (granted reads writes) n before rows (s .fit) (s .long) (λ i l. s .done i (omega arith)) (λ i l. s .rest i (omega arith))
 
 -- ---- row i of a pass, stored
 
@@ -209,4 +268,4 @@ joined-next n before rows k a v s h e =
     stored-next (JoinedAt before k) n before rows a v s h (e ∙ ap (λ (x : ℕ). joinedAt k (getD before k 0) x) (s .rest a (omega arith)))
 
 pub joined-end : (n : ℕ) (before rows : List ℕ) (k a : ℕ) → Stored (JoinedAt before k) n before rows a → n ≤ a → Passed k n before rows
-joined-end n before rows k a s h = record { long = s .long; each = λ i l. s .done i (omega arith) }
+joined-end n before rows k a s h = record { long = s .long; each = λ i l. s .done i (omega arith); rest = λ i l. s .rest i (omega (arith, s .place)) }

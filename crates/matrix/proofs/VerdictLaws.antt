@@ -4,6 +4,7 @@ use mathlib.Core.Path.{_≡_, refl, sym, ap, ap₂, _∙_}
 use mathlib.Core.Bool.{Bool, true, false, not, _&&_, _||_}
 use mathlib.Core.Logic.{_⊎_, inl, inr, _↔_}
 use mathlib.Core.List.{List, [], _∷_}
+use native.Mathlib.Decide.{decLt}
 use native.Mathlib.Numerals.{add-one}
 use native.Mathlib.Omega.{arith}
 use lib.Bits.{bitAnd}
@@ -21,9 +22,11 @@ use Rattle.matrix.specs.declared.Consistency.{Consistency}
 use Rattle.matrix.specs.declared.Consistency.the-variants.{Refused, Consistent, Inconsistent}
 use Rattle.matrix.specs.Flows.{has, subjectCarries, granted, within, composed, rowsWithin, matrixGood}
 use Rattle.matrix.specs.Verdicts.{countBelow, sumBelow, leastBelow, ungranted, ungrantedFrom, flowCount, firstSource, firstTarget, consistent, judgedBy, ConsistencyValues, consistencyValues, matrixConditions, unlessRefused, matrixVerdict}
-use Rattle.matrix.specs.Rows.{bitAt, Spelt, Closed}
+use Rattle.matrix.specs.Limits.{objectLimit}
+use Rattle.matrix.specs.Rows.{bitAt, spelling, Closed}
 use Rattle.matrix.proofs.BitLaws.{has-is, has-not, has-above, has-without}
 use Rattle.matrix.proofs.PathLaws.{within-same, within-none}
+use Rattle.matrix.proofs.RowLaws.{spelling-fits, spelling-bits, spelling-above}
 use Rattle.matrix.proofs.CountLaws.{count-same, count-front, ones-count, sum-next, some-at, some-none, least-is}
 
 -- ---- no flow goes beyond the objects
@@ -164,16 +167,25 @@ searching-found reads writes n a b row count found s l e t =
 
 -- ---- the closure of the granted flows
 
-pub closed : (reads writes granting closure : List ℕ) (n : ℕ) → length writes ≡ length reads → n ≤ 32 → rowsWithin n writes ≡ true
-    → Spelt (granted reads writes) n granting → Spelt (within (bitAt granting) n) n closure → Closed reads writes n closure
+pub closed : (reads writes rows granting closure : List ℕ) (n : ℕ) → length writes ≡ length reads → n ≤ objectLimit → rowsWithin n writes ≡ true → n ≤ length rows
+    → granting ≡ spelling (granted reads writes) n rows → closure ≡ spelling (within (bitAt granting) n) n granting → Closed reads writes n closure
 unfolding composed
-closed reads writes granting closure n e f g s t =
+closed reads writes rows granting closure n e f g r s t =
     record {
       even = e;
       few = f;
       good = g;
-      spelt = record { fit = t .fit; bits = λ a b l. t .bits a b l ∙ within-same (bitAt granting) (granted reads writes) n n a b (omega arith) l (s .bits) };
+      spelt = record { fit = spelling-fits (within (bitAt granting) n) n granting closure t (spelling-fits (granted reads writes) n rows granting s r); bits = λ a b l. ap (λ (x : List ℕ). bitAt x a b) t ∙ by a b l (decLt b objectLimit) };
     }
+  where
+    by : (a b : ℕ) → a < n → Dec (b < objectLimit) → bitAt (spelling (within (bitAt granting) n) n granting) a b ≡ within (granted reads writes) n a b
+    by a b l (yes m) =
+        spelling-bits (within (bitAt granting) n) n granting a b l m
+        ∙ within-same (bitAt granting) (granted reads writes) n objectLimit n a b (omega arith) f l m
+        (λ a b l m. ap (λ (x : List ℕ). bitAt x a b) s ∙ spelling-bits (granted reads writes) n rows a b l m)
+    by a b l (no m) =
+        spelling-above (within (bitAt granting) n) n granting a b l (omega arith)
+        ∙ sym (within-none (granted reads writes) n n a b (omega arith) l (λ i p. granted-beyond reads writes n i b g p (omega arith)))
 
 -- ---- the verdict
 

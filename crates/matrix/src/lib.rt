@@ -6,7 +6,7 @@ ghost use lib.ListN.{length};
 ghost use Rattle.matrix.specs.Limits.{objectLimit};
 ghost use Rattle.matrix.specs.Flows.{matrixGood, rowsWithin, counted, has, granted, within};
 ghost use Rattle.matrix.specs.Verdicts.{ungranted, flowCount, consistent, judgedBy, consistencyValues, matrixVerdict};
-ghost use Rattle.matrix.specs.Rows.{bitAt, Spelt, joinedAt, Passed, Closed};
+ghost use Rattle.matrix.specs.Rows.{bitAt, spelling, joinedAt, Passed, Closed};
 
 // The most subjects and objects that a matrix has.
 pub const SUBJECT_LIMIT: usize = 8;
@@ -42,10 +42,10 @@ pub fn granted_row(reads: &[u32], writes: &[u32], a: usize) -> u32
     row
 }
 
-// The first n rows become those of the granted flows.
+// The first n rows become those of the granted flows; the others stay.
 pub fn fill_granted(reads: &[u32], writes: &[u32], rows: &mut [u32], n: usize)
     requires { ⌜ (length (now writes) ≡ length (now reads)) × (n ≤ objectLimit) × (n ≤ length (now rows)) ⌝ }
-    ensures { λ _. ⌜ Spelt (granted (now (reads .entry)) (now (writes .entry))) n (now (rows .exit)) ⌝ }
+    ensures { λ _. ⌜ now (rows .exit) ≡ spelling (granted (now (reads .entry)) (now (writes .entry))) n (now (rows .entry)) ⌝ }
 {
     let mut a = 0;
     while a < n {
@@ -80,10 +80,10 @@ fn pass_through(rows: &mut [u32], n: usize, k: usize)
     }
 }
 
-// The transitive closure of the first n rows.
+// The transitive closure of the first n rows; the others stay.
 pub fn close(rows: &mut [u32], n: usize)
     requires { ⌜ (n ≤ objectLimit) × (n ≤ length (now rows)) ⌝ }
-    ensures { λ _. ⌜ Spelt (within (bitAt (now (rows .entry))) n) n (now (rows .exit)) ⌝ }
+    ensures { λ _. ⌜ now (rows .exit) ≡ spelling (within (bitAt (now (rows .entry))) n) n (now (rows .entry)) ⌝ }
 {
     let mut k = 0;
     while k < n {

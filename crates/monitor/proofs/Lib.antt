@@ -5,6 +5,7 @@ pub mod AnswerLaws
 pub mod StartView
 pub mod RunLaws
 pub mod DemandLaws
-pub mod TraceRuns
+pub mod StopLoop
+pub mod StopLaws
 pub mod Examples
 pub mod PaperListing

@@ -30,7 +30,7 @@ use Rattle.operations.specs.View.{view}
 use Rattle.operations.specs.Effects.{Named, sessionConditions, sessionRefusal, acceptedAnswer, acceptedEffect, performAnswer, performEffect}
 use Rattle.operations.specs.Parts.{firstConditions, Ready}
 use Rattle.operations.proofs.KeptLaws.{Laid, entry-laid}
-use Rattle.operations.proofs.PlacedRows.{Valid, view-put, valid-put}
+use Rattle.operations.proofs.PlacedRows.{Valid, view-put, valid-put, placed-long}
 use Rattle.operations.proofs.PerformLaws.{Performed, ready}
 use Rattle.session.specs.Session.{sessionLengthGood}
 use Rattle.monitor.specs.Steps.{stepAsked, stepConditions, refusalOf, stepAnswer, stepEffect}
@@ -130,6 +130,9 @@ module _ (s r : List ℕ) (e : refusalOf s r ≡ 0) where
 
   pub step-laid : Laid (entry (view s) (stepAsked r) .row)
   step-laid = entry-laid s (stepAsked r) step-ready step-meet
+
+  pub effect-long : length (stepEffect s r) ≡ sessionLength
+  effect-long = ap length accepted-effect ∙ placed-long s step-long (receiver (stepAsked r)) step-receiver (entry (view s) (stepAsked r) .row) step-laid
 
   step-view : view (stepEffect s r) ≡ operate (view s) (stepAsked r) .0
   step-view =

@@ -2,16 +2,16 @@
 -- (the step, runs), of crates records (codes, records), operations (the table on a session's numbers), session and chains (chains,
 -- governing rules, the table). A session is a list of numbers, an image or a record a list of bytes; a record may have any bytes
 -- and any length.
-use Prim.Native.Nat.{ℕ, suc, _<_}
+use Prim.Native.Nat.{ℕ, suc, _*_, _<_}
 use native.Mathlib.Omega.{arith}
-use mathlib.Core.Path.{_≡_, refl, ap, _∙_}
+use mathlib.Core.Path.{_≡_, ap, _∙_}
 use mathlib.Core.Logic.{_↔_, _≢_}
 use mathlib.Core.Bool.{true, false, cond}
 use mathlib.Core.List.{List, [], _∷_, _++_}
 use mathlib.Core.Option.{some}
-use lib.ListN.{length, take, getElem?}
+use lib.ListN.{length, take, drop, getElem?}
 use borrow.Author.Tests.{eqb-true, eq-eqb}
-use Rattle.lists.specs.Lists.{elem}
+use Rattle.lists.specs.Lists.{elem, every}
 use Rattle.lists.specs.Conditions.{numbersOf, numberAt}
 use Rattle.lists.proofs.Bools.{clash}
 use Rattle.lists.proofs.Conditions.{given-among, given-none}
@@ -33,21 +33,22 @@ use Rattle.chains.specs.Chains.{Governs, Reaches, Forbidden}
 use Rattle.chains.specs.Demand.{judged, Demand3, TagTold}
 use Rattle.chains.specs.Table.{entry, processGood, kindGood, freeGood, userGood, meetGood, earlyConditions, tableConditions}
 use Rattle.chains.proofs.Theorems as chains
-use Rattle.records.specs.Records.{recordGood, stepOf}
+use Rattle.records.specs.Records.{recordLength, recordGood, stepOf}
+use Rattle.records.specs.Traces.{traceRecords}
 use Rattle.records.proofs.RecordLaws.{record-step}
 use Rattle.operations.specs.View.{view}
 use Rattle.operations.specs.Effects.{rowsGood, sessionConditions}
-use Rattle.operations.proofs.PlacedRows.{Valid, placed-row, placed-other, placed-user, placed-long}
+use Rattle.operations.proofs.PlacedRows.{Valid, placed-row, placed-other, placed-user}
 use Rattle.monitor.specs.Steps.{stepAsked, stepConditions, refusalOf, stepAnswer, stepEffect}
 use Rattle.monitor.specs.Runs.{stepOn, runAnswers, runEffect, historyIn}
-use Rattle.records.specs.Traces.{traceRecords}
-use Rattle.monitor.specs.Traces.{lastOf, runReport, replayReport}
-use Rattle.monitor.proofs.StepLaws.{numbers, refused-at, refused-answer, refused-effect, step-long, step-record, step-receiver, step-laid, accepted-answer, accepted-effect, answered, answered-zero, faithful}
+use Rattle.monitor.specs.Stops.{isQuiet, ran, ranEffect}
+use Rattle.monitor.proofs.StepLaws.{numbers, refused-at, refused-answer, refused-effect, step-long, step-record, step-receiver, step-laid, effect-long, accepted-answer, accepted-effect, answered, answered-zero, faithful}
 use Rattle.monitor.proofs.AnswerLaws as answers
 use Rattle.monitor.proofs.AnswerLaws.{verdict-judged, new-quiet, number-told}
 use Rattle.monitor.proofs.StartView.{start-valid, start-view}
-use Rattle.monitor.proofs.RunLaws.{valid-run, never-10}
+use Rattle.monitor.proofs.RunLaws.{valid-run, never-10, runEffect-append}
 use Rattle.monitor.proofs.DemandLaws.{alert-at, tag-at, alert-last}
+use Rattle.monitor.proofs.StopLaws.{stopped, all-quiet, quiet-stop, alert-number, length-run, ran-good, ran-alert, number-9, number-0, number-256, answers-split, effect-split}
 
 -- ---- DEMAND 3 (the paper, "Chains")
 
@@ -106,27 +107,55 @@ pub alert-next : (image lent : List ℕ) → Bytes image → startAnswer image l
     ↔ Forbidden (policyIn image) (historyIn (rs ++ (r ∷ [])) (runAnswers (startEffect image lent) (rs ++ (r ∷ [])))) (receiver (stepAsked r))
 alert-next image lent bytes ok rs r e j = alert-last (startEffect image lent) (policyIn image) rs r e (demand3-started image lent bytes ok) j
 
--- ---- demand 3 in the contract of `replay`: what it reports of a trace's last record
+-- ---- a run that stops, `run`: of any session and any bytes
 
-last-answer : (s : List ℕ) (z : Answer) (rs : List (List ℕ)) (r : List ℕ) → lastOf z (runAnswers s (rs ++ (r ∷ []))) ≡ stepAnswer (runEffect s rs) r
-unfolding lastOf runAnswers runEffect stepOn
-last-answer s z [] r = refl
-last-answer s z (q ∷ rs) r = last-answer (stepEffect s q) (stepAnswer s q) rs r
+-- the number that a host sees: 0 exactly if the session has its length and each record is answered quiet, 256 exactly if it is an alert
+pub ran-0 : (s t : List ℕ) → (answerNumber (ran s t .answer) ≡ 0) ↔ ((sessionLengthGood s ≡ true) × (every isQuiet (runAnswers s (traceRecords t)) ≡ true))
+ran-0 s t = (number-0 s t, λ h. rw (ran-good s t (h .0), quiet-stop (runAnswers s (traceRecords t)) (h .1)))
 
-reported-last : (image trace lent : List ℕ) → startAnswer image lent ≡ 0 → (rs : List (List ℕ)) (r : List ℕ) → traceRecords trace ≡ rs ++ (r ∷ [])
-    → replayReport image trace lent .last ≡ stepAnswer (runEffect (startEffect image lent) rs) r
-unfolding replayReport runReport startEffect
-reported-last image trace lent ok rs r t =
-    rw (ok, t) (last-answer (startOf (policyIn image)) (refused 0) rs r)
+pub ran-256 : (s t : List ℕ) → (answerNumber (ran s t .answer) ≡ 256) ↔ (isAlert (ran s t .answer) ≡ true)
+ran-256 s t = (number-256 s t, alert-number (ran s t .answer))
 
--- Of a trace whose last record is r, if it is not refused and has a code of 1 to 5, the replay reports an alert exactly when
--- its receiver is forbidden what it holds after the whole history.
-pub replay-exactly : (image trace lent : List ℕ) → Bytes image → startAnswer image lent ≡ 0 → (rs : List (List ℕ)) (r : List ℕ) → traceRecords trace ≡ rs ++ (r ∷ [])
-    → refusalOf (runEffect (startEffect image lent) rs) r ≡ 0 → judged (stepAsked r) ≡ true
-    → (isAlert (replayReport image trace lent .last) ≡ true)
-    ↔ Forbidden (policyIn image) (historyIn (rs ++ (r ∷ [])) (runAnswers (startEffect image lent) (rs ++ (r ∷ [])))) (receiver (stepAsked r))
-replay-exactly image trace lent bytes ok rs r t e j =
-    rw (reported-last image trace lent ok rs r t) (alert-next image lent bytes ok rs r e j)
+-- 9 exactly if the session has not its length; then nothing is taken, and nothing changed
+pub ran-9 : (s t : List ℕ) → (answerNumber (ran s t .answer) ≡ lentLength) ↔ (sessionLengthGood s ≡ false)
+unfolding ran
+ran-9 s t = (number-9 s t, λ g. rw g)
+
+pub ran-9-nothing : (s t : List ℕ) → sessionLengthGood s ≡ false → (ran s t .taken ≡ 0) × (ranEffect s t ≡ s)
+unfolding ran ranEffect runEffect
+ran-9-nothing s t g = (rw g, rw g)
+
+module _ (s t : List ℕ) (g : sessionLengthGood s ≡ true) where
+  -- It stops behind the record number n, the first that is not answered quiet: `answer` is that record's.
+  pub ran-stopped : isQuiet (ran s t .answer) ≡ false
+      → (n : ℕ) × (ran s t .taken ≡ suc n)
+      × (every isQuiet (take n (runAnswers s (traceRecords t))) ≡ true) × (getElem? (runAnswers s (traceRecords t)) n ≡ some (ran s t .answer))
+  ran-stopped q = rw (ran-good s t g) (stopped (runAnswers s (traceRecords t)) (rw (ran-good s t g) at q))
+
+  -- Or all records are taken, and each is answered quiet.
+  pub ran-through : isQuiet (ran s t .answer) ≡ true
+      → (ran s t .answer ≡ quiet 0 0) × (ran s t .taken ≡ length (traceRecords t)) × (every isQuiet (runAnswers s (traceRecords t)) ≡ true)
+  ran-through q =
+      let h = all-quiet (runAnswers s (traceRecords t)) (rw (ran-good s t g) at q) in
+      rw (ran-good s t g) (h .0, h .1 ∙ length-run s (traceRecords t), h .2)
+
+-- The rest of the bytes, run on the session that is left, goes on where it stopped.
+pub ran-on : (s t : List ℕ)
+    → (runAnswers s (traceRecords t) ≡ runAnswers s (take (ran s t .taken) (traceRecords t)) ++ runAnswers (ranEffect s t) (traceRecords (drop (ran s t .taken * recordLength) t)))
+    × (runEffect s (traceRecords t) ≡ runEffect (ranEffect s t) (traceRecords (drop (ran s t .taken * recordLength) t)))
+unfolding ranEffect
+ran-on s t = (answers-split s t (ran s t .taken), effect-split s t (ran s t .taken))
+
+-- Demand 3 of it. The start did not refuse, the records rs were run, then those of the bytes t, of which qs and r were taken. If r
+-- is not refused and has a code of 1 to 5, an alert is given exactly when its receiver is forbidden what it holds after that history.
+pub ran-exactly : (image lent : List ℕ) → Bytes image → startAnswer image lent ≡ 0 → (rs : List (List ℕ)) (s : List ℕ) → runEffect (startEffect image lent) rs ≡ s
+    → (t : List ℕ) (qs : List (List ℕ)) (r : List ℕ) → take (ran s t .taken) (traceRecords t) ≡ qs ++ (r ∷ [])
+    → refusalOf (runEffect s qs) r ≡ 0 → judged (stepAsked r) ≡ true
+    → (isAlert (ran s t .answer) ≡ true)
+    ↔ Forbidden (policyIn image) (historyIn ((rs ++ qs) ++ (r ∷ [])) (runAnswers (startEffect image lent) ((rs ++ qs) ++ (r ∷ [])))) (receiver (stepAsked r))
+ran-exactly image lent bytes ok rs s es t qs r et e j =
+    let m : runEffect (startEffect image lent) (rs ++ qs) ≡ runEffect s qs = runEffect-append (startEffect image lent) rs qs ∙ ap (λ (x : List ℕ). runEffect x qs) es in
+    rw (ran-alert s t qs r et, ← m) (alert-next image lent bytes ok (rs ++ qs) r (ap (λ (x : List ℕ). refusalOf x r) m ∙ e) j)
 
 -- ---- each refusal has its condition, and is given only under it: of any session and any record (the paper, "Refused ..")
 
@@ -251,9 +280,7 @@ module _ (s r : List ℕ) (e : refusalOf s r ≡ 0) where
       (placed-user s (step-long s r e) (receiver (stepAsked r)) (step-receiver s r e) (entry (view s) (stepAsked r) .row) (step-laid s r e) u)
 
   pub effect-length : length (stepEffect s r) ≡ sessionLength
-  effect-length =
-      rw (accepted-effect s r e)
-      (placed-long s (step-long s r e) (receiver (stepAsked r)) (step-receiver s r e) (entry (view s) (stepAsked r) .row) (step-laid s r e))
+  effect-length = effect-long s r e
 
   -- "Codes 1 to 5 answer alert if the receiver's permit rule does not cover its tag afterwards, else quiet"
   pub answer-judged : judged (stepAsked r) ≡ true

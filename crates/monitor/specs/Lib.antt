@@ -1,4 +1,4 @@
--- What a reader must believe of this crate, in the order of the paper: the step, a run over many records, a trace.
+-- What a reader must believe of this crate, in the order of the paper: the step, a run over many records, a run that stops.
 pub mod Steps
 pub mod Runs
-pub mod Traces
+pub mod Stops

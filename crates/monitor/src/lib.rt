@@ -1,11 +1,10 @@
 // The monitor: a record on a lent session, and a run over many records (the paper, "Operations" and "Refused ..").
 ghost use mathlib.Core.Path.{_≡_};
-ghost use Rattle.records.specs.Traces.{traceRecords};
 ghost use Rattle.monitor.specs.Steps.{stepAnswer, stepEffect};
-ghost use Rattle.monitor.specs.Runs.{runEffect};
-ghost use Rattle.monitor.specs.Traces.{noReport, extended, runReport, replayReport, replayEffect};
+ghost use Rattle.monitor.specs.Stops.{isQuiet, ran, ranEffect};
 use answers::Answer;
-use answers::Tally;
+use answers::Received;
+use answers::Verdict;
 use session::SESSION_LENGTH;
 
 // One step: the record on the session, which must have 5,280 numbers. Any bytes and any numbers end in an answer.
@@ -21,60 +20,60 @@ pub fn step(session: &mut [u64], bytes: &[u8]) -> Answer
     operations::perform(session, records::request_of(bytes))
 }
 
-// ---- a trace
+// ---- a run
 
-// What is told of a run: the start's refusal, the tally of its records, the last answer.
-pub struct Replayed {
-    pub refusal: u32,
-    pub tally: Tally,
-    pub last: Answer,
+// What a run comes to: the answer at which it stops, and how many records it takes.
+pub struct Ran {
+    pub answer: Answer,
+    pub taken: usize,
 }
 
-// No record was run.
-fn not_run(refusal: u32) -> Replayed
-    ensures { λ r. ⌜ r ≡ noReport refusal ⌝ }
+// The access was made, and is permitted.
+fn is_quiet(answer: Answer) -> bool
+    ensures { λ r. ⌜ r ≡ isQuiet answer ⌝ }
 {
-    Replayed {
-        refusal: refusal,
-        tally: answers::no_tally(),
-        last: Answer::Refused(0),
+    match answer {
+        Answer::Given(verdict, _) => match verdict {
+            Verdict::Quiet => true,
+            Verdict::Alert => false,
+        },
+        Answer::Refused(_) => false,
     }
 }
 
-// One more record was answered.
-fn extend(total: Replayed, answer: Answer) -> Replayed
-    ensures { λ r. ⌜ r ≡ extended total answer ⌝ }
+// The records of the trace on the session, which must have 5,280 numbers, up to and with the first that is not answered quiet. Any
+// bytes and any numbers end in an answer.
+pub fn run(session: &mut [u64], trace: &[u8]) -> Ran
+    ensures { λ r. ⌜ (r ≡ ran (now (session .entry)) (now (trace .entry))) × (now (session .exit) ≡ ranEffect (now (session .entry)) (now (trace .entry))) ⌝ }
 {
-    let tally = total.tally;
-    Replayed {
-        refusal: total.refusal,
-        tally: answers::count(tally, answer),
-        last: answer,
+    if session.len() != SESSION_LENGTH {
+        return Ran {
+            answer: Answer::Refused(answers::LENT_LENGTH),
+            taken: 0,
+        };
     }
-}
-
-// The records of the trace on the session.
-fn run(trace: &[u8], session: &mut [u64]) -> Replayed
-    ensures { λ r. ⌜ (r ≡ runReport (now (session .entry)) (traceRecords (now (trace .entry)))) × (now (session .exit) ≡ runEffect (now (session .entry)) (traceRecords (now (trace .entry)))) ⌝ }
-{
-    let mut total = not_run(0);
+    let mut taken: usize = 0;
     let mut at: usize = 0;
     while at < trace.len() {
         let bytes = records::record_at(trace, at);
         let answer = step(session, bytes);
-        total = extend(total, answer);
+        taken += 1;
+        if !is_quiet(answer) {
+            return Ran {
+                answer: answer,
+                taken: taken,
+            };
+        }
         at += bytes.len();
     }
-    total
-}
-
-// The session started from the image, and the trace run on it. Any bytes and any numbers end in an answer.
-pub fn replay(image: &[u8], trace: &[u8], session: &mut [u64]) -> Replayed
-    ensures { λ r. ⌜ (r ≡ replayReport (now (image .entry)) (now (trace .entry)) (now (session .entry))) × (now (session .exit) ≡ replayEffect (now (image .entry)) (now (trace .entry)) (now (session .entry))) ⌝ }
-{
-    let refusal = session::start(image, session);
-    if refusal != 0 {
-        return not_run(refusal);
+    Ran {
+        answer: Answer::Given(
+            Verdict::Quiet,
+            Received {
+                receiver: 0,
+                tag: 0,
+            },
+        ),
+        taken: taken,
     }
-    run(trace, session)
 }

@@ -108,6 +108,9 @@ module _ (containers users rules mixtures : List ℕ) (a : SectionsAccepted cont
     pub filled-long : length rules / ruleSize * ruleWidth ≤ length (putMid 0 (length rules / ruleSize * ruleWidth - 0) words x)
     filled-long = omega (arith, ap length e, given-length rules mixtures (a .spans), length-append x (drop (length rules / ruleSize * ruleWidth - 0) words))
 
+    pub filled-few : (k : ℕ) → length rules / ruleSize ≤ k → length (take (length rules / ruleSize * ruleWidth - 0) (putMid 0 (length rules / ruleSize * ruleWidth - 0) words x)) / ruleWidth ≤ k
+    filled-few k h = omega (arith, ap length filled-part, given-length rules mixtures (a .spans))
+
     pub filled-tabled : Tabled containers users (take (length rules / ruleSize * ruleWidth - 0) (putMid 0 (length rules / ruleSize * ruleWidth - 0) words x))
     filled-tabled = rw filled-part (words-tabled containers users policy-rules (sound-usable (a .sound)))
 

@@ -491,7 +491,7 @@ fn rewrite_few(
     let mut forms = [0u64; 144];
     let n = rules.len() / image::RULE_SIZE * rule_words::RULE_WIDTH;
     fill_forms(&mut forms[0..n], rules, mixtures);
-    write_policy(containers, users, &forms[0..n], out)
+    write_few(containers, users, &forms[0..n], out)
 }
 
 // The same of as many rules as an image can have.
@@ -508,7 +508,7 @@ fn rewrite_many(
     let mut forms = [0u64; 2304];
     let n = rules.len() / image::RULE_SIZE * rule_words::RULE_WIDTH;
     fill_forms(&mut forms[0..n], rules, mixtures);
-    write_policy(containers, users, &forms[0..n], out)
+    write_many(containers, users, &forms[0..n], out)
 }
 
 // The normal image of the policy of an image's sections: its length.

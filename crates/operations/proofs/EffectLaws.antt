@@ -18,21 +18,21 @@ use Rattle.rules.specs.Rules.{covers, meet, unrestricted}
 use Rattle.rules.specs.Answers.{dataWidth, tagWidth, mixtureLimit, boundedOf}
 use Rattle.rules.specs.declared.Bounded.{Bounded}
 use Rattle.rules.proofs.BoundedLaws.{bounded-some, padded-take}
-use Rattle.image.specs.Limits.{containerLimit, fileKind, volatileKind, processKind}
+use Rattle.image.specs.Limits.{containerLimit, userLimit, fileKind, volatileKind, processKind}
 use Rattle.image.specs.Policy.{unrestrictedRule}
-use Rattle.session.specs.Limits.{sessionLength, rowWidth}
-use Rattle.session.specs.Rows.{Row, rowOf, rowWords, permitWords}
+use Rattle.rule_words.specs.Words.{ruleOf}
+use Rattle.session.specs.Limits.{sessionLength, rowWidth, userWidth, usersAt, runAt, userRuleAt}
+use Rattle.session.specs.Rows.{Row, rowOf, rowWords, permitWords, runWords}
 use Rattle.session.proofs.PutLaws.{container-row-length, row-lent, row-returned}
 use Rattle.chains.specs.History.{Step, read, write, append, exec, fork, newFile, newVolatile, receiver}
 use Rattle.chains.specs.Demand.{judged}
 use Rattle.chains.specs.Table.{readRow, writeRow, appendRow, execRow, forkRow, newFileRow, newVolatileRow, ruleOr, entry, fits, meetGood, alerts, verdict}
-use Rattle.operations.specs.declared.Intake.{Intake}
 use Rattle.operations.specs.View.{view}
 use Rattle.operations.specs.Effects.{acceptedAnswer, acceptedEffect}
-use Rattle.operations.specs.Parts.{Ready, UsedAt, contentWords, newWords, coverVerdict, coverAnswer, lateAnswer, lateEffect, intakeOf, sharing, sharedRun, absorbed, absorbAnswer, absorbEffect}
+use Rattle.operations.specs.Parts.{Ready, UsedAt, Kept, wordsFrom, contentWords, newWords, coverVerdict, coverAnswer, lateAnswer, lateEffect, sharedRun, absorbed, absorbAnswer, absorbEffect, launchAnswer, launchEffect}
 use Rattle.operations.proofs.ViewLaws.{view-row}
 use Rattle.operations.proofs.ReadyLaws.{process-kind, ready-process, ready-object, ready-user}
-use Rattle.operations.proofs.RowSteps.{row-used, row-counts, row-long, content-row, new-row, fits-short, fits-made, rule-short}
+use Rattle.operations.proofs.RowSteps.{KeptAs, row-used, row-counts, row-long, run-kept, run-single, user-kept-as, met, content-row, new-row, fits-short, fits-made, rule-short}
 
 -- the answer a and the session s₁ afterwards are as the step t asks
 abbrev pub Done : List ℕ → Step → Answer → List ℕ → Type 0
@@ -50,6 +50,11 @@ returned s c ws = putMid (c * rowWidth) (c * rowWidth + rowWidth - c * rowWidth)
 
 pub lent-fit : (s : List ℕ) (c : ℕ) → UsedAt s c → (length (lent s c) ≡ rowWidth) × (getD (permitWords (lent s c)) 0 0 ≤ mixtureLimit)
 lent-fit s c h = rw row-lent (row-long s c h, row-counts s c h .0)
+
+-- and where its run rule has one mixture, `narrow`
+pub lent-single : (s : List ℕ) (c : ℕ) → UsedAt s c → getD s (c * rowWidth + runAt) 0 ≡ 1
+    → (length (lent s c) ≡ rowWidth) × (getD (permitWords (lent s c)) 0 0 ≤ mixtureLimit) × (Kept (runWords (lent s c))) × (getD (runWords (lent s c)) 0 0 ≡ 1)
+lent-single s c h e = let r = run-single s c h e in rw row-lent (row-long s c h, row-counts s c h .0, r .0, r .1)
 
 pub lent-long : (s : List ℕ) (c : ℕ) → length s ≡ sessionLength → c < containerLimit → length (lent s c) ≡ rowWidth
 lent-long s c l h = rw row-lent (container-row-length s c l h)
@@ -166,32 +171,15 @@ one-fits r = by (fits r)
 -- ---- the operations, one by one
 
 module _ (s : List ℕ) (p o : ℕ) where
-  read-done : (t : ℕ) → t ≡ bitOr (view s .row p .tag) (dataOf dataWidth (view s .row o .tag)) → (a : Answer) (s₁ : List ℕ)
+  pub read-done : (t : ℕ) → t ≡ bitOr (view s .row p .tag) (dataOf dataWidth (view s .row o .tag)) → (a : Answer) (s₁ : List ℕ)
       → (a ≡ absorbAnswer s p o t) × (s₁ ≡ absorbEffect s p o t) → Done s (read p o) a s₁
   unfolding entry readRow absorbed sharedRun meetGood
   read-done t et = absorb-late s p o t (read p o) refl refl (rw et) (one-fits (sharedRun s p o))
 
-  append-done : (t : ℕ) → t ≡ bitOr (view s .row o .tag) (view s .row p .tag) → (a : Answer) (s₁ : List ℕ)
+  pub append-done : (t : ℕ) → t ≡ bitOr (view s .row o .tag) (view s .row p .tag) → (a : Answer) (s₁ : List ℕ)
       → (a ≡ absorbAnswer s o p t) × (s₁ ≡ absorbEffect s o p t) → Done s (append p o) a s₁
   unfolding entry appendRow absorbed sharedRun meetGood
   append-done t et = absorb-late s o p t (append p o) refl refl (rw et) (one-fits (sharedRun s o p))
-
-  -- by which of the two it is
-  pub share-done : (reads : Bool) (i : Intake) → i ≡ intakeOf s reads p o → (a : Answer) (s₁ : List ℕ)
-      → (a ≡ absorbAnswer s (i .receiver) (i .giver) (i .tag)) × (s₁ ≡ absorbEffect s (i .receiver) (i .giver) (i .tag)) → Done s (sharing reads p o) a s₁
-  unfolding intakeOf
-  share-done true i e a s₁ h = read-done _ refl a s₁ (rw e at h)
-  share-done false i e a s₁ h = append-done _ refl a s₁ (rw e at h)
-
-  pub share-used : (reads : Bool) (i : Intake) → i ≡ intakeOf s reads p o → Ready s (sharing reads p o) → (UsedAt s (i .receiver)) × (UsedAt s (i .giver))
-  unfolding intakeOf entry
-  share-used true i e h = rw e (ready-process s (read p o) h, ready-object s (read p o) h refl)
-  share-used false i e h = rw e (ready-object s (append p o) h refl, ready-process s (append p o) h)
-
-  pub share-bounds : (reads : Bool) → Ready s (sharing reads p o) → (p < containerLimit) × (o < containerLimit)
-  unfolding entry
-  share-bounds true h = (h .process, h .object)
-  share-bounds false h = (h .process, h .object)
 
   pub write-done : Ready s (write p o) → (m : Bounded) → m ≡ boundedOf (view s .row p .run) → (t : ℕ) → t ≡ view s .row p .tag → (a : Answer) (ws : List ℕ)
       → a ≡ coverAnswer o (rowOf (lent s o) .permit) t → ws ≡ contentWords (lent s o) t m → Done s (write p o) a (returned s o ws)
@@ -217,6 +205,33 @@ module _ (s : List ℕ) (p o : ℕ) where
       replace-done s (fork p o) refl (forkRow (view s .row p)) refl m n a ws refl (process-kind s (fork p o) h) em (permit-short s p up) en (run-short s p up)
       (rw et at ea) (rw et at ew)
 
+-- the two rules that an exec meets, and their places
+module _ (s : List ℕ) (p o u : ℕ) (h : Ready s (exec p o u)) where
+  pub exec-places : (length s ≡ sessionLength) × (o < containerLimit) × (u < userLimit)
+  unfolding entry
+  exec-places = (h .long, h .object, h .user u refl)
+
+  pub exec-run : KeptAs s (o * rowWidth + runAt) (view s .row o .run)
+  unfolding entry
+  exec-run = run-kept s o (ready-object s (exec p o u) h refl)
+
+  pub exec-user : KeptAs s (usersAt + u * userWidth + userRuleAt) (ruleOr (view s .user u))
+  unfolding entry
+  exec-user = user-kept-as s u (ready-user s (exec p o u) h u refl)
+
+  pub exec-met : (m : Bounded) → m ≡ boundedOf (meet (ruleOf (wordsFrom s (o * rowWidth + runAt))) (ruleOf (wordsFrom s (usersAt + u * userWidth + userRuleAt))))
+      → m ≡ boundedOf (meet (view s .row o .run) (ruleOr (view s .user u)))
+  exec-met m e = met s _ _ _ _ m exec-run exec-user e
+
+pub one-fit : (x : ℕ) (m : Bounded) → m ≡ boundedOf (x ∷ []) → m .fits ≡ true
+unfolding boundedOf
+one-fit x m e = ap (λ (n : Bounded). n .fits) e
+
+pub launch-done : (s : List ℕ) (p o : ℕ) (m n : Bounded) → n ≡ boundedOf (view s .row o .run) → (t : ℕ) → t ≡ runningOf dataWidth (view s .row o .tag) → (a : Answer) (ws : List ℕ)
+    → a ≡ coverAnswer p (take (m .count) (m .mixtures)) t → ws ≡ newWords processKind t m n → (a ≡ launchAnswer s p o m) × (returned s p ws ≡ launchEffect s p o m)
+unfolding launchAnswer launchEffect
+launch-done s p o m n en t et a ws ea ew = (ea ∙ rw et, row-returned s p ws ∙ rw (ew, en, et))
+
 module _ (s : List ℕ) (p o u : ℕ) (h : Ready s (exec p o u)) (m : Bounded) (em : m ≡ boundedOf (meet (view s .row o .run) (ruleOr (view s .user u)))) where
   exec-meet : meetGood (view s) (exec p o u) ≡ m .fits
   unfolding entry meetGood
@@ -228,16 +243,19 @@ module _ (s : List ℕ) (p o u : ℕ) (h : Ready s (exec p o u)) (m : Bounded) (
   exec-short : m .fits ≡ true → length (meet (view s .row o .run) (ruleOr (view s .user u))) ≤ mixtureLimit
   exec-short f = fits-short (meet (view s .row o .run) (ruleOr (view s .user u))) (sym (fits-made (meet (view s .row o .run) (ruleOr (view s .user u))) m em) ∙ f)
 
-  pub exec-fit : m .fits ≡ true → (length (lent s p) ≡ rowWidth) × (m .count ≤ mixtureLimit)
+  pub exec-fit : m .fits ≡ true → (UsedAt s p) × (UsedAt s o) × (m .count ≤ mixtureLimit)
   unfolding entry
-  exec-fit f = (lent-long s p (h .long) (h .process), bounded-rule (meet (view s .row o .run) (ruleOr (view s .user u))) m em (exec-short f) .0)
+  exec-fit f = (ready-process s (exec p o u) h, ready-object s (exec p o u) h refl, bounded-rule (meet (view s .row o .run) (ruleOr (view s .user u))) m em (exec-short f) .0)
 
-  pub exec-done : m .fits ≡ true → (n : Bounded) → n ≡ boundedOf (view s .row o .run) → (t : ℕ) → t ≡ runningOf dataWidth (view s .row o .tag) → (a : Answer) (ws : List ℕ)
-      → a ≡ coverAnswer p (take (m .count) (m .mixtures)) t → ws ≡ newWords processKind t m n → Done s (exec p o u) a (returned s p ws)
-  unfolding entry execRow
-  exec-done f n en t et a ws ea ew =
-      replace-done s (exec p o u) (exec-meet ∙ f) (execRow (view s .row p) (view s .row o) (ruleOr (view s .user u))) refl m n a ws refl (process-kind s (exec p o u) h) em (exec-short f) en
-      (run-short s o (ready-object s (exec p o u) h refl)) (rw et at ea) (rw et at ew)
+  pub exec-done : m .fits ≡ true → (a : Answer) (s₁ : List ℕ) → (a ≡ launchAnswer s p o m) × (s₁ ≡ launchEffect s p o m) → Done s (exec p o u) a s₁
+  unfolding entry execRow launchAnswer launchEffect
+  exec-done f a s₁ (ea, es) =
+      let t : ℕ = runningOf dataWidth (view s .row o .tag) in
+      let ws : List ℕ = newWords processKind t m (boundedOf (view s .row o .run)) in
+      let d : Done s (exec p o u) a (returned s p ws) =
+      replace-done s (exec p o u) (exec-meet ∙ f) (execRow (view s .row p) (view s .row o) (ruleOr (view s .user u))) refl m (boundedOf (view s .row o .run)) a ws refl (process-kind s (exec p o u) h) em (exec-short f) refl
+      (run-short s o (ready-object s (exec p o u) h refl)) ea refl in
+      (d .0, es ∙ sym (row-returned s p ws) ∙ d .1)
 
 all-short : length (unrestricted tagWidth) ≤ mixtureLimit
 unfolding unrestricted

@@ -2,12 +2,10 @@
 use Prim.Native.Nat.{ℕ, _<_}
 use mathlib.Core.Path.{_≡_, refl, sym, subst, ap, _∙_}
 use mathlib.Core.Logic.{_≢_}
-use mathlib.Core.Bool.{Bool, true, false, cond, _||_}
+use mathlib.Core.Bool.{Bool, true, false, cond}
 use mathlib.Core.List.{List, [], _∷_, _++_}
 use mathlib.Core.Option.{none, some}
-use lib.Dec.{eqb}
-use borrow.Author.Tests.{eqb-true, eq-eqb, ne-eqb}
-use Rattle.lists.proofs.Bools.{or-0, or-1, clash}
+use borrow.Author.Tests.{ne-eqb}
 use Rattle.lists.specs.Lists.{elem}
 use Rattle.lists.specs.Conditions.{_orRefuse_, firstFailed, numbersOf, numbersGood}
 use Rattle.lists.proofs.Conditions.{passed, failed, none-left, first-stops, first-passed, given-none}
@@ -19,12 +17,12 @@ use Rattle.image.specs.Limits.{userLimit}
 use Rattle.chains.specs.History.{Step}
 use Rattle.chains.specs.Table.{meetGood, earlyConditions, tableConditions}
 use Rattle.records.specs.declared.Request.{Request}
-use Rattle.records.specs.Codes.{readCode, appendCode, codeAt}
+use Rattle.records.specs.Codes.{codeAt}
 use Rattle.records.specs.Records.{stepIn}
-use Rattle.records.proofs.CodeLaws.{Entered, entered, step-read, step-append}
+use Rattle.records.proofs.CodeLaws.{Entered, entered}
 use Rattle.operations.specs.View.{view}
 use Rattle.operations.specs.Effects.{Named, sessionConditions, sessionRefusal, performAnswer, performEffect}
-use Rattle.operations.specs.Parts.{firstConditions, Ready, lateAnswer, lateEffect, sharing}
+use Rattle.operations.specs.Parts.{firstConditions, Ready, lateAnswer, lateEffect}
 use Rattle.operations.proofs.EffectLaws.{Done}
 
 -- the answer a and the session s₁ afterwards are as the step asks, all refusals counted
@@ -88,16 +86,3 @@ ready-as s q t e h = subst (Ready s) e h
 
 pub done-as : (s : List ℕ) (q : Request) (t : Step) → stepIn q ≡ t → (a : Answer) (s₁ : List ℕ) → Done s t a s₁ → Done s (stepIn q) a s₁
 done-as s q t e a s₁ d = subst (λ (x : Step). Done s x a s₁) (sym e) d
-
--- a read or an append, by which of the two it is
-pub step-sharing : (q : Request) (b : Bool) → b ≡ eqb (q .code) readCode → (eqb (q .code) readCode || eqb (q .code) appendCode) ≡ true → stepIn q ≡ sharing b (q .p) (q .o)
-step-sharing q b e h = by b (eqb (q .code) readCode) refl e h
-  where
-    by : (b d : Bool) → eqb (q .code) readCode ≡ d → b ≡ eqb (q .code) readCode → (d || eqb (q .code) appendCode) ≡ true → stepIn q ≡ sharing b (q .p) (q .o)
-    by true d f e h = step-read q (eqb-true (q .code) readCode (sym e))
-    by false true f e h = clash f (sym e)
-    by false false f e h = step-append q (eqb-true (q .code) appendCode h)
-
--- and neither
-pub not-sharing : (n : ℕ) → (eqb n readCode || eqb n appendCode) ≡ false → (n ≡ readCode → ⊥) × (n ≡ appendCode → ⊥)
-not-sharing n h = (λ e. clash (or-0 (eqb n readCode) (eqb n appendCode) (eq-eqb n readCode e)) h, λ e. clash (or-1 (eqb n readCode) (eqb n appendCode) (eq-eqb n appendCode e)) h)

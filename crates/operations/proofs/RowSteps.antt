@@ -1,19 +1,19 @@
 -- What is read of the session, and what is written to a row of it.
 use Prim.Native.Nat.{ℕ, zero, suc, _+_, _-_, _*_, _≤_, _<_}
-use mathlib.Core.Path.{_≡_, refl, sym, ap, ap₂, _∙_}
+use mathlib.Core.Path.{_≡_, refl, sym, subst, ap, ap₂, _∙_}
 use mathlib.Core.Bool.{Bool, true, cond, _&&_}
 use mathlib.Core.Option.{none, some}
-use mathlib.Core.List.{List, [], _∷_, _++_, append-nil}
+use mathlib.Core.List.{List, [], _∷_, _++_, append-assoc, append-nil}
 use native.Mathlib.Omega.{arith}
-use lib.ListN.{length, getD, take, drop, set, length-take, length-drop, length-append, drop-of-length-le}
+use lib.ListN.{length, getD, take, drop, set, length-take, length-drop, length-append, take-append-drop, drop-of-length-le}
 use lib.Bits.{bitAnd}
-use lib.Seq.{take-nil, take-take, drop-drop, drop-cons, getD-take, getD-drop, take-at}
+use lib.Seq.{take-all, take-nil, take-take, drop-drop, drop-cons, getD-take, getD-drop, take-at, set-at}
 use lib.Dec.{eqb}
 use borrow.Author.Tests.{eqb-true, leb-true}
 use Rattle.lists.proofs.Bools.{and-0, and-1}
 use borrow.Rule.Slice.PartMut.{putMid}
 use Rattle.rules.specs.Rules.{covers, meet, refines}
-use Rattle.rules.specs.Answers.{mixtureLimit, boundedOf}
+use Rattle.rules.specs.Answers.{mixtureLimit, padded, boundedOf}
 use Rattle.rules.specs.declared.Bounded.{Bounded}
 use Rattle.rules.proofs.BoundedLaws.{bounded-test, bounded-fits}
 use Rattle.rules.proofs.RuleLaws.{meet-comm}
@@ -51,6 +51,15 @@ inner s a w j k h = ap (take k) (sym (drop-drop j a s)) ∙ by (drop a s) j w h
 pub words-lent : (s : List ℕ) (at : ℕ) → take (at + ruleWidth - at) (drop at s) ≡ wordsFrom s at
 unfolding wordsFrom
 words-lent s at = let e : at + ruleWidth - at ≡ ruleWidth = omega arith in ap (λ (k : ℕ). take k (drop at s)) e
+
+words-first : (s : List ℕ) (at : ℕ) → getD (wordsFrom s at) 0 0 ≡ getD s at 0
+unfolding wordsFrom
+words-first s at =
+    let z : at + 0 ≡ at = omega arith in
+    getD-take ruleWidth (drop at s) 0 0 (omega arith) ∙ getD-drop at s 0 0 ∙ ap (λ (k : ℕ). getD s k 0) z
+
+pub kept-lent : (s : List ℕ) (at : ℕ) → KeptAt s at → Kept (take (at + ruleWidth - at) (drop at s))
+kept-lent s at k = rw (words-lent s at) (k .words)
 
 run-words : (s : List ℕ) (c : ℕ) → wordsFrom s (c * rowWidth + runAt) ≡ runWords (containerRow s c)
 unfolding wordsFrom runWords containerRow
@@ -178,6 +187,15 @@ copied s at r m k e = e ∙ ap boundedOf (k .said)
 pub met : (s : List ℕ) (x y : ℕ) (r v : List ℕ) (m : Bounded) → KeptAs s x r → KeptAs s y v → m ≡ boundedOf (meet (ruleOf (wordsFrom s x)) (ruleOf (wordsFrom s y))) → m ≡ boundedOf (meet r v)
 met s x y r v m k l e = e ∙ ap₂ (λ (a b : List ℕ). boundedOf (meet a b)) (k .said) (l .said)
 
+pub met-lent : (s : List ℕ) (x y : ℕ) (r v : List ℕ) (m : Bounded) → KeptAs s x r → KeptAs s y v
+    → m ≡ boundedOf (meet (ruleOf (take (x + ruleWidth - x) (drop x s))) (ruleOf (take (y + ruleWidth - y) (drop y s)))) → m ≡ boundedOf (meet r v)
+met-lent s x y r v m k l e = met s x y r v m k l (e ∙ ap₂ (λ (a b : List ℕ). boundedOf (meet (ruleOf a) (ruleOf b))) (words-lent s x) (words-lent s y))
+
+-- the run rule of a row in use has one mixture
+pub run-single : (s : List ℕ) (c : ℕ) → UsedAt s c → getD s (c * rowWidth + runAt) 0 ≡ 1 → (Kept (runWords (containerRow s c))) × (getD (runWords (containerRow s c)) 0 0 ≡ 1)
+run-single s c h e =
+    (subst Kept (run-words s c) (run-kept s c h .kept .words), ap (λ (ws : List ℕ). getD ws 0 0) (sym (run-words s c)) ∙ words-first s (c * rowWidth + runAt) ∙ e)
+
 pub rule-short : (s : List ℕ) (u : ℕ) → DeclaredAt s u → length (ruleOr (view s .user u)) ≤ mixtureLimit
 rule-short s u h = rw (view-user s u (h .low), h .declared) (good-declared (userRow s u) (h .good) (h .declared) .0)
 
@@ -229,19 +247,25 @@ meet-singles r v x y e f = meet-one (x ∷ []) (y ∷ []) refl refl ∙ sym (ap�
 single-rule : (s : List ℕ) (at : ℕ) → KeptAt s at → getD s at 0 ≡ 1 → ruleOf (wordsFrom s at) ≡ getD s (at + 1) 0 ∷ []
 unfolding ruleOf wordsFrom
 single-rule s at k e =
-    let z : at + 0 ≡ at = omega arith in
     let w : List ℕ = take ruleWidth (drop at s) in
     let l : length w ≡ ruleWidth = k .words .long in
-    let f : getD w 0 0 ≡ 1 = getD-take ruleWidth (drop at s) 0 0 (omega arith) ∙ getD-drop at s 0 0 ∙ ap (λ (k : ℕ). getD s k 0) z ∙ e in
+    let f : getD w 0 0 ≡ 1 = words-first s at ∙ e in
     let g : getD w 1 0 ≡ getD s (at + 1) 0 = getD-take ruleWidth (drop at s) 1 0 (omega arith) ∙ getD-drop at s 1 0 in
     ap (λ (k : ℕ). take k (drop 1 w)) f ∙ ap (take 1) (drop-cons w 1 0 (omega arith)) ∙ ap (λ (x : ℕ). x ∷ []) g
 
-pub single-counts : (s : List ℕ) (x y : ℕ) → (eqb (getD s x 0) 1 && eqb (getD s y 0) 1) ≡ true → (getD s x 0 ≡ 1) × (getD s y 0 ≡ 1)
-single-counts s x y h = (eqb-true (getD s x 0) 1 (and-0 (eqb (getD s x 0) 1) _ h), eqb-true (getD s y 0) 1 (and-1 (eqb (getD s x 0) 1) h))
+-- the words of a rule of one mixture
+single-words : (ws : List ℕ) → Kept ws → getD ws 0 0 ≡ 1 → ws ≡ 1 ∷ getD ws 1 0 ∷ 0 ∷ 0 ∷ 0 ∷ 0 ∷ 0 ∷ 0 ∷ 0 ∷ []
+unfolding wordsOf padded ruleOf
+single-words ws k e =
+    kept-words ws (k .long) (k .well)
+    ∙ ap wordsOf (ap (λ (n : ℕ). take n (drop 1 ws)) e ∙ ap (take 1) (drop-cons ws 1 0 (omega (arith, k .long))))
 
-pub meet-single : (s : List ℕ) (x y : ℕ) → KeptAt s x → KeptAt s y → getD s x 0 ≡ 1 → getD s y 0 ≡ 1
-    → bitAnd (getD s (x + 1) 0) (getD s (y + 1) 0) ∷ [] ≡ meet (ruleOf (wordsFrom s x)) (ruleOf (wordsFrom s y))
-meet-single s x y k l e f = meet-singles _ _ _ _ (single-rule s x k e) (single-rule s y l f)
+module _ (s : List ℕ) (x y : ℕ) (h : (eqb (getD s x 0) 1 && eqb (getD s y 0) 1) ≡ true) where
+  pub single-first : getD s x 0 ≡ 1
+  single-first = eqb-true (getD s x 0) 1 (and-0 (eqb (getD s x 0) 1) _ h)
+
+  pub meet-single : KeptAt s x → KeptAt s y → bitAnd (getD s (x + 1) 0) (getD s (y + 1) 0) ∷ [] ≡ meet (ruleOf (wordsFrom s x)) (ruleOf (wordsFrom s y))
+  meet-single k l = meet-singles _ _ _ _ (single-rule s x k single-first) (single-rule s y l (eqb-true (getD s y 0) 1 (and-1 (eqb (getD s x 0) 1) h)))
 
 -- ---- a row with another tag and run rule
 
@@ -256,6 +280,26 @@ module _ (row : List ℕ) (t : ℕ) (l : length row ≡ rowWidth) where
       by (a ∷ b ∷ row) l =
           let f : drop ruleWidth (drop ruleWidth row) ≡ [] = drop-drop ruleWidth ruleWidth row ∙ drop-of-length-le row {i = ruleWidth + ruleWidth} (omega arith) in
           ap₂ (λ (x y : List ℕ). a ∷ t ∷ (take ruleWidth row ++ (x ++ y))) e f ∙ ap (λ (x : List ℕ). a ∷ t ∷ (take ruleWidth row ++ x)) (append-nil (m .count ∷ m .mixtures))
+
+  -- where the run rule has one mixture, only that one changes
+  pub single-put : (m : ℕ) → Kept (runWords row) → getD (runWords row) 0 0 ≡ 1 → set (set row tagAt t) (runAt + 1) m ≡ contentWords row t (boundedOf (m ∷ []))
+  unfolding contentWords boundedWords permitWords runWords boundedOf padded
+  single-put m k e = by row l k e
+    where
+      by : (row : List ℕ) → length row ≡ rowWidth → Kept (take ruleWidth (drop runAt row)) → getD (take ruleWidth (drop runAt row)) 0 0 ≡ 1
+          → set (set row tagAt t) (runAt + 1) m ≡ getD row kindAt 0 ∷ t ∷ (take ruleWidth (drop permitAt row) ++ (1 ∷ m ∷ 0 ∷ 0 ∷ 0 ∷ 0 ∷ 0 ∷ 0 ∷ 0 ∷ []))
+      by [] l k e = absurd (omega arith)
+      by (a ∷ []) l k e = absurd (omega arith)
+      by (a ∷ b ∷ row) l k e =
+          let p : List ℕ = take ruleWidth row in
+          let z : List ℕ = 0 ∷ 0 ∷ 0 ∷ 0 ∷ 0 ∷ 0 ∷ 0 ∷ [] in
+          let x : ℕ = getD (take ruleWidth (drop ruleWidth row)) 1 0 in
+          let f : row ≡ (p ++ (1 ∷ [])) ++ (x ∷ z) =
+          sym (take-append-drop ruleWidth row)
+          ∙ ap (λ (y : List ℕ). p ++ y) (sym (take-all ruleWidth (drop ruleWidth row) (omega (arith, length-drop ruleWidth row))) ∙ single-words (take ruleWidth (drop ruleWidth row)) k e)
+          ∙ sym (append-assoc p (1 ∷ []) (x ∷ z)) in
+          let n : length (p ++ (1 ∷ [])) ≡ 10 = length-append p (1 ∷ []) ∙ omega (arith, length-take ruleWidth row) in
+          ap (λ (y : List ℕ). a ∷ t ∷ y) (ap (λ (y : List ℕ). set y 10 m) f ∙ set-at (p ++ (1 ∷ [])) x z m 10 n ∙ append-assoc p (1 ∷ []) (m ∷ z))
 
   module _ (m : Bounded) where
     content-permit : permitWords (contentWords row t m) ≡ permitWords row

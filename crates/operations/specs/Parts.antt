@@ -15,15 +15,13 @@ use Rattle.answers.specs.declared.Verdict.the-variants.{Quiet, Alert}
 use Rattle.answers.specs.Answers.{received, refused}
 use Rattle.rules.specs.Rules.{covers, meet}
 use Rattle.rules.specs.declared.Bounded.{Bounded}
-use Rattle.image.specs.Limits.{containerLimit, userLimit, isFree}
+use Rattle.image.specs.Limits.{containerLimit, userLimit, processKind, isFree}
 use Rattle.rule_words.specs.Words.{ruleWidth, keptWell}
 use Rattle.session.specs.Limits.{sessionLength, kindAt}
 use Rattle.session.specs.Rows.{Row, rowWords, permitWords, containerRow, containerRowGood, putRow, userRow, userRowGood, isDeclared}
-use lib.Bits.{bitOr}
-use Rattle.rules.specs.Sets.{dataOf}
-use Rattle.rules.specs.Answers.{dataWidth}
-use Rattle.chains.specs.History.{Step, read, append}
-use Rattle.operations.specs.declared.Intake.{Intake}
+use Rattle.rules.specs.Sets.{runningOf}
+use Rattle.rules.specs.Answers.{dataWidth, boundedOf}
+use Rattle.chains.specs.History.{Step}
 use Rattle.chains.specs.Table.{entry, fits, meetGood, earlyConditions}
 use Rattle.operations.specs.View.{view}
 use Rattle.operations.specs.Effects.{rowsGood, acceptedAnswer, acceptedEffect}
@@ -102,19 +100,6 @@ coverVerdict false = Alert
 unfoldable pub coverAnswer : ℕ → List ℕ → ℕ → Answer
 coverAnswer c permit tag = Given (coverVerdict (covers permit tag)) (received c tag)
 
--- ---- a read and an append, by which of the two it is
-
-abbrev pub sharing : Bool → ℕ → ℕ → Step
-sharing true p o = read p o
-sharing false p o = append p o
-
--- the receiver, the giver, and the receiver's tag afterwards
-unfoldable pub intakeOf : List ℕ → Bool → ℕ → ℕ → Intake
-intakeOf s reads p o =
-    cond reads
-    (record { receiver = p; giver = o; tag = bitOr (view s .row p .tag) (dataOf dataWidth (view s .row o .tag)) })
-    (record { receiver = o; giver = p; tag = bitOr (view s .row o .tag) (view s .row p .tag) })
-
 -- ---- container c takes in what d has, as a reader or a file that is appended to does: the tag t, and the meet of both run rules
 
 unfoldable pub sharedRun : List ℕ → ℕ → ℕ → List ℕ
@@ -129,3 +114,12 @@ absorbAnswer s c d t = cond (fits (sharedRun s c d)) (coverAnswer c (view s .row
 
 unfoldable pub absorbEffect : List ℕ → ℕ → ℕ → ℕ → List ℕ
 absorbEffect s c d t = cond (fits (sharedRun s c d)) (putRow s c (rowWords (absorbed s c d t))) s
+
+-- ---- process p becomes what runs o: the run rule and the running atoms of o, under the permit rule m
+
+unfoldable pub launchAnswer : List ℕ → ℕ → ℕ → Bounded → Answer
+launchAnswer s p o m = coverAnswer p (take (m .count) (m .mixtures)) (runningOf dataWidth (view s .row o .tag))
+
+unfoldable pub launchEffect : List ℕ → ℕ → ℕ → Bounded → List ℕ
+launchEffect s p o m =
+    putRow s p (newWords processKind (runningOf dataWidth (view s .row o .tag)) m (boundedOf (view s .row o .run)))

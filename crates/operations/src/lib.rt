@@ -1,7 +1,8 @@
 // The operations on a lent session: what a request is refused for because of the session, and what it does (the paper,
 // "Operations" and "Refused because of the session").
 ghost use mathlib.Core.Path.{_≡_};
-ghost use mathlib.Core.Bool.{true, _&&_, _||_};
+ghost use mathlib.Core.Bool.{true, _&&_};
+ghost use mathlib.Core.List.{[], _∷_};
 ghost use lib.Dec.{eqb};
 ghost use Prim.Native.Nat.{_≤_, _<_};
 ghost use lib.ListN.{length, getD, take};
@@ -11,13 +12,13 @@ ghost use Rattle.rules.specs.Answers.{mixtureLimit, boundedOf};
 ghost use Rattle.image.specs.Limits.{containerLimit, processKind};
 ghost use Rattle.rule_words.specs.Words.{ruleOf};
 ghost use Rattle.session.specs.Limits.{sessionLength, rowWidth};
-ghost use Rattle.session.specs.Rows.{rowOf, permitWords};
-ghost use Rattle.chains.specs.History.{write, exec, fork, newFile, newVolatile};
-ghost use Rattle.records.specs.Codes.{readCode, appendCode, objectFits};
+ghost use Rattle.session.specs.Rows.{rowOf, permitWords, runWords};
+ghost use Rattle.chains.specs.History.{read, write, append, exec, fork, newFile, newVolatile};
+ghost use Rattle.records.specs.Codes.{objectFits};
 ghost use Rattle.records.specs.Records.{stepIn};
 ghost use Rattle.operations.specs.View.{view};
 ghost use Rattle.operations.specs.Effects.{Named, rowsGood, performAnswer, performEffect};
-ghost use Rattle.operations.specs.Parts.{firstConditions, Ready, lateAnswer, lateEffect, intakeOf, sharing, absorbAnswer, absorbEffect, Kept, KeptAt, UsedAt, wordsFrom, contentWords, newWords, coverVerdict, coverAnswer};
+ghost use Rattle.operations.specs.Parts.{firstConditions, Ready, lateAnswer, lateEffect, absorbAnswer, absorbEffect, launchAnswer, launchEffect, Kept, KeptAt, UsedAt, wordsFrom, contentWords, newWords, coverVerdict, coverAnswer};
 use answers::Answer;
 use answers::Received;
 use answers::Verdict;
@@ -152,34 +153,30 @@ fn meet_kept(a: &[u64], b: &[u64]) -> Bounded
     rules::meet(r, v)
 }
 
-// The rules at two places of the session have one mixture each, as is usual.
-fn both_single(s: &[u64], x: usize, y: usize) -> bool
-    requires { ⌜ (KeptAt (now s) x) × (KeptAt (now s) y) ⌝ }
-    ensures { λ r. ⌜ r ≡ (eqb (getD (now (s .entry)) x 0) 1 && eqb (getD (now (s .entry)) y 0) 1) ⌝ }
-{
-    if s[x] == 1 {
-        return s[y] == 1;
-    }
-    false
-}
-
-// Their meet, in a straight line.
-fn meet_single(s: &[u64], x: usize, y: usize) -> Bounded
-    requires { ⌜ (KeptAt (now s) x) × (KeptAt (now s) y) × ((eqb (getD (now s) x 0) 1 && eqb (getD (now s) y 0) 1) ≡ true) ⌝ }
-    ensures { λ r. ⌜ (r ≡ boundedOf (meet (ruleOf (wordsFrom (now (s .entry)) x)) (ruleOf (wordsFrom (now (s .entry)) y)))) × (r .fits ≡ true) ⌝ }
-{
-    rules::one(s[x + 1] & s[y + 1])
-}
-
 // The meet of the rules at two places of the session.
 fn meet_at(s: &[u64], x: usize, y: usize) -> Bounded
     requires { ⌜ (KeptAt (now s) x) × (KeptAt (now s) y) ⌝ }
     ensures { λ r. ⌜ r ≡ boundedOf (meet (ruleOf (wordsFrom (now (s .entry)) x)) (ruleOf (wordsFrom (now (s .entry)) y))) ⌝ }
 {
-    if both_single(s, x, y) {
-        return meet_single(s, x, y);
-    }
     meet_kept(&s[x..x + RULE_WIDTH], &s[y..y + RULE_WIDTH])
+}
+
+// Both counts are those of rules of one mixture, the usual ones: these go first, in a straight line.
+fn both_single(n: u64, k: u64) -> bool
+    ensures { λ r. ⌜ r ≡ (eqb n 1 && eqb k 1) ⌝ }
+{
+    if n == 1 {
+        return k == 1;
+    }
+    false
+}
+
+// The one mixture of their meet.
+fn mixture_at(s: &[u64], x: usize, y: usize) -> u64
+    requires { ⌜ (KeptAt (now s) x) × (KeptAt (now s) y) × ((eqb (getD (now s) x 0) 1 && eqb (getD (now s) y 0) 1) ≡ true) ⌝ }
+    ensures { λ r. ⌜ r ∷ [] ≡ meet (ruleOf (wordsFrom (now (s .entry)) x)) (ruleOf (wordsFrom (now (s .entry)) y)) ⌝ }
+{
+    s[x + 1] & s[y + 1]
 }
 
 // ---- a row that is lent
@@ -191,6 +188,15 @@ fn set_content(row: &mut [u64], tag: u64, run: Bounded)
 {
     row[TAG_AT] = tag;
     rule_words::put_rule(&mut row[RUN_AT..RUN_AT + RULE_WIDTH], run);
+}
+
+// The tag of a row, and the mixture of its run rule, which has one already: the other words stay.
+fn set_single(row: &mut [u64], tag: u64, mixture: u64)
+    requires { ⌜ (length (now row) ≡ rowWidth) × (Kept (runWords (now row))) × (getD (runWords (now row)) 0 0 ≡ 1) ⌝ }
+    ensures { λ _. ⌜ now (row .exit) ≡ contentWords (now (row .entry)) tag (boundedOf (mixture ∷ [])) ⌝ }
+{
+    row[TAG_AT] = tag;
+    row[RUN_AT + 1] = mixture;
 }
 
 // Quiet if the tag is covered.
@@ -223,6 +229,15 @@ fn update(row: &mut [u64], receiver: usize, tag: u64, run: Bounded) -> Answer
     judge(row, receiver)
 }
 
+// The same where the run rule has one mixture, before and afterwards.
+fn narrow(row: &mut [u64], receiver: usize, tag: u64, mixture: u64) -> Answer
+    requires { ⌜ (length (now row) ≡ rowWidth) × (getD (permitWords (now row)) 0 0 ≤ mixtureLimit) × (Kept (runWords (now row))) × (getD (runWords (now row)) 0 0 ≡ 1) ⌝ }
+    ensures { λ r. ⌜ (r ≡ coverAnswer receiver (rowOf (now (row .entry)) .permit) tag) × (now (row .exit) ≡ contentWords (now (row .entry)) tag (boundedOf (mixture ∷ []))) ⌝ }
+{
+    set_single(row, tag, mixture);
+    judge(row, receiver)
+}
+
 // Makes the receiver's row that of a process, and answers.
 fn replace(row: &mut [u64], receiver: usize, tag: u64, permit: Bounded, run: Bounded) -> Answer
     requires { ⌜ (length (now row) ≡ rowWidth) × (permit .count ≤ mixtureLimit) ⌝ }
@@ -234,61 +249,36 @@ fn replace(row: &mut [u64], receiver: usize, tag: u64, permit: Bounded, run: Bou
 
 // ---- the seven operations
 
-// The receiver takes in what the giver has: it gets the tag, and the meet of both run rules. Rules of one mixture go
-// first, so that no rule is passed by value.
+// The receiver takes in what the giver has: it gets the tag, and the meet of both run rules.
 fn absorb(s: &mut [u64], receiver: usize, giver: usize, tag: u64) -> Answer
     requires { ⌜ (UsedAt (now s) receiver) × (UsedAt (now s) giver) ⌝ }
     ensures { λ r. ⌜ (r ≡ absorbAnswer (now (s .entry)) receiver giver tag) × (now (s .exit) ≡ absorbEffect (now (s .entry)) receiver giver tag) ⌝ }
 {
     let a = receiver * ROW_WIDTH;
-    let x = a + RUN_AT;
-    let y = giver * ROW_WIDTH + RUN_AT;
-    if both_single(s, x, y) {
-        let met = meet_single(s, x, y);
-        return update(&mut s[a..a + ROW_WIDTH], receiver, tag, met);
+    let b = giver * ROW_WIDTH;
+    if both_single(s[a + RUN_AT], s[b + RUN_AT]) {
+        let mixture = mixture_at(s, a + RUN_AT, b + RUN_AT);
+        return narrow(&mut s[a..a + ROW_WIDTH], receiver, tag, mixture);
     }
-    let met = meet_at(s, x, y);
+    let met = meet_kept(
+        &s[a + RUN_AT..a + RUN_AT + RULE_WIDTH],
+        &s[b + RUN_AT..b + RUN_AT + RULE_WIDTH],
+    );
     if !met.fits {
         return Answer::Refused(answers::OVER_LIMIT);
     }
     update(&mut s[a..a + ROW_WIDTH], receiver, tag, met)
 }
 
-// Who takes in what: the process what it reads, the object what is appended to it.
-struct Intake {
-    receiver: usize,
-    giver: usize,
-    tag: u64,
-}
-
-// What a read or an append takes in.
-fn taken_in(s: &[u64], reads: bool, p: usize, o: usize) -> Intake
-    requires { ⌜ (length (now s) ≡ sessionLength) × (p < containerLimit) × (o < containerLimit) ⌝ }
-    ensures { λ r. ⌜ r ≡ intakeOf (now (s .entry)) reads p o ⌝ }
+// Code 1: the process reads the object.
+fn read(s: &mut [u64], p: usize, o: usize) -> Answer
+    requires { ⌜ Ready (now s) (read p o) ⌝ }
+    ensures { λ r. ⌜ (r ≡ lateAnswer (now (s .entry)) (read p o)) × (now (s .exit) ≡ lateEffect (now (s .entry)) (read p o)) ⌝ }
 {
     let held = tag_of(s, p);
     let stored = tag_of(s, o);
-    if reads {
-        return Intake {
-            receiver: p,
-            giver: o,
-            tag: rules::add_data_atoms(held, stored),
-        };
-    }
-    Intake {
-        receiver: o,
-        giver: p,
-        tag: stored | held,
-    }
-}
-
-// Codes 1 and 3: the process reads the object, or adds to it. Both are one call of `absorb`, which is then compiled in place.
-fn share(s: &mut [u64], reads: bool, p: usize, o: usize) -> Answer
-    requires { ⌜ Ready (now s) (sharing reads p o) ⌝ }
-    ensures { λ r. ⌜ (r ≡ lateAnswer (now (s .entry)) (sharing reads p o)) × (now (s .exit) ≡ lateEffect (now (s .entry)) (sharing reads p o)) ⌝ }
-{
-    let taken = taken_in(s, reads, p, o);
-    absorb(s, taken.receiver, taken.giver, taken.tag)
+    let tag = rules::add_data_atoms(held, stored);
+    absorb(s, p, o, tag)
 }
 
 // Code 2: the process writes the object anew.
@@ -302,20 +292,43 @@ fn write(s: &mut [u64], p: usize, o: usize) -> Answer
     update(&mut s[at..at + ROW_WIDTH], o, tag, rule)
 }
 
+// Code 3: the process adds to the object.
+fn append(s: &mut [u64], p: usize, o: usize) -> Answer
+    requires { ⌜ Ready (now s) (append p o) ⌝ }
+    ensures { λ r. ⌜ (r ≡ lateAnswer (now (s .entry)) (append p o)) × (now (s .exit) ≡ lateEffect (now (s .entry)) (append p o)) ⌝ }
+{
+    let held = tag_of(s, p);
+    let stored = tag_of(s, o);
+    absorb(s, o, p, stored | held)
+}
+
+// The process becomes what runs the object, under the permit rule.
+fn launch(s: &mut [u64], p: usize, o: usize, permit: Bounded) -> Answer
+    requires { ⌜ (UsedAt (now s) p) × (UsedAt (now s) o) × (permit .count ≤ mixtureLimit) ⌝ }
+    ensures { λ r. ⌜ (r ≡ launchAnswer (now (s .entry)) p o permit) × (now (s .exit) ≡ launchEffect (now (s .entry)) p o permit) ⌝ }
+{
+    let run = rule_at(s, o * ROW_WIDTH + RUN_AT);
+    let tag = rules::running_atoms(tag_of(s, o));
+    let a = p * ROW_WIDTH;
+    replace(&mut s[a..a + ROW_WIDTH], p, tag, permit, run)
+}
+
 // Code 4: the process executes the object for the user.
 fn exec(s: &mut [u64], p: usize, o: usize, u: usize) -> Answer
     requires { ⌜ Ready (now s) (exec p o u) ⌝ }
     ensures { λ r. ⌜ (r ≡ lateAnswer (now (s .entry)) (exec p o u)) × (now (s .exit) ≡ lateEffect (now (s .entry)) (exec p o u)) ⌝ }
 {
-    let place = o * ROW_WIDTH + RUN_AT;
-    let permit = meet_at(s, place, USERS_AT + u * USER_WIDTH + USER_RULE_AT);
+    let x = o * ROW_WIDTH + RUN_AT;
+    let y = USERS_AT + u * USER_WIDTH + USER_RULE_AT;
+    if both_single(s[x], s[y]) {
+        let permit = rules::one(mixture_at(s, x, y));
+        return launch(s, p, o, permit);
+    }
+    let permit = meet_at(s, x, y);
     if !permit.fits {
         return Answer::Refused(answers::OVER_LIMIT);
     }
-    let run = rule_at(s, place);
-    let tag = rules::running_atoms(tag_of(s, o));
-    let a = p * ROW_WIDTH;
-    replace(&mut s[a..a + ROW_WIDTH], p, tag, permit, run)
+    launch(s, p, o, permit)
 }
 
 // Code 5: the object becomes a copy of the process.
@@ -367,16 +380,6 @@ fn new_volatile(s: &mut [u64], p: usize, o: usize) -> Answer
 
 // ---- by code
 
-// The code is that of a read or an append.
-fn is_sharing(code: usize) -> bool
-    ensures { λ r. ⌜ r ≡ (eqb code readCode || eqb code appendCode) ⌝ }
-{
-    if code == records::READ_CODE {
-        return true;
-    }
-    code == records::APPEND_CODE
-}
-
 // What a request that is not refused by 10 to 14 does: 15, or the effect and the answer.
 fn by_code(s: &mut [u64], q: Request) -> Answer
     requires { ⌜ (Named (now s) q) × (Ready (now s) (stepIn q)) ⌝ }
@@ -386,11 +389,14 @@ fn by_code(s: &mut [u64], q: Request) -> Answer
     let p = q.p;
     let o = q.o;
     let u = q.u;
-    if is_sharing(code) {
-        return share(s, code == records::READ_CODE, p, o);
+    if code == records::READ_CODE {
+        return read(s, p, o);
     }
     if code == records::WRITE_CODE {
         return write(s, p, o);
+    }
+    if code == records::APPEND_CODE {
+        return append(s, p, o);
     }
     if code == records::EXEC_CODE {
         return exec(s, p, o, u);

@@ -3,10 +3,10 @@ use Prim.Native.Nat.{ℕ, zero, suc, _+_, _-_, _*_, _/_, _%_, _≤_, _<_}
 use native.Mathlib.Omega.{arith}
 use native.Mathlib.Decide.{decLt}
 use native.Mathlib.Nat.{add-sub-cancel-left, suc-mul}
-use mathlib.Core.Path.{_≡_, sym, ap, ap₂, _∙_}
+use mathlib.Core.Path.{_≡_, refl, sym, ap, ap₂, _∙_}
 use mathlib.Core.List.{List, [], _∷_, _++_}
 use lib.ListN.{length, take, drop, length-append, length-take, length-drop, drop-of-length-le}
-use lib.Seq.{take-all, drop-drop, take-append-le, drop-append-le}
+use lib.Seq.{take-all, drop-drop, drop-nil, take-append-le, drop-append-le}
 use Rattle.fields.specs.Bytes.{cut}
 use Rattle.records.specs.Records.{recordLength}
 use Rattle.records.specs.Traces.{traceRecords}
@@ -50,6 +50,16 @@ pub record-length : (t x : List ℕ) (at : ℕ) → at < length t → x ≡ take
 record-length t x at l xe =
     let e : length x ≡ length (take recordLength (drop at t)) = ap length xe in
     (omega (arith, length-take recordLength (drop at t), length-drop at t), omega (arith, length-take recordLength (drop at t), length-drop at t))
+
+-- the records behind the first n are those of the bytes behind them
+pub records-rest : (n : ℕ) (t : List ℕ) → drop n (traceRecords t) ≡ traceRecords (drop (n * recordLength) t)
+records-rest zero t = refl
+records-rest (suc n) [] = unfold traceRecords cut in (rw (drop-nil {A = ℕ}))
+records-rest (suc n) (b ∷ t) =
+    let e : recordLength + n * recordLength ≡ suc n * recordLength = omega arith in
+    ap (drop (suc n)) (one-more (b ∷ t) (omega arith))
+    ∙ records-rest n (drop recordLength (b ∷ t))
+    ∙ ap traceRecords (drop-drop (n * recordLength) recordLength (b ∷ t) ∙ ap (λ (k : ℕ). drop k (b ∷ t)) e)
 
 -- ---- a trace cut between records
 

@@ -2,6 +2,7 @@
 use answers::Answer;
 use image::HEADER_SIZE;
 use libc::STDOUT_FILENO;
+use normaliser::OUTPUT_BOUND;
 use records::RECORD_LENGTH;
 use session::SESSION_LENGTH;
 
@@ -31,6 +32,11 @@ fn empty_policy() {
         session::start(&image, &mut session) as u64,
     );
     line(b"17 bytes of it, check", image::check(&image[0..17]) as u64);
+    let mut out = [0u8; OUTPUT_BOUND];
+    line(
+        b"empty policy, length of the normal image",
+        normaliser::normalise(&image, &mut out) as u64,
+    );
 }
 
 // "Code 9 with a short session: 9."

@@ -1,7 +1,7 @@
 //! The functions of `include/yaslaurel.h` as they are. What a caller owes stands there; a Rust slice, even an empty
 //! one, always keeps it.
 
-/// Answers of [`yaslaurel_step`] that are no refusals.
+/// Answers of [`yaslaurel_step`] and [`yaslaurel_run`] that are no refusals.
 pub const QUIET: u32 = 0;
 pub const ALERT: u32 = 256;
 
@@ -14,6 +14,15 @@ extern "C" {
         session_len: usize,
         record: *const u8,
         record_len: usize,
+        receiver: *mut u64,
+        tag: *mut u64,
+    ) -> u32;
+    pub fn yaslaurel_run(
+        session: *mut u64,
+        session_len: usize,
+        records: *const u8,
+        records_len: usize,
+        taken: *mut usize,
         receiver: *mut u64,
         tag: *mut u64,
     ) -> u32;

@@ -29,11 +29,13 @@ pub mod ffi;
 pub mod layout;
 mod operation;
 mod refusal;
+mod run;
 
 use std::fmt;
 
 pub use operation::Operation;
 pub use refusal::Refusal;
+pub use run::{run_in, Run};
 
 /// Numbers of 64 bits in a session.
 pub const SESSION_LENGTH: usize = layout::session::LENGTH;
@@ -215,6 +217,32 @@ impl Session {
     #[inline]
     pub fn step(&mut self, record: &[u8]) -> Result<Answer, Refusal> {
         step_in(&mut self.words[..], record)
+    }
+
+    /// Judges the records that lie one behind the other in a slice, each as [`step`](Session::step) does; the last may be
+    /// short. The iterator gives what is not quiet: the record's place in the slice, counted from 0, and its alert or
+    /// refusal. Records are judged as the iterator goes on, so it is run to its end, or [`Run::judged`] tells how far it
+    /// came.
+    ///
+    /// ```
+    /// use yaslaurel::{matrix_policy, Operation, Refusal, Session, Verdict};
+    /// let mut session = Session::start(&matrix_policy(&[5, 3, 2], &[1, 2, 10], 4)?)?;
+    /// let mut records = Vec::new();
+    /// records.extend(Operation::Read { process: 4, object: 2 }.record());
+    /// records.extend(Operation::Append { process: 4, object: 0 }.record());
+    /// records.extend(Operation::Read { process: 5, object: 0 }.record());
+    /// records.extend(Operation::Append { process: 5, object: 1 }.record());
+    /// records.extend(Operation::Write { process: 6, object: 1 }.record());
+    /// records.extend(Operation::Read { process: 6, object: 9 }.record());
+    /// let loud: Vec<_> = session.run(&records).collect();
+    /// assert_eq!(loud.len(), 2);
+    /// assert!(matches!(loud[0], (3, Ok(alert)) if alert.verdict == Verdict::Alert && alert.tag == 0b0111));
+    /// assert_eq!(loud[1], (5, Err(Refusal::WrongKind)));
+    /// # Ok::<(), Refusal>(())
+    /// ```
+    #[inline]
+    pub fn run<'a>(&'a mut self, records: &'a [u8]) -> Run<'a> {
+        run_in(&mut self.words[..], records)
     }
 
     /// The numbers of the session: the rows of the containers, then those of the users, as [`layout::session`] has

@@ -70,6 +70,7 @@ static const uint32_t writes[3] = {1, 2, 10};
 static void lengths(void)
 {
     uint64_t receiver = 11, tag = 22;
+    size_t taken = 33;
     const uint8_t record[RECORD + 1] = {4};
 
     mark_session();
@@ -84,8 +85,18 @@ static void lengths(void)
     check(yaslaurel_step(session, SESSION, record, 0, &receiver, &tag) == 7, "step: record of length 0");
     check(yaslaurel_step(session, 0, record, 0, &receiver, &tag) == 9, "step: 9 comes before 7");
     check(yaslaurel_step(session, SESSION, record, RECORD, &receiver, &tag) == 10, "step: rows not well formed");
+    check(yaslaurel_run(session, SESSION - 1, record, RECORD, &taken, &receiver, &tag) == 9, "run: session one short");
+    check(yaslaurel_run(session, SESSION + 1, record, RECORD - 1, &taken, &receiver, &tag) == 9,
+          "run: 9 comes before 7");
+    check(yaslaurel_run(session, 0, record, 0, &taken, &receiver, &tag) == 9, "run: 9 without records");
+    check(taken == 33, "run: 9 leaves the count");
+    check(yaslaurel_run(session, SESSION, record, RECORD - 1, &taken, &receiver, &tag) == 7 && taken == 1,
+          "run: a short record counts and is refused");
+    check(yaslaurel_run(session, SESSION, record, 0, &taken, &receiver, &tag) == 0 && taken == 0, "run: no records");
+    check(yaslaurel_run(session, SESSION, record, RECORD + 1, &taken, &receiver, &tag) == 10 && taken == 1,
+          "run: rows not well formed");
     check(session_stayed(), "refused calls leave the session");
-    check(receiver == 11 && tag == 22, "refused calls leave receiver and tag");
+    check(receiver == 11 && tag == 22, "refused calls leave receiver and tag, and so does a run without records");
 
     mark_out();
     check(yaslaurel_image_normalise(empty, HEADER, out, OUTPUT - 1) == 9, "normalise: output one short");
@@ -104,17 +115,20 @@ static void lengths(void)
 static void nulls(void)
 {
     uint64_t receiver = 11, tag = 22;
+    size_t taken = 33;
     uint32_t count = 1, source = 2, target = 3;
 
     check(yaslaurel_image_check(yaslaurel_bytes(NULL), 0) == 1, "check: a null image");
     check(yaslaurel_image_normalise(yaslaurel_bytes(NULL), 0, yaslaurel_output(NULL), 0) == 9, "normalise: nulls");
     check(yaslaurel_session_start(yaslaurel_bytes(NULL), 0, yaslaurel_words(NULL), 0) == 9, "start: nulls");
     check(yaslaurel_step(yaslaurel_words(NULL), 0, yaslaurel_bytes(NULL), 0, &receiver, &tag) == 9, "step: nulls");
+    check(yaslaurel_run(yaslaurel_words(NULL), 0, yaslaurel_bytes(NULL), 0, &taken, &receiver, &tag) == 9, "run: nulls");
     check(yaslaurel_matrix_verdict(yaslaurel_rows(NULL), 0, yaslaurel_rows(NULL), 0, 4, &count, &source, &target) == 8,
           "verdict: null rows");
     check(yaslaurel_matrix_policy(yaslaurel_rows(NULL), 0, yaslaurel_rows(NULL), 0, 4, out, OUTPUT) == 8,
           "matrix policy: null rows");
-    check(receiver == 11 && tag == 22 && count == 1 && source == 2 && target == 3, "refused calls leave the numbers");
+    check(receiver == 11 && tag == 22 && taken == 33 && count == 1 && source == 2 && target == 3,
+          "refused calls leave the numbers");
 }
 
 static void example(void)
@@ -155,6 +169,23 @@ static void example(void)
         }
     }
     check(good, "the paper's trace, from odd addresses");
+
+    /* The same as batches, on a new session: the alert stops the first, the refusal the second, and the rest is none. */
+    size_t taken = 66;
+    uint64_t receiver = 77, tag = 88;
+    memcpy(before, session, sizeof session);
+    check(yaslaurel_session_start(out, 110, session, SESSION) == 0, "the derived policy starts a session again");
+    check(yaslaurel_run(session, SESSION, trace + 1, 3 * RECORD, &taken, &receiver, &tag) == 0 && taken == 3 &&
+              receiver == 77 && tag == 88,
+          "run: a batch that is quiet to its end");
+    check(yaslaurel_run(session, SESSION, trace + 1 + 3 * RECORD, 3 * RECORD, &taken, &receiver, &tag) ==
+                  YASLAUREL_ALERT &&
+              taken == 1 && receiver == 1 && tag == 7,
+          "run: a batch that stops at an alert");
+    check(yaslaurel_run(session, SESSION, trace + 1 + 4 * RECORD, 2 * RECORD, &taken, &receiver, &tag) == 12 &&
+              taken == 2 && receiver == 1 && tag == 7,
+          "run: a batch that stops at a refusal, and keeps what came before it");
+    check(session_stayed(), "run: batches leave the session that single steps leave");
 }
 
 /* A small generator of random numbers. */
@@ -207,6 +238,10 @@ static void random_bytes(void)
         good = good && (answer == 0 || answer == 256 || answer == 7 || (answer >= 10 && answer <= 15));
         good = good && (answer == 0 || answer == 256 || (receiver == 0 && tag == 0));
         good = good && receiver < YASLAUREL_CONTAINERS;
+        size_t taken = 99;
+        answer = yaslaurel_run(session, SESSION, image, length, &taken, &receiver, &tag);
+        good = good && (answer == 0 || answer == 256 || answer == 7 || (answer >= 10 && answer <= 15));
+        good = good && taken <= (length + RECORD - 1) / RECORD && (answer != 0 || taken * RECORD >= length);
         for (int i = 0; i < 10; i++) {
             rows[i] = draw(&seed) & draw(&seed) & (round % 2 ? 0xffu : 0xffffffffu);
         }

@@ -28,6 +28,7 @@ enum {
     CONTAINER_ROW = YASLAUREL_CONTAINER_ROW,
     SECTIONS = YASLAUREL_SECTIONS,
     WORD = sizeof(uint64_t),
+    BATCH = 40, /* records of a run at most */
     /* Numbers of answers; a length is counted as the last. */
     ANSWERS = 257,
     LENGTH = ANSWERS - 1
@@ -76,7 +77,7 @@ struct region {
     uint8_t *copy;
 };
 
-static struct region image_at, out_at, session_at, record_at, reads_at, writes_at, numbers_at;
+static struct region image_at, out_at, session_at, record_at, reads_at, writes_at, numbers_at, taken_at;
 
 static void reserve(struct region *region, size_t bytes)
 {
@@ -116,8 +117,8 @@ static int stayed(const struct region *region, size_t written)
 }
 
 /* How often each function gave each answer. */
-static unsigned long checks[ANSWERS], normals[ANSWERS], starts[ANSWERS], steps[ANSWERS], verdicts[ANSWERS],
-    policies[ANSWERS];
+static unsigned long checks[ANSWERS], normals[ANSWERS], starts[ANSWERS], steps[ANSWERS], runs[ANSWERS],
+    verdicts[ANSWERS], policies[ANSWERS];
 
 /* Writes a number of so many bytes; gives the place behind it. */
 static uint8_t *put(uint8_t *at, uint64_t value, size_t bytes)
@@ -274,16 +275,13 @@ static size_t container_of(uint64_t kind)
     return from;
 }
 
-/* One step on the session as it stands, or after damage to it. */
-static void try_step(int damaged)
+/* A record for the session as it stands, now and then of any bytes. Its code. */
+static unsigned make_record(uint8_t *record)
 {
-    uint8_t record[24];
-    size_t length = RECORD, session_length = percent(98) ? SESSION : below(SESSION + 8);
     unsigned code = 1 + (unsigned)below(7);
     size_t o = container_of(code <= 4 ? 1 + (code < 4 ? below(2) : 0) : 0);
-    uint64_t before[2] = {77, 88};
 
-    for (size_t i = 0; i < sizeof record; i++) {
+    for (size_t i = 0; i < RECORD; i++) {
         record[i] = (uint8_t)draw();
     }
     if (percent(95)) {
@@ -294,6 +292,20 @@ static void try_step(int damaged)
         put16(record + YASLAUREL_USER_AT,
               code == 4 || code == 6 ? below(percent(90) ? 3 : YASLAUREL_USERS) : YASLAUREL_NO_USER);
     }
+    return code;
+}
+
+/* One step on the session as it stands, or after damage to it. */
+static void try_step(int damaged)
+{
+    uint8_t record[24];
+    size_t length = RECORD, session_length = percent(98) ? SESSION : below(SESSION + 8);
+    uint64_t before[2] = {77, 88};
+
+    for (size_t i = RECORD; i < sizeof record; i++) {
+        record[i] = (uint8_t)draw();
+    }
+    unsigned code = make_record(record);
     if (percent(3)) {
         length = below(sizeof record);
     }
@@ -334,6 +346,63 @@ static void try_step(int damaged)
     require(after[row + YASLAUREL_TAG_AT] == numbers[1], "the tag is the receiver's");
     memcpy(session + row, after + row, WORD * CONTAINER_ROW);
     require(memcmp(session, after, WORD * SESSION) == 0, "the other rows stay");
+}
+
+/* A batch on the session as it stands: its answer, its count and what it leaves are those of its records step by step. */
+static void try_run(int damaged)
+{
+    static uint64_t stepped[SESSION + 8];
+    uint8_t records[(BATCH + 1) * RECORD];
+    size_t count = below(percent(70) ? 6 : BATCH + 1), length = RECORD * count;
+    size_t session_length = percent(97) ? SESSION : below(SESSION + 8);
+    uint64_t before[2] = {77, 88}, received[2] = {77, 88};
+    size_t old_taken = 99, at = 0, steps_taken = 0;
+    uint32_t expected = session_length == SESSION ? YASLAUREL_QUIET : 9;
+
+    for (size_t i = 0; i < count; i++) {
+        make_record(records + RECORD * i);
+    }
+    if (percent(10)) {
+        length -= below(length < RECORD ? length + 1 : RECORD);
+    }
+    if (damaged) {
+        session[CONTAINER_ROW * below(20) + below(CONTAINER_ROW)] ^= (uint64_t)1 << below(64);
+    }
+    memcpy(stepped, session, sizeof session);
+    while (expected == YASLAUREL_QUIET && at < length) {
+        size_t left = length - at;
+        expected = yaslaurel_step(stepped, SESSION, records + at, left < RECORD ? left : RECORD, &received[0],
+                                  &received[1]);
+        at += RECORD;
+        steps_taken++;
+    }
+
+    lend(&session_at, session, WORD * session_length);
+    lend(&record_at, records, length);
+    lend(&numbers_at, before, sizeof before);
+    lend(&taken_at, &old_taken, sizeof old_taken);
+    read_only(&record_at, 1);
+    uint64_t *numbers = (uint64_t *)(void *)numbers_at.slice;
+    size_t *taken = (size_t *)(void *)taken_at.slice;
+    uint32_t answer = yaslaurel_run((uint64_t *)(void *)session_at.slice, session_length, record_at.slice, length,
+                                    taken, &numbers[0], &numbers[1]);
+    read_only(&record_at, 0);
+
+    require(answer == expected, "the run answers as the step does at which it stops, 9 first");
+    require(stayed(&record_at, 0), "the records stay");
+    runs[answer]++;
+    require(stayed(&numbers_at, answer == YASLAUREL_ALERT ? sizeof before : 0),
+            "receiver and tag stay but in an alert");
+    require(stayed(&taken_at, answer == 9 ? 0 : sizeof old_taken), "9 leaves the count");
+    require(answer == 9 || *taken == steps_taken, "the run counts the records up to and with the one at which it stops");
+    require(answer != YASLAUREL_ALERT || (numbers[0] == received[0] && numbers[1] == received[1]),
+            "the run gives the alert's receiver and tag");
+    require(stayed(&session_at, answer == 9 ? 0 : WORD * SESSION), "memory beside the session stays");
+    require(answer == 9 || memcmp(session_at.slice, stepped, WORD * SESSION) == 0,
+            "the run leaves the session that its records leave");
+    if (answer != 9) {
+        memcpy(session, stepped, WORD * SESSION);
+    }
 }
 
 static void try_matrix(void)
@@ -403,6 +472,7 @@ static int all_reached(int print)
     all &= REACHED(print, normals, LENGTH, 1, 2, 3, 4, 5, 6, 9);
     all &= REACHED(print, starts, 0, 1, 2, 3, 4, 5, 6, 9);
     all &= REACHED(print, steps, YASLAUREL_QUIET, YASLAUREL_ALERT, 7, 9, 10, 11, 12, 13, 14, 15);
+    all &= REACHED(print, runs, YASLAUREL_QUIET, YASLAUREL_ALERT, 7, 9, 10, 11, 12, 13, 14, 15);
     all &= REACHED(print, verdicts, 0, 1, 8);
     all &= REACHED(print, policies, LENGTH, 8, 9);
     return all;
@@ -420,10 +490,11 @@ int main(int argc, char **argv)
     reserve(&image_at, sizeof image);
     reserve(&out_at, OUTPUT + 40);
     reserve(&session_at, sizeof session);
-    reserve(&record_at, 64);
+    reserve(&record_at, (BATCH + 1) * RECORD);
     reserve(&reads_at, 64);
     reserve(&writes_at, 64);
     reserve(&numbers_at, 64);
+    reserve(&taken_at, 64);
 
     /* On a busy machine up to three times as long, until every answer was reached. */
     while (counted ? rounds < limit
@@ -437,9 +508,15 @@ int main(int argc, char **argv)
             for (size_t count = below(30); count > 0; count--) {
                 try_step(0);
             }
+            for (size_t count = below(4); count > 0; count--) {
+                try_run(0);
+            }
             /* The last steps of a session are on damaged rows. */
             for (size_t count = below(4); count > 0; count--) {
                 try_step(1);
+            }
+            if (percent(30)) {
+                try_run(1);
             }
         }
         try_matrix();

@@ -1,6 +1,7 @@
 -- The invariant: the rows spell the paths through objects below k.
 use borrow.Author.Needs.{needs}
 use Prim.Native.Nat.{_-_}
+use native.Mathlib.Omega.{arith}
 use Rattle.matrix.proofs.RowLaws.{Closing, closing-start, closing-next, closing-end}
 use Rattle.matrix.proofs.close.Statement.{statement}
 use Rattle.matrix.proofs.close.Tie as tie
@@ -12,10 +13,10 @@ abbrev μ-loop : tie.MeasureT-loop
 μ-loop rows₀ n k₀ rows k = n - k
 
 loop-holds : tie.Need-loop-holds Inv-loop μ-loop
-loop-holds c = closing-start _ _ (c .before .pre .1)
+loop-holds c = closing-start _ _ (c .before .pre .1) (λ a. omega (arith, c .slice-known .given a))
 
 loop-again : tie.Need-loop-again Inv-loop μ-loop
-loop-again c = let l = c .before .before .before .before in closing-next _ (l .before .before .before .args .rows .now) _ _ _ (l .before .loop .inv) (l .loop-test .taken) (c .before .before .pass-through .ensures)
+loop-again c = let l = c .before .before .before .before in closing-next _ (l .before .before .before .args .rows .now) _ _ _ (l .before .loop .inv) (l .loop-test .taken) (c .before .before .pass-through .ensures) (λ a. omega (arith, c .slice-known2 .given a))
 
 same-length : tie.Need-same-length Inv-loop μ-loop
 same-length c = c .before .loop .inv .long

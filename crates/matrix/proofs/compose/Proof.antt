@@ -1,5 +1,6 @@
 -- The closure of rows that spell the granted flows is that of the matrix.
 use borrow.Author.Needs.{needs}
+use Rattle.matrix.proofs.RowLaws.{spelling-fits}
 use Rattle.matrix.proofs.GoodLaws.{good-parts}
 use Rattle.matrix.proofs.VerdictLaws.{closed}
 use Rattle.matrix.proofs.compose.Statement.{statement}
@@ -12,14 +13,15 @@ fill-granted-requires c κs =
 
 close-requires : tie.Need-close-requires
 close-requires c κs =
-    let g = good-parts _ _ _ (c .before .before .before .before .before .before .before .before .pre .0) in
-    (g .few, c .before .before .before .fill-granted .ensures .fit)
+    let start = c .before .before .before .before .before .before .before .before in
+    let g = good-parts _ _ _ (start .pre .0) in
+    (g .few, spelling-fits _ _ _ _ (c .before .before .before .fill-granted .ensures) (start .pre .1))
 
 returns : tie.Need-returns
 returns c =
     let start = c .before .before .before .before .before .before .before .before .before .before .before in
     let g = good-parts _ _ _ (start .pre .0) in
-    closed _ _ _ _ _ (g .even) (g .few) (g .writesGood) (c .before .before .before .before .before .before .fill-granted .ensures) (c .before .before .close .ensures)
+    closed _ _ _ _ _ _ (g .even) (g .few) (g .writesGood) (start .pre .1) (c .before .before .before .before .before .before .fill-granted .ensures) (c .before .before .close .ensures)
 
 pub compose-spec : {M : Type 1} → statement M
 compose-spec = tie.close (tie.spec fill-granted-requires close-requires (λ c. search needs) returns)

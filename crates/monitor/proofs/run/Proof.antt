@@ -1,33 +1,47 @@
--- `monitor::run`. The invariant: what is told behind the records so far is what is told of the whole trace (`Running`).
+-- `monitor::run`. The invariant: the records that are left come to what the whole trace comes to (`Running`).
 use Prim.Native.Nat.{_-_}
 use native.Mathlib.Omega.{arith}
+use mathlib.Core.Path.{refl}
 use lib.ListN.{length}
 use borrow.Author.Needs.{needs}
-use Rattle.monitor.proofs.TraceRuns.{Running, run-start, run-next, run-end}
+use Rattle.lists.proofs.Bools.{passes-test, fails-test}
 use Rattle.records.proofs.TraceLaws.{record-length}
+use Rattle.monitor.proofs.StopLoop.{Running, run-9, run-start, run-next, run-stops, run-end}
 use Rattle.monitor.proofs.run.Statement.{statement}
 use Rattle.monitor.proofs.run.Tie as tie
 
 abbrev Inv-loop : tie.InvT-loop
-Inv-loop trace session₀ total₀ at₀ session total at = Running trace session₀ session total at
+Inv-loop session₀ trace taken₀ at₀ session taken at = Running session₀ trace session taken at
 
 abbrev μ-loop : tie.MeasureT-loop
-μ-loop trace session₀ total₀ at₀ session total at = length trace - at
-
-loop-holds : tie.Need-loop-holds Inv-loop μ-loop
-loop-holds c = run-start _ _ _ (c .not-run .ensures)
-
-add-at : tie.Need-add-at Inv-loop μ-loop
-add-at c = omega (arith, record-length _ _ _ (c .before .before .before .before .before .before .loop-test .taken) (c .before .before .before .before .before .record-at .ensures))
-
-loop-less : tie.Need-loop-less Inv-loop μ-loop
-loop-less c = omega (arith, record-length _ _ _ (c .before .before .before .before .before .before .loop-test .taken) (c .before .before .before .before .before .record-at .ensures))
-
-loop-again : tie.Need-loop-again Inv-loop μ-loop
-loop-again c = run-next _ _ _ _ _ _ _ _ _ (c .before .before .before .before .before .before .before .loop .inv) (c .before .before .before .before .before .before .loop-test .taken) (c .before .before .before .before .before .record-at .ensures) (search needs) ((c .before .before .before .step .ensures) .1) ((c .before .before .before .step .ensures) .0) (c .extend .ensures)
+μ-loop session₀ trace taken₀ at₀ session taken at = length trace - at
 
 returns : tie.Need-returns Inv-loop μ-loop
-returns c = run-end _ _ _ _ _ (c .before .loop .inv) (c .loop-test .left)
+returns c = run-9 _ _ (c .if1 .taken) _ refl
+
+loop-holds : tie.Need-loop-holds Inv-loop μ-loop
+loop-holds c = run-start _ _ (c .if1 .left)
+
+returns-2 : tie.Need-returns-2 Inv-loop μ-loop
+returns-2 c =
+    let answered = c .before .before .before .before .step .ensures in
+    run-stops _ _ _ _ _ _ _ _ (c .before .before .before .before .before .before .before .before .loop .inv) (c .before .before .before .before .before .before .before .loop-test .taken) (c .before .before .before .before .before .before .record-at .ensures) (answered .1) (answered .0)
+    (fails-test (c .before .is-quiet .ensures) (c .if2 .taken)) _ refl
+
+add-at : tie.Need-add-at Inv-loop μ-loop
+add-at c = omega (arith, record-length _ _ _ (c .before .before .before .before .before .before .before .loop-test .taken) (c .before .before .before .before .before .before .record-at .ensures))
+
+loop-less : tie.Need-loop-less Inv-loop μ-loop
+loop-less c = omega (arith, record-length _ _ _ (c .before .before .before .before .before .before .before .loop-test .taken) (c .before .before .before .before .before .before .record-at .ensures))
+
+loop-again : tie.Need-loop-again Inv-loop μ-loop
+loop-again c =
+    let answered = c .before .before .before .before .step .ensures in
+    run-next _ _ _ _ _ _ _ _ (c .before .before .before .before .before .before .before .before .loop .inv) (c .before .before .before .before .before .before .before .loop-test .taken) (c .before .before .before .before .before .before .record-at .ensures) (answered .1) (answered .0)
+    (passes-test (c .before .is-quiet .ensures) (c .if2 .left)) (search needs)
+
+returns-3 : tie.Need-returns-3 Inv-loop μ-loop
+returns-3 c = run-end _ _ _ _ _ (c .before .loop .inv) (c .loop-test .left) _ refl
 
 pub run-spec : {M : Type 1} → statement M
 run-spec =
@@ -35,13 +49,16 @@ run-spec =
     (tie.spec
     Inv-loop
     μ-loop
-    (λ c κs. search needs)
+    returns
     loop-holds
     (λ c κs. search needs)
     (λ c κs. search needs)
+    (λ c. search needs)
     (λ c κs. search needs)
+    (λ c. search needs)
+    returns-2
     add-at
     loop-less
     loop-again
     (λ c. search needs)
-    returns)
+    returns-3)

@@ -1,6 +1,6 @@
 -- The words of the rules in normal form go to the writer.
 use native.Mathlib.Omega.{arith}
-use Rattle.normaliser.proofs.FormRows.{rules-few, front-long, filled-long, filled-tabled, filled-wrote}
+use Rattle.normaliser.proofs.FormRows.{rules-few, front-long, filled-long, filled-few, filled-tabled, filled-wrote}
 use borrow.Author.Needs.{needs}
 use Rattle.normaliser.proofs.rewrite_few.Statement.{statement}
 use Rattle.normaliser.proofs.rewrite_few.Tie as tie
@@ -20,20 +20,24 @@ fill-forms-requires c κs =
     let start = c .before .before .before .before .before .before in
     (front-long _ _ (omega (arith, rules-few (start .args .containers .now) (start .args .users .now) (start .args .rules .now) (start .args .mixtures .now) (start .pre .0))), start .pre .0 .spans)
 
-part-write-policy-end : tie.Need-part-write-policy-end
-part-write-policy-end c =
+part-write-few-end : tie.Need-part-write-few-end
+part-write-few-end c =
     let start = c .before .before .before .before .before .before .before .before .before in
     filled-long (start .args .containers .now) (start .args .users .now) (start .args .rules .now) (start .args .mixtures .now) (start .pre .0) _ (c .before .before .fill-forms .ensures)
 
-write-policy-requires : tie.Need-write-policy-requires
-write-policy-requires c κs =
+write-few-requires : tie.Need-write-few-requires
+write-few-requires c κs =
     let start = c .before .before .before .before .before .before .before .before .before .before .before in
-    (filled-tabled (start .args .containers .now) (start .args .users .now) (start .args .rules .now) (start .args .mixtures .now) (start .pre .0) _ (c .before .before .before .before .fill-forms .ensures), start .pre .2)
+    let e = c .before .before .before .before .fill-forms .ensures in (
+      filled-tabled (start .args .containers .now) (start .args .users .now) (start .args .rules .now) (start .args .mixtures .now) (start .pre .0) _ e,
+      filled-few (start .args .containers .now) (start .args .users .now) (start .args .rules .now) (start .args .mixtures .now) (start .pre .0) _ e _ (start .pre .1),
+      start .pre .2,
+    )
 
 returns : tie.Need-returns
 returns c =
     let start = c .before .before .before .before .before .before .before .before .before .before .before .before .before .before in
-    filled-wrote (start .args .containers .now) (start .args .users .now) (start .args .rules .now) (start .args .mixtures .now) (start .pre .0) _ (c .before .before .before .before .before .before .before .fill-forms .ensures) (c .before .before .write-policy .ensures)
+    filled-wrote (start .args .containers .now) (start .args .users .now) (start .args .rules .now) (start .args .mixtures .now) (start .pre .0) _ (c .before .before .before .before .before .before .before .fill-forms .ensures) (c .before .before .write-few .ensures)
 
 pub rewrite-few-spec : {M : Type 1} → statement M
 rewrite-few-spec =
@@ -46,7 +50,7 @@ rewrite-few-spec =
     fill-forms-requires
     (λ c. search needs)
     (λ c. search needs)
-    part-write-policy-end
-    write-policy-requires
+    part-write-few-end
+    write-few-requires
     (λ c. search needs)
     returns)

@@ -20,20 +20,20 @@ fill-forms-requires c κs =
     let start = c .before .before .before .before .before .before in
     (front-long _ _ (omega (arith, rules-few (start .args .containers .now) (start .args .users .now) (start .args .rules .now) (start .args .mixtures .now) (start .pre .0))), start .pre .0 .spans)
 
-part-write-policy-end : tie.Need-part-write-policy-end
-part-write-policy-end c =
+part-write-many-end : tie.Need-part-write-many-end
+part-write-many-end c =
     let start = c .before .before .before .before .before .before .before .before .before in
     filled-long (start .args .containers .now) (start .args .users .now) (start .args .rules .now) (start .args .mixtures .now) (start .pre .0) _ (c .before .before .fill-forms .ensures)
 
-write-policy-requires : tie.Need-write-policy-requires
-write-policy-requires c κs =
+write-many-requires : tie.Need-write-many-requires
+write-many-requires c κs =
     let start = c .before .before .before .before .before .before .before .before .before .before .before in
     (filled-tabled (start .args .containers .now) (start .args .users .now) (start .args .rules .now) (start .args .mixtures .now) (start .pre .0) _ (c .before .before .before .before .fill-forms .ensures), start .pre .1)
 
 returns : tie.Need-returns
 returns c =
     let start = c .before .before .before .before .before .before .before .before .before .before .before .before .before .before in
-    filled-wrote (start .args .containers .now) (start .args .users .now) (start .args .rules .now) (start .args .mixtures .now) (start .pre .0) _ (c .before .before .before .before .before .before .before .fill-forms .ensures) (c .before .before .write-policy .ensures)
+    filled-wrote (start .args .containers .now) (start .args .users .now) (start .args .rules .now) (start .args .mixtures .now) (start .pre .0) _ (c .before .before .before .before .before .before .before .fill-forms .ensures) (c .before .before .write-many .ensures)
 
 pub rewrite-many-spec : {M : Type 1} → statement M
 rewrite-many-spec =
@@ -46,7 +46,7 @@ rewrite-many-spec =
     fill-forms-requires
     (λ c. search needs)
     (λ c. search needs)
-    part-write-policy-end
-    write-policy-requires
+    part-write-many-end
+    write-many-requires
     (λ c. search needs)
     returns)

@@ -1,11 +1,10 @@
 -- `operations::both_single`. By the first count, then the second.
 use borrow.Author.Tests.{eq-eqb, ne-eqb}
-use borrow.Author.Needs.{needs}
 use Rattle.operations.proofs.both_single.Statement.{statement}
 use Rattle.operations.proofs.both_single.Tie as tie
 
 returns : tie.Need-returns
-returns c = rw (eq-eqb _ _ (c .before .if1 .taken))
+returns c = rw (eq-eqb _ _ (c .if1 .taken))
 
 returns-2 : tie.Need-returns-2
 returns-2 c = rw (ne-eqb _ _ (c .if1 .left))
@@ -13,4 +12,6 @@ returns-2 c = rw (ne-eqb _ _ (c .if1 .left))
 pub both-single-spec : {M : Type 1} → statement M
 both-single-spec =
     tie.close
-    (tie.spec (λ c. search needs) (λ c. search needs) (λ c. search needs) (λ c. search needs) returns returns-2)
+    (tie.spec
+    returns
+    returns-2)

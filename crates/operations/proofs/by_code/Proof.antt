@@ -1,84 +1,128 @@
 -- `operations::by_code`. The code decides which step the request asks for.
-use Rattle.operations.proofs.PerformLaws.{ready-as, done-as, step-sharing, not-sharing}
-use mathlib.Core.Path.{refl, sym, _∙_}
-use Rattle.records.proofs.CodeLaws.{step-write, step-exec, step-fork, step-file, step-volatile}
-use Rattle.chains.specs.History.{write, exec, fork, newFile, newVolatile}
+use Rattle.chains.specs.History.{read, write, append, exec, fork, newFile, newVolatile}
+use Rattle.records.proofs.CodeLaws.{step-read, step-write, step-append, step-exec, step-fork, step-file, step-volatile}
+use Rattle.operations.proofs.PerformLaws.{ready-as, done-as}
 use borrow.Author.Needs.{needs}
 use Rattle.operations.proofs.by_code.Statement.{statement}
 use Rattle.operations.proofs.by_code.Tie as tie
 
-share-requires : tie.Need-share-requires
-share-requires c κs = let start = c .before .before .before .before in let q = start .args .q in ready-as (start .args .s .now) q _ (step-sharing q _ refl (sym (c .before .before .is-sharing .ensures) ∙ c .before .if1 .taken)) (start .pre .1)
+read-requires : tie.Need-read-requires
+read-requires c κs = let start = c .before .before .before in let q = start .args .q in ready-as (start .args .s .now) q (read (q .p) (q .o)) (step-read q (c .before .if1 .taken)) (start .pre .1)
 
 returns : tie.Need-returns
-returns c = let start = c .before .before .before .before .before .before .before in let q = start .args .q in done-as (start .args .s .now) q _ (step-sharing q _ refl (sym (c .before .before .before .before .before .is-sharing .ensures) ∙ c .before .before .before .before .if1 .taken)) _ _ (c .before .before .share .ensures)
+returns c =
+    let start = c .before .before .before .before .before .before in
+    let q = start .args .q in
+    done-as (start .args .s .now) q (read (q .p) (q .o)) (step-read q (c .before .before .before .before .if1 .taken))
+    _ _ (c .before .before .read .ensures)
 
 write-requires : tie.Need-write-requires
-write-requires c κs = let start = c .before .before .before .before .before in let q = start .args .q in ready-as (start .args .s .now) q (write (q .p) (q .o)) (step-write q (c .before .if2 .taken)) (start .pre .1)
+write-requires c κs =
+    let start = c .before .before .before .before in
+    let q = start .args .q in
+    ready-as (start .args .s .now) q (write (q .p) (q .o)) (step-write q (c .before .if2 .taken)) (start .pre .1)
 
 returns-2 : tie.Need-returns-2
-returns-2 c = let start = c .before .before .before .before .before .before .before .before in let q = start .args .q in done-as (start .args .s .now) q (write (q .p) (q .o)) (step-write q (c .before .before .before .before .if2 .taken)) _ _ (c .before .before .write .ensures)
+returns-2 c =
+    let start = c .before .before .before .before .before .before .before in
+    let q = start .args .q in
+    done-as (start .args .s .now) q (write (q .p) (q .o)) (step-write q (c .before .before .before .before .if2
+    .taken)) _ _ (c .before .before .write .ensures)
 
-exec-requires : tie.Need-exec-requires
-exec-requires c κs = let start = c .before .before .before .before .before .before in let q = start .args .q in ready-as (start .args .s .now) q (exec (q .p) (q .o) (q .u)) (step-exec q (c .before .if3 .taken)) (start .pre .1)
+append-requires : tie.Need-append-requires
+append-requires c κs =
+    let start = c .before .before .before .before .before in
+    let q = start .args .q in
+    ready-as (start .args .s .now) q (append (q .p) (q .o)) (step-append q (c .before .if3 .taken)) (start .pre .1)
 
 returns-3 : tie.Need-returns-3
-returns-3 c = let start = c .before .before .before .before .before .before .before .before .before in let q = start .args .q in done-as (start .args .s .now) q (exec (q .p) (q .o) (q .u)) (step-exec q (c .before .before .before .before .if3 .taken)) _ _ (c .before .before .exec .ensures)
-
-fork-requires : tie.Need-fork-requires
-fork-requires c κs = let start = c .before .before .before .before .before .before .before in let q = start .args .q in ready-as (start .args .s .now) q (fork (q .p) (q .o)) (step-fork q (c .before .if4 .taken)) (start .pre .1)
-
-returns-4 : tie.Need-returns-4
-returns-4 c = let start = c .before .before .before .before .before .before .before .before .before .before in let q = start .args .q in done-as (start .args .s .now) q (fork (q .p) (q .o)) (step-fork q (c .before .before .before .before .if4 .taken)) _ _ (c .before .before .fork .ensures)
-
-new-file-requires : tie.Need-new-file-requires
-new-file-requires c κs = let start = c .before .before .before .before .before .before .before .before in let q = start .args .q in ready-as (start .args .s .now) q (newFile (q .p) (q .o) (q .u)) (step-file q (c .before .if5 .taken)) (start .pre .1)
-
-returns-5 : tie.Need-returns-5
-returns-5 c = let start = c .before .before .before .before .before .before .before .before .before .before .before in let q = start .args .q in done-as (start .args .s .now) q (newFile (q .p) (q .o) (q .u)) (step-file q (c .before .before .before .before .if5 .taken)) _ _ (c .before .before .new-file .ensures)
-
-new-volatile-requires : tie.Need-new-volatile-requires
-new-volatile-requires c κs =
+returns-3 c =
     let start = c .before .before .before .before .before .before .before .before in
     let q = start .args .q in
-    let n = not-sharing (q .code) (sym (c .before .before .before .before .before .before .is-sharing .ensures)
-    ∙ c .before .before .before .before .before .if1 .left) in ready-as (start .args .s .now) q (newVolatile (q .p)
-    (q .o)) (step-volatile q (start .pre .0 .asked) (n .0) (c .before .before .before .before .if2 .left) (n .1)
-    (c .before .before .before .if3 .left) (c .before .before .if4 .left) (c .before .if5 .left)) (start .pre .1)
+    done-as (start .args .s .now) q (append (q .p) (q .o)) (step-append q (c .before .before .before .before .if3
+    .taken)) _ _ (c .before .before .append .ensures)
+
+exec-requires : tie.Need-exec-requires
+exec-requires c κs =
+    let start = c .before .before .before .before .before .before in
+    let q = start .args .q in
+    ready-as (start .args .s .now) q (exec (q .p) (q .o) (q .u)) (step-exec q (c .before .if4 .taken)) (start .pre .1)
+
+returns-4 : tie.Need-returns-4
+returns-4 c =
+    let start = c .before .before .before .before .before .before .before .before .before in
+    let q = start .args .q in
+    done-as (start .args .s .now) q (exec (q .p) (q .o) (q .u)) (step-exec q (c .before .before .before .before .if4
+    .taken)) _ _ (c .before .before .exec .ensures)
+
+fork-requires : tie.Need-fork-requires
+fork-requires c κs =
+    let start = c .before .before .before .before .before .before .before in
+    let q = start .args .q in
+    ready-as (start .args .s .now) q (fork (q .p) (q .o)) (step-fork q (c .before .if5 .taken)) (start .pre .1)
+
+returns-5 : tie.Need-returns-5
+returns-5 c =
+    let start = c .before .before .before .before .before .before .before .before .before .before in
+    let q = start .args .q in
+    done-as (start .args .s .now) q (fork (q .p) (q .o)) (step-fork q (c .before .before .before .before .if5 .taken))
+    _ _ (c .before .before .fork .ensures)
+
+new-file-requires : tie.Need-new-file-requires
+new-file-requires c κs =
+    let start = c .before .before .before .before .before .before .before .before in
+    let q = start .args .q in
+    ready-as (start .args .s .now) q (newFile (q .p) (q .o) (q .u)) (step-file q (c .before .if6 .taken)) (start .pre
+    .1)
 
 returns-6 : tie.Need-returns-6
 returns-6 c =
     let start = c .before .before .before .before .before .before .before .before .before .before .before in
     let q = start .args .q in
-    let n = not-sharing (q .code) (sym
-    (c .before .before .before .before .before .before .before .before .before .is-sharing .ensures)
-    ∙ c .before .before .before .before .before .before .before .before .if1 .left) in done-as (start .args .s .now) q
-    (newVolatile (q .p) (q .o)) (step-volatile q (start .pre .0 .asked) (n .0)
-    (c .before .before .before .before .before .before .before .if2 .left) (n .1)
-    (c .before .before .before .before .before .before .if3 .left)
-    (c .before .before .before .before .before .if4 .left) (c .before .before .before .before .if5 .left)) _ _
-    (c .before .before .new-volatile .ensures)
+    done-as (start .args .s .now) q (newFile (q .p) (q .o) (q .u)) (step-file q (c .before .before .before .before .if6
+    .taken)) _ _ (c .before .before .new-file .ensures)
+
+new-volatile-requires : tie.Need-new-volatile-requires
+new-volatile-requires c κs =
+    let start = c .before .before .before .before .before .before .before .before in
+    let q = start .args .q in
+    ready-as (start .args .s .now) q (newVolatile (q .p) (q .o)) (step-volatile q (start .pre .0 .asked) (c .before
+    .before .before .before .before .before .if1 .left) (c .before .before .before .before .before .if2 .left) (c
+    .before .before .before .before .if3 .left) (c .before .before .before .if4 .left) (c .before .before .if5 .left)
+    (c .before .if6 .left)) (start .pre .1)
+
+returns-7 : tie.Need-returns-7
+returns-7 c =
+    let start = c .before .before .before .before .before .before .before .before .before .before .before in
+    let q = start .args .q in
+    done-as (start .args .s .now) q (newVolatile (q .p) (q .o)) (step-volatile q (start .pre .0 .asked) (c .before
+    .before .before .before .before .before .before .before .before .if1 .left) (c .before .before .before .before
+    .before .before .before .before .if2 .left) (c .before .before .before .before .before .before .before .if3 .left)
+    (c .before .before .before .before .before .before .if4 .left) (c .before .before .before .before .before .if5
+    .left) (c .before .before .before .before .if6 .left)) _ _ (c .before .before .new-volatile .ensures)
 
 pub by-code-spec : {M : Type 1} → statement M
 by-code-spec =
     tie.close
     (tie.spec
-    (λ c κs. search needs)
-    share-requires
+    read-requires
     (λ c. search needs)
     returns
     write-requires
     (λ c. search needs)
     returns-2
-    exec-requires
+    append-requires
     (λ c. search needs)
     returns-3
-    fork-requires
+    exec-requires
     (λ c. search needs)
     returns-4
-    new-file-requires
+    fork-requires
     (λ c. search needs)
     returns-5
+    new-file-requires
+    (λ c. search needs)
+    returns-6
     new-volatile-requires
     (λ c. search needs)
-    returns-6)
+    returns-7)

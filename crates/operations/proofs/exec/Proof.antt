@@ -1,127 +1,111 @@
--- `operations::exec`. The meet of o's run rule and u's rule fits or not (`exec-over`, `exec-done`).
-use Rattle.operations.proofs.ReadyLaws.{ready-object, ready-user}
-use Rattle.operations.proofs.RowSteps.{run-kept, user-kept-as, copied, met}
-use Rattle.operations.proofs.EffectLaws.{exec-over, exec-fit, exec-done}
+-- `operations::exec`. The meet of o's run rule and u's rule has one mixture, or fits, or not (`exec-over`, `exec-done`).
+use mathlib.Core.Path.{sym, ap, _∙_}
 use native.Mathlib.Omega.{arith}
-use mathlib.Core.Path.{refl, ap, _∙_}
 use borrow.Author.Tests.{not-true, not-false}
-use Rattle.rules.specs.Sets.{runningOf}
-use Rattle.rules.specs.Answers.{dataWidth}
-use Rattle.chains.specs.History.{exec}
-use Rattle.chains.specs.Table.{entry}
+use Rattle.rules.specs.Answers.{boundedOf}
+use Rattle.operations.proofs.EffectLaws.{exec-places, exec-run, exec-user, exec-met, one-fit, exec-over, exec-fit, exec-done}
 use borrow.Author.Needs.{needs}
 use Rattle.operations.proofs.exec.Statement.{statement}
 use Rattle.operations.proofs.exec.Tie as tie
 
-mul-place : tie.Need-mul-place
-unfolding entry
-mul-place c = search needs
+mul-x : tie.Need-mul-x
+mul-x c = let start = c .before in omega (arith, exec-places (start .args .s .now) _ _ _ (start .pre))
 
-add-place : tie.Need-add-place
-unfolding entry
-add-place c = search needs
+add-x : tie.Need-add-x
+add-x c = let start = c .before in omega (arith, exec-places (start .args .s .now) _ _ _ (start .pre))
 
-mul-meet-at : tie.Need-mul-meet-at
-unfolding entry
-mul-meet-at c = omega (arith, c .before .before .pre .user (c .before .before .args .u) refl)
+mul-y : tie.Need-mul-y
+mul-y c = let start = c .before in omega (arith, exec-places (start .args .s .now) _ _ _ (start .pre))
 
-add-meet-at : tie.Need-add-meet-at
-unfolding entry
-add-meet-at c = omega (arith, c .before .before .pre .user (c .before .before .args .u) refl)
+add-y : tie.Need-add-y
+add-y c = let start = c .before in omega (arith, exec-places (start .args .s .now) _ _ _ (start .pre))
 
-add-meet-at-2 : tie.Need-add-meet-at-2
-unfolding entry
-add-meet-at-2 c = omega (arith, c .before .before .pre .user (c .before .before .args .u) refl)
+add-y-2 : tie.Need-add-y-2
+add-y-2 c = let start = c .before in omega (arith, exec-places (start .args .s .now) _ _ _ (start .pre))
 
-meet-at-requires : tie.Need-meet-at-requires
-unfolding entry
-meet-at-requires c κs = let start = c .before .before in let s = start .args .s .now in (run-kept s (start .args .o) (ready-object s (exec (start .args .p) (start .args .o) (start .args .u)) (start .pre) refl) .kept, user-kept-as s (start .args .u) (ready-user s (exec (start .args .p) (start .args .o) (start .args .u)) (start .pre) (start .args .u) refl) .kept)
+mul-both-single : tie.Need-mul-both-single
+mul-both-single c = let start = c .before in omega (arith, exec-places (start .args .s .now) _ _ _ (start .pre))
+
+slice-read-both-single : tie.Need-slice-read-both-single
+slice-read-both-single c = let start = c .before .before in omega (arith, exec-places (start .args .s .now) _ _ _ (start .pre))
+
+mul-both-single-2 : tie.Need-mul-both-single-2
+mul-both-single-2 c = let start = c .before .before in omega (arith, exec-places (start .args .s .now) _ _ _ (start .pre))
+
+slice-read-both-single-2 : tie.Need-slice-read-both-single-2
+slice-read-both-single-2 c = let start = c .before .before .before in omega (arith, exec-places (start .args .s .now) _ _ _ (start .pre))
+
+mixture-at-requires : tie.Need-mixture-at-requires
+mixture-at-requires c κs =
+    let start = c .before .before .before .before .before .before in
+    let s = start .args .s .now in
+    (exec-run s (start .args .p) (start .args .o) (start .args .u) (start .pre) .kept, exec-user s (start .args .p) (start .args .o) (start .args .u) (start .pre) .kept, sym (c .before .before .both-single .ensures) ∙ c .before .if1 .taken)
+
+launch-requires : tie.Need-launch-requires
+launch-requires c κs =
+    let start = c .before .before .before .before .before .before .before .before .before in
+    let s = start .args .s .now in
+    exec-fit s (start .args .p) (start .args .o) (start .args .u) (start .pre) _ (exec-met s (start .args .p) (start .args .o) (start .args .u) (start .pre) _
+    (c .before .one .ensures ∙ ap boundedOf (c .before .before .mixture-at .ensures))) (one-fit _ _ (c .before .one .ensures))
 
 returns : tie.Need-returns
-unfolding entry
 returns c =
-    let start = c .before .before .before .before .before in
+    let start = c .before .before .before .before .before .before .before .before .before .before .before .before in
     let s = start .args .s .now in
-    exec-over s (start .args .p) (start .args .o) (start .args .u) (start .pre) _ (met s _ _ _ _ _ (run-kept s
-    (start .args .o) (ready-object s (exec (start .args .p) (start .args .o) (start .args .u)) (start .pre) refl))
-    (user-kept-as s (start .args .u) (ready-user s (exec (start .args .p) (start .args .o) (start .args .u))
-    (start .pre) (start .args .u) refl)) (c .before .before .meet-at .ensures)) (not-true _ (c .if1 .taken))
+    exec-done s (start .args .p) (start .args .o) (start .args .u) (start .pre) _ (exec-met s (start .args .p) (start .args .o) (start .args .u) (start .pre) _
+    (c .before .before .before .before .one .ensures ∙ ap boundedOf (c .before .before .before .before .before .mixture-at .ensures))) (one-fit _ _ (c .before .before .before .before .one .ensures)) _ _
+    (c .before .before .launch .ensures)
 
-rule-at-requires : tie.Need-rule-at-requires
-unfolding entry
-rule-at-requires c κs = let start = c .before .before .before .before .before .before in run-kept (start .args .s .now) (start .args .o) (ready-object (start .args .s .now) (exec (start .args .p) (start .args .o) (start .args .u)) (start .pre) refl) .kept
-
-tag-of-requires : tie.Need-tag-of-requires
-unfolding entry
-tag-of-requires c κs = search needs
-
-mul-a : tie.Need-mul-a
-unfolding entry
-mul-a c = search needs
-
-add-replace : tie.Need-add-replace
-unfolding entry
-add-replace c = search needs
-
-mul-replace : tie.Need-mul-replace
-unfolding entry
-mul-replace c = search needs
-
-part-replace-end : tie.Need-part-replace-end
-unfolding entry
-part-replace-end c = search needs
-
-replace-requires : tie.Need-replace-requires
-unfolding entry
-replace-requires c κs =
-    let start = c .before .before .before .before .before .before .before .before .before .before .before in
+meet-at-requires : tie.Need-meet-at-requires
+meet-at-requires c κs =
+    let start = c .before .before .before .before .before .before in
     let s = start .args .s .now in
-    exec-fit s (start .args .p) (start .args .o) (start .args .u) (start .pre) _ (met s _ _ _ _ _ (run-kept s
-    (start .args .o) (ready-object s (exec (start .args .p) (start .args .o) (start .args .u)) (start .pre) refl))
-    (user-kept-as s (start .args .u) (ready-user s (exec (start .args .p) (start .args .o) (start .args .u))
-    (start .pre) (start .args .u) refl))
-    (c .before .before .before .before .before .before .before .before .meet-at .ensures)) (not-false _
-    (c .before .before .before .before .before .before .if1 .left))
+    (exec-run s (start .args .p) (start .args .o) (start .args .u) (start .pre) .kept, exec-user s (start .args .p) (start .args .o) (start .args .u) (start .pre) .kept)
 
 returns-2 : tie.Need-returns-2
-unfolding entry
 returns-2 c =
-    let start = c .before .before .before .before .before .before .before .before .before .before .before .before .before .before in
+    let start = c .before .before .before .before .before .before .before .before .before in
     let s = start .args .s .now in
-    exec-done s (start .args .p) (start .args .o) (start .args .u) (start .pre) _ (met s _ _ _ _ _ (run-kept s
-    (start .args .o) (ready-object s (exec (start .args .p) (start .args .o) (start .args .u)) (start .pre) refl))
-    (user-kept-as s (start .args .u) (ready-user s (exec (start .args .p) (start .args .o) (start .args .u))
-    (start .pre) (start .args .u) refl))
-    (c .before .before .before .before .before .before .before .before .before .before .before .meet-at .ensures))
-    (not-false _ (c .before .before .before .before .before .before .before .before .before .if1 .left)) _
-    (copied s _ _ _ (run-kept s (start .args .o) (ready-object s (exec (start .args .p) (start .args .o)
-    (start .args .u)) (start .pre) refl))
-    (c .before .before .before .before .before .before .before .rule-at .ensures)) _
-    (c .before .before .before .before .running-atoms .ensures ∙ ap (runningOf dataWidth)
-    (c .before .before .before .before .before .tag-of .ensures)) _ _ (c .before .before .replace .ensures .0)
-    (c .before .before .replace .ensures .1)
+    exec-over s (start .args .p) (start .args .o) (start .args .u) (start .pre) _ (exec-met s (start .args .p) (start .args .o) (start .args .u) (start .pre) _
+    (c .before .before .meet-at .ensures)) (not-true _ (c .if2 .taken))
+
+launch-requires-2 : tie.Need-launch-requires-2
+launch-requires-2 c κs =
+    let start = c .before .before .before .before .before .before .before .before .before .before in
+    let s = start .args .s .now in
+    exec-fit s (start .args .p) (start .args .o) (start .args .u) (start .pre) _ (exec-met s (start .args .p) (start .args .o) (start .args .u) (start .pre) _
+    (c .before .before .before .meet-at .ensures)) (not-false _ (c .before .if2 .left))
+
+returns-3 : tie.Need-returns-3
+returns-3 c =
+    let start = c .before .before .before .before .before .before .before .before .before .before .before .before .before in
+    let s = start .args .s .now in
+    exec-done s (start .args .p) (start .args .o) (start .args .u) (start .pre) _ (exec-met s (start .args .p) (start .args .o) (start .args .u) (start .pre) _
+    (c .before .before .before .before .before .before .meet-at .ensures)) (not-false _ (c .before .before .before .before .if2 .left)) _ _
+    (c .before .before .launch2 .ensures)
 
 pub exec-spec : {M : Type 1} → statement M
 exec-spec =
     tie.close
     (tie.spec
-    mul-place
-    add-place
-    mul-meet-at
-    add-meet-at
-    add-meet-at-2
-    meet-at-requires
+    mul-x
+    add-x
+    mul-y
+    add-y
+    add-y-2
+    mul-both-single
+    slice-read-both-single
+    mul-both-single-2
+    slice-read-both-single-2
+    (λ c κs. search needs)
+    mixture-at-requires
+    (λ c κs. search needs)
+    launch-requires
     (λ c. search needs)
     returns
-    rule-at-requires
-    tag-of-requires
-    (λ c κs. search needs)
-    mul-a
-    add-replace
-    mul-replace
+    meet-at-requires
     (λ c. search needs)
+    returns-2
+    launch-requires-2
     (λ c. search needs)
-    part-replace-end
-    replace-requires
-    (λ c. search needs)
-    returns-2)
+    returns-3)

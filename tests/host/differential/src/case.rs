@@ -5,6 +5,7 @@ use std::fmt::Write as _;
 use judge::session::Record;
 use judge::{chains, image, matrix, normal, session};
 use yaslaurel::layout::image::HEADER;
+use yaslaurel::layout::record;
 use yaslaurel::layout::session::{container, user, CONTAINER_ROW, USER_ROW};
 use yaslaurel::{MatrixVerdict, Refusal, Session, Verdict, SESSION_LENGTH};
 
@@ -54,6 +55,14 @@ pub enum Case {
         image: Vec<u8>,
         records: Vec<Vec<u8>>,
     },
+    /// Batches of records, some of them short, on the session that an image starts, with some of its numbers changed
+    /// (place, and what is exchanged of it) and of that length.
+    Batches {
+        image: Vec<u8>,
+        damage: Vec<(usize, u64)>,
+        length: usize,
+        batches: Vec<Vec<u8>>,
+    },
     Matrix {
         reads: Vec<u32>,
         writes: Vec<u32>,
@@ -96,6 +105,8 @@ pub struct Bench {
     writes: Guarded<u32>,
     judge_out: Vec<u8>,
     judge_session: Vec<u64>,
+    /// Of the last batch: what was not quiet, by the record's place.
+    loud: Vec<(usize, session::Answer)>,
 }
 
 impl Bench {
@@ -109,6 +120,7 @@ impl Bench {
             writes: Guarded::new(&[]),
             judge_out: Vec::new(),
             judge_session: Vec::new(),
+            loud: Vec::new(),
         }
     }
 
@@ -122,6 +134,9 @@ impl Bench {
             Case::Step(step) => self.step_case(step, counters),
             Case::Trace { image, records, chains } => self.trace_case(image, records, *chains, counters),
             Case::History { image, records } => history_case(image, records, counters),
+            Case::Batches { image, damage, length, batches } => {
+                self.batches_case(image, damage, *length, batches, counters)
+            }
             Case::Matrix { reads, writes, objects, out_length } => {
                 self.matrix_case(reads, writes, *objects, *out_length, counters)
             }
@@ -292,6 +307,80 @@ impl Bench {
         }
     }
 
+    fn batches_case(
+        &mut self,
+        image: &[u8],
+        damage: &[(usize, u64)],
+        length: usize,
+        batches: &[Vec<u8>],
+        c: &mut Counters,
+    ) -> Difference {
+        self.judge_session.clear();
+        self.judge_session.resize(SESSION_LENGTH, 0);
+        if session::start(image, &mut self.judge_session) != 0 {
+            return None;
+        }
+        for &(place, bits) in damage {
+            self.judge_session[place] ^= bits;
+        }
+        self.judge_session.resize(length, 0);
+        self.session.fill(&self.judge_session);
+        for (at, batch) in batches.iter().enumerate() {
+            // The safe interface runs beside it, on numbers of its own.
+            let mut safe = self.judge_session.clone();
+            let difference = self.batch(batch, c).or_else(|| {
+                let items = yaslaurel::run_in(&mut safe, batch).map(|(place, answer)| (place, safe_answer(answer)));
+                differ("run of the Rust interface", &items.collect(), &self.loud)
+                    .or_else(|| differ_at("session after the Rust interface", &safe, &self.judge_session))
+            });
+            if let Some(difference) = difference {
+                return Some(format!("batch {}: {difference}", at + 1));
+            }
+        }
+        None
+    }
+
+    /// One batch on both sides, run to its end; what was not quiet is left in `loud`.
+    fn batch(&mut self, batch: &[u8], c: &mut Counters) -> Difference {
+        self.loud.clear();
+        let mut judged = 0;
+        loop {
+            let rest = &batch[batch.len().min(record::LENGTH * judged)..];
+            self.record.fill(rest);
+            let library = lent::run(&mut self.session, &self.record);
+            let expected = session::run(&mut self.judge_session, rest);
+            let number = expected.answer.number;
+            let behind = rest.len().saturating_sub(record::LENGTH * expected.taken);
+            c.runs += 1;
+            c.runs_empty += u64::from(rest.is_empty());
+            c.runs_stopped += u64::from(number != session::QUIET && behind > 0);
+            c.runs_short += u64::from(expected.taken * record::LENGTH > rest.len());
+            match number {
+                session::QUIET => c.runs_quiet += 1,
+                session::ALERT => c.runs_alert += 1,
+                refusal => c.runs_refused[refusal as usize] += 1,
+            }
+            // 9 leaves everything, and only an alert has receiver and tag.
+            let taken = if number == 9 { lent::TAKEN_BEFORE } else { expected.taken };
+            let (receiver, tag) =
+                if number == session::ALERT { (expected.answer.receiver, expected.answer.tag) } else { lent::BEFORE };
+            let difference = differ("run", library, (number, taken, receiver, tag))
+                .or_else(|| differ_at("session after the run", self.session.content(), &self.judge_session))
+                .or_else(|| differ_at("the records themselves", self.record.content(), rest))
+                .or_else(|| self.guards());
+            if difference.is_some() {
+                return difference;
+            }
+            judged += expected.taken;
+            if number != session::QUIET {
+                self.loud.push((judged.saturating_sub(1), expected.answer));
+            }
+            if number == session::QUIET || number == 9 || behind == 0 {
+                return None;
+            }
+        }
+    }
+
     fn matrix_case(
         &mut self,
         reads: &[u32],
@@ -339,16 +428,20 @@ impl Bench {
     }
 }
 
-/// Compares an answer of the safe interface with the judge's.
-fn safe_differs(safe: Result<yaslaurel::Answer, Refusal>, judge: session::Answer) -> Difference {
-    let safe = match safe {
+/// An answer of the safe interface, as the judge has it.
+fn safe_answer(safe: Result<yaslaurel::Answer, Refusal>) -> session::Answer {
+    match safe {
         Ok(answer) => {
             let number = if answer.verdict == Verdict::Alert { session::ALERT } else { session::QUIET };
             session::Answer { number, receiver: u64::from(answer.receiver), tag: answer.tag }
         }
         Err(refusal) => session::Answer { number: refusal.number(), receiver: 0, tag: 0 },
-    };
-    differ("step of the Rust interface", safe, judge)
+    }
+}
+
+/// Compares an answer of the safe interface with the judge's.
+fn safe_differs(safe: Result<yaslaurel::Answer, Refusal>, judge: session::Answer) -> Difference {
+    differ("step of the Rust interface", safe_answer(safe), judge)
 }
 
 /// The library's session on its own: what it accepts makes the history, and the chains judge its answers.
@@ -425,6 +518,13 @@ pub fn show(case: &Case) -> String {
             writeln!(text, "image of {} bytes: {}", image.len(), hex(image)).unwrap();
             for record in records {
                 writeln!(text, "record: {}", hex(record)).unwrap();
+            }
+        }
+        Case::Batches { image, damage, length, batches } => {
+            writeln!(text, "image of {} bytes: {}", image.len(), hex(image)).unwrap();
+            writeln!(text, "session of {length} numbers, exchanged in it: {damage:x?}").unwrap();
+            for batch in batches {
+                writeln!(text, "batch: {}", hex(batch)).unwrap();
             }
         }
         Case::Matrix { reads, writes, objects, out_length } => {

@@ -25,6 +25,15 @@ pub struct Counters {
     /// By refusal number.
     pub refused: [u64; 16],
     pub longest_trace: usize,
+    pub runs: u64,
+    /// Quiet to the end, alerts, and refusals by their number.
+    pub runs_quiet: u64,
+    pub runs_alert: u64,
+    pub runs_refused: [u64; 16],
+    /// Runs that stopped before the end, that took a short record, that had no record at all.
+    pub runs_stopped: u64,
+    pub runs_short: u64,
+    pub runs_empty: u64,
     pub matrices: u64,
     pub consistent: u64,
     pub inconsistent: u64,
@@ -56,7 +65,13 @@ impl Counters {
         need(self.started[9], "start answers 9".into());
         for number in [7, 9, 10, 11, 12, 13, 14, 15] {
             need(self.refused[number], format!("step answers {number}"));
+            need(self.runs_refused[number], format!("run answers {number}"));
         }
+        need(self.runs_quiet, "a run is quiet to the end".into());
+        need(self.runs_alert, "run answers alert".into());
+        need(self.runs_stopped, "a run stops before the end".into());
+        need(self.runs_short, "a run takes a short record".into());
+        need(self.runs_empty, "a run has no record".into());
         for code in 1..=7 {
             need(self.quiet[code], format!("code {code} answers quiet"));
         }
@@ -98,6 +113,10 @@ impl Counters {
         line("alert, by code", by_number(&self.alert));
         line("step, by refusal", by_number(&self.refused));
         line("longest trace", self.longest_trace.to_string());
+        line("runs, quiet, alert", format!("{}, {}, {}", self.runs, self.runs_quiet, self.runs_alert));
+        line("run, by refusal", by_number(&self.runs_refused));
+        let ends = (self.runs_stopped, self.runs_short, self.runs_empty);
+        line("runs stopped, short, empty", format!("{}, {}, {}", ends.0, ends.1, ends.2));
         line("matrices", self.matrices.to_string());
         let verdicts = (self.consistent, self.inconsistent, self.verdicts_refused);
         line("consistent, not, refused", format!("{}, {}, {}", verdicts.0, verdicts.1, verdicts.2));

@@ -100,6 +100,27 @@ pub fn step(session: &mut Guarded<u64>, record: &Guarded<u8>) -> (u32, u64, u64)
     (number, receiver, tag)
 }
 
+/// The number behind `taken` before a run: 9 must leave it.
+pub const TAKEN_BEFORE: usize = 0x1234_5678;
+
+/// A run's answer, then what `taken`, `receiver` and `tag` are behind it.
+pub fn run(session: &mut Guarded<u64>, records: &Guarded<u8>) -> (u32, usize, u64, u64) {
+    let (mut taken, (mut receiver, mut tag)) = (TAKEN_BEFORE, BEFORE);
+    // SAFETY: above; the three numbers are ours.
+    let number = unsafe {
+        ffi::yaslaurel_run(
+            session.pointer_mut(),
+            session.length,
+            records.pointer(),
+            records.length,
+            &mut taken,
+            &mut receiver,
+            &mut tag,
+        )
+    };
+    (number, taken, receiver, tag)
+}
+
 /// The three numbers behind the verdict's pointers before the call.
 pub const BEFORE_VERDICT: (u32, u32, u32) = (0x1111_2222, 0x3333_4444, 0x5555_6666);
 

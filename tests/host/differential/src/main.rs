@@ -25,7 +25,7 @@ use case::{show, Bench, Case};
 use counters::Counters;
 use random::Random;
 use yaslaurel::layout::image::{CONTAINERS, UNRESTRICTED};
-use yaslaurel::layout::record;
+use yaslaurel::layout::{self, record};
 use yaslaurel::{OUTPUT_LENGTH, SESSION_LENGTH};
 
 /// One part of the run: its name, how many cases it has at factor 1, and how one is made.
@@ -35,13 +35,14 @@ struct Part {
     make: fn(&mut Random) -> Case,
 }
 
-const PARTS: [Part; 7] = [
+const PARTS: [Part; 8] = [
     Part { name: "images: check, normaliser, start", cases: 210_000, make: image },
     Part { name: "pairs: equal normal images exactly with equal sessions", cases: 40_000, make: pair },
     Part { name: "single operations on whole and damaged sessions", cases: 900_000, make: step },
     Part { name: "short traces, with the judge of chains", cases: 40_000, make: short_trace },
     Part { name: "histories, by the judge of chains alone", cases: 40_000, make: history },
     Part { name: "long traces", cases: 1_300, make: long_trace },
+    Part { name: "batches of records, by runs", cases: 100_000, make: batches },
     Part { name: "matrices: verdict, derived policy", cases: 210_000, make: matrix },
 ];
 
@@ -122,6 +123,33 @@ fn long_trace(r: &mut Random) -> Case {
     let class = generate::class(r);
     let length = r.pick(&[50, 200, 1_000, 2_000]);
     trace(r, class, length, false)
+}
+
+/// A trace cut into batches, some of which end inside a record, on a session that is damaged or of a wrong length now
+/// and then.
+fn batches(r: &mut Random) -> Case {
+    let class = r.pick(&[0, 0, 1, 2]);
+    let length = r.between(0, 40);
+    let Case::Trace { image, records, .. } = trace(r, class, length, false) else { unreachable!() };
+    // A record of another length moves those that follow it in its batch: in few cases alone.
+    let moved = r.percent(10);
+    let mut left = records.into_iter().filter(|bytes| moved || bytes.len() == record::LENGTH).peekable();
+    let mut batches = Vec::new();
+    while left.peek().is_some() || batches.is_empty() || r.percent(5) {
+        let count = r.pick(&[0, 1, 2, 5, 12, 40]);
+        let mut batch: Vec<u8> = left.by_ref().take(count).flatten().collect();
+        if r.percent(10) {
+            batch.truncate(batch.len() - r.below(record::LENGTH).min(batch.len()));
+        }
+        batches.push(batch);
+    }
+    let damage = if r.percent(15) {
+        let places = layout::session::container(r.below(12));
+        vec![(places.start + r.below(places.len()), 1 << r.below(64))]
+    } else {
+        vec![]
+    };
+    Case::Batches { image, damage, length: generate::length(r, SESSION_LENGTH, false), batches }
 }
 
 fn matrix(r: &mut Random) -> Case {

@@ -3,6 +3,7 @@
 use std::time::{Duration, Instant};
 
 use yaslaurel::layout::image::{HEADER, SECTIONS};
+use yaslaurel::layout::record;
 use yaslaurel::layout::session::{rule, PERMIT, RULE, RULE_MIXTURES, RUN, TAG};
 use yaslaurel::{OUTPUT_LENGTH, SESSION_LENGTH};
 
@@ -60,8 +61,44 @@ fn simpler(case: &Case) -> Vec<Case> {
         Case::History { image, records } => {
             traces(image, records).into_iter().map(|(image, records)| Case::History { image, records }).collect()
         }
+        Case::Batches { image, damage, length, batches } => fewer(batches)
+            .into_iter()
+            .map(|batches| (image.clone(), damage.clone(), *length, batches))
+            .chain((!damage.is_empty()).then(|| (image.clone(), vec![], *length, batches.clone())))
+            .chain(
+                (*length != SESSION_LENGTH).then(|| (image.clone(), damage.clone(), SESSION_LENGTH, batches.clone())),
+            )
+            .chain(images(image).into_iter().map(|image| (image, damage.clone(), *length, batches.clone())))
+            .map(|(image, damage, length, batches)| Case::Batches { image, damage, length, batches })
+            .collect(),
         Case::Matrix { reads, writes, objects, out_length } => matrices(reads, writes, *objects, *out_length),
     }
+}
+
+/// Fewer batches, then a record or a byte less in one of them.
+fn fewer(batches: &[Vec<u8>]) -> Vec<Vec<Vec<u8>>> {
+    let mut found = Vec::new();
+    for keep in [batches.len() / 2, batches.len().saturating_sub(1)] {
+        found.push(batches[..keep].to_vec());
+    }
+    for at in 0..batches.len() {
+        found.push([&batches[..at], &batches[at + 1..]].concat());
+    }
+    for (at, batch) in batches.iter().enumerate() {
+        let mut with = |batch: Vec<u8>| {
+            let mut simpler = batches.to_vec();
+            simpler[at] = batch;
+            found.push(simpler);
+        };
+        for place in (0..batch.len()).step_by(record::LENGTH) {
+            with([&batch[..place], &batch[batch.len().min(place + record::LENGTH)..]].concat());
+        }
+        if !batch.is_empty() {
+            with(batch[..batch.len() - 1].to_vec());
+        }
+    }
+    found.retain(|simpler| simpler != batches);
+    found
 }
 
 /// Fewer records, then a simpler image.

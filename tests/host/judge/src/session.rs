@@ -2,8 +2,8 @@
 
 use crate::image::{read, Kind};
 use crate::numbers::{
-    container_row, user_row, CONTAINERS, NO_USER, ROW_DECLARED, ROW_KIND, ROW_PERMIT, ROW_RULE, ROW_RUN, ROW_TAG,
-    RULE_MIXTURES, RULE_WORDS, SESSION, USERS,
+    container_row, user_row, CONTAINERS, NO_USER, RECORD, ROW_DECLARED, ROW_KIND, ROW_PERMIT, ROW_RULE, ROW_RUN,
+    ROW_TAG, RULE_MIXTURES, RULE_WORDS, SESSION, USERS,
 };
 use crate::rules::{covers, data_atoms, meet, normal, running_atoms, unrestricted, Rule};
 
@@ -264,6 +264,30 @@ pub fn step(session: &mut [u64], record: &[u8]) -> Answer {
     }
 }
 
+/// What a batch comes to: the answer at which it stops, and how many records were judged.
+#[derive(Clone, Copy, Debug, PartialEq, Eq)]
+pub struct Run {
+    pub answer: Answer,
+    pub taken: usize,
+}
+
+/// Records one behind the other, up to and with the first that is not quiet. The paper has one operation at a time; that
+/// several are these one after the other is what `include/yaslaurel.h` says of a batch. 9 comes before every record.
+pub fn run(session: &mut [u64], records: &[u8]) -> Run {
+    if session.len() != SESSION {
+        return Run { answer: refused(9), taken: 0 };
+    }
+    let mut taken = 0;
+    for record in records.chunks(RECORD) {
+        taken += 1;
+        let answer = step(session, record);
+        if answer.number != QUIET {
+            return Run { answer, taken };
+        }
+    }
+    Run { answer: Answer { number: QUIET, receiver: 0, tag: 0 }, taken }
+}
+
 #[cfg(test)]
 mod tests {
     use super::*;
@@ -323,6 +347,21 @@ mod tests {
         let before = session.clone();
         assert_eq!(step(&mut session, &record(1, 0, 1, 65535)).number, 15);
         assert_eq!(session, before);
+    }
+
+    /// A batch stops behind what is not quiet, and counts it; a short last record is refused.
+    #[test]
+    fn batch_stops() {
+        let rows = [(0, row(Kind::Process, 5)), (1, row(Kind::File, 2))];
+        let mut session = session_with(&rows, &[]);
+        let mut records = [record(1, 0, 1, 65535), record(1, 0, 0, 65535), record(1, 0, 1, 65535)].concat();
+        assert_eq!(run(&mut session, &records), Run { answer: refused(12), taken: 2 });
+        records.truncate(RECORD + 3);
+        assert_eq!(run(&mut session, &records), Run { answer: refused(7), taken: 2 });
+        let quiet = Answer { number: QUIET, receiver: 0, tag: 0 };
+        assert_eq!(run(&mut session, &records[..RECORD]), Run { answer: quiet, taken: 1 });
+        assert_eq!(run(&mut session, &[]), Run { answer: quiet, taken: 0 });
+        assert_eq!(run(&mut [0; 100], &[]), Run { answer: refused(9), taken: 0 });
     }
 
     /// "Code 9 with a short session: 9."

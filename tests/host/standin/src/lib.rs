@@ -8,13 +8,13 @@ use std::sync::OnceLock;
 
 use judge::numbers::{
     container_row, user_row, CONTAINERS, HEADER, LONGEST_NORMAL, MIXTURES, RECORD, ROW_PERMIT, ROW_RUN, ROW_TAG, RULES,
-    RULE_MIXTURES, UNRESTRICTED, USERS,
+    RULE_MIXTURES, SESSION, UNRESTRICTED, USERS,
 };
 use judge::rules::{covers, holds, meet};
 use judge::{image, matrix, normal, session};
 
 /// The planted faults, each a mistake that a reviewer would try.
-pub const FAULTS: [&str; 20] = [
+pub const FAULTS: [&str; 27] = [
     "1 a monitor that is always quiet",
     "2 a running atom passes by read",
     "3 covering is tested atom by atom",
@@ -35,6 +35,13 @@ pub const FAULTS: [&str; 20] = [
     "18 a step writes one number behind the session",
     "19 a session left untouched",
     "20 a short record is padded with zeros",
+    "21 a run goes on behind an alert",
+    "22 the record at which a run stops is not counted",
+    "23 a run refused with 9 clears the count",
+    "24 a quiet run clears receiver and tag",
+    "25 a run leaves out a short last record",
+    "26 a run without records does not look at the session",
+    "27 a record refused in a run undoes those before it",
 ];
 
 /// The number of the planted fault, 0 for none.
@@ -141,6 +148,59 @@ pub unsafe extern "C" fn yaslaurel_step(
         *tag = answer.tag;
     }
     answer.number
+}
+
+/// # Safety
+/// As `include/yaslaurel.h` says.
+#[no_mangle]
+pub unsafe extern "C" fn yaslaurel_run(
+    words: *mut u64,
+    words_length: usize,
+    records: *const u8,
+    records_length: usize,
+    taken: *mut usize,
+    receiver: *mut u64,
+    tag: *mut u64,
+) -> u32 {
+    let session = from_raw_parts_mut(words, words_length);
+    let records = from_raw_parts(records, records_length);
+    let run = run(session, records);
+    if run.answer.number != 9 || fault(23) {
+        *taken = run.taken;
+    }
+    if run.answer.number == session::ALERT || fault(24) && run.answer.number == session::QUIET {
+        *receiver = run.answer.receiver;
+        *tag = run.answer.tag;
+    }
+    run.answer.number
+}
+
+fn run(session: &mut [u64], records: &[u8]) -> session::Run {
+    if planted() == 0 {
+        return session::run(session, records);
+    }
+    let quiet = session::Answer { number: session::QUIET, receiver: 0, tag: 0 };
+    if fault(26) && records.is_empty() {
+        return session::Run { answer: quiet, taken: 0 };
+    }
+    if session.len() != SESSION {
+        return session::run(session, records);
+    }
+    let before = session.to_vec();
+    let whole = if fault(25) { records.len() / RECORD * RECORD } else { records.len() };
+    let mut taken = 0;
+    for record in records[..whole].chunks(RECORD) {
+        taken += 1;
+        let answer = step(session, record);
+        let refused = answer.number != session::QUIET && answer.number != session::ALERT;
+        if refused && fault(27) {
+            session.copy_from_slice(&before);
+        }
+        if refused || answer.number == session::ALERT && !fault(21) {
+            return session::Run { answer, taken: taken - usize::from(fault(22)) };
+        }
+    }
+    session::Run { answer: quiet, taken }
 }
 
 /// A row's rule of nine words, its mixtures.

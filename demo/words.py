@@ -1,0 +1,51 @@
+#!/usr/bin/env python3
+"""demo/words.py [FOLDER]: reads a listing and prints its alerts and refusals in words, containers and sources by the names
+that make.py wrote into FOLDER (the folder of this script by default)."""
+
+import sys
+from pathlib import Path
+
+HERE = Path(__file__).resolve().parent
+sys.path.append(str(HERE.parent / "hosts" / "python"))
+
+from formats import RUNNING
+
+VERBS = {"read": "reads", "write": "writes", "append": "appends to", "exec": "executes", "fork": "forks",
+         "file": "makes the file", "volatile": "makes the volatile"}
+
+
+def named(names, number):
+    return names[number] if number < len(names) else str(number)
+
+
+def sources(names, tag):
+    """The sources of a tag, in the order of their atoms; what was executed is marked."""
+    atoms = [atom for atom in range(2 * RUNNING) if tag >> atom & 1]
+    held = [named(names, atom % RUNNING) + (" (running)" if atom >= RUNNING else "") for atom in atoms]
+    return ", ".join(held) or "nothing"
+
+
+def main():
+    folder = Path(sys.argv[1]) if len(sys.argv) > 1 else HERE
+    names = (folder / "names.txt").read_text().splitlines()
+    containers = [line.split(" ", 1)[1] for line in (folder / "containers.txt").read_text().splitlines()]
+    lines = sys.stdin.read().splitlines()
+    total = None
+    for line in lines:
+        match line.split():
+            case ["total", _, "alerts", alerts, "refused", refused]:
+                total = f"{alerts} alerts, {refused} refused"
+            case [step, op, p, o, "alert", receiver, tag]:
+                p, o, receiver = (named(containers, int(number)) for number in (p, o, receiver))
+                holder = ", which" if receiver == o else " and"
+                print(f"alert, step {step}: {p} {VERBS[op]} {o}{holder} now holds {sources(names, int(tag, 16))}")
+            case [step, op, p, o, "refused", number]:
+                p, o = (named(containers, int(place)) for place in (p, o))
+                print(f"refused with {number}, step {step}: {p} {VERBS.get(op, op)} {o}")
+    if total is None:
+        sys.exit(f"not a whole listing: {lines[-1] if lines else 'it is empty'}")
+    print(total)
+
+
+if __name__ == "__main__":
+    main()
