@@ -17,7 +17,7 @@ const fn kind(name: &'static str, weight: usize, make: fn(&mut Random) -> Vec<u8
 }
 
 /// Every kind; a run that does not make one of each has failed.
-pub const KINDS: [Kind; 33] = [
+pub const KINDS: [Kind; 35] = [
     kind("any profiles", 200, |r| joined(&any(r))),
     kind("no profile", 5, |_| vec![]),
     kind("one program's lines over and over", 30, |r| joined(&repeated_lines(r))),
@@ -26,6 +26,7 @@ pub const KINDS: [Kind; 33] = [
     kind("run rules of 7 to 10 mixtures", 60, |r| joined(&about_mixtures(r, &["ix", "rix", "ixpx"]))),
     kind("mixtures that hold one another", 60, |r| joined(&held(r))),
     kind("16,382 to 16,386 bytes", 15, about_length),
+    kind("far too long", 3, far_too_long),
     kind("a thousand profiles", 5, |r| joined(&thousand(r))),
     kind("paths of 1 to 3 and 63 to 66 bytes", 40, |r| damaged(r, path_length)),
     kind("a byte changed", 40, byte_changed),
@@ -50,6 +51,7 @@ pub const KINDS: [Kind; 33] = [
     kind("a profile repeated far from its first", 30, |r| damaged(r, repeated_far)),
     kind("a profile repeated beyond the 32nd path", 30, |r| joined(&repeated_beyond(r))),
     kind("over 32 paths and damaged", 30, over_and_damaged),
+    kind("over 8 mixtures and damaged", 20, mixtures_and_damaged),
     kind("any bytes", 10, |r| (0..r.below(60)).map(|_| byte(r)).collect()),
 ];
 
@@ -82,9 +84,10 @@ fn byte(r: &mut Random) -> u8 {
     r.pick(b"profile /{},\n\n  \trwalmixpPuUx.0-aZ9#")
 }
 
-/// So many different paths: short ones, long ones that differ in their last bytes, in their first, or anywhere.
+/// So many different paths: short ones, long ones that differ in their last bytes, in their first, in one byte anywhere or
+/// in the order of their bytes, or any.
 fn paths(r: &mut Random, count: usize) -> Lines {
-    let style = r.below(6);
+    let style = r.below(8);
     let mut found: Lines = Vec::new();
     while found.len() < count {
         let two = [r.pick(INSIDE), r.pick(INSIDE)];
@@ -96,6 +99,16 @@ fn paths(r: &mut Random, count: usize) -> Lines {
             3 => [b"/", &two[..], &filler(r.pick(&[3, PATH_LIMIT - 3]))[..]].concat(),
             // Each the beginning of others.
             4 => [b"/", &b"aaaa/bbbb.cccc/dddd"[..r.between(1, 19)], &two[..r.below(3)]].concat(),
+            5 => {
+                let mut path = [b"/", &filler(PATH_LIMIT - 1)[..]].concat();
+                path[r.between(1, PATH_LIMIT - 1)] = two[0];
+                path
+            }
+            6 => {
+                let mut path = b"/abcdefgh".to_vec();
+                (0..8).for_each(|_| path.swap(r.between(1, 8), r.between(1, 8)));
+                path
+            }
             _ => [vec![b'/'], (0..r.between(1, PATH_LIMIT - 1)).map(|_| r.pick(INSIDE)).collect()].concat(),
         };
         if !found.contains(&path) {
@@ -234,6 +247,15 @@ fn about_length(r: &mut Random) -> Vec<u8> {
     lines.push(entry(&paths[1], &vec![b'r'; left - paths[1].len() - 3]));
     lines.push(b"}".to_vec());
     joined(&lines)
+}
+
+/// Much longer than a text may be, of the grammar or not.
+fn far_too_long(r: &mut Random) -> Vec<u8> {
+    let wanted = r.pick(&[17_000, 32_768, 65_535, 65_536, 81_920]);
+    let mut text = b"profile /a {\n/b r".to_vec();
+    text.resize(wanted, b'r');
+    text.extend(if r.percent(80) { &b",\n}\n"[..] } else { b"}" });
+    text
 }
 
 /// As many profiles as fit, all different or the last one not.
@@ -464,7 +486,16 @@ fn repeated_beyond(r: &mut Random) -> Lines {
 fn over_and_damaged(r: &mut Random) -> Vec<u8> {
     let count = r.between(PATHS + 1, PATHS + 9);
     let paths = paths(r, count);
-    let mut lines: Lines = paths.iter().flat_map(|path| profile(path, vec![entry(path, &modes(r))])).collect();
+    let lines: Lines = paths.iter().flat_map(|path| profile(path, vec![entry(path, &modes(r))])).collect();
+    in_some_way(r, lines)
+}
+
+fn mixtures_and_damaged(r: &mut Random) -> Vec<u8> {
+    let lines = about_mixtures(r, &["w", "ix", "ixa"]);
+    in_some_way(r, lines)
+}
+
+fn in_some_way(r: &mut Random, mut lines: Lines) -> Vec<u8> {
     match r.below(4) {
         0 => left_open(r, &mut lines),
         1 => half_mode(r, &mut lines),
