@@ -46,7 +46,7 @@ impl Names {
         place.map(|place| place as u8).ok_or_else(|| format!("there is no {name}"))
     }
 
-    fn new(&mut self, name: &str) -> Result<u8, String> {
+    fn add(&mut self, name: &str) -> Result<u8, String> {
         if self.containers.iter().any(|other| other == name) || self.containers.len() > usize::from(u8::MAX) {
             return Err(format!("{name} is there already, or there is no place for it"));
         }
@@ -65,9 +65,9 @@ impl Names {
             "write" => (Operation::Write { process, object: self.number(object)? }, "writes"),
             "append" => (Operation::Append { process, object: self.number(object)? }, "appends to"),
             "exec" => (Operation::Exec { process, file: self.number(object)?, user: USER }, "executes"),
-            "fork" => (Operation::Fork { process, child: self.new(object)? }, "forks"),
-            "new-file" => (Operation::NewFile { process, file: self.new(object)?, user: USER }, "makes the file"),
-            "new-volatile" => (Operation::NewVolatile { process, volatile: self.new(object)? }, "makes the volatile"),
+            "fork" => (Operation::Fork { process, child: self.add(object)? }, "forks"),
+            "new-file" => (Operation::NewFile { process, file: self.add(object)?, user: USER }, "makes the file"),
+            "new-volatile" => (Operation::NewVolatile { process, volatile: self.add(object)? }, "makes the volatile"),
             _ => return Err(format!("{word} is no operation")),
         })
     }

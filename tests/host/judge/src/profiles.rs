@@ -421,7 +421,7 @@ mod tests {
             ("Ux", 3 * twin, 2, unrestricted()),
             ("ixux", 3 * twin, 2, unrestricted()),
             ("pxix", 3 * twin, 2, vec![3 * twin]),
-            ("rwix", 3 * twin | 2, 3 * twin | 2, vec![3 * twin | 2]),
+            ("rwix", (3 * twin) | 2, (3 * twin) | 2, vec![(3 * twin) | 2]),
         ] {
             assert_eq!(run_rule(&with(modes), 0), [mixture], "{modes}");
             assert_eq!(permit_rule(&with(modes), 1), [permit], "{modes}");

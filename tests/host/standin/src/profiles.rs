@@ -142,7 +142,7 @@ fn rules_of(reading: &Reading<'_>) -> Vec<(Vec<u64>, Option<Vec<u64>>)> {
             permit.push(own);
         }
         let (inherited, discrete) = (with(path, INHERIT), with(path, DISCRETE));
-        let unconfined = !with(path, UNCONFINED).is_empty() && !(fault(39) && !inherited.is_empty());
+        let unconfined = !with(path, UNCONFINED).is_empty() && (!fault(39) || inherited.is_empty());
         let run = match mixtures.iter().find(|(program, _)| *program == path) {
             Some(&(_, set)) => Some(vec![set]),
             None if unconfined => None,
