@@ -9,9 +9,9 @@
  *
  *   0          accepted; for yaslaurel_step and yaslaurel_run: quiet; for yaslaurel_matrix_verdict: consistent
  *   1          yaslaurel_matrix_verdict alone: not consistent
- *   a length   YASLAUREL_HEADER_LENGTH or more: of the image written, from the two functions that write one
+ *   a length   YASLAUREL_HEADER_LENGTH or more: of the image written, from the three functions that write one
  *   256        yaslaurel_step and yaslaurel_run alone: alert
- *   1 to 15    otherwise: refused, with the number of the first condition that fails, in this order
+ *   1 to 17    otherwise: refused, with the number of the first condition that fails, in this order
  *
  *        9  the session is not YASLAUREL_SESSION_LENGTH numbers, or the output is under YASLAUREL_OUTPUT_LENGTH bytes
  *        1  the image is under YASLAUREL_HEADER_LENGTH or over YASLAUREL_IMAGE_LIMIT bytes
@@ -28,12 +28,14 @@
  *       13  o is not free (fork, new file, new volatile)
  *       14  the user is not declared
  *       15  a meet of two rules has over 8 mixtures
+ *       16  the profiles: text over YASLAUREL_TEXT_LIMIT bytes, not of the grammar, a path profiled twice
+ *       17  the profiles: over YASLAUREL_PATHS paths, or a rule of over 8 mixtures in normal form
  *
  * A refused call changes no lent memory: neither a slice nor a number behind a pointer. The one exception is
  * yaslaurel_run: a refusal other than 9 is its last record's alone, so the records before it stay done.
  *
  * What the host owes in each call. Given this, the contracts hold for ALL contents and ALL lengths: no content of an
- * image, a session, a record or a row makes a call misbehave.
+ * image, a session, a record, a row or a text makes a call misbehave.
  *
  *   - A pointer with its length names that many elements (not bytes) of valid memory: readable, and writable where
  *     the pointer is not const. A pointer without a length names one element.
@@ -90,6 +92,11 @@ extern "C" {
      YASLAUREL_USERS * YASLAUREL_USER_LENGTH + YASLAUREL_RULES * YASLAUREL_RULE_LENGTH +                               \
      YASLAUREL_MIXTURES * YASLAUREL_MIXTURE_LENGTH)
 
+/* A text of profiles: bytes at most, of the text and of a path, and different paths at most. */
+#define YASLAUREL_TEXT_LIMIT 16384u
+#define YASLAUREL_PATH_LIMIT 64u
+#define YASLAUREL_PATHS 32u
+
 /* An operation record, in bytes. */
 #define YASLAUREL_RECORD_LENGTH 8u
 #define YASLAUREL_CODE_AT 0u
@@ -129,6 +136,8 @@ extern "C" {
 #define YASLAUREL_REFUSED_NOT_FREE 13u
 #define YASLAUREL_REFUSED_UNDECLARED 14u
 #define YASLAUREL_REFUSED_MEET 15u
+#define YASLAUREL_REFUSED_PROFILE_TEXT 16u
+#define YASLAUREL_REFUSED_PROFILE_LIMIT 17u
 
 /*
  * Checks a policy image. 0 if it is accepted, else 1 to 6.
@@ -185,6 +194,14 @@ uint32_t yaslaurel_matrix_verdict(const uint32_t *reads, size_t reads_len, const
  */
 uint32_t yaslaurel_matrix_policy(const uint32_t *reads, size_t reads_len, const uint32_t *writes, size_t writes_len,
                                  uint32_t objects, uint8_t *out, size_t out_len);
+
+/*
+ * Writes the policy image that a text of profiles stands for to the front of `out`; the bytes behind it stay. Each path
+ * becomes a file, in order of first appearance, with its place as number and atom; behind the files come one process,
+ * and one unrestricted user. The image is its own normal image.
+ * The length of the image (26 or more), else 9, then 16, then 17. 16 is judged for the whole text before 17.
+ */
+uint32_t yaslaurel_profiles_policy(const uint8_t *text, size_t text_len, uint8_t *out, size_t out_len);
 
 #ifdef __cplusplus
 }

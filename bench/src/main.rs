@@ -8,11 +8,12 @@
 //! The library is called by its C functions, as every host calls it.
 //!
 //! `bench PROGRAM` also measures that watch program, `bench watch PROGRAM` measures it alone; `bench batches` measures runs
-//! of records alone.
+//! of records alone, `bench profiles` texts of profiles.
 //! `bench listing` is the watch program in natural Rust (`BufWriter`, `writeln!`), for the comparison of whole programs;
 //! `bench trace COUNT` writes the policy and trace that both read.
 
 mod plain;
+mod profiles;
 mod race;
 mod work;
 
@@ -24,6 +25,7 @@ use std::{env, fs};
 use plain::{Natural, Tuned};
 use race::{median, race, Outcome, Variant};
 use yaslaurel::layout::image::{CONTAINERS, HEADER};
+use yaslaurel::layout::profiles::{PATHS, PATH_LIMIT, TEXT_LIMIT};
 use yaslaurel::layout::record;
 use yaslaurel::layout::session::{container, rule, KIND, PERMIT, RULE_MIXTURES, RUN};
 use yaslaurel::{ffi, OUTPUT_LENGTH, SESSION_LENGTH};
@@ -374,6 +376,49 @@ fn matrices() {
     }
 }
 
+/// Texts of profiles that are accepted, then those that take longest to refuse.
+fn texts() {
+    head("Policy of profiles", "text");
+    let demo = fs::read("demo/profiles/profiles.txt").expect("the demo's profiles are there");
+    let many = work::many_profiles(TEXT_LIMIT);
+    let last = many.len() - 16;
+    let repeated = [&many[..last], &many[..16]].concat();
+    let broken = |text: &[u8]| [&text[..text.len() - 2], b"]\n"].concat();
+    let many_broken = broken(&many);
+    let long = work::profiles(8, PATHS, PATH_LIMIT, TEXT_LIMIT);
+    let long_broken = broken(&long);
+    for (name, text, answer) in [
+        (format!("{} bytes, 3 programs, 12 paths", demo.len()), &demo, 0),
+        (format!("{TEXT_LIMIT} bytes, 8 programs, {PATHS} paths"), &work::profiles(8, PATHS, 14, TEXT_LIMIT), 0),
+        (format!("{TEXT_LIMIT} bytes, {PATHS} programs"), &work::profiles(PATHS, PATHS, 14, TEXT_LIMIT), 0),
+        (format!("{TEXT_LIMIT} bytes, {PATHS} paths of {PATH_LIMIT} bytes"), &long, 0),
+        (format!("{} profiles, refused with 17", many.len() / 16), &many, 17),
+        (format!("{} profiles, the last one the first again, refused with 16", many.len() / 16), &repeated, 16),
+        (format!("{} profiles, the last line broken, refused with 16", many.len() / 16), &many_broken, 16),
+        (format!("{TEXT_LIMIT} bytes, the last line broken, refused with 16"), &long_broken, 16),
+    ] {
+        let mut outs = vec![vec![0u8; OUTPUT_LENGTH]; 3];
+        let [a, b, c] = &mut outs[..] else { unreachable!() };
+        let library = |text: &[u8], out: &mut [u8]| match yaslaurel::profiles_policy_into(text, out) {
+            Ok(length) => length as u64,
+            Err(refusal) => u64::from(refusal.number()),
+        };
+        let number = judge::profiles::derive(text, b);
+        assert_eq!(if number as usize >= HEADER { 0 } else { number }, answer, "the texts are what the table says");
+        let outcome = on_image(
+            text,
+            if answer == 0 { 20 } else { 5 },
+            vec![
+                ("library", Box::new(|t| library(t, a))),
+                ("judge", Box::new(|t| u64::from(judge::profiles::derive(t, b)))),
+                ("natural", Box::new(|t| u64::from(profiles::derive(t, c)))),
+            ],
+        );
+        line(&name, &outcome);
+        assert!(outs.iter().all(|out| *out == outs[0]), "the images are equal");
+    }
+}
+
 /// Records for whole runs: all codes, one in ten refused.
 fn whole_trace(count: usize) -> Vec<u8> {
     let mut records = work::records(&[1, 1, 2, 3, 4], count);
@@ -493,6 +538,10 @@ fn main() -> io::Result<()> {
             batches();
             return Ok(());
         }
+        ["profiles"] => {
+            texts();
+            return Ok(());
+        }
         ["trace", count] => {
             fs::write("policy.bin", work::policy(1, 6))?;
             return fs::write("trace.bin", whole_trace(count.parse().expect("a number of records")));
@@ -512,6 +561,7 @@ fn main() -> io::Result<()> {
     let sizes = [1, 4, 16, 64, 256];
     images(&sizes.map(|files| (format!("{files} files"), work::policy_of_files(files, 2, 9))));
     matrices();
+    texts();
     growth();
     watch(words.first().unwrap_or(&"target/bin/watch"))
 }

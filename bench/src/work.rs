@@ -1,4 +1,4 @@
-//! What is timed: sessions, records, images and matrices of several sizes.
+//! What is timed: sessions, records, images, matrices and texts of profiles of several sizes.
 
 use yaslaurel::layout::image::{HEADER, LEADING, NO_ATOM, UNRESTRICTED, USERS};
 use yaslaurel::layout::record;
@@ -18,6 +18,46 @@ impl Random {
     pub fn below(&mut self, bound: usize) -> usize {
         (self.word() % bound as u64) as usize
     }
+}
+
+/// A text of exactly so many bytes: so many programs with lines on all of the paths, each path of so many bytes or a few
+/// less, only the first eight programs writing or naming by ix.
+pub fn profiles(programs: usize, paths: usize, path_length: usize, bytes: usize) -> Vec<u8> {
+    let mut r = Random(7);
+    let path = |number: usize| format!("/{:m<width$}{number}", "", width = path_length - 3);
+    let mut texts = vec![String::new(); programs];
+    for (number, text) in texts.iter_mut().enumerate() {
+        *text = format!("profile {} {{\n", path(number));
+    }
+    let mut left = bytes - texts.iter().map(|text| text.len() + 2).sum::<usize>();
+    // Every path is named, then any.
+    let mut number = 0;
+    loop {
+        let program = r.below(programs);
+        let name = path(if number < paths { number } else { r.below(paths) });
+        let modes = ["r", "m", "rl", "rpx", "Ux", "rw", "a", "rix"];
+        let line = format!("{name} {},\n", modes[r.below(if program < 8 { modes.len() } else { 5 })]);
+        if left < line.len() + path_length + 5 {
+            // What is left becomes one line.
+            let name = path(0);
+            let modes = "r".repeat(left - name.len() - 3);
+            texts[programs - 1] += &format!("{name} {modes},\n");
+            break;
+        }
+        left -= line.len();
+        texts[program] += &line;
+        number += 1;
+    }
+    let text: String = texts.into_iter().map(|text| text + "}\n").collect();
+    assert_eq!(text.len(), bytes);
+    text.into_bytes()
+}
+
+/// As many different profiles without lines as fit into so many bytes, 16 each.
+pub fn many_profiles(bytes: usize) -> Vec<u8> {
+    let letters: Vec<char> = ('a'..='z').chain('A'..='Z').chain('0'..='9').chain(['.', '/']).collect();
+    let pair = |number: usize| format!("/{}{}", letters[number / letters.len()], letters[number % letters.len()]);
+    (0..bytes / 16).flat_map(|number| format!("profile {} {{\n}}\n", pair(number)).into_bytes()).collect()
 }
 
 /// A rule of so many mixtures in normal form. Each mixture has a block of atoms of its own, without one that depends on

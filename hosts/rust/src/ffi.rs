@@ -45,4 +45,5 @@ extern "C" {
         out: *mut u8,
         out_len: usize,
     ) -> u32;
+    pub fn yaslaurel_profiles_policy(text: *const u8, text_len: usize, out: *mut u8, out_len: usize) -> u32;
 }

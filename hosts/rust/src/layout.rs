@@ -71,6 +71,18 @@ pub mod image {
     pub const UNRESTRICTED: u16 = 65535;
 }
 
+/// A text of profiles.
+pub mod profiles {
+    /// Bytes of the longest text.
+    pub const TEXT_LIMIT: usize = 16_384;
+
+    /// Bytes of the longest path.
+    pub const PATH_LIMIT: usize = 64;
+
+    /// How many different paths there are at most.
+    pub const PATHS: usize = 32;
+}
+
 /// An operation record, in bytes.
 pub mod record {
     /// Bytes of a record.

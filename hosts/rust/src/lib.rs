@@ -339,3 +339,45 @@ pub fn matrix_policy_into(reads: &[u32], writes: &[u32], objects: u32, out: &mut
         )
     })
 }
+
+/// The policy image that a text of profiles stands for. Each path becomes a file, in order of first appearance, with its
+/// place as number and atom; behind the files come one process, and one unrestricted user.
+///
+/// ```
+/// use yaslaurel::{profiles_policy, Operation, Refusal, Session, Verdict};
+/// let text = b"profile /bin/mailer {\n/etc/hosts r,\n/var/mail ra,\n}\nprofile /bin/admin {\n/etc/keys r,\n}\n";
+/// let image = profiles_policy(text)?;
+/// assert_eq!(yaslaurel::normalise(&image)?, image);
+///
+/// // Files 0 /bin/mailer, 1 /etc/hosts, 2 /var/mail, 3 /bin/admin, 4 /etc/keys; process 5.
+/// let mut session = Session::start(&image)?;
+/// session.step(&Operation::Exec { process: 5, file: 0, user: 0 }.record())?;
+/// let quiet = session.step(&Operation::Read { process: 5, object: 1 }.record())?;
+/// assert_eq!(quiet.verdict, Verdict::Quiet);
+/// let alert = session.step(&Operation::Read { process: 5, object: 4 }.record())?;
+/// assert_eq!((alert.verdict, alert.atoms().collect::<Vec<_>>()), (Verdict::Alert, vec![1, 4, 32]));
+///
+/// assert_eq!(profiles_policy(b"")?.len(), 26);
+/// assert_eq!(profiles_policy(b"profile /a {\n/b x,\n}\n"), Err(Refusal::ProfileText));
+/// # Ok::<(), Refusal>(())
+/// ```
+pub fn profiles_policy(text: &[u8]) -> Result<Vec<u8>, Refusal> {
+    let mut out = vec![0; OUTPUT_LENGTH];
+    let length = profiles_policy_into(text, &mut out)?;
+    out.truncate(length);
+    Ok(out)
+}
+
+/// Writes the policy image that a text of profiles stands for to the front of an output of [`OUTPUT_LENGTH`] bytes or
+/// more, and gives its length. The bytes behind it stay; a refusal changes none.
+///
+/// ```
+/// use yaslaurel::{profiles_policy_into, Refusal, OUTPUT_LENGTH};
+/// assert_eq!(profiles_policy_into(b"", &mut vec![0; OUTPUT_LENGTH]), Ok(26));
+/// assert_eq!(profiles_policy_into(b"x", &mut vec![0; OUTPUT_LENGTH - 1]), Err(Refusal::LentLength));
+/// ```
+#[inline]
+pub fn profiles_policy_into(text: &[u8], out: &mut [u8]) -> Result<usize, Refusal> {
+    // SAFETY: both slices are valid for their lengths, and Rust keeps `out` apart from `text`.
+    length(unsafe { ffi::yaslaurel_profiles_policy(text.as_ptr(), text.len(), out.as_mut_ptr(), out.len()) })
+}

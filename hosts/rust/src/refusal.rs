@@ -3,7 +3,7 @@ use std::fmt;
 
 /// Why a call was refused. A refused call changes nothing that it was lent.
 ///
-/// The numbers are the paper's. Where several conditions fail, the first in this order counts: 9, 1 to 8, 10 to 15.
+/// The numbers are the paper's. Where several conditions fail, the first in this order counts: 9, 1 to 8, 10 to 17.
 ///
 /// ```
 /// use yaslaurel::Refusal;
@@ -47,11 +47,16 @@ pub enum Refusal {
     Undeclared = 14,
     /// A meet of two rules has over 8 mixtures.
     Meet = 15,
+    /// The text of profiles is over [`TEXT_LIMIT`](crate::layout::profiles::TEXT_LIMIT) bytes, is not of the grammar, or
+    /// profiles a path twice.
+    ProfileText = 16,
+    /// The text has over [`PATHS`](crate::layout::profiles::PATHS) paths, or a rule has over 8 mixtures in normal form.
+    ProfileLimit = 17,
 }
 
 impl Refusal {
     /// All refusals, by rising number.
-    pub const ALL: [Refusal; 15] = [
+    pub const ALL: [Refusal; 17] = [
         Refusal::ImageLength,
         Refusal::Sections,
         Refusal::RecordCount,
@@ -67,9 +72,11 @@ impl Refusal {
         Refusal::NotFree,
         Refusal::Undeclared,
         Refusal::Meet,
+        Refusal::ProfileText,
+        Refusal::ProfileLimit,
     ];
 
-    /// The refusal of a number from 1 to 15.
+    /// The refusal of a number from 1 to 17.
     ///
     /// ```
     /// use yaslaurel::Refusal;
@@ -77,7 +84,7 @@ impl Refusal {
     ///     assert_eq!(Refusal::from_number(refusal.number()), Some(refusal));
     /// }
     /// assert_eq!(Refusal::from_number(0), None);
-    /// assert_eq!(Refusal::from_number(16), None);
+    /// assert_eq!(Refusal::from_number(18), None);
     /// ```
     #[inline]
     pub fn from_number(number: u32) -> Option<Refusal> {
@@ -108,6 +115,8 @@ impl Refusal {
             Refusal::NotFree => "o is not free",
             Refusal::Undeclared => "the user is not declared",
             Refusal::Meet => "a meet of two rules has over 8 mixtures",
+            Refusal::ProfileText => "the text of profiles is too long, breaks the grammar or profiles a path twice",
+            Refusal::ProfileLimit => "the profiles have over 32 paths, or a rule of over 8 mixtures",
         }
     }
 }

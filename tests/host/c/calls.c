@@ -63,6 +63,18 @@ static const uint8_t empty[HEADER] = {
     [YASLAUREL_OFFSET_AT(3)] = HEADER,
 };
 
+/* A text of profiles: two programs, one of which appends to what the other reads. */
+static const char profiles[] = "profile /bin/mailer {\n"
+                               "/etc/hosts r,\n"
+                               "/var/mail ra,\n"
+                               "}\n"
+                               "profile /bin/admin {\n"
+                               "/var/mail r,\n"
+                               "/etc/keys r,\n"
+                               "/etc/keys w,\n"
+                               "/bin/mailer px,\n"
+                               "}\n";
+
 /* The matrix of the paper's example. */
 static const uint32_t reads[3] = {5, 3, 2};
 static const uint32_t writes[3] = {1, 2, 10};
@@ -105,7 +117,17 @@ static void lengths(void)
     check(yaslaurel_matrix_policy(reads, 3, writes, 3, 4, out, OUTPUT - 1) == 9, "matrix policy: output one short");
     check(yaslaurel_matrix_policy(reads, 3, writes, 2, 4, out, OUTPUT) == 8, "matrix policy: row counts differ");
     check(yaslaurel_matrix_policy(reads, 3, writes, 2, 4, out, 0) == 9, "matrix policy: 9 comes before 8");
+    const uint8_t *text = (const uint8_t *)profiles;
+    const size_t text_length = sizeof profiles - 1;
+    check(yaslaurel_profiles_policy(text, text_length, out, OUTPUT - 1) == 9, "profiles: output one short");
+    check(yaslaurel_profiles_policy(text, text_length - 1, out, OUTPUT) == 16, "profiles: no byte 10 at the end");
+    check(yaslaurel_profiles_policy(text, text_length - 2, out, OUTPUT) == 16, "profiles: an open profile at the end");
+    check(yaslaurel_profiles_policy(text + 1, text_length - 1, out, OUTPUT) == 16, "profiles: a first line that is none");
+    check(yaslaurel_profiles_policy(text, 1, out, 0) == 9, "profiles: 9 comes before 16");
     check(out_stayed_from(0), "refused calls leave the output");
+    check(yaslaurel_profiles_policy(text, 0, out, OUTPUT + 1) == 26, "profiles: the empty text's policy has 26 bytes");
+    check(out_stayed_from(26), "profiles: the bytes behind the image stay");
+    mark_out();
     check(yaslaurel_image_normalise(empty, HEADER, out, OUTPUT + 1) == HEADER, "normalise: the empty policy's length");
     check(memcmp(out, empty, HEADER) == 0, "normalise: the empty policy is its own normal image");
     check(out_stayed_from(HEADER), "normalise: the bytes behind the image stay");
@@ -127,6 +149,7 @@ static void nulls(void)
           "verdict: null rows");
     check(yaslaurel_matrix_policy(yaslaurel_rows(NULL), 0, yaslaurel_rows(NULL), 0, 4, out, OUTPUT) == 8,
           "matrix policy: null rows");
+    check(yaslaurel_profiles_policy(yaslaurel_bytes(NULL), 0, yaslaurel_output(NULL), 0) == 9, "profiles: nulls");
     check(receiver == 11 && tag == 22 && taken == 33 && count == 1 && source == 2 && target == 3,
           "refused calls leave the numbers");
 }
@@ -186,6 +209,70 @@ static void example(void)
               taken == 2 && receiver == 1 && tag == 7,
           "run: a batch that stops at a refusal, and keeps what came before it");
     check(session_stayed(), "run: batches leave the session that single steps leave");
+}
+
+/* Lines `profile /NUMBER {`, `/f MODES,` and `}` for so many programs from a number on. The length of the text. */
+static size_t programs(char *text, int first, int count, const char *modes)
+{
+    char *at = text;
+    for (int i = first; i < first + count; i++) {
+        at += sprintf(at, "profile /%d {\n/f %s,\n}\n", i, modes);
+    }
+    return (size_t)(at - text);
+}
+
+/* Paths in order of first appearance: files 0 mailer, 1 hosts, 2 mail, 3 admin, 4 keys, then process 5. */
+static void profile_example(void)
+{
+    static char text[YASLAUREL_TEXT_LIMIT + 2];
+    static const uint8_t exec_admin[RECORD] = {4, 0, 5, 0, 3, 0, 0, 0}, read_mail[RECORD] = {1, 0, 5, 0, 2, 0, 255, 255},
+                         write_keys[RECORD] = {2, 0, 5, 0, 4, 0, 255, 255},
+                         read_hosts[RECORD] = {1, 0, 5, 0, 1, 0, 255, 255};
+    const uint64_t admin = (uint64_t)9 << 32 | 1 << 2 | 1 << 4;
+    uint64_t receiver = 0, tag = 0;
+
+    mark_out();
+    uint32_t length = yaslaurel_profiles_policy((const uint8_t *)profiles, sizeof profiles - 1, out, OUTPUT);
+    /* 6 containers, a user, and rules by first use: {0}, mailer's mixture, {1}, that mixture (also mail's permit rule),
+       {3}, admin's mixture (also keys' permit rule). */
+    check(length == 18 + 6 * 6 + 2 + 5 * 4 + 5 * 8, "profiles: the length of the image");
+    check(out_stayed_from(length), "profiles: the bytes behind the example's image stay");
+    check(yaslaurel_image_check(out, length) == 0, "the policy of profiles is accepted");
+    check(yaslaurel_session_start(out, length, session, SESSION) == 0, "the policy of profiles starts a session");
+    check(session[YASLAUREL_CONTAINER_ROW * 3 + 11] == 1 && session[YASLAUREL_CONTAINER_ROW * 3 + 12] == admin,
+          "profiles: the run rule of a program");
+    check(session[YASLAUREL_CONTAINER_ROW * 4 + 2] == 1 && session[YASLAUREL_CONTAINER_ROW * 4 + 3] == admin,
+          "profiles: the permit rule of what it writes");
+    check(yaslaurel_step(session, SESSION, exec_admin, RECORD, &receiver, &tag) == 0 && tag == (uint64_t)8 << 32,
+          "profiles: the program starts");
+    check(yaslaurel_step(session, SESSION, read_mail, RECORD, &receiver, &tag) == 0, "profiles: it reads what it may");
+    check(yaslaurel_step(session, SESSION, write_keys, RECORD, &receiver, &tag) == 0, "profiles: it writes what it may");
+    check(yaslaurel_step(session, SESSION, read_hosts, RECORD, &receiver, &tag) == YASLAUREL_ALERT && receiver == 5,
+          "profiles: it reads what it may not");
+
+    const uint8_t *bytes = (const uint8_t *)text;
+    size_t end = programs(text, 0, 31, "l");
+    check(yaslaurel_profiles_policy(bytes, end, out, OUTPUT) >= HEADER, "profiles: 32 paths");
+    end = programs(text, 0, 32, "l");
+    check(yaslaurel_profiles_policy(bytes, end, out, OUTPUT) == 17, "profiles: 33 paths");
+    end += programs(text + end, 31, 1, "l");
+    check(yaslaurel_profiles_policy(bytes, end, out, OUTPUT) == 16, "profiles: 16 comes before 17");
+    end = programs(text, 0, 8, "w");
+    check(yaslaurel_profiles_policy(bytes, end, out, OUTPUT) >= HEADER, "profiles: a rule of 8 mixtures");
+    end = programs(text, 0, 9, "w");
+    check(yaslaurel_profiles_policy(bytes, end, out, OUTPUT) == 17, "profiles: a permit rule of 9 mixtures");
+    end = programs(text, 0, 9, "ix");
+    check(yaslaurel_profiles_policy(bytes, end, out, OUTPUT) == 17, "profiles: a run rule of 9 mixtures");
+    end = programs(text, 0, 2, "x");
+    check(yaslaurel_profiles_policy(bytes, end, out, OUTPUT) == 16, "profiles: a mode x alone");
+
+    /* One line as long as it can be, then one byte longer. */
+    memset(text, 'r', sizeof text);
+    memcpy(text, "profile /a {\n/b ", 16);
+    memcpy(text + YASLAUREL_TEXT_LIMIT - 4, ",\n}\n", 4);
+    check(yaslaurel_profiles_policy(bytes, YASLAUREL_TEXT_LIMIT, out, OUTPUT) >= HEADER, "profiles: the longest text");
+    memcpy(text + YASLAUREL_TEXT_LIMIT - 4, "r,\n}\n", 5);
+    check(yaslaurel_profiles_policy(bytes, YASLAUREL_TEXT_LIMIT + 1, out, OUTPUT) == 16, "profiles: one byte longer");
 }
 
 /* A small generator of random numbers. */
@@ -249,6 +336,8 @@ static void random_bytes(void)
         answer = yaslaurel_matrix_verdict(rows, subjects, rows + 5, subjects, 4 * (draw(&seed) % 9), &count, &source,
                                           &target);
         good = good && (answer <= 1 || answer == 8);
+        answer = yaslaurel_profiles_policy(image, length, out, OUTPUT);
+        good = good && answer == (length == 0 ? 26u : 16u);
     }
     check(good, "random bytes: every answer is one that the function can give");
 }
@@ -258,6 +347,7 @@ int main(void)
     lengths();
     nulls();
     example();
+    profile_example();
     random_bytes();
     printf("%u passed, %u failed\n", passed, failed);
     return failed != 0;

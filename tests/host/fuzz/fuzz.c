@@ -77,7 +77,7 @@ struct region {
     uint8_t *copy;
 };
 
-static struct region image_at, out_at, session_at, record_at, reads_at, writes_at, numbers_at, taken_at;
+static struct region image_at, out_at, session_at, record_at, reads_at, writes_at, numbers_at, taken_at, text_at;
 
 static void reserve(struct region *region, size_t bytes)
 {
@@ -118,7 +118,7 @@ static int stayed(const struct region *region, size_t written)
 
 /* How often each function gave each answer. */
 static unsigned long checks[ANSWERS], normals[ANSWERS], starts[ANSWERS], steps[ANSWERS], runs[ANSWERS],
-    verdicts[ANSWERS], policies[ANSWERS];
+    verdicts[ANSWERS], policies[ANSWERS], profiles[ANSWERS];
 
 /* Writes a number of so many bytes; gives the place behind it. */
 static uint8_t *put(uint8_t *at, uint64_t value, size_t bytes)
@@ -449,6 +449,81 @@ static void try_matrix(void)
     require(length < HEADER || yaslaurel_image_check(out_at.slice, length) == 0, "the derived policy is accepted");
 }
 
+static uint8_t text[YASLAUREL_TEXT_LIMIT + 300];
+
+/* A text of profiles that is of the grammar, of few paths or many. Its length. */
+static size_t make_text(void)
+{
+    static const char *const modes[] = {"r", "w", "a", "l", "m", "ix", "px", "Px", "ux", "Ux"};
+    char *at = (char *)text, *end = at + YASLAUREL_TEXT_LIMIT - 100;
+    size_t programs = below(percent(5) ? 1200 : 14), files = 1 + below(percent(10) ? 60 : 20);
+
+    for (size_t i = 0; i < programs && at < end; i++) {
+        at += sprintf(at, "profile /bin/%zu {\n", percent(99) ? i : below(programs));
+        for (size_t lines = below(percent(5) ? 200 : 6); lines > 0 && at < end; lines--) {
+            at += sprintf(at, "/%s%zu ", percent(30) ? "bin/" : "f.", below(files));
+            for (size_t count = 1 + below(3); count > 0; count--) {
+                at += sprintf(at, "%s", modes[below(10)]);
+            }
+            at += sprintf(at, ",\n");
+        }
+        at += sprintf(at, "}\n");
+    }
+    return (size_t)(at - (char *)text);
+}
+
+/* Breaks a text in a few places, or makes it about as long as it can be. Its new length. */
+static size_t damage_text(size_t length)
+{
+    static const uint8_t some[] = "profile /{},\n\t rwalmixpPuU.0-";
+    for (size_t times = below(3); times > 0; times--) {
+        switch (below(4)) {
+        case 0:
+            length = below(length + 1);
+            break;
+        case 1:
+            memset(text + length, '\n', sizeof text - length);
+            length = YASLAUREL_TEXT_LIMIT - 5 + below(10);
+            break;
+        case 2:
+            text[below(length + 1)] = (uint8_t)draw();
+            break;
+        default:
+            text[below(length + 1)] = some[below(sizeof some - 1)];
+        }
+    }
+    return length;
+}
+
+static void try_profiles(void)
+{
+    size_t length = make_text(), out_length = percent(95) ? OUTPUT : below(OUTPUT + 40);
+    if (percent(30)) {
+        length = damage_text(length);
+    }
+    lend(&text_at, text, length);
+    lend(&out_at, blank, out_length);
+    read_only(&text_at, 1);
+    uint32_t answer = yaslaurel_profiles_policy(text_at.slice, length, out_at.slice, out_length);
+    read_only(&text_at, 0);
+
+    profiles[answer < HEADER ? answer : LENGTH]++;
+    require(answer == 9 || answer == 16 || answer == 17 || (answer >= 26 && answer <= OUTPUT),
+            "the policy of profiles gives a length, 9, 16 or 17");
+    require((answer == 9) == (out_length < OUTPUT), "the policy of profiles gives 9 for a short output alone");
+    require(answer == 9 || answer == 16 || length <= YASLAUREL_TEXT_LIMIT, "a text that is too long gives 16");
+    require(answer == 9 || answer == 16 || length == 0 || text[length - 1] == '\n', "a text that ends inside a line gives 16");
+    require(stayed(&text_at, 0), "the text stays");
+    require(stayed(&out_at, answer < HEADER ? 0 : answer), "the output stays, but for the image of the profiles");
+    if (answer >= HEADER) {
+        memcpy(image, out_at.slice, answer);
+        require(yaslaurel_image_check(image, answer) == 0, "the policy of profiles is accepted");
+        require(yaslaurel_image_normalise(image, answer, blank, OUTPUT) == answer && memcmp(blank, image, answer) == 0,
+                "the policy of profiles is its own normal image");
+        memset(blank, 0x5a, sizeof blank);
+    }
+}
+
 /* Whether a function gave each of the wanted answers; prints the counts if asked. */
 static int reached(int print, const char *name, const unsigned long *counts, const int *wanted, size_t count)
 {
@@ -475,6 +550,7 @@ static int all_reached(int print)
     all &= REACHED(print, runs, YASLAUREL_QUIET, YASLAUREL_ALERT, 7, 9, 10, 11, 12, 13, 14, 15);
     all &= REACHED(print, verdicts, 0, 1, 8);
     all &= REACHED(print, policies, LENGTH, 8, 9);
+    all &= REACHED(print, profiles, LENGTH, 9, 16, 17);
     return all;
 }
 
@@ -495,6 +571,7 @@ int main(int argc, char **argv)
     reserve(&writes_at, 64);
     reserve(&numbers_at, 64);
     reserve(&taken_at, 64);
+    reserve(&text_at, sizeof text);
 
     /* On a busy machine up to three times as long, until every answer was reached. */
     while (counted ? rounds < limit
@@ -520,6 +597,7 @@ int main(int argc, char **argv)
             }
         }
         try_matrix();
+        try_profiles();
         /* The next start finds anything at all. */
         session[below(SESSION)] = draw();
     }

@@ -3,7 +3,7 @@
 use std::fmt::Write as _;
 
 use judge::session::Record;
-use judge::{chains, image, matrix, normal, session};
+use judge::{chains, image, matrix, normal, profiles, session};
 use yaslaurel::layout::image::HEADER;
 use yaslaurel::layout::record;
 use yaslaurel::layout::session::{container, user, CONTAINER_ROW, USER_ROW};
@@ -67,6 +67,12 @@ pub enum Case {
         reads: Vec<u32>,
         writes: Vec<u32>,
         objects: u32,
+        out_length: usize,
+    },
+    /// A text of profiles, and what kind of text it is.
+    Profiles {
+        kind: &'static str,
+        text: Vec<u8>,
         out_length: usize,
     },
 }
@@ -140,6 +146,7 @@ impl Bench {
             Case::Matrix { reads, writes, objects, out_length } => {
                 self.matrix_case(reads, writes, *objects, *out_length, counters)
             }
+            Case::Profiles { kind, text, out_length } => self.profiles_case(kind, text, *out_length, counters),
         }
     }
 
@@ -426,6 +433,34 @@ impl Bench {
             .or_else(|| differ_at("the write rows", self.writes.content(), writes))
             .or_else(|| self.guards())
     }
+
+    fn profiles_case(&mut self, kind: &'static str, text: &[u8], out_length: usize, c: &mut Counters) -> Difference {
+        self.image.fill(text);
+        self.judge_out.clear();
+        self.judge_out.resize(out_length, 0x5a);
+        self.out.fill(&self.judge_out);
+        let number = lent::profiles_policy(&self.image, &mut self.out);
+        let expected = profiles::derive(text, &mut self.judge_out);
+        let length = image_length(expected);
+        c.text(kind, text, expected);
+        let safe = yaslaurel::profiles_policy(text);
+        differ("policy of profiles", number, expected)
+            .or_else(|| differ_at("output of the policy of profiles", self.out.content(), &self.judge_out))
+            .or_else(|| differ_at("the text itself", self.image.content(), text))
+            .or_else(|| self.guards())
+            .or_else(|| {
+                let judge =
+                    profiles::policy(text).map(|policy| normal::encode(&policy)).map_err(profiles::Refused::number);
+                let safe = safe.map_err(Refusal::number);
+                differ("policy of profiles of the Rust interface", safe, judge)
+            })
+            .or_else(|| length.and_then(|length| self.normal_again(length)))
+            .or_else(|| {
+                // The judge's own reading is the only one.
+                let reading = profiles::reading(text)?;
+                (profiles::spelled(&reading) != text).then(|| "the judge's reading is spelled differently".into())
+            })
+    }
 }
 
 /// An answer of the safe interface, as the judge has it.
@@ -530,6 +565,12 @@ pub fn show(case: &Case) -> String {
         Case::Matrix { reads, writes, objects, out_length } => {
             writeln!(text, "read rows {reads:x?}, write rows {writes:x?}, {objects} objects").unwrap();
             writeln!(text, "output of {out_length} bytes").unwrap();
+        }
+        Case::Profiles { kind, text: profiles, out_length } => {
+            writeln!(text, "text of {} bytes ({kind}), output of {out_length} bytes:", profiles.len()).unwrap();
+            for line in profiles.split_inclusive(|&byte| byte == 10) {
+                writeln!(text, "  {}", line.escape_ascii()).unwrap();
+            }
         }
     }
     text

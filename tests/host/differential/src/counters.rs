@@ -1,8 +1,14 @@
 //! What a run reached.
 
+use std::collections::BTreeMap;
 use std::fmt::Write as _;
 
+use judge::profiles::{self, Refused};
+use yaslaurel::layout::profiles::{PATHS, PATH_LIMIT, TEXT_LIMIT};
+use yaslaurel::layout::session::RULE_MIXTURES;
 use yaslaurel::OUTPUT_LENGTH;
+
+use crate::texts::KINDS;
 
 #[derive(Default)]
 pub struct Counters {
@@ -45,9 +51,74 @@ pub struct Counters {
     pub chain_alerts: u64,
     pub chain_running: u64,
     pub chains: u64,
+    pub texts: u64,
+    /// Refusals of the policy of profiles; 0 counts what was accepted.
+    pub profiles: [u64; 18],
+    /// Texts by their kind.
+    pub text_kinds: BTreeMap<&'static str, u64>,
+    /// Texts at a limit that are accepted, and why the others are refused.
+    pub text_limits: BTreeMap<&'static str, u64>,
 }
 
+/// What the texts of a run must have reached, beside each number.
+const TEXT_LIMITS: [&str; 11] = [
+    "accepted, of 16,384 bytes",
+    "accepted, of 32 paths",
+    "accepted, with a path of 64 bytes",
+    "accepted, with a permit rule of 8",
+    "accepted, with a run rule of 8",
+    "refused for its length alone",
+    "refused for its grammar",
+    "refused for a path profiled twice",
+    "refused for its paths",
+    "refused for a permit rule",
+    "refused for a run rule",
+];
+
 impl Counters {
+    /// Counts a text of profiles and what it comes to.
+    pub fn text(&mut self, kind: &'static str, text: &[u8], answer: u32) {
+        self.texts += 1;
+        *self.text_kinds.entry(kind).or_default() += 1;
+        if answer == 9 {
+            self.profiles[9] += 1;
+            return;
+        }
+        let [longest, paths, path, permit, run, length, grammar, twice, many, permit_over, run_over] = TEXT_LIMITS;
+        let mut reached = |limit: &'static str| *self.text_limits.entry(limit).or_default() += 1;
+        match profiles::policy(text) {
+            Ok(policy) => {
+                self.profiles[0] += 1;
+                let reading = profiles::reading(text).expect("an accepted text has a reading");
+                let named = profiles::paths(&reading);
+                let full = |number: u16| judge::rules::normal(&policy.rule(number)).len() == RULE_MIXTURES;
+                for (at_limit, limit) in [
+                    (text.len() == TEXT_LIMIT, longest),
+                    (named.len() == PATHS, paths),
+                    (named.iter().any(|path| path.len() == PATH_LIMIT), path),
+                    (policy.containers.iter().any(|container| full(container.permit)), permit),
+                    (policy.containers.iter().any(|container| full(container.run)), run),
+                ] {
+                    if at_limit {
+                        reached(limit);
+                    }
+                }
+            }
+            Err(refused) => {
+                self.profiles[refused.number() as usize] += 1;
+                match refused {
+                    Refused::TooLong if profiles::reading(text).is_some() => reached(length),
+                    Refused::TooLong => {}
+                    Refused::Grammar => reached(grammar),
+                    Refused::ProfiledTwice => reached(twice),
+                    Refused::Paths => reached(many),
+                    Refused::PermitRule => reached(permit_over),
+                    Refused::RunRule => reached(run_over),
+                }
+            }
+        }
+    }
+
     /// What the run did not reach and must.
     pub fn missing(&self) -> Vec<String> {
         let mut missing = Vec::new();
@@ -89,6 +160,15 @@ impl Counters {
         for number in [0, 8, 9] {
             need(self.derived[number], format!("derived policy answers {number} (0: a length)"));
         }
+        for number in [0, 9, 16, 17] {
+            need(self.profiles[number], format!("policy of profiles answers {number} (0: a length)"));
+        }
+        for kind in &KINDS {
+            need(self.text_kinds.get(kind.name).copied().unwrap_or(0), format!("a text of profiles: {}", kind.name));
+        }
+        for limit in TEXT_LIMITS {
+            need(self.text_limits.get(limit).copied().unwrap_or(0), format!("a text of profiles: {limit}"));
+        }
         need(self.chain_alerts, "an alert on a trace whose chains were listed".into());
         need(self.chain_running, "a running atom on a trace whose chains were listed".into());
         missing
@@ -121,6 +201,11 @@ impl Counters {
         let verdicts = (self.consistent, self.inconsistent, self.verdicts_refused);
         line("consistent, not, refused", format!("{}, {}, {}", verdicts.0, verdicts.1, verdicts.2));
         line("derived policy, by refusal", by_number(&self.derived));
+        line("texts of profiles", self.texts.to_string());
+        line("policy of profiles, by refusal", by_number(&self.profiles));
+        for (limit, count) in &self.text_limits {
+            line(&format!("  {limit}"), count.to_string());
+        }
         line("traces judged by chains", self.chain_traces.to_string());
         let chains = (self.chain_steps, self.chain_alerts, self.chain_running, self.chains);
         line("steps, alerts, running atoms, chains", format!("{}, {}, {}, {}", chains.0, chains.1, chains.2, chains.3));

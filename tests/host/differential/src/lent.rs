@@ -156,3 +156,8 @@ pub fn matrix_policy(reads: &Guarded<u32>, writes: &Guarded<u32>, objects: u32, 
         )
     }
 }
+
+pub fn profiles_policy(text: &Guarded<u8>, out: &mut Guarded<u8>) -> u32 {
+    // SAFETY: above.
+    unsafe { ffi::yaslaurel_profiles_policy(text.pointer(), text.length, out.pointer_mut(), out.length) }
+}

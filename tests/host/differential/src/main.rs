@@ -1,7 +1,7 @@
 //! `differential [SEED] [FACTOR] [PART]` compares the library with the judge.
 //!
 //! The seed is a number (without one it is taken from the clock), the factor multiplies the size of the run: with 1 it
-//! has over 200,000 images, 2,000,000 operations and 200,000 matrices. PART, the beginning of a part's name, runs that
+//! has over 200,000 images, 2,000,000 operations, 200,000 matrices and 80,000 texts of profiles. PART, the beginning of a part's name, runs that
 //! part alone. A disagreement is made small and printed, with the
 //! seed that finds it again. The last line is `N passed, M failed`.
 //!
@@ -15,6 +15,7 @@ mod lent;
 mod random;
 mod shrink;
 mod spec;
+mod texts;
 
 use std::path::Path;
 use std::process::ExitCode;
@@ -35,7 +36,7 @@ struct Part {
     make: fn(&mut Random) -> Case,
 }
 
-const PARTS: [Part; 8] = [
+const PARTS: [Part; 9] = [
     Part { name: "images: check, normaliser, start", cases: 210_000, make: image },
     Part { name: "pairs: equal normal images exactly with equal sessions", cases: 40_000, make: pair },
     Part { name: "single operations on whole and damaged sessions", cases: 900_000, make: step },
@@ -44,6 +45,7 @@ const PARTS: [Part; 8] = [
     Part { name: "long traces", cases: 1_300, make: long_trace },
     Part { name: "batches of records, by runs", cases: 100_000, make: batches },
     Part { name: "matrices: verdict, derived policy", cases: 210_000, make: matrix },
+    Part { name: "profiles: policy", cases: 80_000, make: profiles },
 ];
 
 fn image(r: &mut Random) -> Case {
@@ -155,6 +157,11 @@ fn batches(r: &mut Random) -> Case {
 fn matrix(r: &mut Random) -> Case {
     let (reads, writes, objects) = generate::matrix(r);
     Case::Matrix { reads, writes, objects, out_length: generate::length(r, OUTPUT_LENGTH, true) }
+}
+
+fn profiles(r: &mut Random) -> Case {
+    let (kind, text) = texts::text(r);
+    Case::Profiles { kind, text, out_length: generate::length(r, OUTPUT_LENGTH, true) }
 }
 
 /// The counts of the last line.

@@ -72,7 +72,39 @@ fn simpler(case: &Case) -> Vec<Case> {
             .map(|(image, damage, length, batches)| Case::Batches { image, damage, length, batches })
             .collect(),
         Case::Matrix { reads, writes, objects, out_length } => matrices(reads, writes, *objects, *out_length),
+        Case::Profiles { kind, text, out_length } => texts(text)
+            .into_iter()
+            .map(|text| (text, *out_length))
+            .chain((*out_length != OUTPUT_LENGTH).then(|| (text.clone(), OUTPUT_LENGTH)))
+            .map(|(text, out_length)| Case::Profiles { kind, text, out_length })
+            .collect(),
     }
+}
+
+/// Without a profile, without a line, without a byte.
+fn texts(text: &[u8]) -> Vec<Vec<u8>> {
+    let mut found = Vec::new();
+    let ends: Vec<usize> = (0..text.len()).filter(|&at| text[at] == 10).map(|at| at + 1).collect();
+    let mut without = |from: usize, to: usize| found.push([&text[..from], &text[to..]].concat());
+    for half in [text.len() / 2, text.len() / 4] {
+        without(0, half);
+        without(text.len() - half, text.len());
+    }
+    let mut begin = 0;
+    for &end in ends.iter().filter(|&&end| text[..end].ends_with(b"\n}\n")) {
+        without(begin, end);
+        begin = end;
+    }
+    let mut begin = 0;
+    for &end in &ends {
+        without(begin, end);
+        begin = end;
+    }
+    for at in 0..text.len().min(400) {
+        without(at, at + 1);
+    }
+    found.retain(|simpler| simpler.len() < text.len());
+    found
 }
 
 /// Fewer batches, then a record or a byte less in one of them.

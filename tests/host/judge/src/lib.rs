@@ -1,7 +1,7 @@
 //! A second implementation of the flow monitor, in plain Rust, to compare the library with.
 //!
-//! It was written from the paper ("The flow monitor: containers, mixtures and chains") and from nothing else: it
-//! shares no code, no constants and no generated data with the library. Every part quotes the sentences of the paper
+//! It was written from the paper ("The flow monitor: containers, mixtures and chains") and its change requests, and from
+//! nothing else: it shares no code, no constants and no generated data with the library. Every part quotes the sentences
 //! that it renders; the sizes, limits and places of the formats are in [`numbers`]. It is made to be read against the
 //! paper, not to be fast.
 //!
@@ -14,5 +14,6 @@ pub mod listing;
 pub mod matrix;
 pub mod normal;
 pub mod numbers;
+pub mod profiles;
 pub mod rules;
 pub mod session;

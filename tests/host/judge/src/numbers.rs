@@ -92,6 +92,12 @@ pub const RECORD: usize = 8;
 /// "u is 65535 except for codes 4 and 6".
 pub const NO_USER: u16 = 65535;
 
+/// Change request No. 1: "profile text of up to 16,384 bytes"; "a path is `/` and 1 to 63 letters, digits, dots or
+/// slashes"; "17 when it has over 32 paths".
+pub const LONGEST_TEXT: usize = 16_384;
+pub const LONGEST_PATH: usize = 64;
+pub const PROFILE_PATHS: usize = 32;
+
 #[cfg(test)]
 mod tests {
     use super::*;

@@ -2,6 +2,8 @@
 //! tests: the whole judge must pass them, and with a planted fault (the variable `YASLAUREL_FAULT` names its number)
 //! they must fail.
 
+mod profiles;
+
 use std::env;
 use std::slice::{from_raw_parts, from_raw_parts_mut};
 use std::sync::OnceLock;
@@ -14,7 +16,7 @@ use judge::rules::{covers, holds, meet};
 use judge::{image, matrix, normal, session};
 
 /// The planted faults, each a mistake that a reviewer would try.
-pub const FAULTS: [&str; 27] = [
+pub const FAULTS: [&str; 44] = [
     "1 a monitor that is always quiet",
     "2 a running atom passes by read",
     "3 covering is tested atom by atom",
@@ -42,6 +44,23 @@ pub const FAULTS: [&str; 27] = [
     "25 a run leaves out a short last record",
     "26 a run without records does not look at the session",
     "27 a record refused in a run undoes those before it",
+    "28 a mode x alone is accepted",
+    "29 a line without a mode is accepted",
+    "30 a path of 65 bytes is accepted",
+    "31 a last line without byte 10 is accepted",
+    "32 an open profile at the end is accepted",
+    "33 a repeated profile is found only next to its first",
+    "34 a later line of a path replaces the one before it",
+    "35 atoms go to the profiled paths first",
+    "36 a run mixture lacks the program's own running atom",
+    "37 what a program may execute counts as data",
+    "38 a written file's permit rule lacks its own atom",
+    "39 ix goes before ux",
+    "40 px leaves a path unrestricted to run",
+    "41 17 by the count of mixtures before normal form",
+    "42 17 goes before 16",
+    "43 a repeated profile beyond the 32nd path is not found",
+    "44 a text refused with 16 clears the output",
 ];
 
 /// The number of the planted fault, 0 for none.
@@ -351,4 +370,16 @@ pub unsafe extern "C" fn yaslaurel_matrix_policy(
         out[number_at(out, MIXTURES.offset_at)] &= 0xfe;
     }
     number
+}
+
+/// # Safety
+/// As `include/yaslaurel.h` says.
+#[no_mangle]
+pub unsafe extern "C" fn yaslaurel_profiles_policy(
+    text: *const u8,
+    length: usize,
+    out: *mut u8,
+    out_length: usize,
+) -> u32 {
+    profiles::derive(from_raw_parts(text, length), from_raw_parts_mut(out, out_length))
 }

@@ -1,4 +1,5 @@
-//! `judge-image check FILE` prints 0 or the refusal; `judge-image normal FILE OUT` writes the normal image.
+//! `judge-image check FILE` prints 0 or the refusal; `judge-image normal FILE OUT` writes the normal image,
+//! `judge-image profiles FILE OUT` the image that a text of profiles stands for.
 
 use std::{env, fs, process};
 
@@ -14,8 +15,15 @@ fn main() {
                 process::exit(1);
             }
         },
+        ["profiles", file, out] => match judge::profiles::policy(&read(file)) {
+            Ok(policy) => fs::write(out, judge::normal::encode(&policy)).expect("the output can be written"),
+            Err(refused) => {
+                eprintln!("refused {}", refused.number());
+                process::exit(1);
+            }
+        },
         _ => {
-            eprintln!("judge-image check FILE | judge-image normal FILE OUT");
+            eprintln!("judge-image check FILE | judge-image normal FILE OUT | judge-image profiles FILE OUT");
             process::exit(2);
         }
     }
