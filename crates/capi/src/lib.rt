@@ -8,6 +8,7 @@ ghost use Rattle.monitor.specs.Stops.{ran, ranEffect};
 ghost use Rattle.normaliser.specs.Normaliser.{normalAnswer, normalEffect};
 ghost use Rattle.matrix.specs.Verdicts.{matrixVerdict};
 ghost use Rattle.derivation.specs.Derived.{derivedAnswer, derivedEffect};
+ghost use Rattle.confinement.specs.Images.{profileAnswer, profileEffect};
 ghost use Rattle.capi.specs.Hosts.{receiverAfter, tagAfter, takenAfter, alertReceiver, alertTag, valueAfter};
 use answers::Answer;
 use answers::Verdict;
@@ -160,4 +161,15 @@ pub extern "C" fn yaslaurel_matrix_policy(
         × (now (out .exit) ≡ derivedEffect (now (reads .entry)) (now (writes .entry)) objects (now (out .entry))) ⌝ }
 {
     derivation::derive(reads, writes, objects, out)
+}
+
+// The length of the image of the policy that a text of profiles stands for, written to the front of out; else the refusal, 9, 16 or
+// 17, and out is as it was.
+#[no_mangle]
+pub extern "C" fn yaslaurel_profiles_policy(text: &[u8], out: &mut [u8]) -> u32
+    ensures { λ r. ⌜
+        (r ≡ profileAnswer (now (text .entry)) (now (out .entry)))
+        × (now (out .exit) ≡ profileEffect (now (text .entry)) (now (out .entry))) ⌝ }
+{
+    confinement::derive(text, out)
 }
