@@ -4,5 +4,5 @@ pub mod BitLaws
 pub mod TableLaws
 pub mod ScanLaws
 pub mod LineWalks
-pub mod PathScan
-pub mod ProgramScan
+pub mod EntryLaws
+pub mod TextScan

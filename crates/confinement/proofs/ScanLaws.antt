@@ -6,7 +6,7 @@ use native.Mathlib.Numerals.{add-one}
 use mathlib.Core.Path.{_≡_, refl, sym, ap, ap₂, _∙_}
 use mathlib.Core.Bool.{Bool, true, false, cond, _||_}
 use mathlib.Core.List.{List, [], _∷_, _++_}
-use lib.ListN.{length, getD, take, drop, set, length-drop, length-set}
+use lib.ListN.{length, getD, drop, set, length-drop, length-set}
 use lib.Seq.{length-take-le, getD-take, getD-drop, ext-getD, getD-set-same, getD-set-other}
 use Rattle.lists.specs.Lists.{sameList}
 use Rattle.lists.proofs.Bools.{clash, refuted}
@@ -123,15 +123,6 @@ module _ (t : List ℕ) where
   -- ---- tables
 
   module _ (ns : List (List ℕ)) (starts sizes : List ℕ) (n : ℕ) where
-    pub table-places : PathTable t ns starts sizes n → Places t starts sizes n
-    table-places g = record { few = g .few; startsLong = g .startsLong; sizesLong = g .sizesLong; within = g .within }
-
-    pub table-paths : PathTable t ns starts sizes n → tablePaths t starts sizes n ≡ ns
-    table-paths g =
-        ext-getD [] (tablePaths t starts sizes n) ns (paths-length starts sizes 0 n ∙ g .count)
-        (λ k h. let l : k < n = omega (arith, paths-length starts sizes 0 n) in
-        table-at starts sizes n k l ∙ g .paths k l)
-
     pub places-table : Places t starts sizes n → tablePaths t starts sizes n ≡ ns → PathTable t ns starts sizes n
     places-table g e =
         record {
@@ -219,3 +210,14 @@ position-known q ns h = by (known q ns) refl
     by : (b : Bool) → known q ns ≡ b → b ≡ true
     by true e = refl
     by false e = absurd (h (position-none q ns e))
+
+-- and has it when it is added
+pub position-last : (q : List ℕ) (ns : List (List ℕ)) → known q ns ≡ false → position q (ns ++ (q ∷ [])) ≡ length ns
+unfolding known position
+position-last q [] h = rw (same-refl q)
+position-last q (x ∷ ns) h = by (sameList q x) h (position-last q ns)
+  where
+    by : (b : Bool) → (b || known q ns) ≡ false → (known q ns ≡ false → position q (ns ++ (q ∷ [])) ≡ length ns)
+        → cond b 0 (suc (position q (ns ++ (q ∷ [])))) ≡ suc (length ns)
+    by true g ih = clash (refl {a = true}) g
+    by false g ih = ap suc (ih g)

@@ -1,4 +1,4 @@
-// Two passes over a text that is good (change request No. 1): its paths by their places, and its programs with their modes.
+// The pass over a text that is good (change request No. 1): its paths by their places, and its programs with their modes.
 ghost use mathlib.Core.Path.{_≡_};
 ghost use mathlib.Core.Bool.{true};
 ghost use Prim.Native.Nat.{_+_, _≤_, _<_};
@@ -7,10 +7,8 @@ ghost use Rattle.lists.specs.Lists.{sameList};
 ghost use Rattle.rules.specs.Answers.{dataWidth};
 ghost use Rattle.image.specs.Normal.{position};
 ghost use Rattle.profiles.specs.Texts.{textGood};
-ghost use Rattle.confinement.specs.Confinement.{pathsOf};
-ghost use Rattle.confinement.specs.Images.{profilesIn};
-ghost use Rattle.confinement.specs.Tables.{pathAt, cellCount, PathTable, ProgramTable};
-ghost use Rattle.confinement.specs.Scans.{tablePaths, Places, PathsListed};
+ghost use Rattle.confinement.specs.Tables.{pathAt, cellCount};
+ghost use Rattle.confinement.specs.Scans.{tablePaths, Places, Placed, Scanned};
 
 // As many paths as there are data atoms.
 const PATHS: usize = 32;
@@ -65,59 +63,102 @@ fn find(
     n
 }
 
-// The paths of the text, in order of first appearance; 33 if there are more than 32.
-pub fn list_paths(text: &[u8], starts: &mut [usize], sizes: &mut [usize]) -> usize
-    requires { ⌜ (textGood (now text) ≡ true) × (length (now starts) ≡ dataWidth) × (length (now sizes) ≡ dataWidth) ⌝ }
-    ensures { λ r. ⌜ PathsListed (now (text .entry)) (now (starts .exit)) (now (sizes .exit)) r ⌝ }
-{
-    let mut n = 0;
-    let mut at = 0;
-    while at < text.len() {
-        let line = profiles::line_at(text, at);
-        let start = line.path;
-        let size = line.length;
-        at = line.next;
-        if line.kind != profiles::END_LINE {
-            if find(text, starts, sizes, n, start, size) == n {
-                if n == PATHS {
-                    return PATHS + 1;
-                }
-                starts[n] = start;
-                sizes[n] = size;
-                n += 1;
-            }
-        }
-    }
-    n
+// A path's number, and how many paths there are with it.
+struct Number {
+    number: usize,
+    count: usize,
 }
 
-// ---- programs
-
-// The programs of the text, by the number of each one's own path and its modes on each path.
-pub fn list_programs(
+// The path takes its number in the table of n paths: the next one if it is new, 32 if there is no room.
+fn place(
     text: &[u8],
-    starts: &[usize],
-    sizes: &[usize],
+    starts: &mut [usize],
+    sizes: &mut [usize],
     n: usize,
+    start: usize,
+    size: usize,
+) -> Number
+    requires { ⌜ Places (now text) (now starts) (now sizes) n × (start + size ≤ length (now text)) ⌝ }
+    ensures { λ r. ⌜ Placed (now (text .entry)) (now (starts .entry)) (now (sizes .entry)) n (pathAt (now (text .entry)) start size) (now (starts .exit)) (now (sizes .exit)) (r .number) (r .count) ⌝ }
+{
+    let number = find(text, starts, sizes, n, start, size);
+    if number < n {
+        return Number {
+            number: number,
+            count: n,
+        };
+    }
+    if n == PATHS {
+        return Number {
+            number: PATHS,
+            count: n,
+        };
+    }
+    starts[n] = start;
+    sizes[n] = size;
+    Number {
+        number: n,
+        count: n + 1,
+    }
+}
+
+// ---- the text
+
+// How many paths and programs a text has.
+pub struct Counts {
+    pub paths: usize,
+    pub programs: usize,
+}
+
+// There are more than 32 paths.
+fn too_many() -> Counts
+    ensures { λ r. ⌜ r .paths ≡ dataWidth + 1 ⌝ }
+{
+    Counts {
+        paths: PATHS + 1,
+        programs: 0,
+    }
+}
+
+// The paths of the text in order of first appearance, and its programs by the number of each one's own path and its modes on
+// each path. There are not more programs than paths.
+pub fn fill_tables(
+    text: &[u8],
+    starts: &mut [usize],
+    sizes: &mut [usize],
     own: &mut [usize],
     modes: &mut [u64],
-) -> usize
-    requires { ⌜ (textGood (now text) ≡ true) × PathTable (now text) (pathsOf (profilesIn (now text))) (now starts) (now sizes) n × (length (now own) ≡ dataWidth) × (now modes ≡ replicate cellCount 0) ⌝ }
-    ensures { λ r. ⌜ ProgramTable (pathsOf (profilesIn (now (text .entry)))) (profilesIn (now (text .entry))) (now (own .exit)) (now (modes .exit)) r ⌝ }
+) -> Counts
+    requires { ⌜ (textGood (now text) ≡ true) × (length (now starts) ≡ dataWidth) × (length (now sizes) ≡ dataWidth) × (length (now own) ≡ dataWidth) × (now modes ≡ replicate cellCount 0) ⌝ }
+    ensures { λ r. ⌜ Scanned (now (text .entry)) (now (starts .exit)) (now (sizes .exit)) (now (own .exit)) (now (modes .exit)) (r .paths) (r .programs) ⌝ }
 {
+    let mut n = 0;
     let mut m = 0;
     let mut at = 0;
     while at < text.len() {
         let line = profiles::line_at(text, at);
         at = line.next;
-        if line.kind == profiles::PROFILE_LINE {
-            own[m] = find(text, starts, sizes, n, line.path, line.length);
-            m += 1;
-        } else if line.kind == profiles::ENTRY_LINE {
-            let number = find(text, starts, sizes, n, line.path, line.length);
-            let cell = (m - 1) * PATHS + number;
-            modes[cell] = modes[cell] | line.modes;
+        if line.kind != profiles::END_LINE {
+            let placed = place(text, starts, sizes, n, line.path, line.length);
+            let number = placed.number;
+            n = placed.count;
+            if PATHS <= number {
+                return too_many();
+            }
+            if line.kind == profiles::PROFILE_LINE {
+                if m == PATHS {
+                    return too_many();
+                }
+                own[m] = number;
+                m += 1;
+            } else {
+                let cell = (m - 1) * PATHS + number;
+                modes[cell] = modes[cell] | line.modes;
+            }
         }
     }
-    m
+    Counts {
+        paths: n,
+        programs: m,
+    }
 }
