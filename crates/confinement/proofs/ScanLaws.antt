@@ -14,7 +14,8 @@ use Rattle.lists.proofs.Same.{same-refl, same-eq}
 use Rattle.rules.specs.Answers.{dataWidth}
 use Rattle.image.specs.Normal.{known, position}
 use Rattle.confinement.specs.Tables.{pathAt, PathTable}
-use Rattle.confinement.specs.Scans.{pathsFrom, tablePaths, Places}
+use Rattle.confinement.specs.Scans.{pathsFrom, tablePaths, Places, Hinted}
+use Rattle.confinement.proofs.PathLaws.{Distinct}
 
 -- ---- the bytes of two paths
 
@@ -134,15 +135,33 @@ module _ (t : List ℕ) where
           within = g .within;
         }
 
+  -- no path stands twice
+  pub places-distinct : (starts sizes : List ℕ) (n : ℕ) → Places t starts sizes n → Distinct (tablePaths t starts sizes n)
+  places-distinct starts sizes n g =
+      record {
+        placed = λ k h.
+            let l : k < n = omega (arith, paths-length starts sizes 0 n) in
+            ap (λ (x : List ℕ). position x (tablePaths t starts sizes n)) (table-at starts sizes n k l) ∙ g .once k l;
+      }
+
+  -- so a path that is the k-th has the number k
+  pub places-number : (starts sizes : List ℕ) (n : ℕ) → Places t starts sizes n → (q : List ℕ) (k : ℕ) → k < n
+      → sameList q (pathAt t (getD starts k 0) (getD sizes k 0)) ≡ true → k ≡ position q (tablePaths t starts sizes n)
+  places-number starts sizes n g q k l e =
+      sym (ap (λ (x : List ℕ). position x (tablePaths t starts sizes n)) (same-eq q (pathAt t (getD starts k 0) (getD sizes k 0)) e) ∙ g .once k l)
+
   -- one more place
   pub places-more : (starts sizes : List ℕ) (n a b : ℕ) → Places t starts sizes n → n < dataWidth → a + b ≤ length t
-      → Places t (set starts n a) (set sizes n b) (n + 1)
-  places-more starts sizes n a b g h k =
+      → Distinct (tablePaths t (set starts n a) (set sizes n b) (n + 1)) → Places t (set starts n a) (set sizes n b) (n + 1)
+  places-more starts sizes n a b g h k d =
       record {
         few = omega arith;
         startsLong = length-set starts n a ∙ g .startsLong;
         sizesLong = length-set sizes n b ∙ g .sizesLong;
         within = λ i l. by i l (decLt i n);
+        once = λ i l.
+            ap (λ (x : List ℕ). position x (tablePaths t (set starts n a) (set sizes n b) (n + 1))) (sym (table-at (set starts n a) (set sizes n b) (n + 1) i l))
+            ∙ d .placed i (omega (arith, paths-length (set starts n a) (set sizes n b) 0 (n + 1)));
       }
     where
       by : (i : ℕ) → i < n + 1 → Dec (i < n) → getD (set starts n a) i 0 + getD (set sizes n b) i 0 ≤ length t
@@ -221,3 +240,12 @@ position-last q (x ∷ ns) h = by (sameList q x) h (position-last q ns)
         → cond b 0 (suc (position q (ns ++ (q ∷ [])))) ≡ suc (length ns)
     by true g ih = clash (refl {a = true}) g
     by false g ih = ap suc (ih g)
+
+-- ---- hints
+
+pub no-hint : (t starts sizes : List ℕ) (n hint : ℕ) (q : List ℕ) → Hinted t starts sizes n hint q false
+no-hint t starts sizes n hint q = record { right = λ e. clash e refl }
+
+pub hinted : (t starts sizes : List ℕ) (n hint : ℕ) (q : List ℕ) (r : Bool) → Places t starts sizes n → hint < n
+    → r ≡ sameList q (pathAt t (getD starts hint 0) (getD sizes hint 0)) → Hinted t starts sizes n hint q r
+hinted t starts sizes n hint q r g l e = record { right = λ h. places-number t starts sizes n g q hint l (sym e ∙ h) }

@@ -2,7 +2,7 @@
 use Prim.Native.Nat.{ℕ, suc, _+_, _-_, _*_, _≤_, _<_}
 use native.Mathlib.Omega.{arith}
 use native.Mathlib.Decide.{decLt}
-use mathlib.Core.Path.{_≡_, refl, sym, ap, ap₂, _∙_}
+use mathlib.Core.Path.{_≡_, refl, sym, ap, ap₂, _∙_, subst}
 use mathlib.Core.Logic.{_⊎_, inl, inr, ⊎-elim}
 use mathlib.Core.Bool.{Bool, true, false, cond}
 use mathlib.Core.List.{List, [], _∷_, _++_}
@@ -26,9 +26,9 @@ use Rattle.profiles.proofs.Walks.{Walk, walk-end}
 use Rattle.confinement.specs.Confinement.{withPath, withPaths, pathsOf, modesOn}
 use Rattle.confinement.specs.Images.{profilesIn}
 use Rattle.confinement.specs.Tables.{pathAt, noProfile, cellCount}
-use Rattle.confinement.specs.Scans.{pathsFrom, tablePaths, Places, Placed, Scanned}
-use Rattle.confinement.proofs.PathLaws.{path-kept, path-added, paths-kept, paths-distinct, number-tells}
-use Rattle.confinement.proofs.ScanLaws.{paths-length, paths-more, places-table, places-more, position-known, position-last}
+use Rattle.confinement.specs.Scans.{pathsFrom, tablePaths, Places, hintCount, Placed, Scanned}
+use Rattle.confinement.proofs.PathLaws.{Distinct, distinct-path, path-kept, path-added, paths-kept, paths-distinct, number-tells}
+use Rattle.confinement.proofs.ScanLaws.{paths-length, paths-more, places-table, places-distinct, places-more, position-known, position-last}
 use Rattle.confinement.proofs.LineWalks.{good-walk, good-once, lineNames, names-of, entered, opened, resumed, withEntry, resumed-whole, entered-length, resumed-grows, Opens, Enters, Closes, Turn, is-profile, is-entry, is-end, turn}
 use Rattle.confinement.proofs.EntryLaws.{few-programs, entered-before, entered-at, bits-last, no-bits, nothing-more, not-first, not-end, getD-zeros}
 
@@ -108,7 +108,7 @@ paths-position q ns [] h = refl
 paths-position q ns (x ∷ xs) h = paths-position q (withPath ns x) xs (path-kept q x ns h) ∙ path-position q x ns h
 
 module _ (t starts sizes : List ℕ) (n start size : ℕ) (g : Places t starts sizes n) (f : start + size ≤ length t) (k : ℕ)
-    (e : k ≡ position (pathAt t start size) (tablePaths t starts sizes n)) where
+    (e : k ≡ position (pathAt t start size) (tablePaths t starts sizes n)) (hints : List ℕ) (w : length hints ≡ hintCount) where
   abbrev ns : List (List ℕ)
   ns = tablePaths t starts sizes n
 
@@ -116,7 +116,7 @@ module _ (t starts sizes : List ℕ) (n start size : ℕ) (g : Places t starts s
   sought = pathAt t start size
 
   -- it has a number
-  pub place-old : k < n → Placed t starts sizes n sought starts sizes k n
+  pub place-old : k < n → Placed t starts sizes n sought starts sizes hints k n
   place-old l =
       let h : known sought ns ≡ true = position-known sought ns (λ p. omega (arith, paths-length t starts sizes 0 n)) in
       record {
@@ -126,13 +126,14 @@ module _ (t starts sizes : List ℕ) (n start size : ℕ) (g : Places t starts s
         found = λ _. e ∙ ap (position sought) (sym (path-old ns sought h));
         startsLong = g .startsLong;
         sizesLong = g .sizesLong;
+        hintsLong = w;
       }
 
   module _ (l : n ≤ k) where
     new : known sought ns ≡ false
     new = refuted (known sought ns) (λ p. omega (arith, position-lt sought ns p, paths-length t starts sizes 0 n))
 
-    pub place-full : n ≡ dataWidth → Placed t starts sizes n sought starts sizes dataWidth n
+    pub place-full : n ≡ dataWidth → Placed t starts sizes n sought starts sizes hints dataWidth n
     place-full z =
         record {
           full = λ _. omega (arith, ap length (path-new ns sought new), length-append ns (sought ∷ []), paths-length t starts sizes 0 n);
@@ -141,18 +142,20 @@ module _ (t starts sizes : List ℕ) (n start size : ℕ) (g : Places t starts s
           found = λ m. absurd (omega arith);
           startsLong = g .startsLong;
           sizesLong = g .sizesLong;
+          hintsLong = w;
         }
 
     pub place-room : (n ≡ dataWidth → ⊥) → n < dataWidth
     place-room z = omega (arith, g .few)
 
-    pub place-new : (n ≡ dataWidth → ⊥) → Placed t starts sizes n sought (set starts n start) (set sizes n size) n (n + 1)
+    pub place-new : (n ≡ dataWidth → ⊥) → Placed t starts sizes n sought (set starts n start) (set sizes n size) hints n (n + 1)
     place-new z =
         let r : n < dataWidth = omega (arith, g .few) in
         let more = paths-more t starts sizes n start size (omega (arith, g .startsLong)) (omega (arith, g .sizesLong)) in
         record {
           full = λ m. absurd (omega arith);
-          places = λ _. places-more t starts sizes n start size g r f;
+          places = λ _. places-more t starts sizes n start size g r f
+              (subst Distinct (path-new ns sought new ∙ sym more) (distinct-path ns sought (places-distinct t starts sizes n g)));
           paths = λ _. more ∙ sym (path-new ns sought new);
           found = λ _.
               sym (ap (position sought) (path-new ns sought new)
@@ -160,6 +163,7 @@ module _ (t starts sizes : List ℕ) (n start size : ℕ) (g : Places t starts s
               ∙ paths-length t starts sizes 0 n);
           startsLong = length-set starts n start ∙ g .startsLong;
           sizesLong = length-set sizes n size ∙ g .sizesLong;
+          hintsLong = w;
         }
 
 -- ---- the pass
@@ -191,7 +195,7 @@ scan-start t starts sizes own modes g h k o z =
     record {
       left = linesOf (profilesIn t);
       walk = good-walk t g;
-      places = record { few = omega arith; startsLong = h; sizesLong = k; within = λ i l. absurd (omega arith) };
+      places = record { few = omega arith; startsLong = h; sizesLong = k; within = λ i l. absurd (omega arith); once = λ i l. absurd (omega arith) };
       paths = ap (withPaths []) (names-of (profilesIn t));
       once = good-once t g;
       done = [];
@@ -299,7 +303,7 @@ module _ (t starts sizes own modes : List ℕ) (at n m : ℕ) (g : TextScan t st
       pub named-fits : s .path + s .length ≤ length t
       named-fits = line .fits
 
-      module _ (starts′ sizes′ : List ℕ) (r c : ℕ) (p : Placed t starts sizes n path starts′ sizes′ r c) where
+      module _ (starts′ sizes′ hints : List ℕ) (r c : ℕ) (p : Placed t starts sizes n path starts′ sizes′ hints r c) where
         pub paths-over : dataWidth ≤ r → (u v : ℕ) → u ≡ dataWidth + 1 → Scanned t starts′ sizes′ own modes u v
         paths-over h u v e =
             record {

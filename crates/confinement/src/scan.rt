@@ -8,7 +8,7 @@ ghost use Rattle.rules.specs.Answers.{dataWidth};
 ghost use Rattle.image.specs.Normal.{position};
 ghost use Rattle.profiles.specs.Texts.{textGood};
 ghost use Rattle.confinement.specs.Tables.{pathAt, cellCount};
-ghost use Rattle.confinement.specs.Scans.{tablePaths, Places, Placed, Scanned};
+ghost use Rattle.confinement.specs.Scans.{tablePaths, Places, hintCount, Hinted, Placed, Scanned};
 
 // As many paths as there are data atoms.
 const PATHS: usize = 32;
@@ -63,6 +63,65 @@ fn find(
     n
 }
 
+fn byte_at(text: &[u8], at: usize) -> usize
+    requires { ⌜ at < length (now text) ⌝ }
+    ensures { λ r. ⌜ r < 256 ⌝ }
+{
+    text[at] as usize
+}
+
+// A place among the hints, from a few bytes of a path.
+fn hint_place(text: &[u8], start: usize, size: usize) -> usize
+    requires { ⌜ start + size ≤ length (now text) ⌝ }
+    ensures { λ r. ⌜ r < hintCount ⌝ }
+{
+    if size < 3 {
+        return 0;
+    }
+    let end = start + size;
+    let first = byte_at(text, start + 1) + 31 * byte_at(text, start + 2);
+    let last = byte_at(text, end - 1) + 31 * byte_at(text, end - 2);
+    (7 * first + last + 53 * byte_at(text, start + size / 2)) % 256
+}
+
+// The hint is the number of a path in the table of n paths.
+fn is_hinted(
+    text: &[u8],
+    starts: &[usize],
+    sizes: &[usize],
+    n: usize,
+    hint: usize,
+    start: usize,
+    size: usize,
+) -> bool
+    requires { ⌜ Places (now text) (now starts) (now sizes) n × (start + size ≤ length (now text)) ⌝ }
+    ensures { λ r. ⌜ Hinted (now (text .entry)) (now (starts .entry)) (now (sizes .entry)) n hint (pathAt (now (text .entry)) start size) r ⌝ }
+{
+    if n <= hint {
+        return false;
+    }
+    same_path(text, start, size, starts[hint], sizes[hint])
+}
+
+// The number of a path in the table of n paths, compared with a hint first; n if it is not there.
+fn number_of(
+    text: &[u8],
+    starts: &[usize],
+    sizes: &[usize],
+    n: usize,
+    hint: usize,
+    start: usize,
+    size: usize,
+) -> usize
+    requires { ⌜ Places (now text) (now starts) (now sizes) n × (start + size ≤ length (now text)) ⌝ }
+    ensures { λ r. ⌜ r ≡ position (pathAt (now (text .entry)) start size) (tablePaths (now (text .entry)) (now (starts .entry)) (now (sizes .entry)) n) ⌝ }
+{
+    if is_hinted(text, starts, sizes, n, hint, start, size) {
+        return hint;
+    }
+    find(text, starts, sizes, n, start, size)
+}
+
 // A path's number, and how many paths there are with it.
 struct Number {
     number: usize,
@@ -74,14 +133,18 @@ fn place(
     text: &[u8],
     starts: &mut [usize],
     sizes: &mut [usize],
+    hints: &mut [usize],
     n: usize,
     start: usize,
     size: usize,
 ) -> Number
-    requires { ⌜ Places (now text) (now starts) (now sizes) n × (start + size ≤ length (now text)) ⌝ }
-    ensures { λ r. ⌜ Placed (now (text .entry)) (now (starts .entry)) (now (sizes .entry)) n (pathAt (now (text .entry)) start size) (now (starts .exit)) (now (sizes .exit)) (r .number) (r .count) ⌝ }
+    requires { ⌜ Places (now text) (now starts) (now sizes) n × (start + size ≤ length (now text)) × (length (now hints) ≡ hintCount) ⌝ }
+    ensures { λ r. ⌜ Placed (now (text .entry)) (now (starts .entry)) (now (sizes .entry)) n (pathAt (now (text .entry)) start size) (now (starts .exit)) (now (sizes .exit)) (now (hints .exit)) (r .number) (r .count) ⌝ }
 {
-    let number = find(text, starts, sizes, n, start, size);
+    let h = hint_place(text, start, size);
+    let hint = hints[h];
+    let number = number_of(text, starts, sizes, n, hint, start, size);
+    hints[h] = number;
     if number < n {
         return Number {
             number: number,
@@ -120,16 +183,16 @@ fn too_many() -> Counts
     }
 }
 
-// The paths of the text in order of first appearance, and its programs by the number of each one's own path and its modes on
-// each path. There are not more programs than paths.
-pub fn fill_tables(
+// The tables of the text, with hints. There are not more programs than paths.
+fn fill_hinted(
     text: &[u8],
     starts: &mut [usize],
     sizes: &mut [usize],
     own: &mut [usize],
     modes: &mut [u64],
+    hints: &mut [usize],
 ) -> Counts
-    requires { ⌜ (textGood (now text) ≡ true) × (length (now starts) ≡ dataWidth) × (length (now sizes) ≡ dataWidth) × (length (now own) ≡ dataWidth) × (now modes ≡ replicate cellCount 0) ⌝ }
+    requires { ⌜ (textGood (now text) ≡ true) × (length (now starts) ≡ dataWidth) × (length (now sizes) ≡ dataWidth) × (length (now own) ≡ dataWidth) × (now modes ≡ replicate cellCount 0) × (length (now hints) ≡ hintCount) ⌝ }
     ensures { λ r. ⌜ Scanned (now (text .entry)) (now (starts .exit)) (now (sizes .exit)) (now (own .exit)) (now (modes .exit)) (r .paths) (r .programs) ⌝ }
 {
     let mut n = 0;
@@ -139,7 +202,7 @@ pub fn fill_tables(
         let line = profiles::line_at(text, at);
         at = line.next;
         if line.kind != profiles::END_LINE {
-            let placed = place(text, starts, sizes, n, line.path, line.length);
+            let placed = place(text, starts, sizes, hints, n, line.path, line.length);
             let number = placed.number;
             n = placed.count;
             if PATHS <= number {
@@ -161,4 +224,20 @@ pub fn fill_tables(
         paths: n,
         programs: m,
     }
+}
+
+// The paths of the text in order of first appearance, and its programs by the number of each one's own path and its modes on
+// each path.
+pub fn fill_tables(
+    text: &[u8],
+    starts: &mut [usize],
+    sizes: &mut [usize],
+    own: &mut [usize],
+    modes: &mut [u64],
+) -> Counts
+    requires { ⌜ (textGood (now text) ≡ true) × (length (now starts) ≡ dataWidth) × (length (now sizes) ≡ dataWidth) × (length (now own) ≡ dataWidth) × (now modes ≡ replicate cellCount 0) ⌝ }
+    ensures { λ r. ⌜ Scanned (now (text .entry)) (now (starts .exit)) (now (sizes .exit)) (now (own .exit)) (now (modes .exit)) (r .paths) (r .programs) ⌝ }
+{
+    let mut hints = [0usize; 256];
+    fill_hinted(text, starts, sizes, own, modes, &mut hints)
 }
