@@ -33,40 +33,53 @@ sizes-differ t a size b other h k d =
     sym (refuted (sameList (pathAt t a size) (pathAt t b other))
     (λ s. d (sym (path-length t a size h) ∙ ap length (same-eq (pathAt t a size) (pathAt t b other) s) ∙ path-length t b other k)))
 
--- from the i-th byte on, two paths are the same
-pub record SameTail (t : List ℕ) (a b size i : ℕ) : Type 0 where
+-- whether the first i bytes of two paths are the same
+pub record SameHead (t : List ℕ) (a b size i : ℕ) (r : Bool) : Type 0 where
   pub room : i ≤ size
   pub first : a + size ≤ length t
   pub second : b + size ≤ length t
-  pub tail : (k : ℕ) → i ≤ k → k < size → getD t (a + k) 0 ≡ getD t (b + k) 0
+  pub agree : r ≡ true → (k : ℕ) → k < i → getD t (a + k) 0 ≡ getD t (b + k) 0
+  pub differ : r ≡ false → false ≡ sameList (pathAt t a size) (pathAt t b size)
 
-pub tail-start : (t : List ℕ) (a b size : ℕ) → a + size ≤ length t → b + size ≤ length t → SameTail t a b size size
-tail-start t a b size h k = record { room = omega arith; first = h; second = k; tail = λ k l m. absurd (omega arith) }
+pub head-start : (t : List ℕ) (a b size : ℕ) → a + size ≤ length t → b + size ≤ length t → SameHead t a b size 0 true
+head-start t a b size h k =
+    record { room = omega arith; first = h; second = k; agree = λ _ k l. absurd (omega arith); differ = λ e. clash (refl {a = true}) e }
 
-module _ (t : List ℕ) (a b size i : ℕ) (g : SameTail t a b size i) where
-  pub tail-next : 0 < i → getD t (a + (i - 1)) 0 ≡ getD t (b + (i - 1)) 0 → SameTail t a b size (i - 1)
-  tail-next p e = record { room = omega (arith, g .room); first = g .first; second = g .second; tail = λ k l m. by k l m (decLt k i) }
+module _ (t : List ℕ) (a b size i : ℕ) (r : Bool) (g : SameHead t a b size i r) where
+  pub head-same : i < size → getD t (a + i) 0 ≡ getD t (b + i) 0 → SameHead t a b size (i + 1) r
+  head-same p e =
+      record { room = omega arith; first = g .first; second = g .second; agree = λ h k l. by h k l (decLt k i); differ = g .differ }
     where
-      by : (k : ℕ) → i - 1 ≤ k → k < size → Dec (k < i) → getD t (a + k) 0 ≡ getD t (b + k) 0
-      by k l m (yes n) = let z : k ≡ i - 1 = omega arith in rw z e
-      by k l m (no n) = g .tail k (omega arith) m
+      by : r ≡ true → (k : ℕ) → k < i + 1 → Dec (k < i) → getD t (a + k) 0 ≡ getD t (b + k) 0
+      by h k l (yes n) = g .agree h k n
+      by h k l (no n) = let z : k ≡ i = omega arith in rw z e
 
-  pub tail-differs : 0 < i → (getD t (a + (i - 1)) 0 ≡ getD t (b + (i - 1)) 0 → ⊥) → false ≡ sameList (pathAt t a size) (pathAt t b size)
-  tail-differs p d =
-      let l : i - 1 < size = omega (arith, g .room) in
-      sym (refuted (sameList (pathAt t a size) (pathAt t b size))
-      (λ s. d (sym (path-byte t a size (g .first) (i - 1) l)
-      ∙ ap (λ (x : List ℕ). getD x (i - 1) 0) (same-eq (pathAt t a size) (pathAt t b size) s)
-      ∙ path-byte t b size (g .second) (i - 1) l)))
+  pub head-differs : i < size → (getD t (a + i) 0 ≡ getD t (b + i) 0 → ⊥) → SameHead t a b size (i + 1) false
+  head-differs p d =
+      record {
+        room = omega arith;
+        first = g .first;
+        second = g .second;
+        agree = λ h. clash h refl;
+        differ = λ _.
+            sym (refuted (sameList (pathAt t a size) (pathAt t b size))
+            (λ s. d (sym (path-byte t a size (g .first) i p)
+            ∙ ap (λ (x : List ℕ). getD x i 0) (same-eq (pathAt t a size) (pathAt t b size) s)
+            ∙ path-byte t b size (g .second) i p)));
+      }
 
-  pub tail-end : i ≤ 0 → true ≡ sameList (pathAt t a size) (pathAt t b size)
-  tail-end z = sym (ap (sameList (pathAt t a size)) (sym same) ∙ same-refl (pathAt t a size))
+  pub head-end : size ≤ i → r ≡ sameList (pathAt t a size) (pathAt t b size)
+  head-end z = by r refl
     where
-      same : pathAt t a size ≡ pathAt t b size
-      same =
+      same : r ≡ true → pathAt t a size ≡ pathAt t b size
+      same e =
           ext-getD 0 (pathAt t a size) (pathAt t b size) (path-length t a size (g .first) ∙ sym (path-length t b size (g .second)))
           (λ k h. let l : k < size = omega (arith, path-length t a size (g .first)) in
-          path-byte t a size (g .first) k l ∙ g .tail k (omega arith) l ∙ sym (path-byte t b size (g .second) k l))
+          path-byte t a size (g .first) k l ∙ g .agree e k (omega arith) ∙ sym (path-byte t b size (g .second) k l))
+
+      by : (c : Bool) → r ≡ c → c ≡ sameList (pathAt t a size) (pathAt t b size)
+      by true e = sym (ap (sameList (pathAt t a size)) (sym (same e)) ∙ same-refl (pathAt t a size))
+      by false e = g .differ e
 
 -- ---- the paths of a table
 

@@ -15,19 +15,22 @@ const PATHS: usize = 32;
 
 // ---- paths
 
-// Two paths of the same length are the same: compared from the last byte, since paths often begin alike.
+// Two paths of the same length are the same. Most comparisons are of a path with itself, so all bytes are looked at.
 fn same_bytes(text: &[u8], a: usize, b: usize, size: usize) -> bool
     requires { ⌜ (a + size ≤ length (now text)) × (b + size ≤ length (now text)) ⌝ }
     ensures { λ r. ⌜ r ≡ sameList (pathAt (now (text .entry)) a size) (pathAt (now (text .entry)) b size) ⌝ }
 {
-    let mut i = size;
-    while 0 < i {
-        i -= 1;
-        if text[a + i] != text[b + i] {
-            return false;
+    let mut same = true;
+    let mut i = 0;
+    while i < size {
+        let x = text[a + i];
+        let y = text[b + i];
+        i += 1;
+        if x != y {
+            same = false;
         }
     }
-    true
+    same
 }
 
 // Two paths are the same.
