@@ -8,7 +8,7 @@ pub mod ListedLaws
 pub mod FormLaws
 pub mod ScanLaws
 pub mod LineWalks
-pub mod PathScan
-pub mod ProgramScan
+pub mod EntryLaws
+pub mod TextScan
 pub mod TablePolicy
 pub mod DeriveLaws

@@ -14,7 +14,8 @@ use Rattle.lists.proofs.Same.{same-refl, same-eq}
 use Rattle.rules.specs.Answers.{dataWidth}
 use Rattle.image.specs.Normal.{known, position}
 use Rattle.confinement.specs.Tables.{pathAt, PathTable}
-use Rattle.confinement.specs.Scans.{pathsFrom, tablePaths, Places}
+use Rattle.confinement.specs.Scans.{pathsFrom, tablePaths, Places, Hinted}
+use Rattle.confinement.proofs.PathLaws.{Distinct}
 
 -- ---- the bytes of two paths
 
@@ -32,40 +33,53 @@ sizes-differ t a size b other h k d =
     sym (refuted (sameList (pathAt t a size) (pathAt t b other))
     (λ s. d (sym (path-length t a size h) ∙ ap length (same-eq (pathAt t a size) (pathAt t b other) s) ∙ path-length t b other k)))
 
--- from the i-th byte on, two paths are the same
-pub record SameTail (t : List ℕ) (a b size i : ℕ) : Type 0 where
+-- whether the first i bytes of two paths are the same
+pub record SameHead (t : List ℕ) (a b size i : ℕ) (r : Bool) : Type 0 where
   pub room : i ≤ size
   pub first : a + size ≤ length t
   pub second : b + size ≤ length t
-  pub tail : (k : ℕ) → i ≤ k → k < size → getD t (a + k) 0 ≡ getD t (b + k) 0
+  pub agree : r ≡ true → (k : ℕ) → k < i → getD t (a + k) 0 ≡ getD t (b + k) 0
+  pub differ : r ≡ false → false ≡ sameList (pathAt t a size) (pathAt t b size)
 
-pub tail-start : (t : List ℕ) (a b size : ℕ) → a + size ≤ length t → b + size ≤ length t → SameTail t a b size size
-tail-start t a b size h k = record { room = omega arith; first = h; second = k; tail = λ k l m. absurd (omega arith) }
+pub head-start : (t : List ℕ) (a b size : ℕ) → a + size ≤ length t → b + size ≤ length t → SameHead t a b size 0 true
+head-start t a b size h k =
+    record { room = omega arith; first = h; second = k; agree = λ _ k l. absurd (omega arith); differ = λ e. clash (refl {a = true}) e }
 
-module _ (t : List ℕ) (a b size i : ℕ) (g : SameTail t a b size i) where
-  pub tail-next : 0 < i → getD t (a + (i - 1)) 0 ≡ getD t (b + (i - 1)) 0 → SameTail t a b size (i - 1)
-  tail-next p e = record { room = omega (arith, g .room); first = g .first; second = g .second; tail = λ k l m. by k l m (decLt k i) }
+module _ (t : List ℕ) (a b size i : ℕ) (r : Bool) (g : SameHead t a b size i r) where
+  pub head-same : i < size → getD t (a + i) 0 ≡ getD t (b + i) 0 → SameHead t a b size (i + 1) r
+  head-same p e =
+      record { room = omega arith; first = g .first; second = g .second; agree = λ h k l. by h k l (decLt k i); differ = g .differ }
     where
-      by : (k : ℕ) → i - 1 ≤ k → k < size → Dec (k < i) → getD t (a + k) 0 ≡ getD t (b + k) 0
-      by k l m (yes n) = let z : k ≡ i - 1 = omega arith in rw z e
-      by k l m (no n) = g .tail k (omega arith) m
+      by : r ≡ true → (k : ℕ) → k < i + 1 → Dec (k < i) → getD t (a + k) 0 ≡ getD t (b + k) 0
+      by h k l (yes n) = g .agree h k n
+      by h k l (no n) = let z : k ≡ i = omega arith in rw z e
 
-  pub tail-differs : 0 < i → (getD t (a + (i - 1)) 0 ≡ getD t (b + (i - 1)) 0 → ⊥) → false ≡ sameList (pathAt t a size) (pathAt t b size)
-  tail-differs p d =
-      let l : i - 1 < size = omega (arith, g .room) in
-      sym (refuted (sameList (pathAt t a size) (pathAt t b size))
-      (λ s. d (sym (path-byte t a size (g .first) (i - 1) l)
-      ∙ ap (λ (x : List ℕ). getD x (i - 1) 0) (same-eq (pathAt t a size) (pathAt t b size) s)
-      ∙ path-byte t b size (g .second) (i - 1) l)))
+  pub head-differs : i < size → (getD t (a + i) 0 ≡ getD t (b + i) 0 → ⊥) → SameHead t a b size (i + 1) false
+  head-differs p d =
+      record {
+        room = omega arith;
+        first = g .first;
+        second = g .second;
+        agree = λ h. clash h refl;
+        differ = λ _.
+            sym (refuted (sameList (pathAt t a size) (pathAt t b size))
+            (λ s. d (sym (path-byte t a size (g .first) i p)
+            ∙ ap (λ (x : List ℕ). getD x i 0) (same-eq (pathAt t a size) (pathAt t b size) s)
+            ∙ path-byte t b size (g .second) i p)));
+      }
 
-  pub tail-end : i ≤ 0 → true ≡ sameList (pathAt t a size) (pathAt t b size)
-  tail-end z = sym (ap (sameList (pathAt t a size)) (sym same) ∙ same-refl (pathAt t a size))
+  pub head-end : size ≤ i → r ≡ sameList (pathAt t a size) (pathAt t b size)
+  head-end z = by r refl
     where
-      same : pathAt t a size ≡ pathAt t b size
-      same =
+      same : r ≡ true → pathAt t a size ≡ pathAt t b size
+      same e =
           ext-getD 0 (pathAt t a size) (pathAt t b size) (path-length t a size (g .first) ∙ sym (path-length t b size (g .second)))
           (λ k h. let l : k < size = omega (arith, path-length t a size (g .first)) in
-          path-byte t a size (g .first) k l ∙ g .tail k (omega arith) l ∙ sym (path-byte t b size (g .second) k l))
+          path-byte t a size (g .first) k l ∙ g .agree e k (omega arith) ∙ sym (path-byte t b size (g .second) k l))
+
+      by : (c : Bool) → r ≡ c → c ≡ sameList (pathAt t a size) (pathAt t b size)
+      by true e = sym (ap (sameList (pathAt t a size)) (sym (same e)) ∙ same-refl (pathAt t a size))
+      by false e = g .differ e
 
 -- ---- the paths of a table
 
@@ -123,15 +137,6 @@ module _ (t : List ℕ) where
   -- ---- tables
 
   module _ (ns : List (List ℕ)) (starts sizes : List ℕ) (n : ℕ) where
-    pub table-places : PathTable t ns starts sizes n → Places t starts sizes n
-    table-places g = record { few = g .few; startsLong = g .startsLong; sizesLong = g .sizesLong; within = g .within }
-
-    pub table-paths : PathTable t ns starts sizes n → tablePaths t starts sizes n ≡ ns
-    table-paths g =
-        ext-getD [] (tablePaths t starts sizes n) ns (paths-length starts sizes 0 n ∙ g .count)
-        (λ k h. let l : k < n = omega (arith, paths-length starts sizes 0 n) in
-        table-at starts sizes n k l ∙ g .paths k l)
-
     pub places-table : Places t starts sizes n → tablePaths t starts sizes n ≡ ns → PathTable t ns starts sizes n
     places-table g e =
         record {
@@ -143,15 +148,33 @@ module _ (t : List ℕ) where
           within = g .within;
         }
 
+  -- no path stands twice
+  pub places-distinct : (starts sizes : List ℕ) (n : ℕ) → Places t starts sizes n → Distinct (tablePaths t starts sizes n)
+  places-distinct starts sizes n g =
+      record {
+        placed = λ k h.
+            let l : k < n = omega (arith, paths-length starts sizes 0 n) in
+            ap (λ (x : List ℕ). position x (tablePaths t starts sizes n)) (table-at starts sizes n k l) ∙ g .once k l;
+      }
+
+  -- so a path that is the k-th has the number k
+  pub places-number : (starts sizes : List ℕ) (n : ℕ) → Places t starts sizes n → (q : List ℕ) (k : ℕ) → k < n
+      → sameList q (pathAt t (getD starts k 0) (getD sizes k 0)) ≡ true → k ≡ position q (tablePaths t starts sizes n)
+  places-number starts sizes n g q k l e =
+      sym (ap (λ (x : List ℕ). position x (tablePaths t starts sizes n)) (same-eq q (pathAt t (getD starts k 0) (getD sizes k 0)) e) ∙ g .once k l)
+
   -- one more place
   pub places-more : (starts sizes : List ℕ) (n a b : ℕ) → Places t starts sizes n → n < dataWidth → a + b ≤ length t
-      → Places t (set starts n a) (set sizes n b) (n + 1)
-  places-more starts sizes n a b g h k =
+      → Distinct (tablePaths t (set starts n a) (set sizes n b) (n + 1)) → Places t (set starts n a) (set sizes n b) (n + 1)
+  places-more starts sizes n a b g h k d =
       record {
         few = omega arith;
         startsLong = length-set starts n a ∙ g .startsLong;
         sizesLong = length-set sizes n b ∙ g .sizesLong;
         within = λ i l. by i l (decLt i n);
+        once = λ i l.
+            ap (λ (x : List ℕ). position x (tablePaths t (set starts n a) (set sizes n b) (n + 1))) (sym (table-at (set starts n a) (set sizes n b) (n + 1) i l))
+            ∙ d .placed i (omega (arith, paths-length (set starts n a) (set sizes n b) 0 (n + 1)));
       }
     where
       by : (i : ℕ) → i < n + 1 → Dec (i < n) → getD (set starts n a) i 0 + getD (set sizes n b) i 0 ≤ length t
@@ -219,3 +242,23 @@ position-known q ns h = by (known q ns) refl
     by : (b : Bool) → known q ns ≡ b → b ≡ true
     by true e = refl
     by false e = absurd (h (position-none q ns e))
+
+-- and has it when it is added
+pub position-last : (q : List ℕ) (ns : List (List ℕ)) → known q ns ≡ false → position q (ns ++ (q ∷ [])) ≡ length ns
+unfolding known position
+position-last q [] h = rw (same-refl q)
+position-last q (x ∷ ns) h = by (sameList q x) h (position-last q ns)
+  where
+    by : (b : Bool) → (b || known q ns) ≡ false → (known q ns ≡ false → position q (ns ++ (q ∷ [])) ≡ length ns)
+        → cond b 0 (suc (position q (ns ++ (q ∷ [])))) ≡ suc (length ns)
+    by true g ih = clash (refl {a = true}) g
+    by false g ih = ap suc (ih g)
+
+-- ---- hints
+
+pub no-hint : (t starts sizes : List ℕ) (n hint : ℕ) (q : List ℕ) → Hinted t starts sizes n hint q false
+no-hint t starts sizes n hint q = record { right = λ e. clash e refl }
+
+pub hinted : (t starts sizes : List ℕ) (n hint : ℕ) (q : List ℕ) (r : Bool) → Places t starts sizes n → hint < n
+    → r ≡ sameList q (pathAt t (getD starts hint 0) (getD sizes hint 0)) → Hinted t starts sizes n hint q r
+hinted t starts sizes n hint q r g l e = record { right = λ h. places-number t starts sizes n g q hint l (sym e ∙ h) }

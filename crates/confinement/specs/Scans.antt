@@ -1,13 +1,15 @@
--- What the two passes over a good text give (change request No. 1): its paths by their places, in order of first appearance, and
--- its programs with their modes on each path.
+-- What the pass over a good text gives (change request No. 1): its paths by their places, in order of first appearance, and its
+-- programs with their modes on each path.
 use Prim.Native.Nat.{ℕ, zero, suc, _+_, _≤_, _<_}
+use mathlib.Core.Bool.{Bool, true}
 use mathlib.Core.List.{List, [], _∷_}
 use mathlib.Core.Path.{_≡_}
 use lib.ListN.{length, getD}
 use Rattle.rules.specs.Answers.{dataWidth}
-use Rattle.confinement.specs.Confinement.{pathsOf}
+use Rattle.image.specs.Normal.{position}
+use Rattle.confinement.specs.Confinement.{withPath, pathsOf}
 use Rattle.confinement.specs.Images.{profilesIn}
-use Rattle.confinement.specs.Tables.{pathAt, PathTable}
+use Rattle.confinement.specs.Tables.{pathAt, PathTable, ProgramTable}
 
 -- n paths of a table, from the j-th place on
 unfoldable pub pathsFrom : List ℕ → List ℕ → List ℕ → ℕ → ℕ → List (List ℕ)
@@ -18,14 +20,34 @@ pathsFrom t starts sizes j (suc n) = pathAt t (getD starts j 0) (getD sizes j 0)
 abbrev pub tablePaths : List ℕ → List ℕ → List ℕ → ℕ → List (List ℕ)
 tablePaths t starts sizes n = pathsFrom t starts sizes 0 n
 
--- the first n places are of paths in the text
+-- the first n places are of paths in the text, none of which stands twice
 pub record Places (t starts sizes : List ℕ) (n : ℕ) : Type 0 where
   pub few : n ≤ dataWidth
   pub startsLong : length starts ≡ dataWidth
   pub sizesLong : length sizes ≡ dataWidth
   pub within : (k : ℕ) → k < n → getD starts k 0 + getD sizes k 0 ≤ length t
+  pub once : (k : ℕ) → k < n → position (pathAt t (getD starts k 0) (getD sizes k 0)) (tablePaths t starts sizes n) ≡ k
 
--- the table of a text's paths; a count over 32 says that there are more than 32
-pub record PathsListed (t starts sizes : List ℕ) (r : ℕ) : Type 0 where
-  pub few : r ≤ dataWidth → PathTable t (pathsOf (profilesIn t)) starts sizes r
-  pub many : dataWidth < r → dataWidth < length (pathsOf (profilesIn t))
+-- how many hints there are. A hint is a number to compare with first: no answer depends on it.
+abbrev pub hintCount : ℕ
+hintCount = 256
+
+-- a hint is a path's number in the table
+pub record Hinted (t starts sizes : List ℕ) (n hint : ℕ) (q : List ℕ) (r : Bool) : Type 0 where
+  pub right : r ≡ true → hint ≡ position q (tablePaths t starts sizes n)
+
+-- a path's number in a table of n paths, and how many these are with it: the next number if it is new, 32 if there is no room
+pub record Placed (t starts₀ sizes₀ : List ℕ) (n : ℕ) (q starts sizes hints : List ℕ) (number count : ℕ) : Type 0 where
+  pub full : dataWidth ≤ number → dataWidth < length (withPath (tablePaths t starts₀ sizes₀ n) q)
+  pub places : number < dataWidth → Places t starts sizes count
+  pub paths : number < dataWidth → tablePaths t starts sizes count ≡ withPath (tablePaths t starts₀ sizes₀ n) q
+  pub found : number < dataWidth → number ≡ position q (withPath (tablePaths t starts₀ sizes₀ n) q)
+  pub startsLong : length starts ≡ dataWidth
+  pub sizesLong : length sizes ≡ dataWidth
+  pub hintsLong : length hints ≡ hintCount
+
+-- the tables of a text's n paths and m programs; a count over 32 says that there are more than 32 paths
+pub record Scanned (t starts sizes own modes : List ℕ) (n m : ℕ) : Type 0 where
+  pub paths : n ≤ dataWidth → PathTable t (pathsOf (profilesIn t)) starts sizes n
+  pub programs : n ≤ dataWidth → ProgramTable (pathsOf (profilesIn t)) (profilesIn t) own modes m
+  pub many : dataWidth < n → dataWidth < length (pathsOf (profilesIn t))

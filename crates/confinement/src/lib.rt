@@ -312,12 +312,12 @@ pub fn derive(text: &[u8], out: &mut [u8]) -> u32
     }
     let mut starts = [0usize; PATHS];
     let mut sizes = [0usize; PATHS];
-    let n = scan::list_paths(text, &mut starts, &mut sizes);
+    let mut own = [0usize; PATHS];
+    let mut modes = [0u64; CELLS];
+    let counts = scan::fill_tables(text, &mut starts, &mut sizes, &mut own, &mut modes);
+    let n = counts.paths;
     if PATHS < n {
         return answers::PROFILE_LIMIT;
     }
-    let mut own = [0usize; PATHS];
-    let mut modes = [0u64; CELLS];
-    let m = scan::list_programs(text, &starts, &sizes, n, &mut own, &mut modes);
-    write_tables(&own, &modes, n, m, out)
+    write_tables(&own, &modes, n, counts.programs, out)
 }

@@ -1,4 +1,4 @@
-// Two passes over a text that is good (change request No. 1): its paths by their places, and its programs with their modes.
+// The pass over a text that is good (change request No. 1): its paths by their places, and its programs with their modes.
 ghost use mathlib.Core.Path.{_≡_};
 ghost use mathlib.Core.Bool.{true};
 ghost use Prim.Native.Nat.{_+_, _≤_, _<_};
@@ -7,29 +7,30 @@ ghost use Rattle.lists.specs.Lists.{sameList};
 ghost use Rattle.rules.specs.Answers.{dataWidth};
 ghost use Rattle.image.specs.Normal.{position};
 ghost use Rattle.profiles.specs.Texts.{textGood};
-ghost use Rattle.confinement.specs.Confinement.{pathsOf};
-ghost use Rattle.confinement.specs.Images.{profilesIn};
-ghost use Rattle.confinement.specs.Tables.{pathAt, cellCount, PathTable, ProgramTable};
-ghost use Rattle.confinement.specs.Scans.{tablePaths, Places, PathsListed};
+ghost use Rattle.confinement.specs.Tables.{pathAt, cellCount};
+ghost use Rattle.confinement.specs.Scans.{tablePaths, Places, hintCount, Hinted, Placed, Scanned};
 
 // As many paths as there are data atoms.
 const PATHS: usize = 32;
 
 // ---- paths
 
-// Two paths of the same length are the same: compared from the last byte, since paths often begin alike.
+// Two paths of the same length are the same. Most comparisons are of a path with itself, so all bytes are looked at.
 fn same_bytes(text: &[u8], a: usize, b: usize, size: usize) -> bool
     requires { ⌜ (a + size ≤ length (now text)) × (b + size ≤ length (now text)) ⌝ }
     ensures { λ r. ⌜ r ≡ sameList (pathAt (now (text .entry)) a size) (pathAt (now (text .entry)) b size) ⌝ }
 {
-    let mut i = size;
-    while 0 < i {
-        i -= 1;
-        if text[a + i] != text[b + i] {
-            return false;
+    let mut same = true;
+    let mut i = 0;
+    while i < size {
+        let x = text[a + i];
+        let y = text[b + i];
+        i += 1;
+        if x != y {
+            same = false;
         }
     }
-    true
+    same
 }
 
 // Two paths are the same.
@@ -65,59 +66,181 @@ fn find(
     n
 }
 
-// The paths of the text, in order of first appearance; 33 if there are more than 32.
-pub fn list_paths(text: &[u8], starts: &mut [usize], sizes: &mut [usize]) -> usize
-    requires { ⌜ (textGood (now text) ≡ true) × (length (now starts) ≡ dataWidth) × (length (now sizes) ≡ dataWidth) ⌝ }
-    ensures { λ r. ⌜ PathsListed (now (text .entry)) (now (starts .exit)) (now (sizes .exit)) r ⌝ }
+fn byte_at(text: &[u8], at: usize) -> usize
+    requires { ⌜ at < length (now text) ⌝ }
+    ensures { λ r. ⌜ r < 256 ⌝ }
 {
-    let mut n = 0;
-    let mut at = 0;
-    while at < text.len() {
-        let line = profiles::line_at(text, at);
-        let start = line.path;
-        let size = line.length;
-        at = line.next;
-        if line.kind != profiles::END_LINE {
-            if find(text, starts, sizes, n, start, size) == n {
-                if n == PATHS {
-                    return PATHS + 1;
-                }
-                starts[n] = start;
-                sizes[n] = size;
-                n += 1;
-            }
-        }
-    }
-    n
+    text[at] as usize
 }
 
-// ---- programs
+// A place among the hints, from a few bytes of a path.
+fn hint_place(text: &[u8], start: usize, size: usize) -> usize
+    requires { ⌜ start + size ≤ length (now text) ⌝ }
+    ensures { λ r. ⌜ r < hintCount ⌝ }
+{
+    if size < 3 {
+        return 0;
+    }
+    let end = start + size;
+    let first = byte_at(text, start + 1) + 31 * byte_at(text, start + 2);
+    let last = byte_at(text, end - 1) + 31 * byte_at(text, end - 2);
+    (7 * first + last + 53 * byte_at(text, start + size / 2)) % 256
+}
 
-// The programs of the text, by the number of each one's own path and its modes on each path.
-pub fn list_programs(
+// The hint is the number of a path in the table of n paths.
+fn is_hinted(
     text: &[u8],
     starts: &[usize],
     sizes: &[usize],
     n: usize,
+    hint: usize,
+    start: usize,
+    size: usize,
+) -> bool
+    requires { ⌜ Places (now text) (now starts) (now sizes) n × (start + size ≤ length (now text)) ⌝ }
+    ensures { λ r. ⌜ Hinted (now (text .entry)) (now (starts .entry)) (now (sizes .entry)) n hint (pathAt (now (text .entry)) start size) r ⌝ }
+{
+    if n <= hint {
+        return false;
+    }
+    same_path(text, start, size, starts[hint], sizes[hint])
+}
+
+// The number of a path in the table of n paths, compared with a hint first; n if it is not there.
+fn number_of(
+    text: &[u8],
+    starts: &[usize],
+    sizes: &[usize],
+    n: usize,
+    hint: usize,
+    start: usize,
+    size: usize,
+) -> usize
+    requires { ⌜ Places (now text) (now starts) (now sizes) n × (start + size ≤ length (now text)) ⌝ }
+    ensures { λ r. ⌜ r ≡ position (pathAt (now (text .entry)) start size) (tablePaths (now (text .entry)) (now (starts .entry)) (now (sizes .entry)) n) ⌝ }
+{
+    if is_hinted(text, starts, sizes, n, hint, start, size) {
+        return hint;
+    }
+    find(text, starts, sizes, n, start, size)
+}
+
+// A path's number, and how many paths there are with it.
+struct Number {
+    number: usize,
+    count: usize,
+}
+
+// The path takes its number in the table of n paths: the next one if it is new, 32 if there is no room.
+fn place(
+    text: &[u8],
+    starts: &mut [usize],
+    sizes: &mut [usize],
+    hints: &mut [usize],
+    n: usize,
+    start: usize,
+    size: usize,
+) -> Number
+    requires { ⌜ Places (now text) (now starts) (now sizes) n × (start + size ≤ length (now text)) × (length (now hints) ≡ hintCount) ⌝ }
+    ensures { λ r. ⌜ Placed (now (text .entry)) (now (starts .entry)) (now (sizes .entry)) n (pathAt (now (text .entry)) start size) (now (starts .exit)) (now (sizes .exit)) (now (hints .exit)) (r .number) (r .count) ⌝ }
+{
+    let h = hint_place(text, start, size);
+    let hint = hints[h];
+    let number = number_of(text, starts, sizes, n, hint, start, size);
+    hints[h] = number;
+    if number < n {
+        return Number {
+            number: number,
+            count: n,
+        };
+    }
+    if n == PATHS {
+        return Number {
+            number: PATHS,
+            count: n,
+        };
+    }
+    starts[n] = start;
+    sizes[n] = size;
+    Number {
+        number: n,
+        count: n + 1,
+    }
+}
+
+// ---- the text
+
+// How many paths and programs a text has.
+pub struct Counts {
+    pub paths: usize,
+    pub programs: usize,
+}
+
+// There are more than 32 paths.
+fn too_many() -> Counts
+    ensures { λ r. ⌜ r .paths ≡ dataWidth + 1 ⌝ }
+{
+    Counts {
+        paths: PATHS + 1,
+        programs: 0,
+    }
+}
+
+// The tables of the text, with hints. There are not more programs than paths.
+fn fill_hinted(
+    text: &[u8],
+    starts: &mut [usize],
+    sizes: &mut [usize],
     own: &mut [usize],
     modes: &mut [u64],
-) -> usize
-    requires { ⌜ (textGood (now text) ≡ true) × PathTable (now text) (pathsOf (profilesIn (now text))) (now starts) (now sizes) n × (length (now own) ≡ dataWidth) × (now modes ≡ replicate cellCount 0) ⌝ }
-    ensures { λ r. ⌜ ProgramTable (pathsOf (profilesIn (now (text .entry)))) (profilesIn (now (text .entry))) (now (own .exit)) (now (modes .exit)) r ⌝ }
+    hints: &mut [usize],
+) -> Counts
+    requires { ⌜ (textGood (now text) ≡ true) × (length (now starts) ≡ dataWidth) × (length (now sizes) ≡ dataWidth) × (length (now own) ≡ dataWidth) × (now modes ≡ replicate cellCount 0) × (length (now hints) ≡ hintCount) ⌝ }
+    ensures { λ r. ⌜ Scanned (now (text .entry)) (now (starts .exit)) (now (sizes .exit)) (now (own .exit)) (now (modes .exit)) (r .paths) (r .programs) ⌝ }
 {
+    let mut n = 0;
     let mut m = 0;
     let mut at = 0;
     while at < text.len() {
         let line = profiles::line_at(text, at);
         at = line.next;
-        if line.kind == profiles::PROFILE_LINE {
-            own[m] = find(text, starts, sizes, n, line.path, line.length);
-            m += 1;
-        } else if line.kind == profiles::ENTRY_LINE {
-            let number = find(text, starts, sizes, n, line.path, line.length);
-            let cell = (m - 1) * PATHS + number;
-            modes[cell] = modes[cell] | line.modes;
+        if line.kind != profiles::END_LINE {
+            let placed = place(text, starts, sizes, hints, n, line.path, line.length);
+            let number = placed.number;
+            n = placed.count;
+            if PATHS <= number {
+                return too_many();
+            }
+            if line.kind == profiles::PROFILE_LINE {
+                if m == PATHS {
+                    return too_many();
+                }
+                own[m] = number;
+                m += 1;
+            } else {
+                let cell = (m - 1) * PATHS + number;
+                modes[cell] = modes[cell] | line.modes;
+            }
         }
     }
-    m
+    Counts {
+        paths: n,
+        programs: m,
+    }
+}
+
+// The paths of the text in order of first appearance, and its programs by the number of each one's own path and its modes on
+// each path.
+pub fn fill_tables(
+    text: &[u8],
+    starts: &mut [usize],
+    sizes: &mut [usize],
+    own: &mut [usize],
+    modes: &mut [u64],
+) -> Counts
+    requires { ⌜ (textGood (now text) ≡ true) × (length (now starts) ≡ dataWidth) × (length (now sizes) ≡ dataWidth) × (length (now own) ≡ dataWidth) × (now modes ≡ replicate cellCount 0) ⌝ }
+    ensures { λ r. ⌜ Scanned (now (text .entry)) (now (starts .exit)) (now (sizes .exit)) (now (own .exit)) (now (modes .exit)) (r .paths) (r .programs) ⌝ }
+{
+    let mut hints = [0usize; 256];
+    fill_hinted(text, starts, sizes, own, modes, &mut hints)
 }

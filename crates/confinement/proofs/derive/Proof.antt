@@ -13,46 +13,37 @@ returns c = derive-short _ _ (c .if1 .taken)
 returns-2 : tie.Need-returns-2
 returns-2 c = derive-broken _ _ (c .before .before .if1 .left) (fails-test (c .before .text-good .ensures) (c .if2 .taken))
 
-list-paths-requires : tie.Need-list-paths-requires
-list-paths-requires c κs = ((passes-test (c .before .before .before .text-good .ensures) (c .before .before .if2 .left)), search needs, search needs)
+fill-tables-requires : tie.Need-fill-tables-requires
+fill-tables-requires c κs = ((passes-test (c .before .before .before .before .before .text-good .ensures) (c .before .before .before .before .if2 .left)), search needs, search needs, search needs, refl)
 
 returns-3 : tie.Need-returns-3
-returns-3 c = derive-many _ _ (c .before .before .before .before .before .before .before .before .if1 .left) (passes-test (c .before .before .before .before .before .before .before .text-good .ensures) (c .before .before .before .before .before .before .if2 .left)) (c .before .before .before .list-paths .ensures .many (c .if3 .taken))
-
-list-programs-requires : tie.Need-list-programs-requires
-list-programs-requires c κs = (
-  (passes-test (c .before .before .before .before .before .before .before .before .before .before .before .text-good .ensures)
-      (c .before .before .before .before .before .before .before .before .before .before .if2 .left)),
-  (c .before .before .before .before .before .before .before .list-paths .ensures .few
-      (c .before .before .before .before .if3 .left)),
-  search needs,
-  refl,
-)
+returns-3 c =
+    derive-many _ _ (c .before .before .before .before .before .before .before .before .before .before .before .before .if1 .left) (passes-test
+    (c .before .before .before .before .before .before .before .before .before .before .before .text-good .ensures)
+    (c .before .before .before .before .before .before .before .before .before .before .if2 .left)) (c .before .before .before .before .before .fill-tables .ensures .many (c .if3 .taken))
 
 write-tables-requires : tie.Need-write-tables-requires
 write-tables-requires c κs =
-    let start = c .before .before .before .before .before .before .before .before .before .before .before .before .before .before .before .before .before .before .before .before .before in (
+    let start = c .before .before .before .before .before .before .before .before .before .before .before .before .before .before .before .before .before .before in (
       record {
         profiles = profilesIn (start .args .text .now);
-        tables = tabulated
-            (c .before .before .before .before .before .before .before .before .before .before .before .before .before .list-paths .ensures .few
-            (c .before .before .before .before .before .before .before .before .before .before .if3 .left))
-            (c .before .before .before .before .before .list-programs .ensures);
+        tables = (tabulated (c .before .before .before .before .before .before .before .before .fill-tables .ensures .paths
+            (c .before .before .before .if3 .left)) (c .before .before .before .before .before .before .before .before .fill-tables .ensures .programs
+            (c .before .before .before .if3 .left)));
       },
-      c .before .before .before .before .before .before .before .before .before .before .before .before .before .before .before .before .before .before .if1 .left,
+      c .before .before .before .before .before .before .before .before .before .before .before .before .before .before .before .if1 .left,
     )
 
 returns-4 : tie.Need-returns-4
 returns-4 c =
-    let start = c .before .before .before .before .before .before .before .before .before .before .before .before .before .before .before .before .before .before .before .before .before .before .before .before in
+    let start = c .before .before .before .before .before .before .before .before .before .before .before .before .before .before .before .before .before .before .before .before .before in
     derive-done (start .args .text .now) _
-    (c .before .before .before .before .before .before .before .before .before .before .before .before .before .before .before .before .before .before .before .before .before .if1 .left)
-    (passes-test
-    (c .before .before .before .before .before .before .before .before .before .before .before .before .before .before .before .before .before .before .before .before .text-good .ensures)
-    (c .before .before .before .before .before .before .before .before .before .before .before .before .before .before .before .before .before .before .before .if2 .left)) _ _ _ _
-    (tabulated (c .before .before .before .before .before .before .before .before .before .before .before .before .before .before .before .before .list-paths .ensures .few
-    (c .before .before .before .before .before .before .before .before .before .before .before .before .before .if3 .left))
-    (c .before .before .before .before .before .before .before .before .list-programs .ensures)) (c .before .before .write-tables .ensures)
+    (c .before .before .before .before .before .before .before .before .before .before .before .before .before .before .before .before .before .before .if1 .left) (passes-test
+    (c .before .before .before .before .before .before .before .before .before .before .before .before .before .before .before .before .before .text-good .ensures)
+    (c .before .before .before .before .before .before .before .before .before .before .before .before .before .before .before .before .if2 .left)) _ _ _ _ (tabulated
+    (c .before .before .before .before .before .before .before .before .before .before .before .fill-tables .ensures .paths (c .before .before .before .before .before .before .if3 .left))
+    (c .before .before .before .before .before .before .before .before .before .before .before .fill-tables .ensures .programs
+    (c .before .before .before .before .before .before .if3 .left))) (c .before .before .write-tables .ensures)
 
 pub derive-spec : {M : Type 1} → statement M
 derive-spec =
@@ -63,13 +54,10 @@ derive-spec =
     returns-2
     (λ c. search needs)
     (λ c. search needs)
-    list-paths-requires
+    (λ c. search needs)
+    (λ c. search needs)
+    fill-tables-requires
     returns-3
-    (λ c. search needs)
-    (λ c. search needs)
-    (λ c. search needs)
-    (λ c. search needs)
-    list-programs-requires
     (λ c. search needs)
     (λ c. search needs)
     write-tables-requires

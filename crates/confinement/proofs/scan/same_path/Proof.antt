@@ -13,8 +13,9 @@ returns c = sizes-differ _ _ _ _ _ (c .before .before .pre .0) (c .before .befor
 
 returns-2 : tie.Need-returns-2
 returns-2 c =
-    let start = c .before .before .before .args in
-    c .same-bytes .ensures ∙ ap (λ (k : ℕ). sameList (pathAt (start .text .now) (start .a) (start .size)) (pathAt (start .text .now) (start .b) k)) (c .before .if1 .left)
+    c .same-bytes .ensures
+    ∙ ap (λ (k : ℕ). sameList (pathAt (c .before .before .before .args .text .now) (c .before .before .before .args .a) (c .before .before .before .args .size)) (pathAt (c .before .before .before .args .text .now) (c .before .before .before .args .b) k))
+    (c .before .if1 .left)
 
 pub same-path-spec : {M : Type 1} → statement M
 same-path-spec = tie.close (tie.spec returns (λ c κs. search needs) returns-2)
