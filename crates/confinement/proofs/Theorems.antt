@@ -1,0 +1,104 @@
+-- What is proved of the policy that profiles stand for, stated in full. The proofs are in the files that are cited.
+use Prim.Native.Nat.{ℕ, _≤_, _<_}
+use mathlib.Core.Path.{_≡_, refl, sym, _∙_}
+use mathlib.Core.Logic.{_↔_}
+use native.Mathlib.Decide.{ℕ-discrete}
+use native.Mathlib.Omega.{arith}
+use lib.Dec.{leb}
+use mathlib.Core.Bool.{true, false}
+use mathlib.Core.List.{List, [], _∷_, _++_}
+use lib.ListN.{length, take}
+use Rattle.image.specs.Limits.{headerSize, outputBound}
+use Rattle.image.specs.Policy.{unrestrictedRule, Sound}
+use Rattle.image.specs.Image.{policyIn, checkOf}
+use Rattle.image.specs.Normal.{meaning, normalPolicy, normalImage}
+use Rattle.lists.specs.Lists.{elem}
+use Rattle.lists.specs.Conditions.{Condition, firstFailed, numbersOf, numberAt, numbersGood}
+use Rattle.lists.proofs.Conditions.{given-exactly, given-none, given-among}
+use Rattle.answers.specs.Refusals.{lentLength, profileText, profileLimit}
+use Rattle.normaliser.proofs.AnswerLaws.{through, refused-answer, answer-number, answer-front}
+use Rattle.normaliser.proofs.WriterLaws.{normal-long, normal-short}
+use Rattle.profiles.specs.Profiles.{Profile}
+use Rattle.profiles.specs.Texts.{textGood}
+use Rattle.confinement.specs.Confinement.{pathsOf, profilePolicy}
+use Rattle.confinement.specs.Images.{profilesIn, limitsGood, profileConditions, profileImage, profileAnswer, profileEffect}
+use Rattle.confinement.proofs.PolicyLaws as policy
+use Rattle.confinement.proofs.ProfileLaws as profile
+use Rattle.confinement.proofs.ProfileLaws.{filePlaces, processPlace}
+
+-- ---- the answer
+
+module _ (text out : List ℕ) where
+  abbrev cs : List Condition
+  cs = profileConditions text out
+
+  derive-number : (k : ℕ) → 0 < k → k < headerSize → (profileAnswer text out ≡ k) ↔ (firstFailed cs ≡ k)
+  unfolding profileAnswer
+  derive-number k p l = by (ℕ-discrete (firstFailed cs) 0)
+    where
+      by : Dec (firstFailed cs ≡ 0) → (profileAnswer text out ≡ k) ↔ (firstFailed cs ≡ k)
+      by (yes z) = answer-number (profileImage text) (unfold profileImage in normal-long (profilePolicy (profilesIn text)) (policy.profile-sound (profilesIn text) (accepted z))) (firstFailed cs) k p l
+        where
+          accepted : firstFailed cs ≡ 0 → limitsGood (profilesIn text) ≡ true
+          accepted e = unfold profileConditions numbersGood numbersOf elem in (given-none cs refl .0 e .1 .1)
+      by (no d) =
+          let e = refused-answer (firstFailed cs) (profileImage text) out d in
+          ((λ h. sym e ∙ h), (λ h. e ∙ h))
+
+  -- 9 exactly if the output is too short
+  pub derive-9 : (profileAnswer text out ≡ lentLength) ↔ (leb outputBound (length out) ≡ false)
+  unfolding profileConditions numbersGood numbersOf numberAt elem
+  derive-9 = through (derive-number lentLength (omega arith) (omega arith)) (given-exactly cs refl 0 (omega arith))
+
+  -- 16 exactly if it is not, and the text is too long, breaks the grammar or profiles a path twice
+  pub derive-16 : (profileAnswer text out ≡ profileText) ↔ ((leb outputBound (length out) ≡ true) × (textGood text ≡ false))
+  unfolding profileConditions numbersGood numbersOf numberAt elem
+  derive-16 = through (derive-number profileText (omega arith) (omega arith)) (given-exactly cs refl 1 (omega arith))
+
+  -- 17 exactly if neither is so, and the text has over 32 paths or a rule over 8 mixtures in normal form
+  pub derive-17 : (profileAnswer text out ≡ profileLimit)
+      ↔ ((leb outputBound (length out) ≡ true) × ((textGood text ≡ true) × (limitsGood (profilesIn text) ≡ false)))
+  unfolding profileConditions numbersGood numbersOf numberAt elem
+  derive-17 = through (derive-number profileLimit (omega arith) (omega arith)) (given-exactly cs refl 2 (omega arith))
+
+  -- nothing is refused exactly if none of these is so; no other number is given
+  pub derive-accepted : (firstFailed cs ≡ 0)
+      ↔ ((leb outputBound (length out) ≡ true) × ((textGood text ≡ true) × (limitsGood (profilesIn text) ≡ true)))
+  unfolding profileConditions numbersGood numbersOf elem
+  derive-accepted = given-none cs refl
+
+  pub derive-among : elem (firstFailed cs) (0 ∷ lentLength ∷ profileText ∷ profileLimit ∷ []) ≡ true
+  unfolding profileConditions numbersOf
+  derive-among = given-among cs
+
+  -- what it then leaves at the front of the output is the image
+  pub derive-written : firstFailed cs ≡ 0 → take (profileAnswer text out) (profileEffect text out) ≡ profileImage text
+  unfolding profileAnswer profileEffect
+  derive-written e = answer-front (firstFailed cs) (profileImage text) out e
+
+-- ---- the policy
+
+module _ (ps : List Profile) (good : limitsGood ps ≡ true) where
+  -- an image can spell it
+  pub profile-sound : Sound (profilePolicy ps)
+  profile-sound = policy.profile-sound ps good
+
+  -- its normal image is accepted, and decodes to the policy in normal form
+  pub profile-read : (checkOf (normalImage (profilePolicy ps)) ≡ 0) × (policyIn (normalImage (profilePolicy ps)) ≡ normalPolicy (profilePolicy ps))
+  profile-read = profile.profile-read ps good
+
+  -- which means what was stated: for each path a file with its atom and its two rules, then a process; one unrestricted user
+  pub profile-means : meaning (normalPolicy (profilePolicy ps))
+      ≡ record { places = filePlaces (pathsOf ps) ps 0 (pathsOf ps) ++ (processPlace ∷ []); users = unrestrictedRule ∷ [] }
+  profile-means = profile.profile-means ps good
+
+  -- it is its own normal image
+  pub profile-normal : normalImage (normalPolicy (profilePolicy ps)) ≡ normalImage (profilePolicy ps)
+  profile-normal = profile.profile-normal ps good
+
+  -- longer than any refusal number, and the output holds it
+  pub profile-long : headerSize ≤ length (normalImage (profilePolicy ps))
+  profile-long = normal-long (profilePolicy ps) profile-sound
+
+  pub profile-short : length (normalImage (profilePolicy ps)) ≤ outputBound
+  profile-short = normal-short (profilePolicy ps) profile-sound
