@@ -2,6 +2,7 @@
 -- inside: the policy of profiles is one that an image can spell; the tables of numbers tell of the profiles; loops.
 pub mod Theorems
 pub mod ProfileLaws
+pub mod MixtureLaws
 pub mod PathLaws
 pub mod PolicyLaws
 pub mod BitLaws

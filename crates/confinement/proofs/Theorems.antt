@@ -1,18 +1,22 @@
 -- What is proved of the policy that profiles stand for, stated in full. The proofs are in the files that are cited.
-use Prim.Native.Nat.{ℕ, _≤_, _<_}
+use Prim.Native.Nat.{ℕ, _+_, _≤_, _<_}
 use mathlib.Core.Path.{_≡_, refl, sym, _∙_}
-use mathlib.Core.Logic.{_↔_}
+use mathlib.Core.Logic.{_⊎_, _↔_}
 use native.Mathlib.Decide.{ℕ-discrete}
 use native.Mathlib.Omega.{arith}
 use lib.Dec.{leb}
 use mathlib.Core.Bool.{true, false}
 use mathlib.Core.List.{List, [], _∷_, _++_}
-use lib.ListN.{length, take}
+use lib.ListN.{length, getD, take}
+use borrow.Author.Tests.{le-leb}
+use Rattle.rules.specs.Sets.{atom}
+use Rattle.rules.specs.Answers.{dataWidth}
 use Rattle.image.specs.Limits.{headerSize, outputBound}
 use Rattle.image.specs.Policy.{unrestrictedRule, Sound}
 use Rattle.image.specs.Image.{policyIn, checkOf}
-use Rattle.image.specs.Normal.{meaning, normalPolicy, normalImage}
-use Rattle.lists.specs.Lists.{elem}
+use Rattle.image.specs.Normal.{known, meaning, normalPolicy, normalImage}
+use Rattle.lists.specs.Lists.{every, elem}
+use Rattle.lists.proofs.Bools.{and-in}
 use Rattle.lists.specs.Conditions.{Condition, firstFailed, numbersOf, numberAt, numbersGood}
 use Rattle.lists.proofs.Conditions.{given-exactly, given-none, given-among}
 use Rattle.answers.specs.Refusals.{lentLength, profileText, profileLimit}
@@ -20,10 +24,12 @@ use Rattle.normaliser.proofs.AnswerLaws.{through, refused-answer, answer-number
 use Rattle.normaliser.proofs.WriterLaws.{normal-long, normal-short}
 use Rattle.profiles.specs.Profiles.{Profile}
 use Rattle.profiles.specs.Texts.{textGood}
-use Rattle.confinement.specs.Confinement.{pathsOf, profilePolicy}
+use Rattle.confinement.specs.Confinement.{pathsOf, someOf, reading, executing, modesOn, runMixture, rulesOf, profilePolicy}
 use Rattle.confinement.specs.Images.{profilesIn, limitsGood, profileConditions, profileImage, profileAnswer, profileEffect}
 use Rattle.confinement.proofs.PolicyLaws as policy
 use Rattle.confinement.proofs.ProfileLaws as profile
+use Rattle.confinement.proofs.MixtureLaws as mixture
+use Rattle.confinement.proofs.PathLaws.{profiles-known, paths-distinct}
 use Rattle.confinement.proofs.ProfileLaws.{filePlaces, processPlace}
 
 -- ---- the answer
@@ -78,6 +84,11 @@ module _ (text out : List ℕ) where
 
 -- ---- the policy
 
+-- the limits: at most 32 paths, and at most 8 mixtures in each rule in normal form
+pub limits-exactly : (ps : List Profile) → (limitsGood ps ≡ true) ↔ ((length (pathsOf ps) ≤ 32) × (every (λ r. leb (length r) 8) (rulesOf ps) ≡ true))
+unfolding limitsGood
+limits-exactly ps = ((λ h. (policy.few-paths ps h, policy.short-rules ps h)), (λ h. and-in (le-leb (length (pathsOf ps)) 32 (h .0)) (h .1)))
+
 module _ (ps : List Profile) (good : limitsGood ps ≡ true) where
   -- an image can spell it
   pub profile-sound : Sound (profilePolicy ps)
@@ -102,3 +113,27 @@ module _ (ps : List Profile) (good : limitsGood ps ≡ true) where
 
   pub profile-short : length (normalImage (profilePolicy ps)) ≤ outputBound
   profile-short = normal-short (profilePolicy ps) profile-sound
+
+-- ---- what a run mixture says
+
+-- each program of a text has its path among the paths
+pub programs-known : (ps : List Profile) → every (λ p. known (p .path) (pathsOf ps)) ps ≡ true
+programs-known ps = profiles-known ps
+
+-- of a program and the k-th path
+module _ (ps : List Profile) (good : limitsGood ps ≡ true) (p : Profile) (own : known (p .path) (pathsOf ps) ≡ true) (k : ℕ) (l : k < length (pathsOf ps)) where
+  abbrev path : List ℕ
+  path = getD (pathsOf ps) k []
+
+  -- "the atoms of files it may read (r, m)"
+  pub run-data : (atom (runMixture (pathsOf ps) p) k ≡ 1) ↔ (someOf reading (modesOn p path) ≡ true)
+  run-data = mixture.run-data (pathsOf ps) (policy.few-paths ps good) (paths-distinct ps) p own k l
+
+  -- "its own twin, .. and the twins of those it may execute (any x mode)"
+  pub run-running : (atom (runMixture (pathsOf ps) p) (dataWidth + k) ≡ 1) ↔ ((path ≡ p .path) ⊎ (someOf executing (modesOn p path) ≡ true))
+  run-running = mixture.run-running (pathsOf ps) (policy.few-paths ps good) (paths-distinct ps) p own k l
+
+-- no atom that is of no path
+pub run-none : (ps : List Profile) (p : Profile) → known (p .path) (pathsOf ps) ≡ true → (i : ℕ)
+    → ((k : ℕ) → k < length (pathsOf ps) → (i ≡ k → ⊥) × (i ≡ dataWidth + k → ⊥)) → atom (runMixture (pathsOf ps) p) i ≡ 0
+run-none ps p own i h = mixture.run-none (pathsOf ps) p own i h
