@@ -5,7 +5,7 @@ use mathlib.Core.Path.{_≡_, refl, ap, _∙_}
 use mathlib.Core.Bool.{true, false}
 use mathlib.Core.List.{List, [], _∷_, map}
 use lib.Dec.{leb}
-use lib.ListN.{length}
+use lib.ListN.{length, replicate}
 use Rattle.lists.specs.Lists.{every, elem, sameList, joined}
 use Rattle.rules.specs.Sets.{atom, holds}
 use Rattle.rules.specs.Rules.{distinct, heldIn, unheldIn, insert, sort, normal, unrestricted}
@@ -13,7 +13,7 @@ use Rattle.fields.specs.Bytes.{bytesOf}
 use Rattle.image.specs.Limits.{fileKind, processKind, noAtom, unrestrictedNumber}
 use Rattle.image.specs.Policy.{Container, Policy, unrestrictedRule, ruleAt}
 use Rattle.image.specs.Normal.{normalAt, placeOf, meaning, placeUses, uses, known, noted, numbered, position, numberOf, containerOf, writtenBy, policyOf, normalPolicy, containerBytes, spanBytes, spansOf, pair, header, framed, encode, normalImage}
-use Rattle.profiles.specs.Profiles.{Mode, mode-r, mode-w, mode-a, mode-l, mode-m, mode-ix, mode-px, mode-Px, mode-ux, mode-Ux, Entry, Profile, ascii}
+use Rattle.profiles.specs.Profiles.{Mode, mode-r, mode-w, mode-a, mode-l, mode-m, mode-ix, mode-px, mode-Px, mode-ux, mode-Ux, Entry, Profile, ascii, slash}
 use Rattle.profiles.specs.Scanning.{modeBit}
 use Rattle.confinement.specs.Confinement.{namesOf, withPath, withPaths, pathsOf, isOneOf, someOf, reading, executing, writing, unconfined, inheriting, confined, modesAmong, modesOn, fileAtoms, atomsFrom, runMixture, programsWith, profilesAt, orElse, ifSome, permitMixtures, runMixtures, rulesFrom, rulesOf, filesFrom, initialProcess, profilePolicy}
 use Rattle.confinement.specs.Images.{limitsGood}
@@ -104,3 +104,107 @@ clauses =
       px-alone = refl;
       no-x = refl;
     }
+
+-- ---- the limits
+
+-- n lines with these modes, of paths that are a slash and n letters or fewer
+abbrev linesOf : ℕ → List Mode → List Entry
+linesOf zero ms = []
+linesOf (suc n) ms = record { path = slash ∷ replicate (suc n) 97; modes = ms } ∷ linesOf n ms
+
+-- n profiles of such paths, each with these lines
+abbrev profilesOf : ℕ → List Entry → List Profile
+profilesOf zero es = []
+profilesOf (suc n) es = record { path = slash ∷ replicate (suc n) 97; entries = es } ∷ profilesOf n es
+
+pub record Limits : Type 0 where
+  -- "over 32 paths"
+  pub paths-32 : limitsGood (profile "/p/" (linesOf 31 (mode-r ∷ [])) ∷ []) ≡ true
+  pub paths-33 : limitsGood (profile "/p/" (linesOf 32 (mode-r ∷ [])) ∷ []) ≡ false
+  -- "a rule over 8 mixtures": of a file's writers, and of the programs that a path inherits from
+  pub writers-8 : limitsGood (profilesOf 8 (line "/f/" (mode-w ∷ []) ∷ [])) ≡ true
+  pub writers-9 : limitsGood (profilesOf 9 (line "/f/" (mode-w ∷ []) ∷ [])) ≡ false
+  pub inherited-8 : limitsGood (profilesOf 8 (line "/f/" (mode-ix ∷ []) ∷ [])) ≡ true
+  pub inherited-9 : limitsGood (profilesOf 9 (line "/f/" (mode-ix ∷ []) ∷ [])) ≡ false
+  -- "in normal form": a tenth, which may execute the nine, holds their mixtures
+  pub held-9 : limitsGood (profile "/p/" (line "/f/" (mode-w ∷ []) ∷ linesOf 9 (mode-px ∷ [])) ∷ profilesOf 9 (line "/f/" (mode-w ∷ []) ∷ [])) ≡ true
+
+pub limits : Limits
+unfolding limitsGood every ascii modeBit namesOf withPath withPaths pathsOf isOneOf someOf reading executing writing unconfined inheriting confined modesAmong modesOn fileAtoms atomsFrom runMixture programsWith profilesAt orElse ifSome permitMixtures runMixtures rulesFrom rulesOf
+    known position sameList unrestrictedRule unrestricted normal sort insert distinct elem unheldIn heldIn holds
+limits = record { paths-32 = refl; paths-33 = refl; writers-8 = refl; writers-9 = refl; inherited-8 = refl; inherited-9 = refl; held-9 = refl }
+
+-- ---- document 001's example: its two profiles, their lines in its order
+
+abbrev pub document : List Profile
+document =
+    profile "/usr/bin/apache" (line "/etc/apache2.conf" (mode-w ∷ []) ∷ line "/etc/apache2.conf" (mode-r ∷ []) ∷ line "/www/index.php" (mode-r ∷ []) ∷ line "/usr/bin/ftpd" (mode-px ∷ []) ∷ [])
+    ∷ profile "/usr/bin/ftpd" (line "/etc/ftpd.conf" (mode-w ∷ []) ∷ line "/etc/ftpd.conf" (mode-r ∷ []) ∷ line "/home/ftpd/data" (mode-w ∷ []) ∷ [])
+    ∷ []
+
+pub document-paths : pathsOf document ≡ map ascii ("/usr/bin/apache" ∷ "/etc/apache2.conf" ∷ "/www/index.php" ∷ "/usr/bin/ftpd" ∷ "/etc/ftpd.conf" ∷ "/home/ftpd/data" ∷ [])
+unfolding ascii namesOf withPath withPaths pathsOf known sameList
+document-paths = refl
+
+-- the run rules of the two programs
+pub apache-runs : runMixtures (pathsOf document) document (ascii "/usr/bin/apache") ≡ 0x900000006 ∷ []
+unfolding ascii modeBit namesOf withPath withPaths pathsOf isOneOf someOf reading executing modesAmong modesOn fileAtoms atomsFrom runMixture profilesAt orElse runMixtures known position sameList
+apache-runs = refl
+
+pub ftpd-runs : runMixtures (pathsOf document) document (ascii "/usr/bin/ftpd") ≡ 0x800000010 ∷ []
+unfolding ascii modeBit namesOf withPath withPaths pathsOf isOneOf someOf reading executing modesAmong modesOn fileAtoms atomsFrom runMixture profilesAt orElse runMixtures known position sameList
+ftpd-runs = refl
+
+-- permit rule and run rule of each path
+pub document-rules : rulesOf document
+    ≡ (1 ∷ []) ∷ (0x900000006 ∷ [])
+    ∷ (0x900000006 ∷ []) ∷ any
+    ∷ (4 ∷ []) ∷ any
+    ∷ (8 ∷ []) ∷ (0x800000010 ∷ [])
+    ∷ (0x800000010 ∷ []) ∷ any
+    ∷ (0x800000030 ∷ []) ∷ any
+    ∷ []
+unfolding ascii modeBit namesOf withPath withPaths pathsOf isOneOf someOf reading executing writing unconfined inheriting confined modesAmong modesOn fileAtoms atomsFrom runMixture programsWith profilesAt orElse ifSome permitMixtures runMixtures rulesFrom rulesOf
+    known position sameList unrestrictedRule unrestricted normal sort insert distinct elem unheldIn heldIn holds
+document-rules = refl
+
+abbrev file : ℕ → ℕ → ℕ → Container
+file k permit run = record { kind = fileKind; atom = k; permit = permit; run = run }
+
+-- the policy in normal form: six files, a process and a user, six rules
+abbrev pub policy : Policy
+policy =
+    record {
+      containers =
+          file 0 0 1
+          ∷ file 1 1 unrestrictedNumber
+          ∷ file 2 2 unrestrictedNumber
+          ∷ file 3 3 4
+          ∷ file 4 4 unrestrictedNumber
+          ∷ file 5 5 unrestrictedNumber
+          ∷ record { kind = processKind; atom = noAtom; permit = unrestrictedNumber; run = unrestrictedNumber }
+          ∷ [];
+      users = unrestrictedNumber ∷ [];
+      rules = (1 ∷ []) ∷ (0x900000006 ∷ []) ∷ (4 ∷ []) ∷ (8 ∷ []) ∷ (0x800000010 ∷ []) ∷ (0x800000030 ∷ []) ∷ [];
+    }
+
+policy-is : normalPolicy (profilePolicy document) ≡ policy
+unfolding profilePolicy filesFrom initialProcess ascii modeBit namesOf withPath withPaths pathsOf isOneOf someOf reading executing writing unconfined inheriting confined modesAmong modesOn fileAtoms atomsFrom runMixture programsWith profilesAt orElse ifSome permitMixtures runMixtures rulesFrom rulesOf
+    normalPolicy policyOf writtenBy containerOf numberOf position numbered noted known uses placeUses meaning placeOf normalAt ruleAt sameList unrestrictedRule unrestricted normal sort insert distinct elem unheldIn heldIn holds
+policy-is = refl
+
+pub image-is : normalImage (profilePolicy document) ≡ encode policy
+unfolding normalImage
+image-is = ap encode policy-is
+
+-- an image of 134 bytes
+pub image-length : length (normalImage (profilePolicy document)) ≡ 134
+unfolding encode framed header pair containerBytes spanBytes spansOf bytesOf joined
+image-length = ap length image-is
+
+-- no profile: an image of 26 bytes
+pub empty-length : length (normalImage (profilePolicy [])) ≡ 26
+unfolding profilePolicy filesFrom initialProcess namesOf withPaths pathsOf rulesFrom rulesOf
+    normalImage normalPolicy policyOf writtenBy containerOf numberOf position numbered noted known uses placeUses meaning placeOf normalAt ruleAt sameList unrestrictedRule unrestricted normal sort insert distinct elem unheldIn heldIn holds
+    encode framed header pair containerBytes spanBytes spansOf bytesOf joined
+empty-length = refl
