@@ -11,11 +11,12 @@ use borrow.Author.Tests.{ne-eqb}
 use Rattle.rules.specs.Rules.{normal}
 use Rattle.rules.specs.Answers.{dataWidth}
 use Rattle.rules.proofs.RuleLaws.{normal-normal}
+use Rattle.fields.specs.Bytes.{Bytes}
 use Rattle.image.specs.Limits.{fileKind, processKind, noAtom, unrestrictedNumber}
 use Rattle.image.specs.Policy.{unrestrictedRule, ruleAt, Sound}
 use Rattle.image.specs.Image.{policyIn, checkOf}
 use Rattle.image.specs.Normal.{Place, Meaning, normalAt, placeOf, meaning, policyOf, normalPolicy, encode, normalImage}
-use Rattle.image.proofs.Encode.{read-encode}
+use Rattle.image.proofs.Encode.{read-encode, encode-bytes}
 use Rattle.image.proofs.WrittenMeaning.{Encodable, meaning-encodable, normal-unrestricted, policy-sound, policy-means}
 use Rattle.profiles.specs.Profiles.{Profile}
 use Rattle.confinement.specs.Confinement.{pathsOf, permitMixtures, runMixtures, rulesFrom, rulesOf, filesFrom, initialProcess, profilePolicy}
@@ -103,6 +104,9 @@ module _ (ps : List Profile) (ok : limitsGood ps ≡ true) where
 
   pub profile-read : (checkOf (normalImage (profilePolicy ps)) ≡ 0) × (policyIn (normalImage (profilePolicy ps)) ≡ normalPolicy (profilePolicy ps))
   profile-read = unfold normalImage in read-encode (normalPolicy (profilePolicy ps)) normal-sound
+
+  pub profile-bytes : Bytes (normalImage (profilePolicy ps))
+  profile-bytes = unfold normalImage in encode-bytes (normalPolicy (profilePolicy ps))
 
   pub profile-normal : normalImage (normalPolicy (profilePolicy ps)) ≡ normalImage (profilePolicy ps)
   profile-normal = unfold normalImage normalPolicy in ap (λ (m : Meaning). encode (policyOf m)) same-meaning

@@ -11,6 +11,7 @@ use lib.ListN.{length, getD, take}
 use borrow.Author.Tests.{le-leb}
 use Rattle.rules.specs.Sets.{atom}
 use Rattle.rules.specs.Answers.{dataWidth}
+use Rattle.fields.specs.Bytes.{Bytes}
 use Rattle.image.specs.Limits.{headerSize, outputBound}
 use Rattle.image.specs.Policy.{unrestrictedRule, Sound}
 use Rattle.image.specs.Image.{policyIn, checkOf}
@@ -94,9 +95,12 @@ module _ (ps : List Profile) (good : limitsGood ps ≡ true) where
   pub profile-sound : Sound (profilePolicy ps)
   profile-sound = policy.profile-sound ps good
 
-  -- its normal image is accepted, and decodes to the policy in normal form
+  -- its normal image is accepted, and decodes to the policy in normal form; it is of bytes
   pub profile-read : (checkOf (normalImage (profilePolicy ps)) ≡ 0) × (policyIn (normalImage (profilePolicy ps)) ≡ normalPolicy (profilePolicy ps))
   profile-read = profile.profile-read ps good
+
+  pub profile-bytes : Bytes (normalImage (profilePolicy ps))
+  profile-bytes = profile.profile-bytes ps good
 
   -- which means what was stated: for each path a file with its atom and its two rules, then a process; one unrestricted user
   pub profile-means : meaning (normalPolicy (profilePolicy ps))
