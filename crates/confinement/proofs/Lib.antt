@@ -1,4 +1,9 @@
--- Inside this crate: the policy of profiles is one that an image can spell; the tables of numbers tell of the profiles; loops.
+-- Theorems is the file to read: the laws of this crate, stated and cited. Examples computes a text for each clause. The others serve
+-- inside: the policy of profiles is one that an image can spell; the tables of numbers tell of the profiles; loops.
+pub mod Theorems
+pub mod Examples
+pub mod ProfileLaws
+pub mod MixtureLaws
 pub mod PathLaws
 pub mod PolicyLaws
 pub mod BitLaws

@@ -1,0 +1,143 @@
+-- What is proved of the policy that profiles stand for, stated in full. The proofs are in the files that are cited.
+use Prim.Native.Nat.{ℕ, _+_, _≤_, _<_}
+use mathlib.Core.Path.{_≡_, refl, sym, _∙_}
+use mathlib.Core.Logic.{_⊎_, _↔_}
+use native.Mathlib.Decide.{ℕ-discrete}
+use native.Mathlib.Omega.{arith}
+use lib.Dec.{leb}
+use mathlib.Core.Bool.{true, false}
+use mathlib.Core.List.{List, [], _∷_, _++_}
+use lib.ListN.{length, getD, take}
+use borrow.Author.Tests.{le-leb}
+use Rattle.rules.specs.Sets.{atom}
+use Rattle.rules.specs.Answers.{dataWidth}
+use Rattle.fields.specs.Bytes.{Bytes}
+use Rattle.image.specs.Limits.{headerSize, outputBound}
+use Rattle.image.specs.Policy.{unrestrictedRule, Sound}
+use Rattle.image.specs.Image.{policyIn, checkOf}
+use Rattle.image.specs.Normal.{known, meaning, normalPolicy, normalImage}
+use Rattle.lists.specs.Lists.{every, elem}
+use Rattle.lists.proofs.Bools.{and-in}
+use Rattle.lists.specs.Conditions.{Condition, firstFailed, numbersOf, numberAt, numbersGood}
+use Rattle.lists.proofs.Conditions.{given-exactly, given-none, given-among}
+use Rattle.answers.specs.Refusals.{lentLength, profileText, profileLimit}
+use Rattle.normaliser.proofs.AnswerLaws.{through, refused-answer, answer-number, answer-front}
+use Rattle.normaliser.proofs.WriterLaws.{normal-long, normal-short}
+use Rattle.profiles.specs.Profiles.{Profile}
+use Rattle.profiles.specs.Texts.{textGood}
+use Rattle.confinement.specs.Confinement.{pathsOf, someOf, reading, executing, modesOn, runMixture, rulesOf, profilePolicy}
+use Rattle.confinement.specs.Images.{profilesIn, limitsGood, profileConditions, profileImage, profileAnswer, profileEffect}
+use Rattle.confinement.proofs.PolicyLaws as policy
+use Rattle.confinement.proofs.ProfileLaws as profile
+use Rattle.confinement.proofs.MixtureLaws as mixture
+use Rattle.confinement.proofs.PathLaws.{profiles-known, paths-distinct}
+use Rattle.confinement.proofs.ProfileLaws.{filePlaces, processPlace}
+
+-- ---- the answer
+
+module _ (text out : List ℕ) where
+  abbrev cs : List Condition
+  cs = profileConditions text out
+
+  derive-number : (k : ℕ) → 0 < k → k < headerSize → (profileAnswer text out ≡ k) ↔ (firstFailed cs ≡ k)
+  unfolding profileAnswer
+  derive-number k p l = by (ℕ-discrete (firstFailed cs) 0)
+    where
+      by : Dec (firstFailed cs ≡ 0) → (profileAnswer text out ≡ k) ↔ (firstFailed cs ≡ k)
+      by (yes z) = answer-number (profileImage text) (unfold profileImage in normal-long (profilePolicy (profilesIn text)) (policy.profile-sound (profilesIn text) (accepted z))) (firstFailed cs) k p l
+        where
+          accepted : firstFailed cs ≡ 0 → limitsGood (profilesIn text) ≡ true
+          accepted e = unfold profileConditions numbersGood numbersOf elem in (given-none cs refl .0 e .1 .1)
+      by (no d) =
+          let e = refused-answer (firstFailed cs) (profileImage text) out d in
+          ((λ h. sym e ∙ h), (λ h. e ∙ h))
+
+  -- 9 exactly if the output is too short
+  pub derive-9 : (profileAnswer text out ≡ lentLength) ↔ (leb outputBound (length out) ≡ false)
+  unfolding profileConditions numbersGood numbersOf numberAt elem
+  derive-9 = through (derive-number lentLength (omega arith) (omega arith)) (given-exactly cs refl 0 (omega arith))
+
+  -- 16 exactly if it is not, and the text is too long, breaks the grammar or profiles a path twice
+  pub derive-16 : (profileAnswer text out ≡ profileText) ↔ ((leb outputBound (length out) ≡ true) × (textGood text ≡ false))
+  unfolding profileConditions numbersGood numbersOf numberAt elem
+  derive-16 = through (derive-number profileText (omega arith) (omega arith)) (given-exactly cs refl 1 (omega arith))
+
+  -- 17 exactly if neither is so, and the text has over 32 paths or a rule over 8 mixtures in normal form
+  pub derive-17 : (profileAnswer text out ≡ profileLimit)
+      ↔ ((leb outputBound (length out) ≡ true) × ((textGood text ≡ true) × (limitsGood (profilesIn text) ≡ false)))
+  unfolding profileConditions numbersGood numbersOf numberAt elem
+  derive-17 = through (derive-number profileLimit (omega arith) (omega arith)) (given-exactly cs refl 2 (omega arith))
+
+  -- nothing is refused exactly if none of these is so; no other number is given
+  pub derive-accepted : (firstFailed cs ≡ 0)
+      ↔ ((leb outputBound (length out) ≡ true) × ((textGood text ≡ true) × (limitsGood (profilesIn text) ≡ true)))
+  unfolding profileConditions numbersGood numbersOf elem
+  derive-accepted = given-none cs refl
+
+  pub derive-among : elem (firstFailed cs) (0 ∷ lentLength ∷ profileText ∷ profileLimit ∷ []) ≡ true
+  unfolding profileConditions numbersOf
+  derive-among = given-among cs
+
+  -- what it then leaves at the front of the output is the image
+  pub derive-written : firstFailed cs ≡ 0 → take (profileAnswer text out) (profileEffect text out) ≡ profileImage text
+  unfolding profileAnswer profileEffect
+  derive-written e = answer-front (firstFailed cs) (profileImage text) out e
+
+-- ---- the policy
+
+-- the limits: at most 32 paths, and at most 8 mixtures in each rule in normal form
+pub limits-exactly : (ps : List Profile) → (limitsGood ps ≡ true) ↔ ((length (pathsOf ps) ≤ 32) × (every (λ r. leb (length r) 8) (rulesOf ps) ≡ true))
+unfolding limitsGood
+limits-exactly ps = ((λ h. (policy.few-paths ps h, policy.short-rules ps h)), (λ h. and-in (le-leb (length (pathsOf ps)) 32 (h .0)) (h .1)))
+
+module _ (ps : List Profile) (good : limitsGood ps ≡ true) where
+  -- an image can spell it
+  pub profile-sound : Sound (profilePolicy ps)
+  profile-sound = policy.profile-sound ps good
+
+  -- its normal image is accepted, and decodes to the policy in normal form; it is of bytes
+  pub profile-read : (checkOf (normalImage (profilePolicy ps)) ≡ 0) × (policyIn (normalImage (profilePolicy ps)) ≡ normalPolicy (profilePolicy ps))
+  profile-read = profile.profile-read ps good
+
+  pub profile-bytes : Bytes (normalImage (profilePolicy ps))
+  profile-bytes = profile.profile-bytes ps good
+
+  -- which means what was stated: for each path a file with its atom and its two rules, then a process; one unrestricted user
+  pub profile-means : meaning (normalPolicy (profilePolicy ps))
+      ≡ record { places = filePlaces (pathsOf ps) ps 0 (pathsOf ps) ++ (processPlace ∷ []); users = unrestrictedRule ∷ [] }
+  profile-means = profile.profile-means ps good
+
+  -- it is its own normal image
+  pub profile-normal : normalImage (normalPolicy (profilePolicy ps)) ≡ normalImage (profilePolicy ps)
+  profile-normal = profile.profile-normal ps good
+
+  -- longer than any refusal number, and the output holds it
+  pub profile-long : headerSize ≤ length (normalImage (profilePolicy ps))
+  profile-long = normal-long (profilePolicy ps) profile-sound
+
+  pub profile-short : length (normalImage (profilePolicy ps)) ≤ outputBound
+  profile-short = normal-short (profilePolicy ps) profile-sound
+
+-- ---- what a run mixture says
+
+-- each program of a text has its path among the paths
+pub programs-known : (ps : List Profile) → every (λ p. known (p .path) (pathsOf ps)) ps ≡ true
+programs-known ps = profiles-known ps
+
+-- of a program and the k-th path
+module _ (ps : List Profile) (good : limitsGood ps ≡ true) (p : Profile) (own : known (p .path) (pathsOf ps) ≡ true) (k : ℕ) (l : k < length (pathsOf ps)) where
+  abbrev path : List ℕ
+  path = getD (pathsOf ps) k []
+
+  -- "the atoms of files it may read (r, m)"
+  pub run-data : (atom (runMixture (pathsOf ps) p) k ≡ 1) ↔ (someOf reading (modesOn p path) ≡ true)
+  run-data = mixture.run-data (pathsOf ps) (policy.few-paths ps good) (paths-distinct ps) p own k l
+
+  -- "its own twin, .. and the twins of those it may execute (any x mode)"
+  pub run-running : (atom (runMixture (pathsOf ps) p) (dataWidth + k) ≡ 1) ↔ ((path ≡ p .path) ⊎ (someOf executing (modesOn p path) ≡ true))
+  run-running = mixture.run-running (pathsOf ps) (policy.few-paths ps good) (paths-distinct ps) p own k l
+
+-- no atom that is of no path
+pub run-none : (ps : List Profile) (p : Profile) → known (p .path) (pathsOf ps) ≡ true → (i : ℕ)
+    → ((k : ℕ) → k < length (pathsOf ps) → (i ≡ k → ⊥) × (i ≡ dataWidth + k → ⊥)) → atom (runMixture (pathsOf ps) p) i ≡ 0
+run-none ps p own i h = mixture.run-none (pathsOf ps) p own i h
