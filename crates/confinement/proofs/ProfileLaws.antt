@@ -1,9 +1,9 @@
 -- What the policy of profiles means, and its normal image.
-use Prim.Native.Nat.{ℕ, zero, suc, _+_, _*_, _≤_, _<_}
+use Prim.Native.Nat.{ℕ, suc, _+_, _*_, _≤_, _<_}
 use native.Mathlib.Omega.{arith}
 use mathlib.Core.Path.{_≡_, refl, sym, ap, ap₂, _∙_}
 use mathlib.Core.Bool.{true, false}
-use mathlib.Core.List.{List, [], _∷_, _++_, map}
+use mathlib.Core.List.{List, [], _∷_, _++_, map, map-append}
 use lib.Dec.{eqb}
 use lib.ListN.{length, getD, drop}
 use lib.Seq.{getD-drop, drop-drop}
@@ -33,10 +33,6 @@ filePlaces ns ps k (q ∷ qs) =
 
 abbrev pub processPlace : Place
 processPlace = record { kind = processKind; atom = noAtom; permit = unrestrictedRule; run = unrestrictedRule }
-
-map-append : {A B : Type 0} (f : A → B) (a b : List A) → map f (a ++ b) ≡ map f a ++ map f b
-map-append f [] b = refl
-map-append f (x ∷ a) b = ap (λ l. f x ∷ l) (map-append f a b)
 
 -- a rule with its number
 rule-at : (rules : List (List ℕ)) (n i : ℕ) (r : List ℕ) → n + i < unrestrictedNumber → getD (drop n rules) i [] ≡ normal r → normalAt rules (n + i) ≡ normal r

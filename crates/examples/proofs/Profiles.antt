@@ -1,13 +1,17 @@
 -- The third demand for policies read from profiles (change request No. 1): it holds for the session that such a text's image starts,
 -- with nothing more.
 use Prim.Native.Nat.{ℕ}
-use mathlib.Core.Path.{_≡_, sym, subst}
+use mathlib.Core.Path.{_≡_, _∙_, subst}
 use mathlib.Core.Bool.{true}
 use mathlib.Core.List.{List}
+use lib.ListN.{length}
+use borrow.Author.Tests.{eq-eqb}
 use Rattle.image.specs.Policy.{Policy}
 use Rattle.image.specs.Image.{policyIn}
 use Rattle.image.specs.Normal.{normalPolicy, normalImage}
-use Rattle.session.specs.Session.{startOf, startAnswer, startEffect}
+use Rattle.session.specs.Limits.{sessionLength}
+use Rattle.session.specs.Session.{startOf, startAnswer, startEffect, sessionLengthGood}
+use Rattle.session.proofs.StartRefusals.{length-passed}
 use Rattle.chains.specs.Demand.{Demand3, TagTold}
 use Rattle.records.specs.Records.{stepOf}
 use Rattle.monitor.specs.Runs.{stepOn}
@@ -34,19 +38,23 @@ module _ (ps : List Profile) (good : limitsGood ps ≡ true) where
       subst (λ (p : Policy). TagTold stepOn stepOf (startOf p) p) read
       (monitor.tag-told (normalImage (profilePolicy ps)) (confinement.profile-bytes ps good) (confinement.profile-read ps good .0))
 
--- Of a text that is not refused: the session that its image starts, whatever stood there.
-module _ (text out lent : List ℕ) (accepted : firstFailed (profileConditions text out) ≡ 0) (started : startAnswer (profileImage text) lent ≡ 0) where
+-- Of a text that is not refused: its image starts a session, whatever stood there.
+module _ (text out lent : List ℕ) (accepted : firstFailed (profileConditions text out) ≡ 0) (long : length lent ≡ sessionLength) where
   good : limitsGood (profilesIn text) ≡ true
   good = confinement.derive-accepted text out .0 accepted .1 .1
+
+  pub text-starts : startAnswer (profileImage text) lent ≡ 0
+  unfolding profileImage sessionLengthGood
+  text-starts = length-passed (profileImage text) lent (eq-eqb (length lent) sessionLength long) ∙ confinement.profile-read (profilesIn text) good .0
 
   pub text-demand3 : Demand3 stepOn stepOf (startEffect (profileImage text) lent) (normalPolicy (profilePolicy (profilesIn text)))
   unfolding profileImage
   text-demand3 =
       subst (λ (p : Policy). Demand3 stepOn stepOf (startEffect (profileImage text) lent) p) (confinement.profile-read (profilesIn text) good .1)
-      (monitor.demand3-started (profileImage text) lent (confinement.profile-bytes (profilesIn text) good) started)
+      (monitor.demand3-started (profileImage text) lent (confinement.profile-bytes (profilesIn text) good) text-starts)
 
   pub text-tag-told : TagTold stepOn stepOf (startEffect (profileImage text) lent) (normalPolicy (profilePolicy (profilesIn text)))
   unfolding profileImage
   text-tag-told =
       subst (λ (p : Policy). TagTold stepOn stepOf (startEffect (profileImage text) lent) p) (confinement.profile-read (profilesIn text) good .1)
-      (monitor.tag-told-started (profileImage text) lent (confinement.profile-bytes (profilesIn text) good) started)
+      (monitor.tag-told-started (profileImage text) lent (confinement.profile-bytes (profilesIn text) good) text-starts)
