@@ -9,15 +9,14 @@ use mathlib.Core.List.{List, [], _∷_, _++_, map, append-nil, append-assoc}
 use lib.Bits.{bitOr, or-zero-r}
 use lib.ListN.{length, getD, replicate, length-map, length-replicate, getD-replicate, List·getD-eq-default}
 use borrow.Author.Tests.{not-true}
-use Rattle.lists.specs.Lists.{every, sameList}
+use Rattle.lists.specs.Lists.{every, sameList, known}
 use Rattle.lists.proofs.Bools.{and-0, and-1, or-0, or-1, or-cases, clash, refuted}
 use Rattle.lists.proofs.Same.{same-eq}
 use Rattle.lists.proofs.Every.{every-0, every-1, every-nil, every-cons, every-map}
-use Rattle.image.specs.Normal.{known}
 use Rattle.profiles.specs.Profiles.{Mode, Entry, Profile}
 use Rattle.profiles.specs.Reading.{Line, opens, enters, closes, linesOf}
 use Rattle.profiles.specs.Scanning.{withModes, modeBits}
-use Rattle.profiles.specs.Texts.{isAmong, noRepeat, profiledOnce}
+use Rattle.profiles.specs.Texts.{noRepeat, profiledOnce}
 use Rattle.confinement.specs.Confinement.{pathsOf, modesAmong, modesOn}
 use Rattle.confinement.specs.Tables.{noProfile}
 use Rattle.confinement.proofs.BitLaws.{bits-append}
@@ -53,13 +52,13 @@ without-known q y (x ∷ ns) d h = by (sameList q x) refl (or-cases (sameList y 
     by false e (inl p) ih = or-0 (sameList y x) (known y (without q ns)) p
     by false e (inr p) ih = or-1 (sameList y x) (known y (without q ns)) (ih p)
 
-others-known : (q : List ℕ) (ys ns : List (List ℕ)) → isAmong q ys ≡ false → every (λ y. known y ns) ys ≡ true → every (λ y. known y (without q ns)) ys ≡ true
-unfolding isAmong
+others-known : (q : List ℕ) (ys ns : List (List ℕ)) → known q ys ≡ false → every (λ y. known y ns) ys ≡ true → every (λ y. known y (without q ns)) ys ≡ true
+unfolding known
 others-known q [] ns d h = every-nil (λ y. known y (without q ns))
 others-known q (y ∷ ys) ns d h =
     every-cons (λ y. known y (without q ns)) y ys
-    (without-known q y ns (refuted (sameList q y) (λ p. clash (or-0 (sameList q y) (isAmong q ys) p) d)) (every-0 (λ y. known y ns) y ys h))
-    (others-known q ys ns (refuted (isAmong q ys) (λ p. clash (or-1 (sameList q y) (isAmong q ys) p) d)) (every-1 (λ y. known y ns) y ys h))
+    (without-known q y ns (refuted (sameList q y) (λ p. clash (or-0 (sameList q y) (known q ys) p) d)) (every-0 (λ y. known y ns) y ys h))
+    (others-known q ys ns (refuted (known q ys) (λ p. clash (or-1 (sameList q y) (known q ys) p) d)) (every-1 (λ y. known y ns) y ys h))
 
 -- a list without repeats whose members are all among others is no longer than these
 no-more : (xs ns : List (List ℕ)) → noRepeat xs ≡ true → every (λ x. known x ns) xs ≡ true → length xs ≤ length ns
@@ -69,8 +68,8 @@ no-more (x ∷ xs) ns r h =
     omega (
       arith,
       without-length x ns (every-0 (λ x. known x ns) x xs h),
-      no-more xs (without x ns) (and-1 (not (isAmong x xs)) r)
-          (others-known x xs ns (not-true (isAmong x xs) (and-0 (not (isAmong x xs)) (noRepeat xs) r)) (every-1 (λ x. known x ns) x xs h)),
+      no-more xs (without x ns) (and-1 (not (known x xs)) r)
+          (others-known x xs ns (not-true (known x xs) (and-0 (not (known x xs)) (noRepeat xs) r)) (every-1 (λ x. known x ns) x xs h)),
     )
 
 pub few-programs : (ps : List Profile) → profiledOnce ps ≡ true → length ps ≤ length (pathsOf ps)

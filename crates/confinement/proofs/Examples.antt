@@ -5,14 +5,15 @@ use mathlib.Core.Path.{_≡_, refl, ap}
 use mathlib.Core.Bool.{true, false}
 use mathlib.Core.List.{List, [], _∷_, map}
 use lib.ListN.{length, replicate}
-use Rattle.lists.specs.Lists.{every, elem, sameList, joined}
+use Rattle.fields.specs.Ascii.{ascii}
+use Rattle.lists.specs.Lists.{every, elem, sameList, joined, known, position}
 use Rattle.rules.specs.Sets.{atom, holds}
 use Rattle.rules.specs.Rules.{distinct, heldIn, unheldIn, insert, sort, normal, unrestricted}
 use Rattle.fields.specs.Bytes.{bytesOf}
 use Rattle.image.specs.Limits.{fileKind, processKind, noAtom, unrestrictedNumber}
 use Rattle.image.specs.Policy.{Container, Policy, unrestrictedRule, ruleAt}
-use Rattle.image.specs.Normal.{normalAt, placeOf, meaning, placeUses, uses, known, noted, numbered, position, numberOf, containerOf, writtenBy, policyOf, normalPolicy, containerBytes, spanBytes, spansOf, pair, header, framed, encode, normalImage}
-use Rattle.profiles.specs.Profiles.{Mode, mode-r, mode-w, mode-a, mode-l, mode-m, mode-ix, mode-px, mode-Px, mode-ux, mode-Ux, Entry, Profile, ascii, slash}
+use Rattle.image.specs.Normal.{normalAt, placeOf, meaning, placeUses, uses, noted, numbered, numberOf, containerOf, writtenBy, policyOf, normalPolicy, containerBytes, spanBytes, spansOf, pair, header, framed, encode, normalImage}
+use Rattle.profiles.specs.Profiles.{Mode, mode-r, mode-w, mode-a, mode-l, mode-m, mode-ix, mode-px, mode-Px, mode-ux, mode-Ux, Entry, Profile, slash}
 use Rattle.profiles.specs.Scanning.{modeBit}
 use Rattle.confinement.specs.Confinement.{namesOf, withPath, withPaths, pathsOf, isOneOf, someOf, reading, executing, writing, unconfined, inheriting, confined, modesAmong, modesOn, fileAtoms, atomsFrom, runMixture, programsWith, profilesAt, orElse, ifSome, permitMixtures, runMixtures, rulesFrom, rulesOf, filesFrom, initialProcess, profilePolicy}
 use Rattle.confinement.specs.Images.{limitsGood}

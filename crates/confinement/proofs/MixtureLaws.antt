@@ -9,11 +9,11 @@ use mathlib.Core.List.{List, [], _∷_}
 use lib.Pow.{pow-pos}
 use lib.Bits.{bitOr}
 use lib.ListN.{length, getD}
+use Rattle.lists.specs.Lists.{known, position}
 use Rattle.lists.proofs.Bools.{clash}
 use Rattle.rules.specs.Sets.{atom}
 use Rattle.rules.specs.Answers.{dataWidth}
 use Rattle.rules.proofs.SetLaws.{atom-or, atom-above, single-same, single-other, or-has}
-use Rattle.image.specs.Normal.{known, position}
 use Rattle.image.proofs.Numbering.{position-at, position-lt}
 use Rattle.profiles.specs.Profiles.{Mode, Profile}
 use Rattle.confinement.specs.Confinement.{someOf, reading, executing, modesOn, fileAtoms, atomsFrom, runMixture}

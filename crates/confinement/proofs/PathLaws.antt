@@ -8,11 +8,10 @@ use mathlib.Core.List.{List, [], _∷_, _++_, map}
 use lib.Dec.{eqb}
 use lib.ListN.{length, getD, length-append}
 use borrow.Author.Tests.{eqb-true, eq-eqb}
-use Rattle.lists.specs.Lists.{every, sameList}
+use Rattle.lists.specs.Lists.{every, sameList, known, position}
 use Rattle.lists.proofs.Bools.{or-0, or-1, clash, same-test}
 use Rattle.lists.proofs.Same.{same-refl, same-eq}
 use Rattle.lists.proofs.Every.{every-0, every-1, every-nil, every-cons, every-right}
-use Rattle.image.specs.Normal.{known, position}
 use Rattle.image.proofs.Numbering.{known-more, known-last, position-at}
 use Rattle.image.proofs.FirstUses.{position-stays}
 use Rattle.profiles.specs.Profiles.{Profile}

@@ -9,7 +9,7 @@ use lib.Bits.{bitOr, or-lt}
 use lib.Dec.{eqb, ltb, leb}
 use lib.ListN.{length, length-append}
 use borrow.Author.Tests.{lt-ltb, leb-true}
-use Rattle.lists.specs.Lists.{every, elem}
+use Rattle.lists.specs.Lists.{every, elem, known, position}
 use Rattle.lists.proofs.Bools.{and-in, and-0, and-1, or-0, or-1}
 use Rattle.lists.proofs.Elem.{elem-here, elem-there}
 use Rattle.lists.proofs.Every.{every-0, every-1, every-nil, every-cons, every-append, every-elem}
@@ -18,7 +18,6 @@ use Rattle.rules.specs.Answers.{dataWidth, tagWidth, mixtureLimit}
 use Rattle.rules.proofs.RuleLaws.{normal-among}
 use Rattle.image.specs.Limits.{isFile, isVolatile, isProcess, unrestrictedNumber}
 use Rattle.image.specs.Policy.{unrestrictedRule, named, containerGood, ruleGood, Sound}
-use Rattle.image.specs.Normal.{known, position}
 use Rattle.image.proofs.Numbering.{position-lt}
 use Rattle.profiles.specs.Profiles.{Mode, Profile}
 use Rattle.confinement.specs.Confinement.{pathsOf, someOf, reading, executing, writing, unconfined, inheriting, confined, modesOn, fileAtoms, atomsFrom, runMixture, programsWith, profilesAt, orElse, ifSome, permitMixtures, runMixtures, rulesFrom, rulesOf, filesFrom, initialProcess, profilePolicy}

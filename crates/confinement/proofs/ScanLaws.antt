@@ -8,11 +8,10 @@ use mathlib.Core.Bool.{Bool, true, false, cond, _||_}
 use mathlib.Core.List.{List, [], _∷_, _++_}
 use lib.ListN.{length, getD, drop, set, length-drop, length-set}
 use lib.Seq.{length-take-le, getD-take, getD-drop, ext-getD, getD-set-same, getD-set-other}
-use Rattle.lists.specs.Lists.{sameList}
+use Rattle.lists.specs.Lists.{sameList, known, position}
 use Rattle.lists.proofs.Bools.{clash, refuted}
 use Rattle.lists.proofs.Same.{same-refl, same-eq}
 use Rattle.rules.specs.Answers.{dataWidth}
-use Rattle.image.specs.Normal.{known, position}
 use Rattle.confinement.specs.Tables.{pathAt, PathTable}
 use Rattle.confinement.specs.Scans.{pathsFrom, tablePaths, Places, Hinted}
 use Rattle.confinement.proofs.PathLaws.{Distinct}

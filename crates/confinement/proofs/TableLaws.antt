@@ -8,11 +8,10 @@ use lib.Bits.{bitOr, or-zero-r}
 use lib.Dec.{eqb}
 use lib.ListN.{length, getD, take, drop, length-take, length-drop, length-map}
 use lib.Seq.{ext-getD, getD-take, getD-drop}
-use Rattle.lists.specs.Lists.{sameList}
+use Rattle.lists.specs.Lists.{sameList, position}
 use Rattle.lists.proofs.Places.{map-at}
 use Rattle.rules.specs.Answers.{dataWidth}
 use Rattle.image.specs.Policy.{unrestrictedRule}
-use Rattle.image.specs.Normal.{position}
 use Rattle.profiles.specs.Profiles.{Mode, Profile}
 use Rattle.profiles.specs.Scanning.{modeBits}
 use Rattle.confinement.specs.Confinement.{someOf, reading, executing, writing, unconfined, inheriting, confined, modesOn, fileAtoms, atomsFrom, runMixture, programsWith, profilesAt, orElse, ifSome, permitMixtures, runMixtures}

@@ -6,12 +6,12 @@ use mathlib.Core.List.{List, [], _∷_, _++_, map}
 use lib.Dec.{eqb}
 use lib.ListN.{length, getD, take, replicate, length-map}
 use borrow.Author.Tests.{eq-eqb, ne-eqb}
+use Rattle.lists.specs.Lists.{known, position}
 use Rattle.lists.proofs.Every.{every-getD}
 use Rattle.rules.specs.Rules.{normal}
 use Rattle.rules.specs.Answers.{dataWidth}
 use Rattle.image.specs.Limits.{unrestrictedNumber}
 use Rattle.image.specs.Policy.{Container}
-use Rattle.image.specs.Normal.{known, position}
 use Rattle.image.proofs.Numbering.{position-lt}
 use Rattle.profiles.specs.Profiles.{Profile}
 use Rattle.confinement.specs.Confinement.{pathsOf, runMixture, permitMixtures, runMixtures, rulesFrom, rulesOf, filesFrom, initialProcess, profilePolicy}

@@ -11,10 +11,9 @@ use lib.Dec.{eqb}
 use lib.ListN.{length, getD, set, replicate, length-append, length-set, length-replicate, List·getD-append}
 use lib.Seq.{getD-append-seam, getD-set-same, getD-set-other}
 use borrow.Author.Tests.{eqb-true, eq-eqb}
-use Rattle.lists.specs.Lists.{sameList}
+use Rattle.lists.specs.Lists.{sameList, known, position}
 use Rattle.lists.proofs.Bools.{refuted, clash}
 use Rattle.rules.specs.Answers.{dataWidth}
-use Rattle.image.specs.Normal.{known, position}
 use Rattle.image.proofs.Numbering.{position-lt}
 use Rattle.image.proofs.FirstUses.{position-stays}
 use Rattle.profiles.specs.Profiles.{Entry, Profile}

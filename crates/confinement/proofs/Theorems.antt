@@ -15,8 +15,8 @@ use Rattle.fields.specs.Bytes.{Bytes}
 use Rattle.image.specs.Limits.{headerSize, outputBound}
 use Rattle.image.specs.Policy.{unrestrictedRule, Sound}
 use Rattle.image.specs.Image.{policyIn, checkOf}
-use Rattle.image.specs.Normal.{known, meaning, normalPolicy, normalImage}
-use Rattle.lists.specs.Lists.{every, elem}
+use Rattle.image.specs.Normal.{meaning, normalPolicy, normalImage}
+use Rattle.lists.specs.Lists.{every, elem, known}
 use Rattle.lists.proofs.Bools.{and-in}
 use Rattle.lists.specs.Conditions.{Condition, firstFailed, numbersOf, numberAt, numbersGood}
 use Rattle.lists.proofs.Conditions.{given-exactly, given-none, given-among}

@@ -4,26 +4,12 @@ use mathlib.Core.Bool.{Bool, false, cond, _||_}
 use mathlib.Core.List.{List, [], _∷_, _++_, map}
 use lib.Bits.{bitOr}
 use lib.Dec.{eqb}
-use Rattle.lists.specs.Lists.{sameList}
+use Rattle.lists.specs.Lists.{sameList, known, position}
 use Rattle.rules.specs.Rules.{normal}
 use Rattle.rules.specs.Answers.{dataWidth}
 use Rattle.image.specs.Limits.{fileKind, processKind, noAtom, unrestrictedNumber}
 use Rattle.image.specs.Policy.{Container, Policy, unrestrictedRule}
-use Rattle.image.specs.Normal.{known, position}
-use Rattle.profiles.specs.Profiles.{
-  Mode,
-  mode-r,
-  mode-w,
-  mode-a,
-  mode-m,
-  mode-ix,
-  mode-px,
-  mode-Px,
-  mode-ux,
-  mode-Ux,
-  Entry,
-  Profile,
-}
+use Rattle.profiles.specs.Profiles.{Mode, mode-r, mode-w, mode-a, mode-m, mode-ix, mode-px, mode-Px, mode-ux, mode-Ux, Entry, Profile}
 use Rattle.profiles.specs.Scanning.{modeBit}
 
 -- ---- paths

@@ -5,8 +5,8 @@ use mathlib.Core.Bool.{Bool, true}
 use mathlib.Core.List.{List, [], _∷_}
 use mathlib.Core.Path.{_≡_}
 use lib.ListN.{length, getD}
+use Rattle.lists.specs.Lists.{position}
 use Rattle.rules.specs.Answers.{dataWidth}
-use Rattle.image.specs.Normal.{position}
 use Rattle.confinement.specs.Confinement.{withPath, pathsOf}
 use Rattle.confinement.specs.Images.{profilesIn}
 use Rattle.confinement.specs.Tables.{pathAt, PathTable, ProgramTable}

@@ -11,10 +11,10 @@ use Rattle.answers.specs.Refusals.{profileLimit}
 use Rattle.fields.specs.Writing.{Wrote}
 use Rattle.image.specs.Limits.{unrestrictedNumber}
 use Rattle.image.specs.Policy.{Policy, unrestrictedRule}
-use Rattle.image.specs.Normal.{position, normalImage}
+use Rattle.image.specs.Normal.{normalImage}
 use Rattle.rules.specs.Rules.{normal}
 use Rattle.rules.specs.Answers.{dataWidth, mixtureLimit}
-use Rattle.lists.specs.Lists.{every, joined}
+use Rattle.lists.specs.Lists.{every, joined, position}
 use Rattle.rule_words.specs.Words.{ruleWidth, wordsOf}
 use Rattle.profiles.specs.Profiles.{Profile}
 use Rattle.profiles.specs.Scanning.{modeBits}

@@ -4,13 +4,13 @@ use mathlib.Core.Path.{_≡_, refl, ap}
 use mathlib.Core.List.{List, [], _∷_, map}
 use lib.ListN.{length}
 use Rattle.rules.specs.Sets.{atom, holds}
-use Rattle.lists.specs.Lists.{elem, sameList, joined}
+use Rattle.lists.specs.Lists.{elem, sameList, joined, known, position}
 use Rattle.rules.specs.Rules.{distinct, heldIn, unheldIn, insert, sort, normal, unrestricted}
 use Rattle.fields.specs.Bytes.{bytesOf, numberIn, field}
 use Rattle.image.specs.Limits.{fileKind, processKind, noAtom, unrestrictedNumber}
 use Rattle.image.specs.Policy.{Container, Policy, unrestrictedRule, ruleAt}
 use Rattle.image.specs.Image.{offset, size}
-use Rattle.image.specs.Normal.{normalAt, placeOf, meaning, placeUses, uses, known, noted, numbered, position, numberOf, containerOf, writtenBy, policyOf, normalPolicy, containerBytes, spanBytes, spansOf, pair, header, framed, encode, normalImage}
+use Rattle.image.specs.Normal.{normalAt, placeOf, meaning, placeUses, uses, noted, numbered, numberOf, containerOf, writtenBy, policyOf, normalPolicy, containerBytes, spanBytes, spansOf, pair, header, framed, encode, normalImage}
 use Rattle.matrix.specs.Flows.{has}
 use Rattle.derivation.specs.Derived.{writerMixtures, orAlone, permitOf, countFrom, objectFile, subjectProcess, derivedPolicy, derivedImage}
 

@@ -13,11 +13,11 @@ use Rattle.rules.specs.Rules.{normal}
 use Rattle.rules.proofs.RuleLaws.{normal-normal}
 use Rattle.rule_words.specs.Words.{isNormal}
 use Rattle.rule_words.proofs.WordLaws.{is-normal-of}
-use Rattle.lists.specs.Lists.{sameList, every}
+use Rattle.lists.specs.Lists.{sameList, every, known, position}
 use Rattle.lists.proofs.Same.{same-eq}
 use Rattle.lists.proofs.Every.{every-0, every-1, every-nil, every-cons, every-imp, every-append}
 use Rattle.image.specs.Policy.{Container, Policy, unrestrictedRule, ruleAt}
-use Rattle.image.specs.Normal.{normalAt, placeOf, meaning, placeUses, uses, known, noted, numbered, position}
+use Rattle.image.specs.Normal.{normalAt, placeOf, meaning, placeUses, uses, noted, numbered}
 use Rattle.image.proofs.Numbering.{settled, known-more, known-last, settled-noted, settled-itself, position-lt}
 
 -- ---- the first place of a rule

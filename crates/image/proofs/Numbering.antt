@@ -9,11 +9,11 @@ use lib.Dec.{eqb, ltb}
 use lib.ListN.{length, getD, length-append}
 use borrow.Author.Tests.{ne-eqb, lt-ltb}
 use Rattle.lists.proofs.Bools.{or-0, or-1, or-cases, clash, refuted}
-use Rattle.lists.specs.Lists.{sameList, every}
+use Rattle.lists.specs.Lists.{sameList, every, known, position}
 use Rattle.lists.proofs.Same.{same-refl, same-eq}
 use Rattle.image.specs.Limits.{unrestrictedNumber}
 use Rattle.image.specs.Policy.{unrestrictedRule, ruleAt, named}
-use Rattle.image.specs.Normal.{known, noted, numbered, position, numberOf}
+use Rattle.image.specs.Normal.{noted, numbered, numberOf}
 use Rattle.rule_words.specs.Words.{wordsOf}
 use Rattle.rule_words.proofs.WordLaws.{words-same}
 use Rattle.lists.proofs.Every.{every-0, every-1, every-nil, every-cons, every-append}

@@ -6,7 +6,7 @@ use mathlib.Core.Bool.{true, false}
 use mathlib.Core.List.{List, [], _∷_}
 use mathlib.Core.Logic.{_↔_, _≢_}
 use lib.ListN.{length, getD}
-use Rattle.lists.specs.Lists.{elem}
+use Rattle.lists.specs.Lists.{elem, known, position}
 use Rattle.lists.specs.Conditions.{numbersOf, numberAt}
 use Rattle.lists.proofs.Conditions.{given-among}
 use Rattle.lists.proofs.Bools.{clash}
@@ -19,7 +19,7 @@ use Rattle.rule_words.proofs.WordLaws.{normal-is}
 use Rattle.image.specs.Limits.{headerSize, outputBound}
 use Rattle.image.specs.Policy.{Policy, Sound, unrestrictedRule}
 use Rattle.image.specs.Image.{policyIn, imageLengthGood, pairsGood, sectionsGood, rulesGood, containersGood, usersGood, imageConditions, checkOf}
-use Rattle.image.specs.Normal.{meaning, uses, known, position, writtenBy, policyOf, normalPolicy, encode, normalImage}
+use Rattle.image.specs.Normal.{meaning, uses, writtenBy, policyOf, normalPolicy, encode, normalImage}
 use Rattle.image.proofs.ImageRefusals.{refused-at, refused-by-none}
 use Rattle.image.proofs.Encode as encoded
 use Rattle.image.proofs.Decode as decoded

@@ -12,13 +12,13 @@ use Rattle.lists.proofs.Bools.{and-in, and-0, and-1, or-0, or-1, or-cases}
 use Rattle.lists.proofs.Elem.{elem-here, elem-there}
 use Rattle.rules.proofs.RuleLaws.{normal-among, normal-length, normal-normal}
 use Rattle.rules.proofs.MeetAll.{normal-one}
-use Rattle.lists.specs.Lists.{elem, sameList, every}
+use Rattle.lists.specs.Lists.{elem, sameList, every, known}
 use Rattle.rules.specs.Rules.{normal, unrestricted}
 use Rattle.lists.proofs.Same.{same-refl, same-eq}
 use Rattle.rules.specs.Answers.{dataWidth, tagWidth, mixtureLimit}
 use Rattle.image.specs.Limits.{containerLimit, userLimit, ruleLimit, isFile, isVolatile, isProcess, unrestrictedNumber, noAtom}
 use Rattle.image.specs.Policy.{Container, Policy, unrestrictedRule, ruleAt, named, containerGood, ruleGood, Sound}
-use Rattle.image.specs.Normal.{Place, Meaning, normalAt, placeOf, meaning, placeUses, uses, known, numbered, numberOf, containerOf, writtenBy, policyOf}
+use Rattle.image.specs.Normal.{Place, Meaning, normalAt, placeOf, meaning, placeUses, uses, numbered, numberOf, containerOf, writtenBy, policyOf}
 use Rattle.lists.proofs.Every.{every-elem, every-0, every-1, every-nil, every-cons, every-imp, every-append, every-left, every-right, every-both, every-map, every-getD, map-back}
 use Rattle.image.proofs.Numbering.{settled, all-settled, numbered-every, numbered-few, number-rule, number-named}
 

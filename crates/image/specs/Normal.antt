@@ -1,10 +1,10 @@
 -- The normal image of a policy (the paper, "Policy image": "Normal image").
-use Prim.Native.Nat.{ℕ, suc, _+_}
-use mathlib.Core.Bool.{Bool, false, cond, _||_}
+use Prim.Native.Nat.{ℕ, _+_}
+use mathlib.Core.Bool.{cond, _||_}
 use mathlib.Core.List.{List, [], _∷_, _++_, map}
 use lib.ListN.{length}
 use Rattle.rules.specs.Rules.{normal}
-use Rattle.lists.specs.Lists.{sameList, joined}
+use Rattle.lists.specs.Lists.{sameList, joined, known, position}
 use Rattle.image.specs.Limits.{unrestrictedNumber, userSize, mixtureSize, size8, size16, leadingNumber, headerSize}
 use Rattle.fields.specs.Bytes.{bytesOf}
 use Rattle.image.specs.Policy.{Container, Policy, unrestrictedRule, ruleAt}
@@ -44,11 +44,6 @@ placeUses (p ∷ ps) = p .permit ∷ p .run ∷ placeUses ps
 unfoldable pub uses : Meaning → List (List ℕ)
 uses m = placeUses (m .places) ++ m .users
 
--- r is one of the rules
-unfoldable pub known : List ℕ → List (List ℕ) → Bool
-known r [] = false
-known r (s ∷ rules) = sameList r s || known r rules
-
 -- a rule in use takes the next number, unless it is unrestricted or has one
 unfoldable pub noted : List (List ℕ) → List ℕ → List (List ℕ)
 noted rules r = cond (sameList r unrestrictedRule || known r rules) rules (rules ++ (r ∷ []))
@@ -57,11 +52,7 @@ unfoldable pub numbered : List (List ℕ) → List (List ℕ) → List (List ℕ
 numbered rules [] = rules
 numbered rules (r ∷ rs) = numbered (noted rules r) rs
 
--- the place of r among the rules
-unfoldable pub position : List ℕ → List (List ℕ) → ℕ
-position r [] = 0
-position r (s ∷ rules) = cond (sameList r s) 0 (suc (position r rules))
-
+-- the place of r among the rules, or the number of the unrestricted one
 unfoldable pub numberOf : List (List ℕ) → List ℕ → ℕ
 numberOf rules r = cond (sameList r unrestrictedRule) unrestrictedNumber (position r rules)
 

@@ -1,8 +1,9 @@
 -- The paper's listing and numbers as text, each computed from the definitions.
 use mathlib.Core.Path.{_≡_, refl}
 use mathlib.Core.List.{[], _∷_, map}
+use Rattle.fields.specs.Ascii.{ascii}
 use Rattle.answers.specs.Answers.{quiet, alert, refused}
-use Rattle.listing.specs.Text.{ascii, digit, digits, decimalIn, decimal, hexadecimal}
+use Rattle.listing.specs.Text.{digit, digits, decimalIn, decimal, hexadecimal}
 use Rattle.listing.specs.Lines.{line, operationWord, verdictWord, answerWord, answerFields, heading, stepLine, shortLine, totalLine, policyLine}
 
 -- ---- the listing

@@ -7,11 +7,12 @@ use mathlib.Core.List.{List, [], _∷_, _++_, append-assoc}
 use lib.Dec.{eqb}
 use lib.ListN.{length, length-append}
 use borrow.Author.Tests.{ne-eqb}
+use Rattle.fields.specs.Ascii.{ascii}
 use Rattle.answers.specs.declared.Verdict.{Verdict}
 use Rattle.answers.specs.declared.Verdict.the-variants.{Quiet, Alert}
 use Rattle.answers.specs.declared.Answer.{Answer}
 use Rattle.answers.specs.declared.Answer.the-variants.{Given, Refused}
-use Rattle.listing.specs.Text.{ascii, decimalLimit, decimal}
+use Rattle.listing.specs.Text.{decimalLimit, decimal}
 use Rattle.listing.specs.Lines.{space, newline, line, spaced, operationWord, verdictWord, answerWord, answerFields, heading, stepLine, shortLine, totalLine, policyLine}
 use Rattle.listing.specs.Buffer.{operationLimit, accessLimit, verdictLength, answerLimit, lineLimit}
 use Rattle.listing.proofs.TextLaws.{decimal-length, hexadecimal-length}

@@ -12,9 +12,10 @@ use lib.Seq.{drop-append-le}
 use lib.Pow.{pow-add, mod-mod-pow}
 use lib.Pow as Pow
 use borrow.Author.Tests.{lt-ltb, le-ltb, ltb-true, ltb-false, eqb-true}
+use Rattle.fields.specs.Ascii.{ascii}
 use Rattle.fields.specs.Bytes.{numberIn, bytesOf, Bytes}
 use Rattle.fields.proofs.ByteLaws.{bytes-first, bytes-rest, bytes-number}
-use Rattle.listing.specs.Text.{ascii, digit, digits, decimalLimit, decimalIn, decimal, tagDigits, hexadecimal, decimalValue}
+use Rattle.listing.specs.Text.{digit, digits, decimalLimit, decimalIn, decimal, tagDigits, hexadecimal, decimalValue}
 use Rattle.listing.proofs.Finite.{all-at}
 
 -- ---- one digit

@@ -3,7 +3,8 @@ use Prim.Native.Nat.{ℕ}
 use mathlib.Core.Bool.{cond}
 use mathlib.Core.List.{List, [], _∷_, _++_}
 use lib.Dec.{eqb}
-use Rattle.listing.specs.Text.{ascii, decimal, hexadecimal}
+use Rattle.fields.specs.Ascii.{ascii}
+use Rattle.listing.specs.Text.{decimal, hexadecimal}
 use Rattle.answers.specs.declared.Verdict.{Verdict}
 use Rattle.answers.specs.declared.Verdict.the-variants.{Quiet, Alert}
 use Rattle.answers.specs.declared.Answer.{Answer}

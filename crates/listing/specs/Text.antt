@@ -1,16 +1,10 @@
 -- Texts as lists of bytes: quoted words, numbers in decimal, tags in hexadecimal.
 use Prim.Native.Nat.{ℕ, zero, suc, _+_, _*_, _-_, _/_, _%_}
-use Prim.Native.Char.{code}
-use Prim.Native.String.{String, [] as ε, _∷_ as _◂_}
 use mathlib.Core.Bool.{cond}
 use mathlib.Core.List.{List, [], _∷_, _++_}
 use lib.Dec.{ltb}
 use lib.ListN.{getD}
-
--- the bytes of a quoted text in ASCII
-unfoldable pub ascii : String → List ℕ
-ascii ε = []
-ascii (c ◂ s) = code c ∷ ascii s
+use Rattle.fields.specs.Ascii.{ascii}
 
 -- a digit below 16, "by-ten letters"
 unfoldable pub digit : ℕ → ℕ

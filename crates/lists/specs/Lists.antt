@@ -1,6 +1,6 @@
 -- Tests of lists.
-use Prim.Native.Nat.{ℕ}
-use mathlib.Core.Bool.{Bool, true, false, _&&_, _||_}
+use Prim.Native.Nat.{ℕ, suc}
+use mathlib.Core.Bool.{Bool, true, false, cond, _&&_, _||_}
 use mathlib.Core.List.{List, [], _∷_, _++_}
 use lib.Dec.{eqb}
 
@@ -25,3 +25,13 @@ every f (x ∷ xs) = f x && every f xs
 unfoldable pub joined : List (List ℕ) → List ℕ
 joined [] = []
 joined (x ∷ xs) = x ++ joined xs
+
+-- r is one of the lists
+unfoldable pub known : List ℕ → List (List ℕ) → Bool
+known r [] = false
+known r (s ∷ ls) = sameList r s || known r ls
+
+-- the place of r among the lists; their number if it is not there
+unfoldable pub position : List ℕ → List (List ℕ) → ℕ
+position r [] = 0
+position r (s ∷ ls) = cond (sameList r s) 0 (suc (position r ls))

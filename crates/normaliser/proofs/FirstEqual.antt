@@ -11,11 +11,10 @@ use lib.ListN.{length, getD, take, drop, length-take, length-drop}
 use lib.Seq.{drop-cons}
 use Rattle.lists.proofs.Bools.{refuted}
 use Rattle.lists.proofs.Same.{same-refl, same-eq}
-use Rattle.lists.specs.Lists.{sameList}
+use Rattle.lists.specs.Lists.{sameList, position}
 use Rattle.rules.specs.Rules.{unrestricted}
 use Rattle.fields.specs.Bytes.{records}
 use Rattle.image.specs.Policy.{unrestrictedRule}
-use Rattle.image.specs.Normal.{position}
 use Rattle.rule_words.specs.Words.{ruleWidth, ruleOf}
 use Rattle.fields.proofs.RecordLaws.{records-count}
 use Rattle.normaliser.specs.Keys.{wordsAt}

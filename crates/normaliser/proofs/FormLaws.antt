@@ -13,10 +13,10 @@ use Rattle.lists.proofs.Bools.{and-0, and-1}
 use Rattle.lists.proofs.Same.{same-refl}
 use Rattle.rules.specs.Rules.{normal}
 use Rattle.image.specs.Limits.{unrestrictedNumber}
-use Rattle.lists.specs.Lists.{every}
+use Rattle.lists.specs.Lists.{every, position}
 use Rattle.fields.specs.Bytes.{records}
 use Rattle.image.specs.Policy.{unrestrictedRule, ruleAt, named}
-use Rattle.image.specs.Normal.{normalAt, position, numberOf}
+use Rattle.image.specs.Normal.{normalAt, numberOf}
 use Rattle.rules.specs.Answers.{mixtureLimit}
 use Rattle.rule_words.specs.Words.{ruleWidth, ruleOf, wordsOf, keptWell}
 use Rattle.lists.proofs.Every.{every-getD, every-both, map-back}

@@ -12,11 +12,10 @@ use lib.ListN.{length, getD, drop, set, replicate, length-set, length-replicate,
 use lib.Seq.{drop-cons, getD-set-same, getD-set-other}
 use Rattle.lists.proofs.Bools.{refuted}
 use Rattle.lists.proofs.Same.{same-eq}
-use Rattle.lists.specs.Lists.{sameList}
+use Rattle.lists.specs.Lists.{sameList, position}
 use Rattle.image.specs.Limits.{unrestrictedNumber}
 use Rattle.fields.specs.Bytes.{records}
 use Rattle.image.specs.Policy.{unrestrictedRule}
-use Rattle.image.specs.Normal.{position}
 use Rattle.rule_words.specs.Words.{ruleWidth, ruleOf}
 use Rattle.fields.proofs.RecordLaws.{records-count}
 use Rattle.normaliser.specs.Writer.{useLimit}

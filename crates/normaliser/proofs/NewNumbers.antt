@@ -9,13 +9,13 @@ use lib.Dec.{eqb, ltb, leb}
 use lib.ListN.{length, getD, take, length-append}
 use borrow.Author.Tests.{eq-eqb, ne-eqb, ltb-true, lt-ltb, le-leb, leb-true, not-true}
 use Rattle.lists.proofs.Bools.{and-in, and-0, and-1, or-0, or-1, or-cases, clash}
-use Rattle.lists.specs.Lists.{sameList, joined, every}
+use Rattle.lists.specs.Lists.{sameList, joined, every, known, position}
 use Rattle.image.specs.Limits.{unrestrictedNumber}
 use Rattle.rules.specs.Answers.{mixtureLimit}
 use Rattle.rule_words.specs.Words.{ruleWidth}
 use Rattle.image.specs.Policy.{Container, unrestrictedRule, ruleAt, named}
 use Rattle.image.specs.Image.{containersIn, usersIn}
-use Rattle.image.specs.Normal.{normalAt, placeOf, meaning, placeUses, uses, known, numbered, position, numberOf, containerOf}
+use Rattle.image.specs.Normal.{normalAt, placeOf, meaning, placeUses, uses, numbered, numberOf, containerOf}
 use Rattle.lists.proofs.Every.{every-0, every-1, every-nil, every-cons, every-imp, every-append, every-left, every-right, every-both, every-map, map-back}
 use Rattle.image.proofs.Numbering.{settled, all-settled, numbered-every, numbered-few, number-named, number-rule}
 use Rattle.normaliser.specs.Tables.{formAt, formGood, Classified, classAt, classNamed, withClasses, placeIn, Ordered, newNumber, found}

@@ -5,12 +5,11 @@ use mathlib.Core.Bool.{Bool, true, cond, _&&_, _||_}
 use mathlib.Core.List.{List, [], _∷_, _++_}
 use lib.Dec.{eqb, ltb, leb}
 use lib.ListN.{length, getD, take}
-use Rattle.lists.specs.Lists.{elem, sameList}
+use Rattle.lists.specs.Lists.{elem, sameList, position}
 use Rattle.rules.specs.Answers.{mixtureLimit}
 use Rattle.image.specs.Limits.{unrestrictedNumber}
 use Rattle.fields.specs.Bytes.{records}
 use Rattle.image.specs.Policy.{unrestrictedRule, named}
-use Rattle.image.specs.Normal.{position}
 use Rattle.normaliser.specs.Writer.{useLimit}
 use Rattle.normaliser.specs.Keys.{wordsAt, Keyed}
 use Rattle.rule_words.specs.Words.{ruleWidth, ruleOf}

@@ -7,9 +7,10 @@ use native.Mathlib.Omega.{arith}
 use lib.Bits.{bitOr, or-shr, or-mod}
 use lib.Dec.{eqb}
 use borrow.Author.Tests.{eqb-true}
+use Rattle.fields.specs.Ascii.{ascii}
 use Rattle.lists.specs.Lists.{every, sameList}
 use Rattle.lists.proofs.Bools.{and-0, and-1}
-use Rattle.profiles.specs.Profiles.{Mode, mode-r, mode-w, mode-a, mode-l, mode-m, mode-ix, mode-px, mode-Px, mode-ux, mode-Ux, ascii, modeText, hasMode}
+use Rattle.profiles.specs.Profiles.{Mode, mode-r, mode-w, mode-a, mode-l, mode-m, mode-ix, mode-px, mode-Px, mode-ux, mode-Ux, modeText, hasMode}
 use Rattle.profiles.specs.Reading.{allModes}
 use Rattle.profiles.specs.Scanning.{modeBit, withModes, modeBits, hasBit}
 

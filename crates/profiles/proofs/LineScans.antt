@@ -8,8 +8,9 @@ use mathlib.Core.Option.{Option, none, some}
 use native.Mathlib.Omega.{arith}
 use lib.ListN.{length, getD, drop, length-append, length-drop}
 use lib.Seq.{getD-drop, drop-drop}
+use Rattle.fields.specs.Ascii.{ascii}
 use Rattle.lists.specs.Lists.{joined}
-use Rattle.profiles.specs.Profiles.{Mode, Entry, ascii, modeText, modesText, profileWord, profileEnd, modesStart, modesEnd, profileLine, entryLine, endLine, pathGood, modesGood, entryGood}
+use Rattle.profiles.specs.Profiles.{Mode, Entry, modeText, modesText, profileWord, profileEnd, modesStart, modesEnd, profileLine, entryLine, endLine, pathGood, modesGood, entryGood}
 use Rattle.profiles.specs.Tokens.{given, starts, tokens}
 use Rattle.profiles.specs.Reading.{Line, opens, enters, closes, lineText, lineGood, pathIn, modesIn, entryIn, linesToTry, lineAmong, lineIn, linesIn}
 use Rattle.profiles.specs.Scanning.{modeBits, profileKind, entryKind, endKind, lineScan, noScan, lineAt}

@@ -10,9 +10,10 @@ use lib.Dec.{eqb}
 use lib.ListN.{length, getD, drop, length-append, length-drop, drop-of-length-le}
 use lib.Seq.{getD-drop, drop-drop}
 use borrow.Author.Tests.{eqb-true, eq-eqb, ne-eqb}
+use Rattle.fields.specs.Ascii.{ascii}
 use Rattle.lists.specs.Lists.{joined}
 use Rattle.lists.proofs.Bools.{and-in, and-0, same-test}
-use Rattle.profiles.specs.Profiles.{Mode, modeText, modesText, ascii}
+use Rattle.profiles.specs.Profiles.{Mode, modeText, modesText}
 use Rattle.profiles.specs.Tokens.{starts, tokens}
 use Rattle.profiles.specs.Reading.{modeAmong, allModes, modeIn, modesIn}
 use Rattle.profiles.specs.Scanning.{modeBit, withModes, modeBits, modeScan, withX, modeAt, modesScan, modesAt}

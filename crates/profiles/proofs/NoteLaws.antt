@@ -9,14 +9,14 @@ use lib.Dec.{eqb, ltb}
 use lib.ListN.{length, getD, take, drop, set, length-append, length-drop, length-set, length-map, drop-of-length-le}
 use lib.Seq.{length-take-le, take-append-seam, drop-cons, take-suc-set}
 use borrow.Author.Tests.{eqb-true, eq-eqb, ltb-true, lt-ltb, le-ltb}
-use Rattle.lists.specs.Lists.{every, sameList}
+use Rattle.lists.specs.Lists.{every, sameList, known, position}
 use Rattle.lists.proofs.Bools.{and-in, and-0, and-1, refuted, same-test}
 use Rattle.lists.proofs.Every.{every-nil, every-cons, every-append}
 use Rattle.lists.proofs.Same.{same-eq}
 use Rattle.profiles.specs.Profiles.{pathGood}
 use Rattle.profiles.specs.Reading.{pathIn}
-use Rattle.profiles.specs.Texts.{textLimit, isAmong}
-use Rattle.profiles.specs.Notes.{lengthLimit, keyFrom, pathKey, noteOf, notedPath, noteGood, PathAt, ToNote, placeAmong, notedPaths, notedPlace, withNote}
+use Rattle.profiles.specs.Texts.{textLimit}
+use Rattle.profiles.specs.Notes.{lengthLimit, keyFrom, pathKey, noteOf, notedPath, noteGood, PathAt, ToNote, notedPaths, notedPlace, withNote}
 use Rattle.profiles.proofs.TokenLaws.{starts-split}
 use Rattle.profiles.proofs.LineLaws.{path-front}
 use Rattle.profiles.proofs.ScanLaws.{drop-next}
@@ -106,42 +106,42 @@ module _ (t : List ℕ) (note at n key : ℕ) (p : PathAt t at n key) (g : noteG
 
 pub record NotesPassed (t notes : List ℕ) (p : List ℕ) (j : ℕ) : Type 0 where
   pub place : j ≤ length notes
-  pub rest : j + placeAmong p (map (notedPath t) (drop j notes)) ≡ placeAmong p (map (notedPath t) notes)
+  pub rest : j + position p (map (notedPath t) (drop j notes)) ≡ position p (map (notedPath t) notes)
 
 pub notes-start : (t notes p : List ℕ) → NotesPassed t notes p 0
 notes-start t notes p = record { place = omega arith; rest = omega arith }
 
 module _ (t notes p : List ℕ) (j : ℕ) (g : NotesPassed t notes p j) where
   notes-step : j < length notes
-      → placeAmong p (map (notedPath t) (drop j notes)) ≡ cond (sameList p (notedPath t (getD notes j 0))) 0 (suc (placeAmong p (map (notedPath t) (drop (j + 1) notes))))
-  unfolding placeAmong
+      → position p (map (notedPath t) (drop j notes)) ≡ cond (sameList p (notedPath t (getD notes j 0))) 0 (suc (position p (map (notedPath t) (drop (j + 1) notes))))
+  unfolding position
   notes-step l = rw (add-one, drop-cons notes j 0 l)
 
-  pub notes-found : j < length notes → sameList p (notedPath t (getD notes j 0)) ≡ true → j ≡ placeAmong p (map (notedPath t) notes)
-  notes-found l h = let e : placeAmong p (map (notedPath t) (drop j notes)) ≡ 0 = rw h at (notes-step l) in omega (arith, g .rest)
+  pub notes-found : j < length notes → sameList p (notedPath t (getD notes j 0)) ≡ true → j ≡ position p (map (notedPath t) notes)
+  notes-found l h = let e : position p (map (notedPath t) (drop j notes)) ≡ 0 = rw h at (notes-step l) in omega (arith, g .rest)
 
   pub notes-next : j < length notes → sameList p (notedPath t (getD notes j 0)) ≡ false → NotesPassed t notes p (j + 1)
   notes-next l h =
-      let e : placeAmong p (map (notedPath t) (drop j notes)) ≡ suc (placeAmong p (map (notedPath t) (drop (j + 1) notes))) = rw h at (notes-step l) in
+      let e : position p (map (notedPath t) (drop j notes)) ≡ suc (position p (map (notedPath t) (drop (j + 1) notes))) = rw h at (notes-step l) in
       record { place = omega arith; rest = omega (arith, g .rest) }
 
-  pub notes-end : length notes ≤ j → j ≡ placeAmong p (map (notedPath t) notes)
-  unfolding placeAmong
-  notes-end l = let e : placeAmong p (map (notedPath t) (drop j notes)) ≡ 0 = rw (drop-of-length-le notes l) in omega (arith, g .rest)
+  pub notes-end : length notes ≤ j → j ≡ position p (map (notedPath t) notes)
+  unfolding position
+  notes-end l = let e : position p (map (notedPath t) (drop j notes)) ≡ 0 = rw (drop-of-length-le notes l) in omega (arith, g .rest)
 
 ltb-suc : (a b : ℕ) → ltb (suc a) (suc b) ≡ ltb a b
 ltb-suc a b =
     same-test (ltb (suc a) (suc b)) (ltb a b) (λ h. lt-ltb a b (omega (arith, ltb-true (suc a) (suc b) h))) (λ h. lt-ltb (suc a) (suc b) (omega (arith, ltb-true a b h)))
 
 -- a path that has a place is there
-pub place-among : (p : List ℕ) (qs : List (List ℕ)) → ltb (placeAmong p qs) (length qs) ≡ isAmong p qs
-unfolding placeAmong isAmong
+pub place-among : (p : List ℕ) (qs : List (List ℕ)) → ltb (position p qs) (length qs) ≡ known p qs
+unfolding position known
 place-among p [] = refl
 place-among p (q ∷ qs) = by (sameList p q) (place-among p qs)
   where
-    by : (b : Bool) → ltb (placeAmong p qs) (length qs) ≡ isAmong p qs → ltb (cond b 0 (suc (placeAmong p qs))) (suc (length qs)) ≡ (b || isAmong p qs)
+    by : (b : Bool) → ltb (position p qs) (length qs) ≡ known p qs → ltb (cond b 0 (suc (position p qs))) (suc (length qs)) ≡ (b || known p qs)
     by true h = lt-ltb 0 (suc (length qs)) (omega arith)
-    by false h = ltb-suc (placeAmong p qs) (length qs) ∙ h
+    by false h = ltb-suc (position p qs) (length qs) ∙ h
 
 -- ---- one note more
 
@@ -158,17 +158,17 @@ module _ (t notes : List ℕ) (count at n : ℕ) (g : ToNote t notes count at n)
     unfolding withNote noteOf
     new-note l key k = rw (le-ltb (notedPlace t notes count at n) count (omega arith), k)
 
-    known-is : ltb r count ≡ isAmong (take n (drop at t)) (notedPaths t notes count)
+    known-is : ltb r count ≡ known (take n (drop at t)) (notedPaths t notes count)
     unfolding notedPlace notedPaths
     known-is =
         let m : length (map (notedPath t) (take count notes)) ≡ count = length-map (take count notes) (notedPath t) ∙ length-take-le count notes (omega (arith, g .room)) in
         ap₂ ltb e (sym m) ∙ place-among (take n (drop at t)) (map (notedPath t) (take count notes))
 
-    pub is-known : r < count → isAmong (take n (drop at t)) (notedPaths t notes count) ≡ true
+    pub is-known : r < count → known (take n (drop at t)) (notedPaths t notes count) ≡ true
     is-known l = sym known-is ∙ lt-ltb r count l
 
     module _ (l : count ≤ r) where
-      pub is-new : isAmong (take n (drop at t)) (notedPaths t notes count) ≡ false
+      pub is-new : known (take n (drop at t)) (notedPaths t notes count) ≡ false
       is-new = sym known-is ∙ le-ltb r count l
 
       module _ (after : List ℕ) (w : after ≡ withNote t notes count at n) where

@@ -8,13 +8,13 @@ use native.Mathlib.Omega.{arith}
 use lib.Dec.{eqb}
 use lib.ListN.{length, drop, length-append, length-drop, drop-of-length-le}
 use borrow.Author.Tests.{eqb-true, eq-eqb, ne-eqb}
-use Rattle.lists.specs.Lists.{every, joined, sameList}
+use Rattle.lists.specs.Lists.{every, joined, sameList, known}
 use Rattle.lists.proofs.Bools.{same-test}
 use Rattle.lists.proofs.Same.{same-refl, same-eq}
 use Rattle.lists.proofs.Every.{every-all}
 use Rattle.profiles.specs.Profiles.{Entry, Profile}
 use Rattle.profiles.specs.Reading.{Line, opens, enters, closes, lineText, lineIn, linesIn, linesText, Parsed, outside, inside, broken, behindLine, parsed, profilesOf, readingOf}
-use Rattle.profiles.specs.Texts.{isAmong, noRepeat, profiledOnce, readsWell}
+use Rattle.profiles.specs.Texts.{noRepeat, profiledOnce, readsWell}
 use Rattle.profiles.proofs.TokenLaws.{tokens-stop}
 use Rattle.profiles.proofs.LineLaws.{and-false, line-front}
 use Rattle.profiles.proofs.LineScans.{starts-room, lines-more}
@@ -25,7 +25,7 @@ use Rattle.profiles.proofs.ReadingLaws.{no-line-left}
 -- no path is among those seen or those before it
 unfoldable pub onceBehind : List (List ℕ) → List (List ℕ) → Bool
 onceBehind seen [] = true
-onceBehind seen (p ∷ ps) = not (isAmong p seen) && onceBehind (seen ++ (p ∷ [])) ps
+onceBehind seen (p ∷ ps) = not (known p seen) && onceBehind (seen ++ (p ∷ [])) ps
 
 same-sym : (a b : List ℕ) → sameList a b ≡ sameList b a
 same-sym a b =
@@ -33,8 +33,8 @@ same-sym a b =
     (λ h. ap (λ (x : List ℕ). sameList b x) (same-eq a b h) ∙ same-refl b)
     (λ h. ap (λ (x : List ℕ). sameList a x) (same-eq b a h) ∙ same-refl a)
 
-among-more : (q p : List ℕ) (seen : List (List ℕ)) → isAmong q (seen ++ (p ∷ [])) ≡ (isAmong q seen || sameList p q)
-unfolding isAmong
+among-more : (q p : List ℕ) (seen : List (List ℕ)) → known q (seen ++ (p ∷ [])) ≡ (known q seen || sameList p q)
+unfolding known
 among-more q p [] = by (sameList q p) (same-sym q p)
   where
     by : (b : Bool) → b ≡ sameList p q → (b || false) ≡ sameList p q
@@ -42,14 +42,14 @@ among-more q p [] = by (sameList q p) (same-sym q p)
     by false h = h
 among-more q p (r ∷ seen) = by (sameList q r) (among-more q p seen)
   where
-    by : (b : Bool) → isAmong q (seen ++ (p ∷ [])) ≡ (isAmong q seen || sameList p q) → (b || isAmong q (seen ++ (p ∷ []))) ≡ ((b || isAmong q seen) || sameList p q)
+    by : (b : Bool) → known q (seen ++ (p ∷ [])) ≡ (known q seen || sameList p q) → (b || known q (seen ++ (p ∷ []))) ≡ ((b || known q seen) || sameList p q)
     by true h = refl
     by false h = h
 
-apart : (seen : List (List ℕ)) (p : List ℕ) (ps : List (List ℕ)) → every (λ q. not (isAmong q (seen ++ (p ∷ [])))) ps ≡ (every (λ q. not (isAmong q seen)) ps && not (isAmong p ps))
-unfolding every isAmong
+apart : (seen : List (List ℕ)) (p : List ℕ) (ps : List (List ℕ)) → every (λ q. not (known q (seen ++ (p ∷ [])))) ps ≡ (every (λ q. not (known q seen)) ps && not (known p ps))
+unfolding every known
 apart seen p [] = refl
-apart seen p (q ∷ ps) = rw (among-more q p seen, apart seen p ps) (by (isAmong q seen) (sameList p q) (every (λ q. not (isAmong q seen)) ps) (isAmong p ps))
+apart seen p (q ∷ ps) = rw (among-more q p seen, apart seen p ps) (by (known q seen) (sameList p q) (every (λ q. not (known q seen)) ps) (known p ps))
   where
     by : (a b c d : Bool) → (not (a || b) && (c && not d)) ≡ ((not a && c) && not (b || d))
     by true b c d = refl
@@ -57,11 +57,11 @@ apart seen p (q ∷ ps) = rw (among-more q p seen, apart seen p ps) (by (isAmong
     by false true false d = refl
     by false false c d = refl
 
-once-behind : (seen ps : List (List ℕ)) → onceBehind seen ps ≡ (every (λ q. not (isAmong q seen)) ps && noRepeat ps)
+once-behind : (seen ps : List (List ℕ)) → onceBehind seen ps ≡ (every (λ q. not (known q seen)) ps && noRepeat ps)
 unfolding onceBehind every noRepeat
 once-behind seen [] = refl
 once-behind seen (p ∷ ps) =
-    rw (once-behind (seen ++ (p ∷ [])) ps, apart seen p ps) (by (not (isAmong p seen)) (every (λ q. not (isAmong q seen)) ps) (not (isAmong p ps)) (noRepeat ps))
+    rw (once-behind (seen ++ (p ∷ [])) ps, apart seen p ps) (by (not (known p seen)) (every (λ q. not (known q seen)) ps) (not (known p ps)) (noRepeat ps))
   where
     by : (a b c d : Bool) → (a && ((b && c) && d)) ≡ ((a && b) && (c && d))
     by true true c d = refl
@@ -69,14 +69,14 @@ once-behind seen (p ∷ ps) =
     by false b c d = refl
 
 pub once-from-none : (ps : List (List ℕ)) → onceBehind [] ps ≡ noRepeat ps
-unfolding isAmong
-once-from-none ps = once-behind [] ps ∙ ap (λ (b : Bool). b && noRepeat ps) (every-all (λ q. not (isAmong q [])) ps (λ q. refl))
+unfolding known
+once-from-none ps = once-behind [] ps ∙ ap (λ (b : Bool). b && noRepeat ps) (every-all (λ q. not (known q [])) ps (λ q. refl))
 
 -- ---- lines judged from the left
 
 unfoldable pub judged : List (List ℕ) → Bool → List Line → Bool
 judged seen b [] = not b
-judged seen b (opens p ∷ ls) = not b && (not (isAmong p seen) && judged (seen ++ (p ∷ [])) true ls)
+judged seen b (opens p ∷ ls) = not b && (not (known p seen) && judged (seen ++ (p ∷ [])) true ls)
 judged seen b (enters e ∷ ls) = b && judged seen true ls
 judged seen b (closes ∷ ls) = b && judged seen false ls
 
@@ -93,11 +93,11 @@ judged-line : (l : Line) (ls : List Line) (r : Parsed) (seen : List (List ℕ)) 
     → ((s : List (List ℕ)) (c : Bool) → judged s c ls ≡ wellFrom s c r) → judged seen b (l ∷ ls) ≡ wellFrom seen b (behindLine l r)
 unfolding judged wellFrom behindLine onceBehind
 judged-line (opens p) ls (outside ps) seen true ih = refl
-judged-line (opens p) ls (outside ps) seen false ih = rw (ih (seen ++ (p ∷ [])) true) (and-false (not (isAmong p seen)))
+judged-line (opens p) ls (outside ps) seen false ih = rw (ih (seen ++ (p ∷ [])) true) (and-false (not (known p seen)))
 judged-line (opens p) ls (inside es ps) seen true ih = refl
 judged-line (opens p) ls (inside es ps) seen false ih = rw (ih (seen ++ (p ∷ [])) true)
 judged-line (opens p) ls broken seen true ih = refl
-judged-line (opens p) ls broken seen false ih = rw (ih (seen ++ (p ∷ [])) true) (and-false (not (isAmong p seen)))
+judged-line (opens p) ls broken seen false ih = rw (ih (seen ++ (p ∷ [])) true) (and-false (not (known p seen)))
 judged-line (enters e) ls (outside ps) seen true ih = ih seen true
 judged-line (enters e) ls (outside ps) seen false ih = refl
 judged-line (enters e) ls (inside es ps) seen true ih = ih seen true
@@ -178,11 +178,11 @@ module _ (t : List ℕ) (seen : List (List ℕ)) (at : ℕ) (i : at < length t) 
     unfolding judged
     profile-inside = left-line t seen true at (opens p) i e ∙ and-false (eqb (length (linesText (linesIn (drop (at + length (lineText (opens p))) t)))) (length (drop (at + length (lineText (opens p))) t)))
 
-    pub profile-again : isAmong p seen ≡ true → leftGood t seen false at ≡ false
+    pub profile-again : known p seen ≡ true → leftGood t seen false at ≡ false
     unfolding judged
     profile-again h = left-line t seen false at (opens p) i e ∙ rw h (and-false (eqb (length (linesText (linesIn (drop (at + length (lineText (opens p))) t)))) (length (drop (at + length (lineText (opens p))) t))))
 
-    pub profile-new : isAmong p seen ≡ false → leftGood t seen false at ≡ leftGood t (seen ++ (p ∷ [])) true (at + length (lineText (opens p)))
+    pub profile-new : known p seen ≡ false → leftGood t seen false at ≡ leftGood t (seen ++ (p ∷ [])) true (at + length (lineText (opens p)))
     unfolding judged leftGood
     profile-new h = left-line t seen false at (opens p) i e ∙ rw h
 

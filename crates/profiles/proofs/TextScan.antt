@@ -6,11 +6,11 @@ use mathlib.Core.List.{List, [], _∷_, _++_}
 use native.Mathlib.Omega.{arith}
 use lib.ListN.{length, take, drop}
 use borrow.Author.Tests.{not-true, not-false}
-use Rattle.lists.specs.Lists.{every}
+use Rattle.lists.specs.Lists.{every, known}
 use Rattle.lists.proofs.Every.{every-nil}
 use Rattle.profiles.specs.Profiles.{pathGood}
 use Rattle.profiles.specs.Reading.{opens, enters, closes, pathIn, readingOf}
-use Rattle.profiles.specs.Texts.{textLimit, isAmong, readsWell}
+use Rattle.profiles.specs.Texts.{textLimit, readsWell}
 use Rattle.profiles.specs.Scanning.{profileKind, entryKind, endKind, lineAt}
 use Rattle.profiles.specs.Notes.{noteGood, ToNote, notedPaths, notedPlace, withNote}
 use Rattle.profiles.proofs.NoteLaws.{is-known, is-new, notes-long, notes-good, paths-more}
@@ -77,12 +77,12 @@ module _ (t notes₀ notes : List ℕ) (at count : ℕ) (b : Bool) (g : TextScan
         pub profile-repeats : r < count → false ≡ readsWell (readingOf t)
         profile-repeats l =
             sym (profile-again t (notedPaths t notes count) at i (profile .path) (profile .reads)
-            (ap (λ (p : List ℕ). isAmong p (notedPaths t notes count)) (sym (profile .text)) ∙ is-known t notes count (s .path) (s .length) profile-to-note r e l))
+            (ap (λ (p : List ℕ). known p (notedPaths t notes count)) (sym (profile .text)) ∙ is-known t notes count (s .path) (s .length) profile-to-note r e l))
             ∙ left-as false o
 
         module _ (l : count ≤ r) (after : List ℕ) (w : after ≡ withNote t notes count (s .path) (s .length)) where
-          path-new : isAmong (profile .path) (notedPaths t notes count) ≡ false
-          path-new = ap (λ (p : List ℕ). isAmong p (notedPaths t notes count)) (sym (profile .text)) ∙ is-new t notes count (s .path) (s .length) profile-to-note r e l
+          path-new : known (profile .path) (notedPaths t notes count) ≡ false
+          path-new = ap (λ (p : List ℕ). known p (notedPaths t notes count)) (sym (profile .text)) ∙ is-new t notes count (s .path) (s .length) profile-to-note r e l
 
           found : pathIn (drop (s .path) t) ≡ take (s .length) (drop (s .path) t)
           found = profile .found ∙ sym (profile .text)

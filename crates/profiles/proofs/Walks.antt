@@ -7,10 +7,11 @@ use mathlib.Core.Option.{Option, none, some}
 use native.Mathlib.Omega.{arith}
 use lib.ListN.{length, take, drop, length-append, length-drop, drop-of-length-le}
 use lib.Seq.{take-append-seam, drop-append-seam, drop-drop}
+use Rattle.fields.specs.Ascii.{ascii}
 use Rattle.lists.specs.Lists.{joined}
 use Rattle.lists.proofs.Bools.{and-0}
 use Rattle.lists.proofs.Every.{append-apart}
-use Rattle.profiles.specs.Profiles.{Entry, Profile, ascii, modesText, profileWord, profileEnd, modesStart, modesEnd, profileLine, entryLine, pathGood, modesGood, entryGood}
+use Rattle.profiles.specs.Profiles.{Entry, Profile, modesText, profileWord, profileEnd, modesStart, modesEnd, profileLine, entryLine, pathGood, modesGood, entryGood}
 use Rattle.profiles.specs.Grammar.{Grammar}
 use Rattle.profiles.specs.Tokens.{tokens}
 use Rattle.profiles.specs.Reading.{Line, opens, enters, closes, lineText, lineGood, linesOf, pathIn, lineIn, linesIn, linesText}

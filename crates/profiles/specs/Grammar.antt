@@ -4,8 +4,9 @@ use Prim.Native.Nat.{ℕ}
 use mathlib.Core.Path.{_≡_}
 use mathlib.Core.Bool.{true}
 use mathlib.Core.List.{List, [], _∷_, _++_}
+use Rattle.fields.specs.Ascii.{ascii}
 use Rattle.lists.specs.Lists.{every}
-use Rattle.profiles.specs.Profiles.{Mode, Entry, Profile, ascii, newline, modeText, textOf, pathGood, profileGood}
+use Rattle.profiles.specs.Profiles.{Mode, Entry, Profile, newline, modeText, textOf, pathGood, profileGood}
 
 -- t is the text of the profiles ps, whose paths and modes are good
 abbrev pub Grammar : List ℕ → List Profile → Type 0

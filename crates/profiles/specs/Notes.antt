@@ -1,12 +1,12 @@
 -- How the code remembers the paths that are profiled: a number for each, from its place in the text and a key. The key only
 -- saves comparisons: no answer depends on it.
-use Prim.Native.Nat.{ℕ, suc, _+_, _*_, _/_, _%_, _^_, _≤_, _<_}
+use Prim.Native.Nat.{ℕ, _+_, _*_, _/_, _%_, _^_, _≤_, _<_}
 use mathlib.Core.Path.{_≡_}
 use mathlib.Core.Bool.{Bool, true, cond, _&&_}
 use mathlib.Core.List.{List, [], _∷_, map}
 use lib.Dec.{eqb, ltb}
 use lib.ListN.{length, take, drop, set}
-use Rattle.lists.specs.Lists.{every, sameList}
+use Rattle.lists.specs.Lists.{every, position}
 use Rattle.profiles.specs.Profiles.{pathGood}
 use Rattle.profiles.specs.Reading.{pathIn}
 use Rattle.profiles.specs.Texts.{textLimit}
@@ -52,18 +52,13 @@ pub record ToNote (t notes : List ℕ) (count at n : ℕ) : Type 0 where
   pub fits : at + n ≤ length t
   pub place : at < textLimit
 
--- the place of a path in a list, its length if it is not there
-unfoldable pub placeAmong : List ℕ → List (List ℕ) → ℕ
-placeAmong p [] = 0
-placeAmong p (q ∷ qs) = cond (sameList p q) 0 (suc (placeAmong p qs))
-
 -- the paths of the first `count` notes
 unfoldable pub notedPaths : List ℕ → List ℕ → ℕ → List (List ℕ)
 notedPaths t notes count = map (notedPath t) (take count notes)
 
 -- the place among them of the path at a place of the text
 unfoldable pub notedPlace : List ℕ → List ℕ → ℕ → ℕ → ℕ → ℕ
-notedPlace t notes count at n = placeAmong (take n (drop at t)) (notedPaths t notes count)
+notedPlace t notes count at n = position (take n (drop at t)) (notedPaths t notes count)
 
 -- the notes with one of it behind them, unless there is one
 unfoldable pub withNote : List ℕ → List ℕ → ℕ → ℕ → ℕ → List ℕ

@@ -1,12 +1,11 @@
 -- Profiles, and the text that they are (change request No. 1): "A text is any number of profiles, each a line
 -- `profile PATH {`, any number of lines `PATH MODES,` and a line `}`, with single spaces as shown and byte 10 after every line".
 use Prim.Native.Nat.{ℕ}
-use Prim.Native.Char.{code}
-use Prim.Native.String.{String, [] as ε, _∷_ as _◂_}
 use mathlib.Core.Bool.{Bool, true, false, _&&_, _||_}
 use mathlib.Core.List.{List, [], _∷_, _++_, map}
 use lib.Dec.{eqb, leb}
 use lib.ListN.{length}
+use Rattle.fields.specs.Ascii.{ascii}
 use Rattle.lists.specs.Lists.{every, joined, sameList}
 
 -- ---- profiles
@@ -25,11 +24,6 @@ pub record Profile : Type 0 where
   pub entries : List Entry
 
 -- ---- their text
-
--- the bytes of a quoted text in ASCII
-unfoldable pub ascii : String → List ℕ
-ascii ε = []
-ascii (c ◂ s) = code c ∷ ascii s
 
 -- "byte 10 after every line"
 abbrev pub newline : ℕ

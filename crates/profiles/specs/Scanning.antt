@@ -7,22 +7,7 @@ use mathlib.Core.Option.{Option, none, some}
 use lib.Bits.{bitOr}
 use lib.Dec.{eqb}
 use lib.ListN.{length, drop}
-use Rattle.profiles.specs.Profiles.{
-  Mode,
-  mode-r,
-  mode-w,
-  mode-a,
-  mode-l,
-  mode-m,
-  mode-ix,
-  mode-px,
-  mode-Px,
-  mode-ux,
-  mode-Ux,
-  modeText,
-  modesText,
-  profileWord,
-}
+use Rattle.profiles.specs.Profiles.{Mode, mode-r, mode-w, mode-a, mode-l, mode-m, mode-ix, mode-px, mode-Px, mode-ux, mode-Ux, modeText, modesText, profileWord}
 use Rattle.profiles.specs.Tokens.{given}
 use Rattle.profiles.specs.Reading.{Line, opens, enters, closes, lineText, lineIn, modeIn, modesIn}
 use Rattle.profiles.specs.declared.ScannedMode.{ScannedMode}

@@ -1,12 +1,12 @@
 -- The test of a text (change request No. 1): "16 when the text is too long, breaks the grammar or profiles a path twice".
 use Prim.Native.Nat.{ℕ, _<_}
 use mathlib.Core.Logic.{_≢_}
-use mathlib.Core.Bool.{Bool, true, false, not, _&&_, _||_}
+use mathlib.Core.Bool.{Bool, true, false, not, _&&_}
 use mathlib.Core.List.{List, [], _∷_, map}
 use mathlib.Core.Option.{Option, none, some}
 use lib.Dec.{leb}
 use lib.ListN.{length, getD}
-use Rattle.lists.specs.Lists.{sameList}
+use Rattle.lists.specs.Lists.{known}
 use Rattle.profiles.specs.Profiles.{Profile}
 use Rattle.profiles.specs.Reading.{readingOf}
 
@@ -14,15 +14,10 @@ use Rattle.profiles.specs.Reading.{readingOf}
 abbrev pub textLimit : ℕ
 textLimit = 16384
 
--- the path is one of the list
-unfoldable pub isAmong : List ℕ → List (List ℕ) → Bool
-isAmong p [] = false
-isAmong p (q ∷ qs) = sameList p q || isAmong p qs
-
 -- no path stands in the list twice
 unfoldable pub noRepeat : List (List ℕ) → Bool
 noRepeat [] = true
-noRepeat (p ∷ ps) = not (isAmong p ps) && noRepeat ps
+noRepeat (p ∷ ps) = not (known p ps) && noRepeat ps
 
 -- the same, place by place: the paths at any two places differ
 abbrev pub Differ : List (List ℕ) → Type 0

@@ -5,12 +5,12 @@ ghost use mathlib.Core.Bool.{true};
 ghost use mathlib.Core.List.{map};
 ghost use Prim.Native.Nat.{_+_, _*_, _≤_, _<_};
 ghost use lib.ListN.{length, getD, take, drop};
-ghost use Rattle.lists.specs.Lists.{every, sameList};
+ghost use Rattle.lists.specs.Lists.{every, sameList, position};
 ghost use Rattle.profiles.specs.Profiles.{isBetween, isPathByte, pathGood};
 ghost use Rattle.profiles.specs.Tokens.{starts};
 ghost use Rattle.profiles.specs.Reading.{pathIn, readingOf};
 ghost use Rattle.profiles.specs.Texts.{textLimit, readsWell, textGood};
-ghost use Rattle.profiles.specs.Notes.{pathKey, notedPath, noteGood, PathAt, ToNote, placeAmong, notedPlace, withNote};
+ghost use Rattle.profiles.specs.Notes.{pathKey, notedPath, noteGood, PathAt, ToNote, notedPlace, withNote};
 ghost use Rattle.profiles.specs.Scanning.{hasBit, withX, modeAt, modesAt, noScan, lineAt};
 
 // ---- the bytes and numbers of the format
@@ -421,7 +421,7 @@ fn is_noted(text: &[u8], note: u64, at: usize, length: usize, key: u64) -> bool
 // The place of the path among those of the notes, their number if none is of it.
 fn find_path(text: &[u8], notes: &[u64], at: usize, length: usize, key: u64) -> usize
     requires { ⌜ PathAt (now text) at length key × (every (noteGood (now text)) (now notes) ≡ true) ⌝ }
-    ensures { λ r. ⌜ r ≡ placeAmong (take length (drop at (now (text .entry)))) (map (notedPath (now (text .entry))) (now (notes .entry))) ⌝ }
+    ensures { λ r. ⌜ r ≡ position (take length (drop at (now (text .entry)))) (map (notedPath (now (text .entry))) (now (notes .entry))) ⌝ }
 {
     let mut j = 0;
     while j < notes.len() {

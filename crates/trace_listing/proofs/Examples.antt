@@ -4,6 +4,7 @@ use mathlib.Core.Path.{_≡_, refl, ap, _∙_}
 use mathlib.Core.List.{List, [], _∷_, _++_}
 use lib.ListN.{replicate}
 use borrow.Author.Tests.{eq-eqb}
+use Rattle.fields.specs.Ascii.{ascii}
 use Rattle.fields.specs.Bytes.{numberIn, field, cut}
 use Rattle.answers.specs.declared.Answer.{Answer}
 use Rattle.answers.specs.Answers.{quiet, alert, refused}
@@ -17,7 +18,7 @@ use Rattle.records.specs.Traces.{traceRecords}
 use Rattle.monitor.specs.Runs.{runAnswers}
 use Rattle.monitor.proofs.Examples.{trace, checked-runs}
 use Rattle.monitor.proofs.PaperListing.{image, read-image}
-use Rattle.listing.specs.Text.{ascii, digit, digits, decimalIn, decimal, hexadecimal}
+use Rattle.listing.specs.Text.{digit, digits, decimalIn, decimal, hexadecimal}
 use Rattle.listing.specs.Lines.{line, operationWord, verdictWord, answerWord, answerFields, heading, stepLine, totalLine}
 use Rattle.trace_listing.specs.Listings.{recordLine, linesOf, partText, partTally, totalOf, listingOf}
 

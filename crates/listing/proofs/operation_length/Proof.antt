@@ -1,7 +1,7 @@
 -- By the code: each word's length is computed.
 use mathlib.Core.Path.{sym, ap}
 use lib.ListN.{length}
-use Rattle.listing.specs.Text.{ascii}
+use Rattle.fields.specs.Ascii.{ascii}
 use Rattle.listing.specs.Lines.{operationWord}
 use Rattle.listing.proofs.LineLaws.{other-word}
 use Rattle.listing.proofs.operation_length.Statement.{statement}

@@ -1,5 +1,5 @@
 -- By the code: each number's bytes are computed.
-use Rattle.listing.specs.Text.{ascii}
+use Rattle.fields.specs.Ascii.{ascii}
 use Rattle.fields.specs.Bytes.{bytesOf}
 use Rattle.listing.specs.Lines.{operationWord}
 use Rattle.listing.proofs.LineLaws.{other-word}

@@ -1,8 +1,8 @@
 -- By cases of the answer.
 use mathlib.Core.Path.{sym, ap}
+use Rattle.fields.specs.Ascii.{ascii}
 use Rattle.answers.specs.declared.Answer.{Answer}
 use Rattle.fields.proofs.WritingLaws.{wrote-as}
-use Rattle.listing.specs.Text.{ascii}
 use Rattle.listing.specs.Lines.{line, answerWord, answerFields}
 use borrow.Author.Needs.{needs}
 use Rattle.listing.proofs.put_answer.Statement.{statement}

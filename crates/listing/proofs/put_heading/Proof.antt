@@ -1,5 +1,5 @@
 -- The text is the heading, computed.
-use Rattle.listing.specs.Text.{ascii}
+use Rattle.fields.specs.Ascii.{ascii}
 use Rattle.listing.specs.Lines.{line, heading}
 use borrow.Author.Needs.{needs}
 use Rattle.listing.proofs.put_heading.Statement.{statement}

@@ -1,5 +1,5 @@
 -- The named number is the line.
-use Rattle.listing.specs.Text.{ascii}
+use Rattle.fields.specs.Ascii.{ascii}
 use Rattle.listing.specs.Lines.{line, policyLine}
 use borrow.Author.Needs.{needs}
 use Rattle.listing.proofs.put_policy_refused.Statement.{statement}

@@ -2,7 +2,7 @@
 use Prim.Native.Nat.{_≤_}
 use native.Mathlib.Omega.{arith}
 use lib.ListN.{length}
-use Rattle.listing.specs.Text.{ascii}
+use Rattle.fields.specs.Ascii.{ascii}
 use Rattle.listing.specs.Lines.{space}
 use Rattle.fields.proofs.WritingLaws.{wrote-join, wrote-as}
 use Rattle.listing.proofs.LineLaws.{total-text, number-length}

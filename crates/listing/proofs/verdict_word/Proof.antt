@@ -1,6 +1,6 @@
 -- By cases: each number's bytes are computed.
+use Rattle.fields.specs.Ascii.{ascii}
 use Rattle.fields.specs.Bytes.{bytesOf}
-use Rattle.listing.specs.Text.{ascii}
 use Rattle.listing.specs.Lines.{verdictWord}
 use borrow.Author.Needs.{needs}
 use Rattle.listing.proofs.verdict_word.Statement.{statement}

@@ -1,7 +1,8 @@
 -- The word is the line.
 use mathlib.Core.Path.{_∙_}
+use Rattle.fields.specs.Ascii.{ascii}
 use Rattle.lists.proofs.Bools.{passes-test, fails-test}
-use Rattle.profiles.specs.Profiles.{ascii, endLine}
+use Rattle.profiles.specs.Profiles.{endLine}
 use Rattle.profiles.proofs.LineScans.{end-no-line, end-scanned}
 use borrow.Author.Needs.{needs}
 use Rattle.profiles.proofs.end_line.Statement.{statement}

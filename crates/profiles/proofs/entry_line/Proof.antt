@@ -3,8 +3,9 @@ use Prim.Native.Nat.{_+_, _≤_}
 use mathlib.Core.Path.{refl, ap, _∙_, _≡_}
 use lib.ListN.{length, drop}
 use native.Mathlib.Omega.{arith}
+use Rattle.fields.specs.Ascii.{ascii}
 use Rattle.lists.proofs.Bools.{passes-test, fails-test}
-use Rattle.profiles.specs.Profiles.{ascii, modesText, modesStart, modesEnd}
+use Rattle.profiles.specs.Profiles.{modesText, modesStart, modesEnd}
 use Rattle.profiles.specs.Reading.{modesIn}
 use Rattle.profiles.specs.Scanning.{modesScan, modesAt}
 use Rattle.profiles.specs.declared.ScannedModes.{ScannedModes}

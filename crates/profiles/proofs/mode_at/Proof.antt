@@ -1,6 +1,7 @@
 -- Each letter is the first byte of one mode.
 use mathlib.Core.Path.{refl, sym, _∙_}
-use Rattle.profiles.specs.Profiles.{mode-r, mode-w, mode-a, mode-l, mode-m, mode-ix, mode-px, mode-Px, mode-ux, mode-Ux, ascii, modeText}
+use Rattle.fields.specs.Ascii.{ascii}
+use Rattle.profiles.specs.Profiles.{mode-r, mode-w, mode-a, mode-l, mode-m, mode-ix, mode-px, mode-Px, mode-ux, mode-Ux, modeText}
 use Rattle.profiles.specs.Tokens.{starts}
 use Rattle.profiles.specs.Reading.{modeAmong, allModes, modeIn}
 use Rattle.profiles.specs.Scanning.{modeBit, modeScan}

@@ -3,8 +3,9 @@ use Prim.Native.Nat.{_+_, _≤_}
 use mathlib.Core.Path.{refl, _∙_}
 use lib.ListN.{length}
 use native.Mathlib.Omega.{arith}
+use Rattle.fields.specs.Ascii.{ascii}
 use Rattle.lists.proofs.Bools.{passes-test, fails-test}
-use Rattle.profiles.specs.Profiles.{ascii, profileWord, profileEnd}
+use Rattle.profiles.specs.Profiles.{profileWord, profileEnd}
 use Rattle.profiles.proofs.LineScans.{starts-room, path-room, profile-no-word, profile-no-path, profile-no-end, profile-scanned}
 use borrow.Author.Needs.{needs}
 use Rattle.profiles.proofs.profile_line.Statement.{statement}
