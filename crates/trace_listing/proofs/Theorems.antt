@@ -18,7 +18,7 @@ use Rattle.monitor.specs.Steps.{stepAnswer, stepEffect}
 use Rattle.monitor.specs.Runs.{stepOn, runAnswers, runEffect}
 use Rattle.listing.specs.Lines.{heading, policyLine}
 use Rattle.trace_listing.specs.Listings.{recordLine, linesOf, partText, partTally, partSession, totalOf, listingOf}
-use Rattle.trace_listing.specs.Parts.{WholeRecords, together, partsText, partsTally, partsSession}
+use Rattle.trace_listing.specs.Parts.{partLimit, WholeRecords, together, partsText, partsTally, partsSession}
 use Rattle.trace_listing.proofs.CutLaws as cut
 use Rattle.trace_listing.proofs.CutLaws.{run-lines, answers-length, text-parts, tally-parts, session-parts}
 
@@ -48,6 +48,10 @@ module _ (t : Tally) (s x y : List ℕ) (h : length x % recordLength ≡ 0) wher
 
   pub session-cut : partSession s (x ++ y) ≡ partSession (partSession s x) y
   session-cut = cut.session-cut t s x y h
+
+-- So a part that is full is of whole records: only one that is not can end with a short one.
+pub full-part : (part : List ℕ) → length part ≡ partLimit → length part % recordLength ≡ 0
+full-part part e = rw e
 
 -- The session behind all parts is that of the whole run.
 pub session-by-parts : (s : List ℕ) (parts : List (List ℕ)) → WholeRecords parts → partsSession s parts ≡ partSession s (together parts)

@@ -70,7 +70,8 @@ fn list_records(part: &[u8], session: &mut [u64], out: &mut [u8], begun: Tally) 
 }
 
 // The first n bytes of a part, all of it where n is more: each record run on the session, listed into the buffer and counted
-// behind those before it. Any bytes and any numbers end in a listing, and the buffer has room for it.
+// behind those before it. Any bytes and any numbers end in a listing, and the buffer has room for it. A full part ends with a whole
+// record.
 pub fn list_part(
     part: &[u8; PART_LIMIT],
     n: usize,
@@ -78,7 +79,7 @@ pub fn list_part(
     out: &mut [u8; BUFFER_SIZE],
     begun: Tally,
 ) -> Listed
-    ensures { λ r. ⌜ ListedPart (take n (now (part .entry))) begun (now (session .entry)) (now (session .exit)) (now (out .entry)) (now (out .exit)) r ⌝ }
+    ensures { λ r. ⌜ (length (now (part .entry)) ≡ partLimit) × ListedPart (take n (now (part .entry))) begun (now (session .entry)) (now (session .exit)) (now (out .entry)) (now (out .exit)) r ⌝ }
 {
     let whole: &[u8] = part;
     if n < whole.len() {

@@ -16,10 +16,13 @@ list-records-requires c κs =
     let start = c .before .before .before .before .before .before in
     (omega (arith, length-take (start .args .n) (start .args .part .now)), search needs)
 
+returns : tie.Need-returns
+returns c = (search needs, c .before .before .list-records .ensures)
+
 returns-2 : tie.Need-returns-2
 returns-2 c =
     let start = c .before .before .before .before .before .before .before .before in
-    rw (take-all (start .args .n) (start .args .part .now) (omega arith)) (c .before .before .list-records2 .ensures)
+    (search needs, rw (take-all (start .args .n) (start .args .part .now) (omega arith)) (c .before .before .list-records2 .ensures))
 
 pub list-part-spec : {M : Type 1} → statement M
 list-part-spec =
@@ -28,7 +31,7 @@ list-part-spec =
     slice-aggregate-list-records
     list-records-requires
     (λ c. search needs)
-    (λ c. search needs)
+    returns
     (λ c κs. search needs)
     (λ c. search needs)
     returns-2)
