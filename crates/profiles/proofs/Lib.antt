@@ -1,9 +1,8 @@
--- Theorems is the file to read first. Walks, NoteLaws and BitLaws are cited by code that walks a text.
+-- Theorems is the file to read first. Walks is cited by code that walks a text.
 pub mod Theorems
 pub mod Examples
 pub mod Walks
 pub mod NoteLaws
-pub mod BitLaws
 pub mod TokenLaws
 pub mod LineLaws
 pub mod ReadingLaws

@@ -6,7 +6,7 @@ use mathlib.Core.List.{List, [], _∷_, _++_, map}
 use lib.Dec.{eqb, leb}
 use lib.ListN.{length}
 use Rattle.fields.specs.Ascii.{ascii}
-use Rattle.lists.specs.Lists.{every, joined, sameList}
+use Rattle.lists.specs.Lists.{every, joined}
 
 -- ---- profiles
 
@@ -112,11 +112,6 @@ pathGood (b ∷ p) = eqb b slash && ((leb 1 (length p) && leb (length p) 63) && 
 unfoldable pub modesGood : List Mode → Bool
 modesGood [] = false
 modesGood (m ∷ ms) = true
-
--- the mode is one of them
-unfoldable pub hasMode : Mode → List Mode → Bool
-hasMode m [] = false
-hasMode m (n ∷ ms) = sameList (modeText m) (modeText n) || hasMode m ms
 
 unfoldable pub entryGood : Entry → Bool
 entryGood e = pathGood (e .path) && modesGood (e .modes)

@@ -1,7 +1,7 @@
 -- Lines of a text in numbers, as the code that walks a text hands them on: what sort of line stands at a place, where its
 -- path is, its modes as a set, and where the next line begins. A text that has a reading is, line by line, the lines of it.
-use Prim.Native.Nat.{ℕ, _+_, _/_, _%_}
-use mathlib.Core.Bool.{Bool, cond}
+use Prim.Native.Nat.{ℕ, _+_}
+use mathlib.Core.Bool.{cond}
 use mathlib.Core.List.{List, [], _∷_}
 use mathlib.Core.Option.{Option, none, some}
 use lib.Bits.{bitOr}
@@ -36,10 +36,6 @@ withModes n (m ∷ ms) = withModes (bitOr n (modeBit m)) ms
 
 unfoldable pub modeBits : List Mode → ℕ
 modeBits ms = withModes 0 ms
-
--- a bit is in the set
-unfoldable pub hasBit : ℕ → ℕ → Bool
-hasBit bits bit = eqb (bits / bit % 2) 1
 
 -- the mode at a place, with its length; no bit and no length where there is none
 unfoldable pub modeScan : Option Mode → ScannedMode

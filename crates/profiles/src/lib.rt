@@ -11,7 +11,7 @@ ghost use Rattle.profiles.specs.Tokens.{starts};
 ghost use Rattle.profiles.specs.Reading.{pathIn, readingOf};
 ghost use Rattle.profiles.specs.Texts.{textLimit, readsWell, textGood};
 ghost use Rattle.profiles.specs.Notes.{pathKey, notedPath, noteGood, PathAt, ToNote, notedPlace, withNote};
-ghost use Rattle.profiles.specs.Scanning.{hasBit, withX, modeAt, modesAt, noScan, lineAt};
+ghost use Rattle.profiles.specs.Scanning.{withX, modeAt, modesAt, noScan, lineAt};
 
 // ---- the bytes and numbers of the format
 
@@ -168,14 +168,6 @@ pub struct ScannedMode {
 pub struct ScannedModes {
     pub bits: u64,
     pub next: usize,
-}
-
-// A mode's bit is in the set.
-pub fn has_bit(bits: u64, bit: u64) -> bool
-    requires { ⌜ 0 < bit ⌝ }
-    ensures { λ r. ⌜ r ≡ hasBit bits bit ⌝ }
-{
-    bits / bit % 2 == 1
 }
 
 // The mode of two letters that has this bit, if the second is x.
@@ -434,7 +426,7 @@ fn find_path(text: &[u8], notes: &[u64], at: usize, length: usize, key: u64) -> 
 }
 
 // The place of the path among those of the first `count` notes; if none is of it, that is `count`, and it is noted there.
-pub fn note_path(text: &[u8], notes: &mut [u64], count: usize, at: usize, length: usize) -> usize
+fn note_path(text: &[u8], notes: &mut [u64], count: usize, at: usize, length: usize) -> usize
     requires { ⌜ ToNote (now text) (now notes) count at length ⌝ }
     ensures { λ r. ⌜ (r ≡ notedPlace (now (text .entry)) (now (notes .entry)) count at length) × (now (notes .exit) ≡ withNote (now (text .entry)) (now (notes .entry)) count at length) ⌝ }
 {
