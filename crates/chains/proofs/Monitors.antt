@@ -64,7 +64,7 @@ module _ (P : Policy) where
       let up : isFree (σ .row p .kind) ≡ false = process-used (σ .row p .kind) (g .process) in
       let uo : isFree (σ .row o .kind) ≡ false = file-used (σ .row o .kind) (g .object) in
       let gu : Exact (λ r. UserRule P u r) (ruleOr (σ .user u)) = I .users u (ruleOr (σ .user u)) (rule-declared (σ .user u) (g .user)) in
-      used h (exec p o u) _ up (exec-good P h p o (σ .row p) (σ .row o) u (ruleOr (σ .user u)) (I .rows o .good uo) gu)
+      used h (exec p o u) _ up (exec-good P h p o (σ .row p) (σ .row o) u (ruleOr (σ .user u)) (I .rows p .good up) (I .rows o .good uo) gu)
   puts h σ I (fork p o) g =
       let up : isFree (σ .row p .kind) ≡ false = process-used (σ .row p .kind) (g .process) in
       used h (fork p o) _ up (fork-good P h p o (σ .row p) (σ .row o) (I .rows o .empty (g .object)) (I .rows p .good up))

@@ -29,11 +29,8 @@ use Rattle.chains.specs.Chains.{
   readRule,
   writeAny,
   appendAny,
-  execAtom,
-  execRule,
   forkAny,
   writeEnds,
-  execEnds,
   Chain,
   Governs,
 }
@@ -53,7 +50,6 @@ use Rattle.chains.proofs.Exact.{
 }
 use Rattle.chains.proofs.Steps.{
   read-brings,
-  exec-brings,
   new-file-any,
   new-volatile-any,
   read-ends,
@@ -66,12 +62,13 @@ use Rattle.chains.proofs.Steps.{
   read-rule-from,
   write-from,
   append-from,
-  exec-atom-from,
-  exec-rule-from,
   fork-from,
   came,
   stay,
   carry,
+  exec-data,
+  exec-running,
+  exec-run-rule,
 }
 
 module _ (P : Policy) where
@@ -156,22 +153,27 @@ module _ (P : Policy) where
           back : (x : Item) → Chain P (h ▸ append p o) x o → Chain P h x o ⊎ Chain P h x p
           back x = came P h (λ ch ne. inl ch) (λ b y ch ca. inr (append-from P h ch ca))
 
-      pub exec-good : (u : ℕ) (v : List ℕ) → Good h o wo → Exact (λ r. UserRule P u r) v → Good (h ▸ exec p o u) p (execRow wp wo v)
+      pub exec-good : (u : ℕ) (v : List ℕ) → Good h p wp → Good h o wo → Exact (λ r. UserRule P u r) v → Good (h ▸ exec p o u) p (execRow wp wo v)
       unfolding execRow
-      exec-good u v go gu = record {
-        tag = tagged-map (λ d z. absurd z) at-back (λ d. carry P h execAtom) running-back (tagged-running (go .tag));
-        run = exact-map (λ r. carry P h execRule) rule-back (go .run);
+      exec-good u v gp go gu = record {
+        tag = tagged-map at-on at-back running-on running-back (tagged-union (tagged-running (go .tag)) (tagged-data (gp .tag)));
+        run = exact-map (λ r. exec-run-rule P h p o u r .1) (λ r. exec-run-rule P h p o u r .0) (go .run);
         permit = exact-map permit-on permit-back (exact-meet (go .run) gu);
       }
         where
-          at-back : (d : ℕ) → Chain P (h ▸ exec p o u) (dataAtom d) p → ⊥
-          at-back d = came P h (λ ch ne. ne execEnds) (λ b y ch ca. exec-brings ca)
+          at-on : (d : ℕ) → ⊥ ⊎ Chain P h (dataAtom d) p → Chain P (h ▸ exec p o u) (dataAtom d) p
+          at-on d (inl z) = absurd z
+          at-on d (inr ch) = exec-data P h p o u d .1 ch
 
-          running-back : (d : ℕ) → Chain P (h ▸ exec p o u) (runningAtom d) p → Chain P h (dataAtom d) o
-          running-back d = came P h (λ ch ne. absurd (ne execEnds)) (λ b y ch ca. exec-atom-from P h ch ca)
+          at-back : (d : ℕ) → Chain P (h ▸ exec p o u) (dataAtom d) p → ⊥ ⊎ Chain P h (dataAtom d) p
+          at-back d ch = inr (exec-data P h p o u d .0 ch)
 
-          rule-back : (r : List ℕ) → Chain P (h ▸ exec p o u) (runRule r) p → Chain P h (runRule r) o
-          rule-back r = came P h (λ ch ne. absurd (ne execEnds)) (λ b y ch ca. exec-rule-from P h ch ca)
+          running-on : (d : ℕ) → Chain P h (dataAtom d) o ⊎ ⊥ → Chain P (h ▸ exec p o u) (runningAtom d) p
+          running-on d (inl ch) = exec-running P h p o u d .1 ch
+          running-on d (inr z) = absurd z
+
+          running-back : (d : ℕ) → Chain P (h ▸ exec p o u) (runningAtom d) p → Chain P h (dataAtom d) o ⊎ ⊥
+          running-back d ch = inl (exec-running P h p o u d .0 ch)
 
           permit-on : (r : List ℕ) → Chain P h (runRule r) o ⊎ UserRule P u r → Governs P (h ▸ exec p o u) p r
           permit-on r (inl ch) = inl (refl, inr ch)

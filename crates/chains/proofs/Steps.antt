@@ -2,7 +2,7 @@
 use Prim.Native.Nat.{ℕ}
 use mathlib.Core.Path.{_≡_, refl}
 use mathlib.Core.List.{List}
-use mathlib.Core.Logic.{_⊎_, inl, inr, _≢_}
+use mathlib.Core.Logic.{_⊎_, inl, inr, _≢_, _↔_}
 use Rattle.image.specs.Policy.{Policy}
 use Rattle.chains.specs.History.{
   Step,
@@ -32,7 +32,8 @@ use Rattle.chains.specs.Chains.{
   forkAny,
   Ends,
   writeEnds,
-  execEnds,
+  execEndsAtom,
+  execEndsRule,
   Chain,
   Governs,
 }
@@ -51,7 +52,8 @@ carries-to forkAny = refl
 
 ends-at : {s : Step} {c : ℕ} {x : Item} → Ends s c x → c ≡ receiver s
 ends-at writeEnds = refl
-ends-at execEnds = refl
+ends-at execEndsAtom = refl
+ends-at execEndsRule = refl
 
 -- ---- what cannot be
 
@@ -69,7 +71,7 @@ pub read-brings : {b p o c : ℕ} {x y : Item} → Carries (read p o) b x c y �
 read-brings readAtom = tt
 read-brings readRule = tt
 
-pub exec-brings : {b p o u c : ℕ} {x y : Item} → Carries (exec p o u) b x c y → NotData y
+exec-brings : {b p o u c : ℕ} {x y : Item} → Carries (exec p o u) b x c y → NotData y
 exec-brings execAtom = tt
 exec-brings execRule = tt
 
@@ -84,6 +86,10 @@ read-ends = elim [ ]
 
 pub append-ends : {p o c : ℕ} {x : Item} → ¬ Ends (append p o) c x
 append-ends = elim [ ]
+
+exec-ends : {p o u c : ℕ} {x : Item} → Ends (exec p o u) c x → NotData x
+exec-ends execEndsAtom = tt
+exec-ends execEndsRule = tt
 
 module _ (P : Policy) (h : History) where
   -- ---- any other container
@@ -133,10 +139,10 @@ module _ (P : Policy) (h : History) where
   pub append-from : {b p o c : ℕ} {x y : Item} → Chain P h x b → Carries (append p o) b x c y → Chain P h y p
   append-from ch appendAny = ch
 
-  pub exec-atom-from : {b p o u c d : ℕ} {x : Item} → Chain P h x b → Carries (exec p o u) b x c (runningAtom d) → Chain P h (dataAtom d) o
+  exec-atom-from : {b p o u c d : ℕ} {x : Item} → Chain P h x b → Carries (exec p o u) b x c (runningAtom d) → Chain P h (dataAtom d) o
   exec-atom-from ch execAtom = ch
 
-  pub exec-rule-from : {b p o u c : ℕ} {r : List ℕ} {x : Item} → Chain P h x b → Carries (exec p o u) b x c (runRule r) → Chain P h (runRule r) o
+  exec-rule-from : {b p o u c : ℕ} {r : List ℕ} {x : Item} → Chain P h x b → Carries (exec p o u) b x c (runRule r) → Chain P h (runRule r) o
   exec-rule-from ch execRule = ch
 
   pub fork-from : {b p o c : ℕ} {x y : Item} → Chain P h x b → Carries (fork p o) b x c y → Chain P h y p
@@ -157,3 +163,18 @@ module _ (P : Policy) (h : History) where
 
   pub carry : {s : Step} {x y : Item} {b c : ℕ} → Carries s b x c y → Chain P h x b → Chain P (h ▸ s) y c
   carry {s} {x} {y} {b} {c} ca ch = chain-carry P h s x y b c ch ca
+
+  -- ---- right after an exec
+
+  module _ (p o u : ℕ) where
+    -- a data atom has a chain into p exactly if it had one before
+    pub exec-data : (d : ℕ) → Chain P (h ▸ exec p o u) (dataAtom d) p ↔ Chain P h (dataAtom d) p
+    exec-data d = (came (λ ch ne. ch) (λ b y ch ca. absurd (exec-brings ca)), stay exec-ends)
+
+    -- a running atom has one exactly if its data atom had one into o
+    pub exec-running : (d : ℕ) → Chain P (h ▸ exec p o u) (runningAtom d) p ↔ Chain P h (dataAtom d) o
+    exec-running d = (came (λ ch ne. absurd (ne execEndsAtom)) (λ b y ch ca. exec-atom-from ch ca), carry execAtom)
+
+    -- a run rule has one exactly if it had one into o
+    pub exec-run-rule : (r : List ℕ) → Chain P (h ▸ exec p o u) (runRule r) p ↔ Chain P h (runRule r) o
+    exec-run-rule r = (came (λ ch ne. absurd (ne execEndsRule)) (λ b y ch ca. exec-rule-from ch ca), carry execRule)

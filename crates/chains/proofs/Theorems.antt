@@ -7,13 +7,14 @@ use mathlib.Core.List.{List, _++_}
 use mathlib.Core.Option.{Option}
 use lib.ListN.{take}
 use Rattle.image.specs.Policy.{Policy, Sound}
-use Rattle.chains.specs.History.{Step, History, start, _▸_}
-use Rattle.chains.specs.Chains.{Item, Starts, Carries, Ends, Chain}
+use Rattle.chains.specs.History.{Step, exec, History, start, _▸_}
+use Rattle.chains.specs.Chains.{Item, dataAtom, runningAtom, runRule, Starts, Carries, Ends, Chain}
 use Rattle.answers.specs.declared.Answer.{Answer}
 use Rattle.chains.specs.Demand.{after, historyOf, historyFrom, Demand3, TagTold}
 use Rattle.chains.specs.Table.{State, begin, Faithful}
 use Rattle.chains.proofs.ChainLaws.{chain-snoc, chain-stay, chain-carry, chain-none, chain-here}
 use Rattle.chains.proofs.Inductive.{Built, listed, built}
+use Rattle.chains.proofs.Steps.{exec-data, exec-running, exec-run-rule}
 use Rattle.chains.proofs.Start.{Inv, begin-ok}
 use Rattle.chains.proofs.Monitors.{Told, told-at, history-from-append}
 
@@ -55,3 +56,22 @@ chain-step P h s y c = (chain-snoc P h s y c, back)
 -- a chain as a rising list of steps is one built up step by step
 pub same-chains : (P : Policy) (h : History) (x : Item) (c : ℕ) → Chain P h x c ↔ Built P h x c
 same-chains P h x c = (built P h x c, listed)
+
+-- ---- program starts (change request No. 2)
+
+module _ (P : Policy) (h : History) (p o u : ℕ) where
+  -- right after an exec, a data atom has a chain into p exactly if it had one before
+  pub exec-keeps-data : (d : ℕ) → Chain P (h ▸ exec p o u) (dataAtom d) p ↔ Chain P h (dataAtom d) p
+  exec-keeps-data = exec-data P h p o u
+
+  -- a running atom has one exactly if its data atom had one into o: what p ran before is gone, what it keeps stays data
+  pub exec-runs-object : (d : ℕ) → Chain P (h ▸ exec p o u) (runningAtom d) p ↔ Chain P h (dataAtom d) o
+  exec-runs-object = exec-running P h p o u
+
+  -- a run rule has one exactly if it had one into o
+  pub exec-takes-rules : (r : List ℕ) → Chain P (h ▸ exec p o u) (runRule r) p ↔ Chain P h (runRule r) o
+  exec-takes-rules = exec-run-rule P h p o u
+
+  -- so no run rule travels on with data that is kept: one that o did not have has no chain into p any more
+  pub exec-drops-rules : (r : List ℕ) → ¬ Chain P h (runRule r) o → ¬ Chain P (h ▸ exec p o u) (runRule r) p
+  exec-drops-rules r ne ch = ne (exec-takes-rules r .0 ch)

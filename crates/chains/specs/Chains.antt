@@ -65,10 +65,12 @@ pub data Carries : Step → ℕ → Item → ℕ → Item → Type 0 where
   execRule : {p o u : ℕ} {r : List ℕ} → Carries (exec p o u) o (runRule r) p (runRule r)
   forkAny : {p o : ℕ} {x : Item} → Carries (fork p o) p x o x
 
--- The step ends x, which a held before: "A write ends what o held before, an exec what p held".
+-- The step ends x, which a held before: "A write ends what o held before"; "An exec no longer ends a chain of data in p; for
+-- the twins and run rules that p held it still does" (change request No. 2).
 pub data Ends : Step → ℕ → Item → Type 0 where
   writeEnds : {p o : ℕ} {x : Item} → Ends (write p o) o x
-  execEnds : {p o u : ℕ} {x : Item} → Ends (exec p o u) p x
+  execEndsAtom : {p o u d : ℕ} → Ends (exec p o u) p (runningAtom d)
+  execEndsRule : {p o u : ℕ} {r : List ℕ} → Ends (exec p o u) p (runRule r)
 
 -- "a chain that stood there is no longer one into it and goes no further": none of the steps lo, lo + 1, .. hi - 1 ends x,
 -- which stands in a

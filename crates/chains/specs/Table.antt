@@ -51,11 +51,17 @@ unfoldable pub appendRow : Row → Row → Row
 appendRow p o =
     record { kind = o .kind; tag = bitOr (o .tag) (p .tag); permit = o .permit; run = meet (o .run) (p .run) }
 
--- "4 exec: p's tag becomes the twins of o's data atoms, nothing else; p's run rule becomes o's; p's permit rule becomes the
--- meet of o's run rule and u's"
+-- "4 exec: p's tag becomes the twins of o's data atoms"; it "keeps p's old data atoms beside the new twins. It still drops old
+-- twins and replaces the run rule" (change request No. 2); "p's run rule becomes o's; p's permit rule becomes the meet of o's run
+-- rule and u's"
 unfoldable pub execRow : Row → Row → List ℕ → Row
 execRow p o u =
-    record { kind = p .kind; tag = runningOf dataWidth (o .tag); permit = meet (o .run) u; run = o .run }
+    record {
+      kind = p .kind;
+      tag = bitOr (runningOf dataWidth (o .tag)) (dataOf dataWidth (p .tag));
+      permit = meet (o .run) u;
+      run = o .run;
+    }
 
 -- "5 fork: o becomes a copy of p"
 unfoldable pub forkRow : Row → Row

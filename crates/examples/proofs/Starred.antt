@@ -5,19 +5,21 @@ use mathlib.Core.Bool.{true, false}
 use mathlib.Core.List.{List, [], _∷_, map}
 use lib.Bits.{bitOr, or-zero-r}
 use lib.ListN.{length}
-use Rattle.rules.specs.Sets.{holds, dataOf, runningOf}
+use Rattle.rules.specs.Sets.{holds, dataOf}
 use Rattle.rules.specs.Rules.{covers, distinct, heldIn, unheldIn, insert, sort, normal, intersections, meet}
 use Rattle.lists.specs.Lists.{elem, joined}
 use Rattle.rules.specs.Answers.{dataWidth, boundedOf}
 use Rattle.fields.specs.Bytes.{bytesOf}
 use Rattle.image.specs.Image.{offset, size}
 use Rattle.image.specs.Normal.{containerBytes, spanBytes, spansOf, pair, header, framed, encode}
+use Rattle.session.specs.Rows.{Row}
 use Rattle.session.specs.Session.{startOf}
+use Rattle.chains.specs.Table.{execRow}
 use Rattle.answers.specs.Answers.{quiet, refused}
 use Rattle.records.specs.Codes.{readCode, writeCode, appendCode, execCode, forkCode}
 use Rattle.records.specs.Records.{noUser}
 use Rattle.monitor.specs.Runs.{runAnswers}
-use Rattle.monitor.proofs.Examples.{recordOf, P, Q, checked-runs}
+use Rattle.monitor.proofs.Examples.{recordOf, P, Q, R, checked-runs, exec-holding, exec-keeping}
 use Rattle.monitor.proofs.PaperListing.{image}
 use Rattle.matrix.specs.Verdicts.{matrixVerdict}
 use Rattle.derivation.specs.Derived.{permitOf, countFrom, derivedImage}
@@ -44,13 +46,23 @@ pub record Starred : Type 0 where
   -- "Meet of 62, 61, 59 with 55, 47, 31 has nine: 15."
   pub meet-of-nine : length (meet (62 ∷ 61 ∷ 59 ∷ []) (55 ∷ 47 ∷ 31 ∷ [])) ≡ 9
   pub nine-do-not-fit : boundedOf (meet (62 ∷ 61 ∷ 59 ∷ []) (55 ∷ 47 ∷ 31 ∷ [])) .fits ≡ false
-  -- "Exec of a file holding 1 and 34: p holds 33."
-  pub exec-tag : runningOf dataWidth (2 ^ 1 + 2 ^ 34) ≡ 2 ^ 33
+  -- "Exec of a file holding 1 and 34: p holds 33", "for a p that held nothing" (change request No. 2)
+  pub exec-tag : (p o : Row) (u : List ℕ) → p .tag ≡ 0 → o .tag ≡ 2 ^ 1 + 2 ^ 34 → execRow p o u .tag ≡ 2 ^ 33
+  -- and for a p that held data atom 3 and running atom 35: it holds 3 and 33
+  pub exec-tag-kept : (p o : Row) (u : List ℕ) → p .tag ≡ 2 ^ 3 + 2 ^ 35 → o .tag ≡ 2 ^ 1 + 2 ^ 34 → execRow p o u .tag ≡ 2 ^ 3 + 2 ^ 33
   -- "Reading a file holding only 33 adds nothing."
   pub read-tag : (t : ℕ) → bitOr t (dataOf dataWidth (2 ^ 33)) ≡ t
-  -- the same two and 15 as runs of records from a session's start
+  -- the same three and 15 as runs of records from a session's start
   pub exec-run : runAnswers (startOf P) (recordOf execCode 3 1 0 ∷ recordOf appendCode 3 0 noUser ∷ recordOf execCode 4 0 0 ∷ [])
       ≡ quiet 3 (2 ^ 34) ∷ quiet 0 (2 ^ 1 + 2 ^ 34) ∷ quiet 4 (2 ^ 33) ∷ []
+  pub exec-run-kept : runAnswers (startOf R)
+      (recordOf execCode 3 1 0
+      ∷ recordOf appendCode 3 0 noUser
+      ∷ recordOf execCode 4 2 0
+      ∷ recordOf readCode 4 2 noUser
+      ∷ recordOf execCode 4 0 0
+      ∷ [])
+      ≡ quiet 3 (2 ^ 34) ∷ quiet 0 (2 ^ 1 + 2 ^ 34) ∷ quiet 4 (2 ^ 35) ∷ quiet 4 (2 ^ 3 + 2 ^ 35) ∷ quiet 4 (2 ^ 3 + 2 ^ 33) ∷ []
   pub read-run : runAnswers (startOf P)
       (recordOf execCode 3 0 0 ∷ recordOf writeCode 3 2 noUser ∷ recordOf readCode 4 1 noUser ∷ recordOf readCode 4 2 noUser ∷ [])
       ≡ quiet 3 (2 ^ 33) ∷ quiet 2 (2 ^ 33) ∷ quiet 4 (2 ^ 2) ∷ quiet 4 (2 ^ 2) ∷ []
@@ -73,7 +85,7 @@ unfolding encode framed header pair containerBytes spanBytes spansOf bytesOf joi
 bytes = image-is
 
 pub starred : Starred
-unfolding covers holds normal sort insert unheldIn heldIn distinct elem meet intersections boundedOf runningOf dataOf
+unfolding covers holds normal sort insert unheldIn heldIn distinct elem meet intersections boundedOf dataOf
 starred =
     record {
       two-mixtures = refl;
@@ -83,9 +95,11 @@ starred =
       meet-of-eight = refl;
       meet-of-nine = refl;
       nine-do-not-fit = refl;
-      exec-tag = refl;
+      exec-tag = exec-holding;
+      exec-tag-kept = exec-keeping;
       read-tag = λ t. or-zero-r t;
       exec-run = checked-runs .execHolding;
+      exec-run-kept = checked-runs .execKeeping;
       read-run = checked-runs .readHolding;
       meet-run = checked-runs .meetOver;
       fork-itself = checked-runs .forkItself;

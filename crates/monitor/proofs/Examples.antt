@@ -46,6 +46,14 @@ P = record {
   rules = [];
 }
 
+-- three files with the atoms 1, 2 and 3, two processes and a user, all rules unrestricted
+abbrev pub R : Policy
+R = record {
+  containers = file 1 unrestrictedNumber ∷ file 2 unrestrictedNumber ∷ file 3 unrestrictedNumber ∷ process ∷ process ∷ [];
+  users = unrestrictedNumber ∷ [];
+  rules = [];
+}
+
 -- two files whose run rules have the mixtures 62, 61, 59 and 55, 47, 31, and a process
 abbrev pub Q : Policy
 Q = record { containers = file noAtom 0 ∷ file noAtom 1 ∷ process ∷ []; users = []; rules = (62 ∷ 61 ∷ 59 ∷ []) ∷ (55 ∷ 47 ∷ 31 ∷ []) ∷ [] }
@@ -76,10 +84,20 @@ trace =
 pub record CheckedRuns : Type 0 where
   -- "Fork onto p itself: 13."
   pub forkItself : runAnswers (startOf P) (recordOf forkCode 3 3 noUser ∷ []) ≡ refused 13 ∷ []
-  -- "Exec of a file holding 1 and 34: p holds 33." Process 3 executes file 1, which holds 2, and appends to
-  -- file 0, which holds 1; process 4 executes that.
+  -- "Exec of a file holding 1 and 34: p holds 33", for a p that held nothing. Process 3 executes file 1, which holds 2, and
+  -- appends to file 0, which holds 1; process 4 executes that.
   pub execHolding : runAnswers (startOf P) (recordOf execCode 3 1 0 ∷ recordOf appendCode 3 0 noUser ∷ recordOf execCode 4 0 0 ∷ [])
       ≡ quiet 3 (2 ^ 34) ∷ quiet 0 (2 ^ 1 + 2 ^ 34) ∷ quiet 4 (2 ^ 33) ∷ []
+  -- The same of a p that held data atom 3 and running atom 35: it holds 3 and 33 (change request No. 2). Process 4 executes
+  -- file 2, which holds 3, and reads it, before it executes file 0.
+  pub execKeeping : runAnswers (startOf R)
+      (recordOf execCode 3 1 0
+      ∷ recordOf appendCode 3 0 noUser
+      ∷ recordOf execCode 4 2 0
+      ∷ recordOf readCode 4 2 noUser
+      ∷ recordOf execCode 4 0 0
+      ∷ [])
+      ≡ quiet 3 (2 ^ 34) ∷ quiet 0 (2 ^ 1 + 2 ^ 34) ∷ quiet 4 (2 ^ 35) ∷ quiet 4 (2 ^ 3 + 2 ^ 35) ∷ quiet 4 (2 ^ 3 + 2 ^ 33) ∷ []
   -- "Reading a file holding only 33 adds nothing." Process 3 executes file 0, which holds 1, and writes file 2; process 4
   -- reads file 1, which holds 2, and then file 2.
   pub readHolding : runAnswers (startOf P)
@@ -102,7 +120,7 @@ unfolding holds dataOf runningOf covers elem distinct heldIn unheldIn insert sor
     processGood objectGood kindGood freeGood userGood meetGood earlyConditions tableConditions sessionConditions
     acceptedAnswer acceptedEffect requestIn userFits recordGood sessionLengthGood stepAsked stepConditions refusalOf
     stepAnswer stepEffect stepOn runAnswers
-checked-runs = record { forkItself = refl; execHolding = refl; readHolding = refl; meetOver = refl; listing = refl; shortSession = refl }
+checked-runs = record { forkItself = refl; execHolding = refl; execKeeping = refl; readHolding = refl; meetOver = refl; listing = refl; shortSession = refl }
 
 -- ---- the same of any rows
 
@@ -111,9 +129,15 @@ pub fork-itself : (σ : State) (p : ℕ) → processGood σ (fork p p) ≡ true 
 unfolding firstFailed tableConditions earlyConditions processGood kindGood freeGood objectGood entry fitsNeed
 fork-itself σ p h = rw (h, process-used (σ .row p .kind) h)
 
-pub exec-holding : (p o : Row) (u : List ℕ) → o .tag ≡ 2 ^ 1 + 2 ^ 34 → execRow p o u .tag ≡ 2 ^ 33
+-- for a p that held nothing
+pub exec-holding : (p o : Row) (u : List ℕ) → p .tag ≡ 0 → o .tag ≡ 2 ^ 1 + 2 ^ 34 → execRow p o u .tag ≡ 2 ^ 33
 unfolding execRow runningOf dataOf
-exec-holding p o u e = rw e
+exec-holding p o u n e = rw (n, e)
+
+-- for a p that held data atom 3 and running atom 35
+pub exec-keeping : (p o : Row) (u : List ℕ) → p .tag ≡ 2 ^ 3 + 2 ^ 35 → o .tag ≡ 2 ^ 1 + 2 ^ 34 → execRow p o u .tag ≡ 2 ^ 3 + 2 ^ 33
+unfolding execRow runningOf dataOf
+exec-keeping p o u n e = rw (n, e)
 
 pub read-holding : (p o : Row) → o .tag ≡ 2 ^ 33 → readRow p o .tag ≡ p .tag
 unfolding readRow dataOf

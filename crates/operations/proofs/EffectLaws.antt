@@ -29,7 +29,7 @@ use Rattle.chains.specs.Demand.{judged}
 use Rattle.chains.specs.Table.{readRow, writeRow, appendRow, execRow, forkRow, newFileRow, newVolatileRow, ruleOr, entry, fits, meetGood, alerts, verdict}
 use Rattle.operations.specs.View.{view}
 use Rattle.operations.specs.Effects.{acceptedAnswer, acceptedEffect}
-use Rattle.operations.specs.Parts.{Ready, UsedAt, Kept, wordsFrom, contentWords, newWords, coverVerdict, coverAnswer, lateAnswer, lateEffect, sharedRun, absorbed, absorbAnswer, absorbEffect, launchAnswer, launchEffect}
+use Rattle.operations.specs.Parts.{Ready, UsedAt, Kept, wordsFrom, contentWords, newWords, coverVerdict, coverAnswer, lateAnswer, lateEffect, sharedRun, absorbed, absorbAnswer, absorbEffect, launchTag, launchAnswer, launchEffect}
 use Rattle.operations.proofs.ViewLaws.{view-row}
 use Rattle.operations.proofs.ReadyLaws.{process-kind, ready-process, ready-object, ready-user}
 use Rattle.operations.proofs.RowSteps.{KeptAs, row-used, row-counts, row-long, run-kept, run-single, user-kept-as, met, content-row, new-row, fits-short, fits-made, rule-short}
@@ -227,10 +227,15 @@ pub one-fit : (x : ℕ) (m : Bounded) → m ≡ boundedOf (x ∷ []) → m .fits
 unfolding boundedOf
 one-fit x m e = ap (λ (n : Bounded). n .fits) e
 
-pub launch-done : (s : List ℕ) (p o : ℕ) (m n : Bounded) → n ≡ boundedOf (view s .row o .run) → (t : ℕ) → t ≡ runningOf dataWidth (view s .row o .tag) → (a : Answer) (ws : List ℕ)
+pub launch-done : (s : List ℕ) (p o : ℕ) (m n : Bounded) → n ≡ boundedOf (view s .row o .run) → (t : ℕ) → t ≡ launchTag s p o → (a : Answer) (ws : List ℕ)
     → a ≡ coverAnswer p (take (m .count) (m .mixtures)) t → ws ≡ newWords processKind t m n → (a ≡ launchAnswer s p o m) × (returned s p ws ≡ launchEffect s p o m)
 unfolding launchAnswer launchEffect
 launch-done s p o m n en t et a ws ea ew = (ea ∙ rw et, row-returned s p ws ∙ rw (ew, en, et))
+
+-- the tag, made of the running atoms n of o and the data atoms of p
+pub launch-tag : (s : List ℕ) (p o n k t r : ℕ) → n ≡ view s .row o .tag → r ≡ runningOf dataWidth n → k ≡ view s .row p .tag → t ≡ bitOr r (dataOf dataWidth k) → t ≡ launchTag s p o
+unfolding launchTag
+launch-tag s p o n k t r en er ek et = et ∙ rw (er, en, ek)
 
 module _ (s : List ℕ) (p o u : ℕ) (h : Ready s (exec p o u)) (m : Bounded) (em : m ≡ boundedOf (meet (view s .row o .run) (ruleOr (view s .user u)))) where
   exec-meet : meetGood (view s) (exec p o u) ≡ m .fits
@@ -248,10 +253,9 @@ module _ (s : List ℕ) (p o u : ℕ) (h : Ready s (exec p o u)) (m : Bounded) (
   exec-fit f = (ready-process s (exec p o u) h, ready-object s (exec p o u) h refl, bounded-rule (meet (view s .row o .run) (ruleOr (view s .user u))) m em (exec-short f) .0)
 
   pub exec-done : m .fits ≡ true → (a : Answer) (s₁ : List ℕ) → (a ≡ launchAnswer s p o m) × (s₁ ≡ launchEffect s p o m) → Done s (exec p o u) a s₁
-  unfolding entry execRow launchAnswer launchEffect
+  unfolding entry execRow launchTag launchAnswer launchEffect
   exec-done f a s₁ (ea, es) =
-      let t : ℕ = runningOf dataWidth (view s .row o .tag) in
-      let ws : List ℕ = newWords processKind t m (boundedOf (view s .row o .run)) in
+      let ws : List ℕ = newWords processKind (launchTag s p o) m (boundedOf (view s .row o .run)) in
       let d : Done s (exec p o u) a (returned s p ws) =
       replace-done s (exec p o u) (exec-meet ∙ f) (execRow (view s .row p) (view s .row o) (ruleOr (view s .user u))) refl m (boundedOf (view s .row o .run)) a ws refl (process-kind s (exec p o u) h) em (exec-short f) refl
       (run-short s o (ready-object s (exec p o u) h refl)) ea refl in

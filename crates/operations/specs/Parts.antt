@@ -5,6 +5,7 @@ use mathlib.Core.Path.{_≡_}
 use mathlib.Core.Bool.{Bool, true, false, cond}
 use mathlib.Core.List.{List, _∷_, _++_}
 use mathlib.Core.Option.{some}
+use lib.Bits.{bitOr}
 use lib.ListN.{length, getD, take, drop}
 use Rattle.lists.specs.Conditions.{Condition, _orRefuse_, firstFailed}
 use Rattle.answers.specs.Refusals.{row, overLimit}
@@ -19,7 +20,7 @@ use Rattle.image.specs.Limits.{containerLimit, userLimit, processKind, isFree}
 use Rattle.rule_words.specs.Words.{ruleWidth, keptWell}
 use Rattle.session.specs.Limits.{sessionLength, kindAt}
 use Rattle.session.specs.Rows.{Row, rowWords, permitWords, containerRow, containerRowGood, putRow, userRow, userRowGood, isDeclared}
-use Rattle.rules.specs.Sets.{runningOf}
+use Rattle.rules.specs.Sets.{dataOf, runningOf}
 use Rattle.rules.specs.Answers.{dataWidth, boundedOf}
 use Rattle.chains.specs.History.{Step}
 use Rattle.chains.specs.Table.{entry, fits, meetGood, earlyConditions}
@@ -115,11 +116,13 @@ absorbAnswer s c d t = cond (fits (sharedRun s c d)) (coverAnswer c (view s .row
 unfoldable pub absorbEffect : List ℕ → ℕ → ℕ → ℕ → List ℕ
 absorbEffect s c d t = cond (fits (sharedRun s c d)) (putRow s c (rowWords (absorbed s c d t))) s
 
--- ---- process p becomes what runs o: the run rule and the running atoms of o, under the permit rule m
+-- ---- process p becomes what runs o: the run rule and the running atoms of o beside p's data atoms, under the permit rule m
+
+unfoldable pub launchTag : List ℕ → ℕ → ℕ → ℕ
+launchTag s p o = bitOr (runningOf dataWidth (view s .row o .tag)) (dataOf dataWidth (view s .row p .tag))
 
 unfoldable pub launchAnswer : List ℕ → ℕ → ℕ → Bounded → Answer
-launchAnswer s p o m = coverAnswer p (take (m .count) (m .mixtures)) (runningOf dataWidth (view s .row o .tag))
+launchAnswer s p o m = coverAnswer p (take (m .count) (m .mixtures)) (launchTag s p o)
 
 unfoldable pub launchEffect : List ℕ → ℕ → ℕ → Bounded → List ℕ
-launchEffect s p o m =
-    putRow s p (newWords processKind (runningOf dataWidth (view s .row o .tag)) m (boundedOf (view s .row o .run)))
+launchEffect s p o m = putRow s p (newWords processKind (launchTag s p o) m (boundedOf (view s .row o .run)))

@@ -302,13 +302,14 @@ fn append(s: &mut [u64], p: usize, o: usize) -> Answer
     absorb(s, o, p, stored | held)
 }
 
-// The process becomes what runs the object, under the permit rule.
+// The process becomes what runs the object, under the permit rule; it keeps its data atoms.
 fn launch(s: &mut [u64], p: usize, o: usize, permit: Bounded) -> Answer
     requires { ⌜ (UsedAt (now s) p) × (UsedAt (now s) o) × (permit .count ≤ mixtureLimit) ⌝ }
     ensures { λ r. ⌜ (r ≡ launchAnswer (now (s .entry)) p o permit) × (now (s .exit) ≡ launchEffect (now (s .entry)) p o permit) ⌝ }
 {
     let run = rule_at(s, o * ROW_WIDTH + RUN_AT);
-    let tag = rules::running_atoms(tag_of(s, o));
+    let running = rules::running_atoms(tag_of(s, o));
+    let tag = rules::add_data_atoms(running, tag_of(s, p));
     let a = p * ROW_WIDTH;
     replace(&mut s[a..a + ROW_WIDTH], p, tag, permit, run)
 }

@@ -18,7 +18,8 @@ pub enum Operation {
     Write { process: u8, object: u8 },
     /// Code 3: the process appends to a file or volatile.
     Append { process: u8, object: u8 },
-    /// Code 4: the process starts the program in a file for a user.
+    /// Code 4: the process starts the program in a file for a user. It keeps the data that it holds, as what it passes to
+    /// the program; what it ran before is gone.
     Exec { process: u8, file: u8, user: u8 },
     /// Code 5: the process forks; the child takes a free number.
     Fork { process: u8, child: u8 },

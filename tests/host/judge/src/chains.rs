@@ -39,12 +39,13 @@ fn carries(step: Record) -> Option<(usize, usize)> {
     }
 }
 
-/// "A write ends what o held before, an exec what p held".
-fn ends(step: Record) -> Option<usize> {
+/// "A write ends what o held before". "An exec no longer ends a chain of data in p; for the twins and run rules that p
+/// held it still does" (change request No. 2).
+fn ends(step: Record, container: usize, carried: Carried) -> bool {
     match step.code {
-        2 => Some(step.o),
-        4 => Some(step.p),
-        _ => None,
+        2 => step.o == container,
+        4 => step.p == container && !matches!(carried, Carried::Data(_)),
+        _ => false,
     }
 }
 
@@ -85,7 +86,7 @@ fn extend(
 ) {
     let from = steps.last().map_or(0, |&last| last + 1);
     // "a chain that stood there is no longer one into it and goes no further"
-    let ended_by = (from..history.len()).find(|&at| ends(history[at]) == Some(into));
+    let ended_by = (from..history.len()).find(|&at| ends(history[at], into, carried));
     found.push(Chain { file, steps: steps.clone(), carried, into, ended_by });
     // "the first takes up in that file, each other where the one before it put down"
     for at in from..ended_by.unwrap_or(history.len()) {
@@ -206,6 +207,20 @@ mod tests {
         let chains = list(&policy, &history);
         assert_eq!(information(&chains, 1, 1), 0b10);
         assert_eq!(information(&chains, 1, 2), 0b01);
+    }
+
+    /// After an exec data in p is still there, what p ran and the run rules that came with it are not.
+    #[test]
+    fn an_exec_ends_what_ran() {
+        let policy = Policy { containers: vec![file(0), file(1), process()], users: vec![UNRESTRICTED], rules: vec![] };
+        let exec = |o| Record { code: 4, p: 2, o, u: Some(0) };
+        let history = [exec(0), step(1, 2, 0), exec(1)];
+        let chains = list(&policy, &history);
+        assert_eq!(information(&chains, 2, 2), 1 | 1 << 32);
+        assert_eq!(information(&chains, 2, 3), 1 | 1 << 33);
+        let rules = |after| into(&chains, 2, after).filter(|chain| matches!(chain.carried, Carried::RunRule(_))).count();
+        assert_eq!(rules(2), 2);
+        assert_eq!(rules(3), 1);
     }
 
     /// The order of steps counts: what p reads after its write does not reach the file.

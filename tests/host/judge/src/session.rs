@@ -194,11 +194,13 @@ fn effect(record: Record, p: &Row, o: Option<&Row>, user: Option<&Rule>) -> Resu
             let o = taken();
             Row { tag: o.tag | p.tag, run: bounded(meet(&o.run, &p.run))?, ..o }
         }
-        // "p's tag becomes the twins of o's data atoms, nothing else; p's run rule becomes o's; p's permit rule
-        // becomes the meet of o's run rule and u's"
+        // "p's tag becomes the twins of o's data atoms"; "Code 4 now keeps p's old data atoms beside the new twins. It
+        // still drops old twins" (change request No. 2); "p's run rule becomes o's; p's permit rule becomes the meet of
+        // o's run rule and u's"
         4 => {
             let o = taken();
-            Row { kind: p.kind, tag: running_atoms(o.tag), permit: bounded(meet(&o.run, &user()))?, run: o.run }
+            let tag = data_atoms(p.tag) | running_atoms(o.tag);
+            Row { kind: p.kind, tag, permit: bounded(meet(&o.run, &user()))?, run: o.run }
         }
         // "o becomes a copy of p"
         5 => p.clone(),
@@ -315,13 +317,15 @@ mod tests {
         bytes
     }
 
-    /// "Exec of a file holding 1 and 34: p holds 33."
+    /// "Exec of a file holding 1 and 34: p holds 33", "for a p that held nothing"; one that held 3 and 35 holds 3 too.
     #[test]
     fn exec_takes_the_running_atoms() {
-        let rows = [(0, row(Kind::Process, 7)), (1, row(Kind::File, 1 << 1 | 1 << 34))];
-        let mut session = session_with(&rows, &[(3, unrestricted())]);
-        let answer = step(&mut session, &record(4, 0, 1, 3));
-        assert_eq!(answer, Answer { number: QUIET, receiver: 0, tag: 1 << 33 });
+        for (held, kept) in [(0, 0), (1 << 3 | 1 << 35, 1 << 3)] {
+            let rows = [(0, row(Kind::Process, held)), (1, row(Kind::File, 1 << 1 | 1 << 34))];
+            let mut session = session_with(&rows, &[(3, unrestricted())]);
+            let answer = step(&mut session, &record(4, 0, 1, 3));
+            assert_eq!(answer, Answer { number: QUIET, receiver: 0, tag: kept | 1 << 33 });
+        }
     }
 
     /// "Reading a file holding only 33 adds nothing."

@@ -12,11 +12,11 @@ use judge::numbers::{
     container_row, user_row, CONTAINERS, HEADER, LONGEST_NORMAL, MIXTURES, RECORD, ROW_PERMIT, ROW_RUN, ROW_TAG, RULES,
     RULE_MIXTURES, SESSION, UNRESTRICTED, USERS,
 };
-use judge::rules::{covers, holds, meet};
+use judge::rules::{covers, holds, meet, running_atoms};
 use judge::{image, matrix, normal, session};
 
 /// The planted faults, each a mistake that a reviewer would try.
-pub const FAULTS: [&str; 44] = [
+pub const FAULTS: [&str; 47] = [
     "1 a monitor that is always quiet",
     "2 a running atom passes by read",
     "3 covering is tested atom by atom",
@@ -30,7 +30,7 @@ pub const FAULTS: [&str; 44] = [
     "11 a refused step clears receiver and tag",
     "12 the normaliser writes one byte behind its image",
     "13 unused words of a row are not looked at",
-    "14 exec keeps p's old tag",
+    "14 exec keeps all that p held, as in document 003",
     "15 a derived permit rule lacks its own object",
     "16 the start leaves the last user row as it was",
     "17 the pair has the smallest target, then the smallest source",
@@ -61,6 +61,9 @@ pub const FAULTS: [&str; 44] = [
     "42 17 goes before 16",
     "43 a repeated profile beyond the 32nd path is not found",
     "44 a text refused with 16 clears the output",
+    "45 exec drops the data that p held",
+    "46 exec turns the data that p held into running atoms",
+    "47 exec keeps p's run rule",
 ];
 
 /// The number of the planted fault, 0 for none.
@@ -270,6 +273,15 @@ fn step(session: &mut [u64], bytes: &[u8]) -> session::Answer {
     }
     if fault(14) && code == 4 {
         row[ROW_TAG] |= p[ROW_TAG];
+    }
+    if fault(45) && code == 4 {
+        row[ROW_TAG] = running_atoms(o[ROW_TAG]);
+    }
+    if fault(46) && code == 4 {
+        row[ROW_TAG] = running_atoms(p[ROW_TAG] | o[ROW_TAG]);
+    }
+    if fault(47) && code == 4 {
+        row[ROW_RUN].copy_from_slice(&p[ROW_RUN]);
     }
     if fault(5) && code == 1 {
         let narrowed = meet(rule(&p[ROW_PERMIT]), rule(&o[ROW_RUN]));
