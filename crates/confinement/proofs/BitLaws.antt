@@ -9,7 +9,7 @@ use lib.Dec.{eqb}
 use borrow.Author.Tests.{eqb-true, eq-eqb, ne-eqb}
 use Rattle.lists.proofs.Bools.{clash}
 use Rattle.rules.proofs.SetLaws.{atom-and, atom-or, ext}
-use Rattle.profiles.specs.Profiles.{Mode, mode-r, mode-w, mode-a, mode-l, mode-m, mode-ix, mode-px, mode-Px, mode-ux, mode-Ux}
+use Rattle.profiles.specs.Profiles.{Mode, mode-r, mode-w, mode-a, mode-l, mode-m, mode-ix, mode-px, mode-Px, mode-ux, mode-Ux, modesGood}
 use Rattle.profiles.specs.Scanning.{modeBit, withModes, modeBits}
 use Rattle.confinement.specs.Confinement.{isOneOf, someOf, reading, executing, writing, unconfined, inheriting, confined}
 use Rattle.confinement.specs.Tables.{readingBits, executingBits, writingBits, unconfinedBits, inheritingBits, confinedBits, meets}
@@ -51,6 +51,25 @@ bits-append (m ∷ ms) ns =
     ∙ ap (bitOr (modeBit m)) (bits-append ms ns)
     ∙ sym (or-assoc (modeBit m) (modeBits ms) (modeBits ns))
     ∙ ap (λ (x : ℕ). bitOr x (modeBits ns)) (sym (bits-first m ms))
+
+bit-some : (m : Mode) → modeBit m ≡ 0 → ⊥
+unfolding modeBit
+bit-some mode-r e = omega arith
+bit-some mode-w e = omega arith
+bit-some mode-a e = omega arith
+bit-some mode-l e = omega arith
+bit-some mode-m e = omega arith
+bit-some mode-ix e = omega arith
+bit-some mode-px e = omega arith
+bit-some mode-Px e = omega arith
+bit-some mode-ux e = omega arith
+bit-some mode-Ux e = omega arith
+
+-- at least one mode has a bit
+pub no-bit : (ms : List Mode) → modesGood ms ≡ true → modeBits ms ≡ 0 → ⊥
+unfolding modesGood
+no-bit [] h e = clash h refl
+no-bit (m ∷ ms) h e = bit-some m (or-zero (modeBit m) (modeBits ms) (sym (bits-first m ms) ∙ e) .0)
 
 -- ---- one of the wanted modes
 

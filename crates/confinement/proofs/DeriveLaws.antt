@@ -2,12 +2,12 @@
 use Prim.Native.Nat.{ℕ, zero, suc, _+_, _-_, _*_, _≤_, _<_}
 use native.Mathlib.Omega.{arith}
 use mathlib.Core.Path.{_≡_, refl, sym, ap, ap₂, _∙_, subst}
-use mathlib.Core.Bool.{Bool, true, false}
+use mathlib.Core.Bool.{Bool, true, false, not}
 use mathlib.Core.List.{List, [], _∷_, _++_, map, map-append}
 use lib.Dec.{leb}
 use lib.ListN.{length, take, drop, replicate}
 use lib.Seq.{take-at}
-use borrow.Author.Tests.{le-leb, lt-leb, leb-true}
+use borrow.Author.Tests.{le-leb, lt-leb, leb-true, not-false}
 use Rattle.lists.specs.Lists.{every, joined}
 use Rattle.lists.specs.Conditions.{firstFailed, _orRefuse_}
 use Rattle.lists.proofs.Bools.{and-in, and-0, and-1, clash, refuted}
@@ -32,6 +32,8 @@ use Rattle.normaliser.proofs.WriterLaws.{producer-tabled, producer-wrote, norma
 use Rattle.normaliser.proofs.AnswerLaws.{refused-answer, refused-effect, wrote-answer}
 use Rattle.profiles.specs.Profiles.{Profile}
 use Rattle.profiles.specs.Texts.{textGood}
+use Rattle.profiles.specs.LineWords.{textWords, Judged}
+use Rattle.profiles.specs.declared.ScannedText.{ScannedText}
 use Rattle.confinement.specs.Confinement.{pathsOf, rulesOf, filesFrom, initialProcess, profilePolicy}
 use Rattle.confinement.specs.Images.{profilesIn, limitsGood, profileConditions, profileImage, profileAnswer, profileEffect}
 use Rattle.confinement.specs.Tables.{PathTable, ProgramTable, mixtures, ruleFrom, formsFrom, shortRule, FormsPut, tablePolicy, Tabulated, PolicyWritten}
@@ -207,3 +209,8 @@ module _ (text out : List ℕ) where
 pub tabulated : {t : List ℕ} {ps : List Profile} {starts sizes own modes : List ℕ} {n m : ℕ} → PathTable t (pathsOf ps) starts sizes n → ProgramTable (pathsOf ps) ps own modes m
     → Tabulated ps own modes n m
 tabulated p q = record { paths = p .count; few = p .few; programs = q }
+
+-- ---- the numbers of the lines, as they are lent
+
+pub words-lent : (t words : List ℕ) (b : Bool) (s : ScannedText) → Judged t words b s → not (s .good) ≡ false → take (s .count - 0) words ≡ textWords t
+words-lent t words b s g h = let z : s .count - 0 ≡ s .count = omega arith in ap (λ (k : ℕ). take k words) z ∙ g .listed (not-false (s .good) h)

@@ -21,7 +21,7 @@ use Rattle.confinement.specs.Confinement.{pathsOf, modesAmong, modesOn}
 use Rattle.confinement.specs.Tables.{noProfile}
 use Rattle.confinement.proofs.BitLaws.{bits-append}
 use Rattle.confinement.proofs.PathLaws.{profiles-known}
-use Rattle.confinement.proofs.LineWalks.{entered, opened, withEntry}
+use Rattle.confinement.proofs.LineWalks.{entered, opened, withEntry, namingLines}
 
 -- ---- no more programs than paths
 
@@ -135,16 +135,13 @@ isOpening (opens p ∷ ls) = 1
 isOpening (enters e ∷ ls) = 0
 isOpening (closes ∷ ls) = 0
 
-opening-first : (ps : List Profile) → isOpening (linesOf ps) ≡ 1
-unfolding linesOf
+opening-first : (ps : List Profile) → isOpening (namingLines (linesOf ps)) ≡ 1
+unfolding linesOf namingLines
 opening-first [] = refl
 opening-first (p ∷ ps) = refl
 
-pub not-first : (ps : List Profile) (e : Entry) (ls : List Line) → linesOf ps ≡ enters e ∷ ls → ⊥
+pub not-first : (ps : List Profile) (e : Entry) (ls : List Line) → namingLines (linesOf ps) ≡ enters e ∷ ls → ⊥
 not-first ps e ls h = omega (arith, opening-first ps, ap isOpening h)
-
-pub not-end : (ps : List Profile) (ls : List Line) → linesOf ps ≡ closes ∷ ls → ⊥
-not-end ps ls h = omega (arith, opening-first ps, ap isOpening h)
 
 pub getD-zeros : (n i : ℕ) → _≡_ {A = ℕ} (getD (replicate n 0) i 0) 0
 getD-zeros n i = by (decLt i n)

@@ -307,14 +307,24 @@ pub fn derive(text: &[u8], out: &mut [u8]) -> u32
     if out.len() < normaliser::OUTPUT_BOUND {
         return answers::LENT_LENGTH;
     }
-    if !profiles::text_good(text) {
+    let mut words = [0u32; profiles::WORD_LIMIT];
+    let scanned = profiles::scan_text(text, &mut words);
+    if !scanned.good {
         return answers::PROFILE_TEXT;
     }
     let mut starts = [0usize; PATHS];
     let mut sizes = [0usize; PATHS];
     let mut own = [0usize; PATHS];
     let mut modes = [0u64; CELLS];
-    let counts = scan::fill_tables(text, &mut starts, &mut sizes, &mut own, &mut modes);
+    let lines = scanned.count;
+    let counts = scan::fill_tables(
+        text,
+        &words[0..lines],
+        &mut starts,
+        &mut sizes,
+        &mut own,
+        &mut modes,
+    );
     let n = counts.paths;
     if PATHS < n {
         return answers::PROFILE_LIMIT;

@@ -1,4 +1,5 @@
-// The pass over a text that is good (change request No. 1): its paths by their places, and its programs with their modes.
+// The pass over the lines of a text that is good (change request No. 1): its paths by their places, and its programs with their
+// modes.
 ghost use mathlib.Core.Path.{_≡_};
 ghost use mathlib.Core.Bool.{true};
 ghost use Prim.Native.Nat.{_+_, _≤_, _<_};
@@ -6,6 +7,7 @@ ghost use lib.ListN.{length, replicate};
 ghost use Rattle.lists.specs.Lists.{sameList, position};
 ghost use Rattle.rules.specs.Answers.{dataWidth};
 ghost use Rattle.profiles.specs.Texts.{textGood};
+ghost use Rattle.profiles.specs.LineWords.{textWords};
 ghost use Rattle.confinement.specs.Tables.{pathAt, cellCount};
 ghost use Rattle.confinement.specs.Scans.{tablePaths, Places, hintCount, Hinted, Placed, Scanned};
 
@@ -185,41 +187,40 @@ fn too_many() -> Counts
     }
 }
 
-// The tables of the text, with hints. There are not more programs than paths.
+// The tables of the text from the numbers of its lines, with hints. There are not more programs than paths.
 fn fill_hinted(
     text: &[u8],
+    words: &[u32],
     starts: &mut [usize],
     sizes: &mut [usize],
     own: &mut [usize],
     modes: &mut [u64],
     hints: &mut [usize],
 ) -> Counts
-    requires { ⌜ (textGood (now text) ≡ true) × (length (now starts) ≡ dataWidth) × (length (now sizes) ≡ dataWidth) × (length (now own) ≡ dataWidth) × (now modes ≡ replicate cellCount 0) × (length (now hints) ≡ hintCount) ⌝ }
+    requires { ⌜ (textGood (now text) ≡ true) × (now words ≡ textWords (now text)) × (length (now starts) ≡ dataWidth) × (length (now sizes) ≡ dataWidth) × (length (now own) ≡ dataWidth) × (now modes ≡ replicate cellCount 0) × (length (now hints) ≡ hintCount) ⌝ }
     ensures { λ r. ⌜ Scanned (now (text .entry)) (now (starts .exit)) (now (sizes .exit)) (now (own .exit)) (now (modes .exit)) (r .paths) (r .programs) ⌝ }
 {
     let mut n = 0;
     let mut m = 0;
-    let mut at = 0;
-    while at < text.len() {
-        let line = profiles::line_at(text, at);
-        at = line.next;
-        if line.kind != profiles::END_LINE {
-            let placed = place(text, starts, sizes, hints, n, line.path, line.length);
-            let number = placed.number;
-            n = placed.count;
-            if PATHS <= number {
+    let mut i = 0;
+    while i < words.len() {
+        let line = profiles::named_path(words[i]);
+        i += 1;
+        let placed = place(text, starts, sizes, hints, n, line.start, line.size);
+        let number = placed.number;
+        n = placed.count;
+        if PATHS <= number {
+            return too_many();
+        }
+        if line.modes == 0 {
+            if m == PATHS {
                 return too_many();
             }
-            if line.kind == profiles::PROFILE_LINE {
-                if m == PATHS {
-                    return too_many();
-                }
-                own[m] = number;
-                m += 1;
-            } else {
-                let cell = (m - 1) * PATHS + number;
-                modes[cell] = modes[cell] | line.modes;
-            }
+            own[m] = number;
+            m += 1;
+        } else {
+            let cell = (m - 1) * PATHS + number;
+            modes[cell] = modes[cell] | line.modes;
         }
     }
     Counts {
@@ -232,14 +233,15 @@ fn fill_hinted(
 // each path.
 pub fn fill_tables(
     text: &[u8],
+    words: &[u32],
     starts: &mut [usize],
     sizes: &mut [usize],
     own: &mut [usize],
     modes: &mut [u64],
 ) -> Counts
-    requires { ⌜ (textGood (now text) ≡ true) × (length (now starts) ≡ dataWidth) × (length (now sizes) ≡ dataWidth) × (length (now own) ≡ dataWidth) × (now modes ≡ replicate cellCount 0) ⌝ }
+    requires { ⌜ (textGood (now text) ≡ true) × (now words ≡ textWords (now text)) × (length (now starts) ≡ dataWidth) × (length (now sizes) ≡ dataWidth) × (length (now own) ≡ dataWidth) × (now modes ≡ replicate cellCount 0) ⌝ }
     ensures { λ r. ⌜ Scanned (now (text .entry)) (now (starts .exit)) (now (sizes .exit)) (now (own .exit)) (now (modes .exit)) (r .paths) (r .programs) ⌝ }
 {
     let mut hints = [0usize; 256];
-    fill_hinted(text, starts, sizes, own, modes, &mut hints)
+    fill_hinted(text, words, starts, sizes, own, modes, &mut hints)
 }

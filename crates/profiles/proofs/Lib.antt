@@ -12,5 +12,6 @@ pub mod ScanLaws
 pub mod PathLaws
 pub mod ModeLaws
 pub mod LineScans
+pub mod LineWordLaws
 pub mod TextLaws
 pub mod TextScan

@@ -79,6 +79,12 @@ mode-long mode-Px = omega arith
 mode-long mode-ux = omega arith
 mode-long mode-Ux = omega arith
 
+-- at least one mode has a letter
+pub modes-text-long : (ms : List Mode) → modesGood ms ≡ true → 0 < length (modesText ms)
+unfolding modesGood modesText joined
+modes-text-long [] h = clash h refl
+modes-text-long (m ∷ ms) h = omega (arith, length-append (modeText m) (joined (map modeText ms)), mode-long m)
+
 mode-among : (ms : List Mode) (t : List ℕ) (m : Mode) → modeAmong ms t ≡ some m → starts (modeText m) t ≡ true
 unfolding modeAmong
 mode-among [] t m h = absurd (none-some h)

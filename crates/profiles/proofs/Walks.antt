@@ -68,7 +68,7 @@ pub scanned : (t : List ℕ) (at : ℕ) (l : Line) → lineIn (drop at t) ≡ so
 unfolding lineAt
 scanned t at l e = rw e
 
-unscanned : (t : List ℕ) (at : ℕ) → lineIn (drop at t) ≡ none → lineAt t at ≡ noScan
+pub unscanned : (t : List ℕ) (at : ℕ) → lineIn (drop at t) ≡ none → lineAt t at ≡ noScan
 unfolding lineAt
 unscanned t at e = rw e
 
@@ -125,7 +125,7 @@ module _ (t : List ℕ) (at : ℕ) (l : at ≤ length t) where
     kind-of : (x : Line) → lineIn (drop at t) ≡ some x → s .kind ≡ lineScan at x .kind
     kind-of x e = ap (λ (y : ScannedLine). y .kind) (is-line x e)
 
-    no-kind : lineIn (drop at t) ≡ none → s .kind ≡ noLine
+    pub no-kind : lineIn (drop at t) ≡ none → s .kind ≡ noLine
     unfolding noScan
     no-kind e = ap (λ (y : ScannedLine). y .kind) (q ∙ unscanned t at e)
 

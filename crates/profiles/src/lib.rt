@@ -10,8 +10,9 @@ ghost use Rattle.profiles.specs.Profiles.{isBetween, isPathByte, pathGoo
 ghost use Rattle.profiles.specs.Tokens.{starts};
 ghost use Rattle.profiles.specs.Reading.{pathIn, readingOf};
 ghost use Rattle.profiles.specs.Texts.{textLimit, readsWell, textGood};
-ghost use Rattle.profiles.specs.Notes.{pathKey, notedPath, noteGood, PathAt, ToNote, notedPlace, withNote};
+ghost use Rattle.profiles.specs.Notes.{lengthLimit, pathKey, notedPath, noteGood, PathAt, ToNote, notedPlace, withNote};
 ghost use Rattle.profiles.specs.Scanning.{withX, modeAt, modesAt, noScan, lineAt};
+ghost use Rattle.profiles.specs.LineWords.{lineWord, namedPath, wordLimit, mayStand, noText, Judged};
 
 // ---- the bytes and numbers of the format
 
@@ -252,11 +253,11 @@ const LINE_END: usize = 2;
 // What a line is: nothing of the grammar, or one of its three.
 const NO_LINE: usize = 0;
 
-pub const PROFILE_LINE: usize = 1;
+const PROFILE_LINE: usize = 1;
 
-pub const ENTRY_LINE: usize = 2;
+const ENTRY_LINE: usize = 2;
 
-pub const END_LINE: usize = 3;
+const END_LINE: usize = 3;
 
 // A line: what it is, where its path begins and how long that is, the bits of its modes, and where the next line begins.
 pub struct ScannedLine {
@@ -352,7 +353,7 @@ fn end_line(text: &[u8], at: usize) -> ScannedLine
 }
 
 // The line at a place.
-pub fn line_at(text: &[u8], at: usize) -> ScannedLine
+fn line_at(text: &[u8], at: usize) -> ScannedLine
     requires { ⌜ at ≤ length (now text) ⌝ }
     ensures { λ r. ⌜ r ≡ lineAt (now (text .entry)) at ⌝ }
 {
@@ -364,6 +365,42 @@ pub fn line_at(text: &[u8], at: usize) -> ScannedLine
         return end_line(text, at);
     }
     entry_line(text, at)
+}
+
+// ---- lines that name a path
+
+// The places of a text and the lengths of a path, in the number of a line.
+const PLACES: u32 = 16384;
+
+const LENGTHS: u32 = 128;
+
+// Numbers enough for every text.
+pub const WORD_LIMIT: usize = 2731;
+
+// The path that a line names: where it begins, how long it is, and the modes on it, none in a profile's first line.
+pub struct NamedPath {
+    pub start: usize,
+    pub size: usize,
+    pub modes: u64,
+}
+
+// The number of a line.
+fn line_word(line: ScannedLine) -> u32
+    requires { ⌜ (line .path < textLimit) × (line .length < lengthLimit) × (line .modes < 1024) ⌝ }
+    ensures { λ r. ⌜ r ≡ lineWord line ⌝ }
+{
+    line.path as u32 + PLACES * (line.length as u32 + LENGTHS * line.modes as u32)
+}
+
+// The path of the line that has this number.
+pub fn named_path(word: u32) -> NamedPath
+    ensures { λ r. ⌜ r ≡ namedPath word ⌝ }
+{
+    NamedPath {
+        start: (word % PLACES) as usize,
+        size: (word / PLACES % LENGTHS) as usize,
+        modes: (word / (PLACES * LENGTHS)) as u64,
+    }
 }
 
 // ---- paths profiled twice
@@ -441,69 +478,97 @@ fn note_path(text: &[u8], notes: &mut [u64], count: usize, at: usize, length: us
 
 // ---- the text
 
-// The lines of a text are profiles, and no path is profiled twice. A profile's first line has at least 13 bytes, so the notes
-// are not more than a thirteenth of the text.
-fn lines_good(text: &[u8], notes: &mut [u64]) -> bool
-    requires { ⌜ (length (now text) ≤ textLimit) × (length (now text) ≤ 13 * length (now notes)) ⌝ }
-    ensures { λ r. ⌜ r ≡ readsWell (readingOf (now (text .entry))) ⌝ }
+// Whether a text is good, and if so, how many of its lines name a path.
+pub struct ScannedText {
+    pub good: bool,
+    pub count: usize,
+}
+
+fn no_text() -> ScannedText
+    ensures { λ r. ⌜ r ≡ noText ⌝ }
+{
+    ScannedText {
+        good: false,
+        count: 0,
+    }
+}
+
+// A profile's first line stands outside of profiles, the others inside of one.
+fn may_stand(kind: usize, inside: bool) -> bool
+    ensures { λ r. ⌜ r ≡ mayStand kind inside ⌝ }
+{
+    if kind == PROFILE_LINE {
+        return !inside;
+    }
+    if kind == NO_LINE {
+        return false;
+    }
+    inside
+}
+
+// The lines of a text are profiles, and no path is profiled twice; the numbers of its lines. A profile's first line has at
+// least 13 bytes and one that names a path 6, so there are not more notes and numbers than room for them.
+fn scan_lines(text: &[u8], notes: &mut [u64], words: &mut [u32]) -> ScannedText
+    requires { ⌜ (length (now text) ≤ textLimit) × (length (now text) ≤ 13 * length (now notes)) × (length (now text) ≤ 6 * length (now words)) ⌝ }
+    ensures { λ r. ⌜ Judged (now (text .entry)) (now (words .exit)) (readsWell (readingOf (now (text .entry)))) r ⌝ }
 {
     let mut at = 0;
+    let mut profiles = 0;
     let mut count = 0;
     let mut inside = false;
     while at < text.len() {
         let line = line_at(text, at);
+        if !may_stand(line.kind, inside) {
+            return no_text();
+        }
+        words[count] = line_word(line);
         at = line.next;
         if line.kind == PROFILE_LINE {
-            if inside {
-                return false;
+            if note_path(text, notes, profiles, line.path, line.length) < profiles {
+                return no_text();
             }
-            if note_path(text, notes, count, line.path, line.length) < count {
-                return false;
-            }
+            profiles += 1;
             count += 1;
             inside = true;
         } else if line.kind == ENTRY_LINE {
-            if !inside {
-                return false;
-            }
-        } else if line.kind == END_LINE {
-            if !inside {
-                return false;
-            }
-            inside = false;
+            count += 1;
         } else {
-            return false;
+            inside = false;
         }
     }
-    !inside
+    ScannedText {
+        good: !inside,
+        count: count,
+    }
 }
 
-// The test of a short text, with few notes.
-fn short_good(text: &[u8]) -> bool
-    requires { ⌜ length (now text) ≤ 832 ⌝ }
-    ensures { λ r. ⌜ r ≡ readsWell (readingOf (now (text .entry))) ⌝ }
+// A short text, with few notes.
+fn scan_short(text: &[u8], words: &mut [u32]) -> ScannedText
+    requires { ⌜ (length (now text) ≤ 832) × (length (now words) ≡ wordLimit) ⌝ }
+    ensures { λ r. ⌜ Judged (now (text .entry)) (now (words .exit)) (readsWell (readingOf (now (text .entry)))) r ⌝ }
 {
     let mut notes = [0u64; 64];
-    lines_good(text, &mut notes)
+    scan_lines(text, &mut notes, words)
 }
 
-fn long_good(text: &[u8]) -> bool
-    requires { ⌜ length (now text) ≤ textLimit ⌝ }
-    ensures { λ r. ⌜ r ≡ readsWell (readingOf (now (text .entry))) ⌝ }
+fn scan_long(text: &[u8], words: &mut [u32]) -> ScannedText
+    requires { ⌜ (length (now text) ≤ textLimit) × (length (now words) ≡ wordLimit) ⌝ }
+    ensures { λ r. ⌜ Judged (now (text .entry)) (now (words .exit)) (readsWell (readingOf (now (text .entry)))) r ⌝ }
 {
     let mut notes = [0u64; 1261];
-    lines_good(text, &mut notes)
+    scan_lines(text, &mut notes, words)
 }
 
-// The text is not too long, has a reading, and profiles no path twice.
-pub fn text_good(text: &[u8]) -> bool
-    ensures { λ r. ⌜ r ≡ textGood (now (text .entry)) ⌝ }
+// Whether the text is not too long, has a reading, and profiles no path twice; if so, the numbers of its lines.
+pub fn scan_text(text: &[u8], words: &mut [u32]) -> ScannedText
+    requires { ⌜ length (now words) ≡ wordLimit ⌝ }
+    ensures { λ r. ⌜ Judged (now (text .entry)) (now (words .exit)) (textGood (now (text .entry))) r ⌝ }
 {
     if TEXT_LIMIT < text.len() {
-        return false;
+        return no_text();
     }
     if text.len() <= SHORT_LIMIT {
-        return short_good(text);
+        return scan_short(text, words);
     }
-    long_good(text)
+    scan_long(text, words)
 }

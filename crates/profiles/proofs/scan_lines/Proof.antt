@@ -1,0 +1,120 @@
+-- What is left of the text is judged as the whole is, and the lines so far are numbered.
+use Prim.Native.Nat.{_-_}
+use native.Mathlib.Omega.{arith}
+use lib.ListN.{length}
+use Rattle.profiles.proofs.LineWordLaws.{Small}
+use Rattle.profiles.proofs.TextScan.{
+  TextScanned,
+  text-start,
+  no-text,
+  text-end,
+  word-room,
+  word-small,
+  profile-less,
+  profile-to-note,
+  profile-repeats,
+  profile-passed,
+  entry-less,
+  entry-passed,
+  text-stops,
+  end-less,
+  end-passed,
+}
+use borrow.Author.Needs.{needs}
+use Rattle.profiles.proofs.scan_lines.Statement.{statement}
+use Rattle.profiles.proofs.scan_lines.Tie as tie
+
+abbrev Inv-loop : tie.InvT-loop
+Inv-loop text notes₀ words₀ at₀ profiles₀ count₀ inside₀ notes words at profiles count inside = TextScanned text notes₀ words₀ notes words at profiles count inside
+
+abbrev μ-loop : tie.MeasureT-loop
+μ-loop text notes₀ words₀ at₀ profiles₀ count₀ inside₀ notes words at profiles count inside = length text - at
+
+loop-holds : tie.Need-loop-holds Inv-loop μ-loop
+loop-holds c = text-start (c .before .before .before .args .text .now) (c .before .before .before .args .notes .now) (c .before .before .before .args .words .now) (c .before .before .before .pre .0) (c .before .before .before .pre .1) (c .before .before .before .pre .2)
+
+returns : tie.Need-returns Inv-loop μ-loop
+returns c = no-text _ _ _ _ (c .no-text .ensures) (text-stops _ _ _ _ _ _ _ _ _ (c .before .before .before .before .before .loop .inv)
+    _ (c .before .before .before .line-at .ensures) (c .before .before .before .before .loop-test .taken) _ (c .before .before .may-stand .ensures) (c .before .if1 .taken))
+
+line-word-requires : tie.Need-line-word-requires Inv-loop μ-loop
+line-word-requires c κs = let h : Small _ = word-small _ _ _ _ _ _ _ _ _ (c .before .before .before .before .loop .inv)
+    _ (c .before .before .line-at .ensures) (c .before .before .before .loop-test .taken) in (h .path, h .size, h .modes)
+
+mul-words : tie.Need-mul-words Inv-loop μ-loop
+mul-words c = omega (arith, word-room _ _ _ _ _ _ _ _ _ (c .before .before .before .before .before .loop .inv) (c .before .before .before .before .loop-test .taken))
+
+slice-write-words : tie.Need-slice-write-words Inv-loop μ-loop
+slice-write-words c = word-room _ _ _ _ _ _ _ _ _ (c .before .before .before .before .before .loop .inv) (c .before .before .before .before .loop-test .taken)
+
+note-path-requires : tie.Need-note-path-requires Inv-loop μ-loop
+note-path-requires c κs = profile-to-note _ _ _ _ _ _ _ _ _ (c .before .before .before .before .before .before .before .before .loop .inv)
+    _ (c .before .before .before .before .before .before .line-at .ensures) (c .before .before .before .before .before .before .before .loop-test .taken) (c .before .if2 .taken)
+
+returns-2 : tie.Need-returns-2 Inv-loop μ-loop
+returns-2 c = no-text _ _ _ _ (c .no-text2 .ensures) (profile-repeats _ _ _ _ _ _ _ _ _ (c .before .before .before .before .before .before .before .before .before .before .before .before .before .loop .inv)
+    _ (c .before .before .before .before .before .before .before .before .before .before .before .line-at .ensures) (c .before .before .before .before .before .before .before .before .before .before .before .before .loop-test .taken) (c .before .before .before .before .before .before .if2 .taken)
+    _ (c .before .before .before .before .note-path .ensures .0) _ (c .before .before .before .before .before .before .before .before .before .before .may-stand .ensures) (c .before .before .before .before .before .before .before .before .before .if1 .left) (c .before .if3 .taken))
+
+loop-less : tie.Need-loop-less Inv-loop μ-loop
+loop-less c = profile-less _ _ _ _ _ _ _ _ _ (c .before .before .before .before .before .before .before .before .before .before .before .before .loop .inv)
+    _ (c .before .before .before .before .before .before .before .before .before .before .line-at .ensures) (c .before .before .before .before .before .before .before .before .before .before .before .loop-test .taken) (c .before .before .before .before .before .if2 .taken)
+
+loop-again : tie.Need-loop-again Inv-loop μ-loop
+loop-again c = profile-passed _ _ _ _ _ _ _ _ _ (c .before .before .before .before .before .before .before .before .before .before .before .before .loop .inv)
+    _ (c .before .before .before .before .before .before .before .before .before .before .line-at .ensures) (c .before .before .before .before .before .before .before .before .before .before .before .loop-test .taken) (c .before .before .before .before .before .if2 .taken)
+    _ (c .before .before .before .note-path .ensures .0) _ (c .before .before .before .before .before .before .before .before .before .may-stand .ensures) (c .before .before .before .before .before .before .before .before .if1 .left) (c .if3 .left) _ (c .before .before .before .note-path .ensures .1)
+    _ (c .before .before .before .before .before .before .before .line-word .ensures)
+
+loop-less-2 : tie.Need-loop-less-2 Inv-loop μ-loop
+loop-less-2 c = entry-less _ _ _ _ _ _ _ _ _ (c .before .before .before .before .before .before .before .before .before .loop .inv)
+    _ (c .before .before .before .before .before .before .before .line-at .ensures) (c .before .before .before .before .before .before .before .before .loop-test .taken) (c .if4 .taken)
+
+loop-again-2 : tie.Need-loop-again-2 Inv-loop μ-loop
+loop-again-2 c = entry-passed _ _ _ _ _ _ _ _ _ (c .before .before .before .before .before .before .before .before .before .loop .inv)
+    _ (c .before .before .before .before .before .before .before .line-at .ensures) (c .before .before .before .before .before .before .before .before .loop-test .taken) (c .if4 .taken) _ (c .before .before .before .before .before .before .may-stand .ensures) (c .before .before .before .before .before .if1 .left) _ (c .before .before .before .before .line-word .ensures)
+
+loop-less-3 : tie.Need-loop-less-3 Inv-loop μ-loop
+loop-less-3 c = end-less _ _ _ _ _ _ _ _ _ (c .before .before .before .before .before .before .before .before .before .loop .inv)
+    _ (c .before .before .before .before .before .before .before .line-at .ensures) (c .before .before .before .before .before .before .before .before .loop-test .taken) (c .before .before .if2 .left) (c .if4 .left) _ (c .before .before .before .before .before .before .may-stand .ensures) (c .before .before .before .before .before .if1 .left)
+
+loop-again-3 : tie.Need-loop-again-3 Inv-loop μ-loop
+loop-again-3 c = end-passed _ _ _ _ _ _ _ _ _ (c .before .before .before .before .before .before .before .before .before .loop .inv)
+    _ (c .before .before .before .before .before .before .before .line-at .ensures) (c .before .before .before .before .before .before .before .before .loop-test .taken) (c .before .before .if2 .left) (c .if4 .left) _ (c .before .before .before .before .before .before .may-stand .ensures) (c .before .before .before .before .before .if1 .left) _
+
+returns-3 : tie.Need-returns-3 Inv-loop μ-loop
+returns-3 c = text-end _ _ _ _ _ _ _ _ _ (c .before .loop .inv) (c .loop-test .left)
+
+pub scan-lines-spec : {M : Type 1} → statement M
+scan-lines-spec =
+    tie.close
+    (tie.spec
+    Inv-loop
+    μ-loop
+    loop-holds
+    (λ c κs. search needs)
+    (λ c κs. search needs)
+    (λ c κs. search needs)
+    (λ c. search needs)
+    (λ c. search needs)
+    returns
+    line-word-requires
+    mul-words
+    slice-write-words
+    note-path-requires
+    (λ c κs. search needs)
+    (λ c. search needs)
+    (λ c. search needs)
+    returns-2
+    (λ c. search needs)
+    (λ c. search needs)
+    loop-less
+    loop-again
+    (λ c. search needs)
+    loop-less-2
+    loop-again-2
+    loop-less-3
+    loop-again-3
+    (λ c. search needs)
+    (λ c. search needs)
+    returns-3)

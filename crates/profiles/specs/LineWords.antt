@@ -1,0 +1,53 @@
+-- Each line of a text that names a path in one number, as the code that judges a text leaves them to the code that reads it
+-- afterwards: where the path begins, how long it is, and the modes, of which a profile's first line has none.
+use Prim.Native.Nat.{ℕ, _+_, _*_, _/_, _%_, _≤_}
+use mathlib.Core.Path.{_≡_}
+use mathlib.Core.Bool.{Bool, true, false, not, cond}
+use mathlib.Core.List.{List, [], _∷_}
+use lib.Dec.{eqb}
+use lib.ListN.{length, take}
+use Rattle.profiles.specs.Reading.{Line, opens, enters, closes, lineText, linesIn}
+use Rattle.profiles.specs.Texts.{textLimit}
+use Rattle.profiles.specs.Notes.{lengthLimit}
+use Rattle.profiles.specs.Scanning.{noLine, profileKind, lineScan}
+use Rattle.profiles.specs.declared.ScannedLine.{ScannedLine}
+use Rattle.profiles.specs.declared.NamedPath.{NamedPath}
+use Rattle.profiles.specs.declared.ScannedText.{ScannedText}
+
+unfoldable pub lineWord : ScannedLine → ℕ
+lineWord s = s .path + textLimit * (s .length + lengthLimit * s .modes)
+
+-- what a number tells
+unfoldable pub namedPath : ℕ → NamedPath
+namedPath w = record { start = w % textLimit; size = w / textLimit % lengthLimit; modes = w / (textLimit * lengthLimit) }
+
+-- the numbers of lines, the first of which stands at a place
+unfoldable pub lineWords : ℕ → List Line → List ℕ
+lineWords at [] = []
+lineWords at (opens p ∷ ls) = lineWord (lineScan at (opens p)) ∷ lineWords (at + length (lineText (opens p))) ls
+lineWords at (enters e ∷ ls) = lineWord (lineScan at (enters e)) ∷ lineWords (at + length (lineText (enters e))) ls
+lineWords at (closes ∷ ls) = lineWords (at + length (lineText closes)) ls
+
+-- the numbers of the lines of a text
+unfoldable pub textWords : List ℕ → List ℕ
+textWords t = lineWords 0 (linesIn t)
+
+-- numbers enough for every text: a line that names a path has at least 6 bytes
+abbrev pub wordLimit : ℕ
+wordLimit = 2731
+
+-- ---- what the functions give
+
+-- a profile's first line stands outside of profiles, the others inside of one
+unfoldable pub mayStand : ℕ → Bool → Bool
+mayStand kind inside = cond (eqb kind profileKind) (not inside) (cond (eqb kind noLine) false inside)
+
+-- no reading
+unfoldable pub noText : ScannedText
+noText = record { good = false; count = 0 }
+
+-- whether a text is good, as b says, and if so, the numbers of its lines in front of others
+pub record Judged (t words : List ℕ) (b : Bool) (s : ScannedText) : Type 0 where
+  pub right : s .good ≡ b
+  pub room : s .good ≡ true → s .count ≤ length words
+  pub listed : s .good ≡ true → take (s .count) words ≡ textWords t
