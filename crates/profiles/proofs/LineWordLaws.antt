@@ -1,7 +1,6 @@
 -- A line that names a path in one number: it tells the path again, and the numbers of a text are listed line by line.
 use Prim.Native.Nat.{ℕ, _+_, _*_, _/_, _%_, _^_, _≤_, _<_}
 use mathlib.Core.Path.{_≡_, refl, sym, ap, _∙_, subst}
-use mathlib.Core.Bool.{true, false}
 use mathlib.Core.List.{List, [], _∷_, _++_}
 use mathlib.Core.Option.{Option, none, some}
 use native.Mathlib.Omega.{arith}
@@ -9,16 +8,14 @@ use native.Mathlib.Numerals.{add-one}
 use lib.Bits.{bitOr, or-lt}
 use lib.ListN.{length, take, drop, set}
 use lib.Seq.{append-snoc, take-set-le, take-suc-set}
-use Rattle.lists.proofs.Bools.{clash}
+use Rattle.lists.proofs.Bools.{and-0}
 use Rattle.profiles.specs.Profiles.{Mode, mode-r, mode-w, mode-a, mode-l, mode-m, mode-ix, mode-px, mode-Px, mode-ux, mode-Ux, Entry, pathGood, entryGood, modesGood}
 use Rattle.profiles.specs.Reading.{Line, opens, enters, closes, lineText, lineIn, linesIn}
 use Rattle.profiles.specs.Texts.{textLimit}
 use Rattle.profiles.specs.Notes.{lengthLimit}
 use Rattle.profiles.specs.Scanning.{modeBit, withModes, modeBits, lineScan, noScan, lineAt}
-use Rattle.profiles.specs.LineWords.{lineWord, namedPath, lineWords, textWords}
+use Rattle.profiles.specs.LineWords.{lineWord, namedPath, lineWords}
 use Rattle.profiles.specs.declared.ScannedLine.{ScannedLine}
-use Rattle.profiles.specs.declared.NamedPath.{NamedPath}
-use Rattle.lists.proofs.Bools.{and-0}
 use Rattle.profiles.proofs.PathLaws.{path-parts}
 use Rattle.profiles.proofs.LineScans.{lines-more}
 use Rattle.profiles.proofs.Walks.{profile-at, entry-at, scanned, unscanned, walk-end}

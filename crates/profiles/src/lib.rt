@@ -560,8 +560,7 @@ fn scan_long(text: &[u8], words: &mut [u32]) -> ScannedText
 }
 
 // Whether the text is not too long, has a reading, and profiles no path twice; if so, the numbers of its lines.
-pub fn scan_text(text: &[u8], words: &mut [u32]) -> ScannedText
-    requires { ⌜ length (now words) ≡ wordLimit ⌝ }
+pub fn scan_text(text: &[u8], words: &mut [u32; WORD_LIMIT]) -> ScannedText
     ensures { λ r. ⌜ Judged (now (text .entry)) (now (words .exit)) (textGood (now (text .entry))) r ⌝ }
 {
     if TEXT_LIMIT < text.len() {

@@ -12,15 +12,15 @@ returns : tie.Need-returns
 returns c = derive-short _ _ (c .if1 .taken)
 
 returns-2 : tie.Need-returns-2
-returns-2 c = derive-broken _ _ (c .before .before .before .before .before .if1 .left) (fails-test (c .before .before .before .scan-text .ensures .right) (c .if2 .taken))
+returns-2 c = derive-broken _ _ (c .before .before .before .before .if1 .left) (fails-test (c .before .before .scan-text .ensures .right) (c .if2 .taken))
 
 part-fill-tables-end : tie.Need-part-fill-tables-end
-part-fill-tables-end c = c .before .before .before .before .scan-text .ensures .room (not-false _ (c .before .if2 .left))
+part-fill-tables-end c = c .before .before .before .scan-text .ensures .room (not-false _ (c .before .if2 .left))
 
 fill-tables-requires : tie.Need-fill-tables-requires
 fill-tables-requires c κs = (
-  passes-test (c .before .before .before .before .before .before .before .before .before .scan-text .ensures .right) (c .before .before .before .before .before .before .if2 .left),
-  words-lent _ _ _ _ (c .before .before .before .before .before .before .before .before .before .scan-text .ensures) (c .before .before .before .before .before .before .if2 .left),
+  passes-test (c .before .before .before .before .before .before .before .before .scan-text .ensures .right) (c .before .before .before .before .before .before .if2 .left),
+  words-lent _ _ _ _ (c .before .before .before .before .before .before .before .before .scan-text .ensures) (c .before .before .before .before .before .before .if2 .left),
   search needs,
   search needs,
   search needs,
@@ -29,27 +29,27 @@ fill-tables-requires c κs = (
 
 returns-3 : tie.Need-returns-3
 returns-3 c =
-    derive-many _ _ (c .before .before .before .before .before .before .before .before .before .before .before .before .before .before .before .before .before .if1 .left)
-    (passes-test (c .before .before .before .before .before .before .before .before .before .before .before .before .before .before .before .scan-text .ensures .right)
+    derive-many _ _ (c .before .before .before .before .before .before .before .before .before .before .before .before .before .before .before .before .if1 .left)
+    (passes-test (c .before .before .before .before .before .before .before .before .before .before .before .before .before .before .scan-text .ensures .right)
     (c .before .before .before .before .before .before .before .before .before .before .before .before .if2 .left)) (c .before .before .before .before .before .fill-tables .ensures .many (c .if3 .taken))
 
 write-tables-requires : tie.Need-write-tables-requires
 write-tables-requires c κs =
-    let start = c .before .before .before .before .before .before .before .before .before .before .before .before .before .before .before .before .before .before .before .before .before .before .before in (
+    let start = c .before .before .before .before .before .before .before .before .before .before .before .before .before .before .before .before .before .before .before .before .before .before in (
       record {
         profiles = profilesIn (start .args .text .now);
         tables = tabulated (c .before .before .before .before .before .before .before .before .fill-tables .ensures .paths (c .before .before .before .if3 .left))
             (c .before .before .before .before .before .before .before .before .fill-tables .ensures .programs (c .before .before .before .if3 .left));
       },
-      c .before .before .before .before .before .before .before .before .before .before .before .before .before .before .before .before .before .before .before .before .if1 .left,
+      c .before .before .before .before .before .before .before .before .before .before .before .before .before .before .before .before .before .before .before .if1 .left,
     )
 
 returns-4 : tie.Need-returns-4
 returns-4 c =
-    let start = c .before .before .before .before .before .before .before .before .before .before .before .before .before .before .before .before .before .before .before .before .before .before .before .before .before .before in
+    let start = c .before .before .before .before .before .before .before .before .before .before .before .before .before .before .before .before .before .before .before .before .before .before .before .before .before in
     derive-done (start .args .text .now) _
-    (c .before .before .before .before .before .before .before .before .before .before .before .before .before .before .before .before .before .before .before .before .before .before .before .if1 .left)
-    (passes-test (c .before .before .before .before .before .before .before .before .before .before .before .before .before .before .before .before .before .before .before .before .before .scan-text .ensures .right)
+    (c .before .before .before .before .before .before .before .before .before .before .before .before .before .before .before .before .before .before .before .before .before .before .if1 .left)
+    (passes-test (c .before .before .before .before .before .before .before .before .before .before .before .before .before .before .before .before .before .before .before .before .scan-text .ensures .right)
     (c .before .before .before .before .before .before .before .before .before .before .before .before .before .before .before .before .before .before .if2 .left)) _ _ _ _
     (tabulated (c .before .before .before .before .before .before .before .before .before .before .before .fill-tables .ensures .paths (c .before .before .before .before .before .before .if3 .left))
     (c .before .before .before .before .before .before .before .before .before .before .before .fill-tables .ensures .programs (c .before .before .before .before .before .before .if3 .left)))
@@ -60,7 +60,6 @@ derive-spec =
     tie.close
     (tie.spec
     returns
-    (λ c. search needs)
     (λ c κs. search needs)
     returns-2
     (λ c. search needs)

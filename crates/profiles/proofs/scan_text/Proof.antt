@@ -8,10 +8,10 @@ returns : tie.Need-returns
 returns c = no-text _ _ _ _ (c .no-text .ensures) (long-text _ (c .before .if1 .taken))
 
 returns-2 : tie.Need-returns-2
-returns-2 c = short-text _ _ _ (c .before .before .before .before .before .if1 .left) (c .before .before .scan-short .ensures)
+returns-2 c = short-text _ _ _ (c .before .before .before .if1 .left) (c .scan-short .ensures)
 
 returns-3 : tie.Need-returns-3
-returns-3 c = short-text _ _ _ (c .before .before .before .before .before .if1 .left) (c .before .before .scan-long .ensures)
+returns-3 c = short-text _ _ _ (c .before .before .before .if1 .left) (c .scan-long .ensures)
 
 pub scan-text-spec : {M : Type 1} → statement M
 scan-text-spec =
@@ -20,8 +20,6 @@ scan-text-spec =
     (λ c κs. search needs)
     returns
     (λ c κs. search needs)
-    (λ c. search needs)
     returns-2
     (λ c κs. search needs)
-    (λ c. search needs)
     returns-3)
