@@ -2,8 +2,9 @@
 # make profiles-demo   turns the profiles in demo/profiles into a policy, and names the alerts of a session from it
 # make test            everything that can fail, as the gate runs it
 # make lib             target/lib: libyaslaurel.a, yaslaurel.h and yaslaurel.pc, for hosts in C and Rust
+# make covering        target/staticlib/libcovering.a, the cover test alone, which the bench and a host test measure
 # make bench           ratios against Rust, in one run
-.PHONY: demo profiles-demo test lib bench
+.PHONY: demo profiles-demo test lib covering bench
 
 demo:
 	@demo/run
@@ -20,5 +21,8 @@ lib:
 	cp target/staticlib/libcapi.a target/lib/libyaslaurel.a
 	cp include/yaslaurel.h include/yaslaurel.pc target/lib/
 
-bench: lib
+covering:
+	rt staticlib covering
+
+bench: lib covering
 	bench/run

@@ -8,10 +8,11 @@
 //! The library is called by its C functions, as every host calls it.
 //!
 //! `bench PROGRAM` also measures that watch program, `bench watch PROGRAM` measures it alone; `bench batches` measures runs
-//! of records alone, `bench profiles` texts of profiles.
+//! of records alone, `bench profiles` texts of profiles, `bench cover` the cover test of a rule of eight.
 //! `bench listing` is the watch program in natural Rust (`BufWriter`, `writeln!`), for the comparison of whole programs;
 //! `bench trace COUNT` writes the policy and trace that both read.
 
+mod cover;
 mod plain;
 mod profiles;
 mod race;
@@ -542,6 +543,10 @@ fn main() -> io::Result<()> {
             texts();
             return Ok(());
         }
+        ["cover"] => {
+            cover::cover();
+            return Ok(());
+        }
         ["trace", count] => {
             fs::write("policy.bin", work::policy(1, 6))?;
             return fs::write("trace.bin", whole_trace(count.parse().expect("a number of records")));
@@ -550,6 +555,7 @@ fn main() -> io::Result<()> {
     }
     println!("Ratios are the library's time by the other's, medians of {ROUNDS} rounds in which all run by turns.");
     operations();
+    cover::cover();
     batches();
     images(&[
         (format!("smallest, {HEADER} bytes"), work::image(&[], &[], &[])),

@@ -7,7 +7,7 @@ use mathlib.Core.Logic.{_↔_}
 use mathlib.Core.Bool.{true, _&&_}
 use mathlib.Core.List.{List, [], _++_, List·Memᴰ}
 use lib.Bits.{bitAnd, bitOr}
-use lib.ListN.{length}
+use lib.ListN.{length, getD, take}
 use Rattle.rules.specs.Sets.{atom, holds, dataOf, runningOf}
 use Rattle.rules.specs.Rules.{covers, normal, meet, unrestricted, meetAll, allCover, refines}
 use Rattle.lists.specs.Lists.{elem, sameList}
@@ -76,6 +76,10 @@ all-hold = sets.holds-all
 pub covers-by-one : (r : List ℕ) (t : ℕ) → (covers r t ≡ true) ↔ ((m : ℕ) × (elem m r ≡ true) × (holds m t ≡ true))
 covers-by-one r t =
     (λ h. let l : rules.Largest r t = rules.largest r t h in (l .top, l .among, l .over), λ h. rules.covers-by (h .0) r t (h .1) (h .2))
+
+-- once a mixture holds the tag, those behind it need not be looked at
+pub covers-up-to : (r : List ℕ) (i t : ℕ) → i < length r → holds (getD r i 0) t ≡ true → covers (take (i + 1) r) t ≡ covers r t
+covers-up-to = rules.covers-first
 
 -- ---- the normal form
 
