@@ -1,17 +1,25 @@
 -- What one more step does to the chains of a history.
 use Prim.Native.Nat.{ℕ, suc, zero, _≤_, _<_}
 use native.Mathlib.Omega.{arith}
-use mathlib.Core.Path.{_≡_, refl, sym, subst}
+use mathlib.Core.Path.{_≡_, refl, sym, subst, _∙_}
 use mathlib.Core.List.{List, [], _∷_, _++_}
 use mathlib.Core.Logic.{_⊎_, inl, inr}
 use Rattle.image.specs.Policy.{Policy}
 use Rattle.chains.specs.History.{Step, History, start, _▸_, size, StepAt}
 use Rattle.chains.specs.Chains.{Item, Starts, Carries, Ends, Stands, Leads, Chain}
 
-at-lt : (h : History) (i : ℕ) (s : Step) → StepAt h i s → i < size h
+pub at-lt : (h : History) (i : ℕ) (s : Step) → StepAt h i s → i < size h
 at-lt start i s e = absurd e
 at-lt (h ▸ t) i s (inl e) = omega arith
 at-lt (h ▸ t) i s (inr e) = omega (arith, at-lt h i s e)
+
+-- one number, one step
+pub at-same : (h : History) (i : ℕ) (s t : Step) → StepAt h i s → StepAt h i t → s ≡ t
+at-same start i s t a b = absurd a
+at-same (h ▸ u) i s t (inl (e, a)) (inl (f, b)) = sym a ∙ b
+at-same (h ▸ u) i s t (inl (e, a)) (inr b) = absurd (omega (arith, e, at-lt h i t b))
+at-same (h ▸ u) i s t (inr a) (inl (f, b)) = absurd (omega (arith, f, at-lt h i s a))
+at-same (h ▸ u) i s t (inr a) (inr b) = at-same h i s t a b
 
 module _ (h : History) (t : Step) where
   -- the last step is on the chain, or passed over

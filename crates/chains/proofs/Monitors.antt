@@ -17,20 +17,21 @@ use Rattle.rules.specs.Answers.{dataWidth}
 use Rattle.lists.proofs.Bools.{and-1, clash, decide}
 use Rattle.image.specs.Limits.{isFree}
 use Rattle.image.specs.Policy.{Policy}
-use Rattle.chains.specs.History.{Step, read, write, append, exec, fork, newFile, newVolatile, History, _▸_, receiver}
+use Rattle.chains.specs.History.{Step, read, write, append, exec, fork, newFile, newVolatile, end, delete, History, _▸_, receiver}
 use Rattle.lists.specs.Conditions.{firstFailed}
-use Rattle.chains.specs.Chains.{UserRule, dataAtom, runningAtom, Chain, Governs, Reaches, Forbidden}
+use Rattle.chains.specs.Chains.{UserRule, Item, dataAtom, runningAtom, Chain, Governs, Reaches, Forbidden}
 use Rattle.answers.specs.declared.Answer.{Answer}
 use Rattle.answers.specs.Answers.{accepted, isAlert, receiverOf, tagOf}
-use Rattle.chains.specs.Demand.{judged, extend, after, historyFrom, AcceptedAt}
-use Rattle.chains.specs.Table.{State, readRow, writeRow, appendRow, execRow, forkRow, newFileRow, newVolatileRow, fitsNeed, ruleOr, entry, processGood, objectGood, userGood, tableConditions, alerts, verdict, placed, operate, Faithful}
+use Rattle.chains.specs.Demand.{judged, extend, after, historyFrom, AcceptedAt, Taken}
+use Rattle.chains.specs.Table.{State, freeRow, readRow, writeRow, appendRow, execRow, forkRow, newFileRow, newVolatileRow, fitsNeed, ruleOr, entry, processGood, objectGood, userGood, tableConditions, alerts, verdict, placed, operate, Faithful}
 use Rattle.session.specs.Rows.{Row}
-use Rattle.chains.proofs.Exact.{Exact, covers-in, covers-out, Tagged}
+use Rattle.chains.proofs.Exact.{Exact, covers-in, covers-out, Tagged, tagged-none}
 use Rattle.chains.proofs.Rows.{Good, RowOk, other, read-good, write-good, append-good, exec-good, fork-good, new-file-good, new-volatile-good}
 use Rattle.lists.proofs.Places.{some-inj, none-some}
 use Rattle.chains.proofs.KindLaws.{process-used, file-used, store-used}
 use Rattle.chains.proofs.TableLaws.{Passed, passed, operate-done, operate-accepted, rule-declared}
 use Rattle.chains.proofs.VerdictLaws.{verdict-alert, verdict-quiet}
+use Rattle.chains.proofs.Steps.{end-none, delete-none, new-file-none, new-file-rules, new-volatile-none, new-volatile-rules, fork-chains, fork-rules}
 use Rattle.chains.proofs.Start.{Inv}
 
 module _ (P : Policy) where
@@ -44,6 +45,15 @@ module _ (P : Policy) where
 
   used : (h : History) (s : Step) (w : Row) → isFree (w .kind) ≡ false → Good P (h ▸ s) (receiver s) w → Put h s w
   used h s w e g = record { ok = record { empty = λ f. clash f e; good = λ f. g }; tag = g .tag; permit = λ j. g .permit }
+
+  -- a free row, for what left
+  left : (h : History) (s : Step) → judged s ≡ false → ((x : Item) → ¬ Chain P (h ▸ s) x (receiver s)) → Put h s freeRow
+  unfolding freeRow isFree
+  left h s j gone = record {
+    ok = record { empty = λ f. gone; good = λ f. clash refl f };
+    tag = tagged-none (λ d. gone (dataAtom d)) (λ d. gone (runningAtom d));
+    permit = λ k. clash k j;
+  }
 
   -- the row of the table, by its clauses
   puts : (h : History) (σ : State) → Inv P h σ → (s : Step) → Passed σ s → Put h s (entry σ s .row)
@@ -73,6 +83,21 @@ module _ (P : Policy) where
       used h (newFile p o u) _ refl (new-file-good P h p o (σ .row p) (σ .row o) u (ruleOr (σ .user u)) (I .rows o .empty (g .object)) gu)
   puts h σ I (newVolatile p o) g =
       used h (newVolatile p o) _ refl (new-volatile-good P h p o (σ .row p) (σ .row o) (I .rows o .empty (g .object)))
+  puts h σ I (end p) g = left h (end p) refl (end-none P h p)
+  puts h σ I (delete p o) g = left h (delete p o) refl (delete-none P h p o)
+
+  -- what stands right after a free number is taken
+  taken : (h : History) (σ : State) → Inv P h σ → (s : Step) → Passed σ s → Taken P h s
+  unfolding entry objectGood fitsNeed
+  taken h σ I (read p o) g = tt
+  taken h σ I (write p o) g = tt
+  taken h σ I (append p o) g = tt
+  taken h σ I (exec p o u) g = tt
+  taken h σ I (fork p o) g = (fork-chains P h p o (I .rows o .empty (g .object)), fork-rules P h p o)
+  taken h σ I (newFile p o u) g = (new-file-none P h p o u (I .rows o .empty (g .object)), new-file-rules P h p o u)
+  taken h σ I (newVolatile p o) g = (new-volatile-none P h p o (I .rows o .empty (g .object)), new-volatile-rules P h p o)
+  taken h σ I (end p) g = tt
+  taken h σ I (delete p o) g = tt
 
   -- the row that a step puts, and every other
   placed-ok : (h : History) (σ : State) → Inv P h σ → (s : Step) (w : Row) → Put h s w → Inv P (h ▸ s) (placed σ (receiver s) w)
@@ -208,6 +233,19 @@ module _ (P : Policy) where
         (op-told h σ ok I q s (ap stepOf (some-inj (A .spelled .1)) ∙ A .spelled .2) (ap accepted ea ∙ A .counted))
     told-at h σ ok I (q ∷ rs) (suc n) s a A =
         told-at (extend h (stepOf q) (accepted (op σ q .1))) (op σ q .0) (F .stays σ q ok) (op-ok h σ ok I q) rs n s a
+        (record { spelled = A .spelled; answered = A .answered; counted = A .counted })
+
+    -- each accepted record of a list that takes a free number begins it with nothing of its past
+    pub taken-at : (h : History) (σ : S) → Valid σ → Inv P h (view σ) → (rs : List R) (n : ℕ) (s : Step) (a : Answer) → AcceptedAt op stepOf σ rs n s a
+        → Taken P (historyFrom op stepOf h σ (take n rs)) s
+    taken-at h σ ok I [] n s a A = absurd (none-some (A .answered))
+    taken-at h σ ok I (q ∷ rs) zero s a A =
+        let e : accepted (op σ q .1) ≡ true = ap accepted (some-inj (A .answered)) ∙ A .counted in
+        let f : (t : Step) × (stepOf q ≡ some t) × (view (op σ q .0) ≡ operate (view σ) t .0) × (op σ q .1 ≡ operate (view σ) t .1) = F .accepting σ q ok e in
+        let es : f .0 ≡ s = some-inj (sym (f .1) ∙ ap stepOf (some-inj (A .spelled .1)) ∙ A .spelled .2) in
+        subst (Taken P h) es (taken h (view σ) I (f .0) (passed (view σ) (f .0) (operate-accepted (view σ) (f .0) (ap accepted (sym (f .3)) ∙ e))))
+    taken-at h σ ok I (q ∷ rs) (suc n) s a A =
+        taken-at (extend h (stepOf q) (accepted (op σ q .1))) (op σ q .0) (F .stays σ q ok) (op-ok h σ ok I q) rs n s a
         (record { spelled = A .spelled; answered = A .answered; counted = A .counted })
 
 -- the history of a list of records begins with the history of its first records

@@ -29,7 +29,6 @@ use Rattle.chains.specs.Chains.{
   readRule,
   writeAny,
   appendAny,
-  forkAny,
   writeEnds,
   Chain,
   Governs,
@@ -50,8 +49,6 @@ use Rattle.chains.proofs.Exact.{
 }
 use Rattle.chains.proofs.Steps.{
   read-brings,
-  new-file-any,
-  new-volatile-any,
   read-ends,
   append-ends,
   other-back,
@@ -62,13 +59,18 @@ use Rattle.chains.proofs.Steps.{
   read-rule-from,
   write-from,
   append-from,
-  fork-from,
   came,
   stay,
   carry,
   exec-data,
   exec-running,
   exec-run-rule,
+  new-file-none,
+  new-file-rules,
+  new-volatile-none,
+  new-volatile-rules,
+  fork-chains,
+  fork-rules,
 }
 
 module _ (P : Policy) where
@@ -187,17 +189,16 @@ module _ (P : Policy) where
       pub fork-good : ((x : Item) → ¬ Chain P h x o) → Good h p wp → Good (h ▸ fork p o) o (forkRow wp)
       unfolding forkRow
       fork-good em gp = record {
-        tag = tagged-map (λ d. carry P h forkAny) (λ d. back (dataAtom d)) (λ d. carry P h forkAny) (λ d. back (runningAtom d)) (gp .tag);
-        run = exact-map (λ r. carry P h forkAny) (λ r. back (runRule r)) (gp .run);
-        permit = exact-map (λ r g. inl (refl, g)) permit-back (gp .permit);
+        tag = tagged-map (λ d. on (dataAtom d)) (λ d. back (dataAtom d)) (λ d. on (runningAtom d)) (λ d. back (runningAtom d)) (gp .tag);
+        run = exact-map (λ r. on (runRule r)) (λ r. back (runRule r)) (gp .run);
+        permit = exact-map (λ r. fork-rules P h p o r .1) (λ r. fork-rules P h p o r .0) (gp .permit);
       }
         where
-          back : (x : Item) → Chain P (h ▸ fork p o) x o → Chain P h x p
-          back x = came P h (λ ch ne. absurd (em x ch)) (λ b y ch ca. fork-from P h ch ca)
+          on : (x : Item) → Chain P h x p → Chain P (h ▸ fork p o) x o
+          on x = fork-chains P h p o em x .1
 
-          permit-back : (r : List ℕ) → Governs P (h ▸ fork p o) o r → Governs P h p r
-          permit-back r (inl (e, g)) = g
-          permit-back r (inr (ne, g)) = absurd (ne refl)
+          back : (x : Item) → Chain P (h ▸ fork p o) x o → Chain P h x p
+          back x = fork-chains P h p o em x .0
 
       pub new-file-good : (u : ℕ) (v : List ℕ) → ((x : Item) → ¬ Chain P h x o) → Exact (λ r. UserRule P u r) v
           → Good (h ▸ newFile p o u) o (newFileRow v)
@@ -205,23 +206,19 @@ module _ (P : Policy) where
       new-file-good u v em gu = record {
         tag = tagged-none (λ d. back (dataAtom d)) (λ d. back (runningAtom d));
         run = exact-unrestricted (λ r. back (runRule r));
-        permit = exact-map (λ r g. inl (refl, g)) permit-back gu;
+        permit = exact-map (λ r. new-file-rules P h p o u r .1) (λ r. new-file-rules P h p o u r .0) gu;
       }
         where
           back : (x : Item) → ¬ Chain P (h ▸ newFile p o u) x o
-          back x = came P h (λ ch ne. em x ch) (λ b y ch ca. new-file-any ca)
-
-          permit-back : (r : List ℕ) → Governs P (h ▸ newFile p o u) o r → UserRule P u r
-          permit-back r (inl (e, g)) = g
-          permit-back r (inr (ne, g)) = absurd (ne refl)
+          back = new-file-none P h p o u em
 
       pub new-volatile-good : ((x : Item) → ¬ Chain P h x o) → Good (h ▸ newVolatile p o) o newVolatileRow
       unfolding newVolatileRow
       new-volatile-good em = record {
         tag = tagged-none (λ d. back (dataAtom d)) (λ d. back (runningAtom d));
         run = exact-unrestricted (λ r. back (runRule r));
-        permit = exact-unrestricted (λ r g. g .0 refl);
+        permit = exact-unrestricted (new-volatile-rules P h p o);
       }
         where
           back : (x : Item) → ¬ Chain P (h ▸ newVolatile p o) x o
-          back x = came P h (λ ch ne. em x ch) (λ b y ch ca. new-volatile-any ca)
+          back = new-volatile-none P h p o em

@@ -1,7 +1,9 @@
 -- Where each step leaves the chains into its receiver, and into every other container.
-use Prim.Native.Nat.{ℕ}
-use mathlib.Core.Path.{_≡_, refl}
-use mathlib.Core.List.{List}
+use Prim.Native.Nat.{ℕ, zero, _<_}
+use native.Mathlib.Omega.{arith}
+use native.Mathlib.Decide.{decLt}
+use mathlib.Core.Path.{_≡_, refl, subst}
+use mathlib.Core.List.{List, [], _∷_}
 use mathlib.Core.Logic.{_⊎_, inl, inr, _≢_, _↔_}
 use Rattle.image.specs.Policy.{Policy}
 use Rattle.chains.specs.History.{
@@ -13,11 +15,15 @@ use Rattle.chains.specs.History.{
   fork,
   newFile,
   newVolatile,
+  end,
+  delete,
   History,
   _▸_,
+  StepAt,
   receiver,
 }
 use Rattle.chains.specs.Chains.{
+  UserRule,
   Item,
   dataAtom,
   runningAtom,
@@ -34,10 +40,13 @@ use Rattle.chains.specs.Chains.{
   writeEnds,
   execEndsAtom,
   execEndsRule,
+  endEnds,
+  deleteEnds,
+  Leads,
   Chain,
   Governs,
 }
-use Rattle.chains.proofs.ChainLaws.{chain-snoc, chain-stay, chain-carry}
+use Rattle.chains.proofs.ChainLaws.{at-lt, at-same, chain-snoc, chain-stay, chain-carry}
 
 -- ---- only the receiver is concerned
 
@@ -54,6 +63,8 @@ ends-at : {s : Step} {c : ℕ} {x : Item} → Ends s c x → c ≡ receiver s
 ends-at writeEnds = refl
 ends-at execEndsAtom = refl
 ends-at execEndsRule = refl
+ends-at endEnds = refl
+ends-at deleteEnds = refl
 
 -- ---- what cannot be
 
@@ -75,11 +86,17 @@ exec-brings : {b p o u c : ℕ} {x y : Item} → Carries (exec p o u) b x c y �
 exec-brings execAtom = tt
 exec-brings execRule = tt
 
-pub new-file-any : {b p o u c : ℕ} {x y : Item} → Carries (newFile p o u) b x c y → ⊥
+new-file-any : {b p o u c : ℕ} {x y : Item} → Carries (newFile p o u) b x c y → ⊥
 new-file-any = elim [ ]
 
-pub new-volatile-any : {b p o c : ℕ} {x y : Item} → Carries (newVolatile p o) b x c y → ⊥
+new-volatile-any : {b p o c : ℕ} {x y : Item} → Carries (newVolatile p o) b x c y → ⊥
 new-volatile-any = elim [ ]
+
+end-any : {b p c : ℕ} {x y : Item} → Carries (end p) b x c y → ⊥
+end-any = elim [ ]
+
+delete-any : {b p o c : ℕ} {x y : Item} → Carries (delete p o) b x c y → ⊥
+delete-any = elim [ ]
 
 pub read-ends : {p o c : ℕ} {x : Item} → ¬ Ends (read p o) c x
 read-ends = elim [ ]
@@ -90,6 +107,25 @@ append-ends = elim [ ]
 exec-ends : {p o u c : ℕ} {x : Item} → Ends (exec p o u) c x → NotData x
 exec-ends execEndsAtom = tt
 exec-ends execEndsRule = tt
+
+-- ---- a file that is deleted starts no further chain
+
+-- what began in f has left it before step number j, which deletes f
+pub deleted-first : (h : History) (j p f : ℕ) → StepAt h j (delete p f) → (x : Item) (is : List ℕ) (c : ℕ) (y : Item) → Leads h zero f x is c y
+    → (i : ℕ) × (rest : List ℕ) × (is ≡ i ∷ rest) × (i < j)
+deleted-first h j p f at x [] c y (e, ey, stands) = absurd (stands j (delete p f) (omega arith) (at-lt h j (delete p f) at) at deleteEnds)
+deleted-first h j p f at x (i ∷ rest) c y (s, b, z, lo, here, stands, ca, on) = (i, rest, refl, by (decLt i j))
+  where
+    by : Dec (i < j) → i < j
+    by (yes l) = l
+    by (no l) = absurd (later (decLt j i))
+      where
+        later : Dec (j < i) → ⊥
+        later (yes k) = stands j (delete p f) (omega arith) k at deleteEnds
+        later (no k) =
+            let same : i ≡ j = omega (arith, l, k) in
+            let is-delete : s ≡ delete p f = at-same h j s (delete p f) (subst (λ (n : ℕ). StepAt h n s) same here) at in
+            delete-any (subst (λ (t : Step). Carries t f x b z) is-delete ca)
 
 module _ (P : Policy) (h : History) where
   -- ---- any other container
@@ -115,6 +151,8 @@ module _ (P : Policy) (h : History) where
   other-rules-back (newFile p o u) c ne r (inl g) = absurd (ne (g .0))
   other-rules-back (newFile p o u) c ne r (inr g) = g .1
   other-rules-back (newVolatile p o) c ne r g = g .1
+  other-rules-back (end p) c ne r g = g .1
+  other-rules-back (delete p o) c ne r g = g .1
 
   pub other-rules-on : (s : Step) (c : ℕ) → c ≢ receiver s → (r : List ℕ) → Governs P h c r → Governs P (h ▸ s) c r
   other-rules-on (read p o) c ne r g = g
@@ -124,6 +162,8 @@ module _ (P : Policy) (h : History) where
   other-rules-on (fork p o) c ne r g = inr (ne, g)
   other-rules-on (newFile p o u) c ne r g = inr (ne, g)
   other-rules-on (newVolatile p o) c ne r g = (ne, g)
+  other-rules-on (end p) c ne r g = (ne, g)
+  other-rules-on (delete p o) c ne r g = (ne, g)
 
   -- ---- what a step carried to its receiver was where the step takes up
 
@@ -145,7 +185,7 @@ module _ (P : Policy) (h : History) where
   exec-rule-from : {b p o u c : ℕ} {r : List ℕ} {x : Item} → Chain P h x b → Carries (exec p o u) b x c (runRule r) → Chain P h (runRule r) o
   exec-rule-from ch execRule = ch
 
-  pub fork-from : {b p o c : ℕ} {x y : Item} → Chain P h x b → Carries (fork p o) b x c y → Chain P h y p
+  fork-from : {b p o c : ℕ} {x y : Item} → Chain P h x b → Carries (fork p o) b x c y → Chain P h y p
   fork-from ch forkAny = ch
 
   -- ---- a chain after one more step is one that stood there, or one that the step carried there
@@ -178,3 +218,39 @@ module _ (P : Policy) (h : History) where
     -- a run rule has one exactly if it had one into o
     pub exec-run-rule : (r : List ℕ) → Chain P (h ▸ exec p o u) (runRule r) p ↔ Chain P h (runRule r) o
     exec-run-rule r = (came (λ ch ne. absurd (ne execEndsRule)) (λ b y ch ca. exec-rule-from ch ca), carry execRule)
+
+  -- ---- right after an end or a delete nothing has a chain into the number
+
+  pub end-none : (p : ℕ) (x : Item) → ¬ Chain P (h ▸ end p) x p
+  end-none p x = came (λ ch ne. ne endEnds) (λ b y ch ca. end-any ca)
+
+  pub delete-none : (p o : ℕ) (x : Item) → ¬ Chain P (h ▸ delete p o) x o
+  delete-none p o x = came (λ ch ne. ne deleteEnds) (λ b y ch ca. delete-any ca)
+
+  -- ---- right after a number is taken into which nothing had a chain
+
+  pub new-file-none : (p o u : ℕ) → ((x : Item) → ¬ Chain P h x o) → (x : Item) → ¬ Chain P (h ▸ newFile p o u) x o
+  new-file-none p o u em x = came (λ ch ne. em x ch) (λ b y ch ca. new-file-any ca)
+
+  pub new-file-rules : (p o u : ℕ) (r : List ℕ) → Governs P (h ▸ newFile p o u) o r ↔ UserRule P u r
+  new-file-rules p o u r = (back, λ g. inl (refl, g))
+    where
+      back : Governs P (h ▸ newFile p o u) o r → UserRule P u r
+      back (inl (e, g)) = g
+      back (inr (ne, g)) = absurd (ne refl)
+
+  pub new-volatile-none : (p o : ℕ) → ((x : Item) → ¬ Chain P h x o) → (x : Item) → ¬ Chain P (h ▸ newVolatile p o) x o
+  new-volatile-none p o em x = came (λ ch ne. em x ch) (λ b y ch ca. new-volatile-any ca)
+
+  pub new-volatile-rules : (p o : ℕ) (r : List ℕ) → ¬ Governs P (h ▸ newVolatile p o) o r
+  new-volatile-rules p o r g = g .0 refl
+
+  pub fork-chains : (p o : ℕ) → ((x : Item) → ¬ Chain P h x o) → (x : Item) → Chain P (h ▸ fork p o) x o ↔ Chain P h x p
+  fork-chains p o em x = (came (λ ch ne. absurd (em x ch)) (λ b y ch ca. fork-from ch ca), carry forkAny)
+
+  pub fork-rules : (p o : ℕ) (r : List ℕ) → Governs P (h ▸ fork p o) o r ↔ Governs P h p r
+  fork-rules p o r = (back, λ g. inl (refl, g))
+    where
+      back : Governs P (h ▸ fork p o) o r → Governs P h p r
+      back (inl (e, g)) = g
+      back (inr (ne, g)) = absurd (ne refl)

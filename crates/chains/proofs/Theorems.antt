@@ -1,22 +1,22 @@
 -- What is proved of chains and of every monitor that follows the table (demand 3; the paper, "Chains"). Read the definitions
 -- in specs/; everything else in this folder serves these statements.
-use Prim.Native.Nat.{ℕ, suc}
-use mathlib.Core.Path.{_≡_, sym, subst}
+use Prim.Native.Nat.{ℕ, suc, zero, _<_}
+use mathlib.Core.Path.{_≡_, refl, sym, subst}
 use mathlib.Core.Logic.{_⊎_, inl, inr, _↔_}
-use mathlib.Core.List.{List, _++_}
+use mathlib.Core.List.{List, _∷_, _++_}
 use mathlib.Core.Option.{Option}
 use lib.ListN.{take}
 use Rattle.image.specs.Policy.{Policy, Sound}
-use Rattle.chains.specs.History.{Step, exec, History, start, _▸_}
-use Rattle.chains.specs.Chains.{Item, dataAtom, runningAtom, runRule, Starts, Carries, Ends, Chain}
+use Rattle.chains.specs.History.{Step, exec, end, delete, History, start, _▸_, StepAt}
+use Rattle.chains.specs.Chains.{Item, dataAtom, runningAtom, runRule, Starts, Carries, Ends, Leads, Chain, Governs}
 use Rattle.answers.specs.declared.Answer.{Answer}
-use Rattle.chains.specs.Demand.{after, historyOf, historyFrom, Demand3, TagTold}
+use Rattle.chains.specs.Demand.{after, historyOf, historyFrom, Demand3, TagTold, TakenAnew}
 use Rattle.chains.specs.Table.{State, begin, Faithful}
 use Rattle.chains.proofs.ChainLaws.{chain-snoc, chain-stay, chain-carry, chain-none, chain-here}
 use Rattle.chains.proofs.Inductive.{Built, listed, built}
-use Rattle.chains.proofs.Steps.{exec-data, exec-running, exec-run-rule}
+use Rattle.chains.proofs.Steps.{exec-data, exec-running, exec-run-rule, end-none, delete-none, deleted-first}
 use Rattle.chains.proofs.Start.{Inv, begin-ok}
-use Rattle.chains.proofs.Monitors.{Told, told-at, history-from-append}
+use Rattle.chains.proofs.Monitors.{Told, told-at, taken-at, history-from-append}
 
 -- ---- demand 3: of every monitor that follows the table, from every state that reads as the start of a sound policy
 
@@ -32,6 +32,10 @@ module _ {S R : Type 0} (op : S → R → S × Answer) (stepOf : R → Option St
       let t : Told P (historyOf op stepOf σ (take (suc n) rs)) s a =
       told-at P op stepOf view Valid F start σ v (subst (Inv P start) (sym e) (begin-ok P ok)) rs n s a A in
       (t .at, t .tag)
+
+  -- an accepted fork, new file or new volatile takes a number to which nothing of its past comes back
+  pub number-taken : Faithful op stepOf view Valid → (P : Policy) → Sound P → (σ : S) → Valid σ → view σ ≡ begin P → TakenAnew op stepOf σ P
+  number-taken F P ok σ v e = taken-at P op stepOf view Valid F start σ v (subst (Inv P start) (sym e) (begin-ok P ok))
 
 -- the history of a list of records begins with the history of its first records
 pub history-append : {S R : Type 0} (op : S → R → S × Answer) (stepOf : R → Option Step) (σ : S) (rs qs : List R)
@@ -75,3 +79,26 @@ module _ (P : Policy) (h : History) (p o u : ℕ) where
   -- so no run rule travels on with data that is kept: one that o did not have has no chain into p any more
   pub exec-drops-rules : (r : List ℕ) → ¬ Chain P h (runRule r) o → ¬ Chain P (h ▸ exec p o u) (runRule r) p
   exec-drops-rules r ne ch = ne (exec-takes-rules r .0 ch)
+
+-- ---- processes that end and files that are deleted (change request No. 4)
+
+module _ (P : Policy) (h : History) (p : ℕ) where
+  -- right after an end nothing has a chain into the number, and no rule governs it
+  pub ended-holds-none : (x : Item) → ¬ Chain P (h ▸ end p) x p
+  ended-holds-none = end-none P h p
+
+  pub ended-ungoverned : (r : List ℕ) → ¬ Governs P (h ▸ end p) p r
+  ended-ungoverned r g = g .0 refl
+
+  -- the same of a delete
+  pub deleted-holds-none : (o : ℕ) (x : Item) → ¬ Chain P (h ▸ delete p o) x o
+  deleted-holds-none o = delete-none P h p o
+
+  pub deleted-ungoverned : (o : ℕ) (r : List ℕ) → ¬ Governs P (h ▸ delete p o) o r
+  deleted-ungoverned o r g = g .0 refl
+
+-- A file that is deleted starts no further chain: whatever leads on from what began in f takes its first step before the one
+-- that deletes f.
+pub deleted-starts-none : (h : History) (j p f : ℕ) → StepAt h j (delete p f) → (x : Item) (is : List ℕ) (c : ℕ) (y : Item) → Leads h zero f x is c y
+    → (i : ℕ) × (rest : List ℕ) × (is ≡ i ∷ rest) × (i < j)
+deleted-starts-none = deleted-first

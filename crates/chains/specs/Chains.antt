@@ -21,6 +21,8 @@ use Rattle.chains.specs.History.{
   fork,
   newFile,
   newVolatile,
+  end,
+  delete,
   History,
   start,
   _▸_,
@@ -66,11 +68,13 @@ pub data Carries : Step → ℕ → Item → ℕ → Item → Type 0 where
   forkAny : {p o : ℕ} {x : Item} → Carries (fork p o) p x o x
 
 -- The step ends x, which a held before: "A write ends what o held before"; "An exec no longer ends a chain of data in p; for
--- the twins and run rules that p held it still does" (change request No. 2).
+-- the twins and run rules that p held it still does" (change request No. 2); "A chain ends when its holder leaves" (No. 4).
 pub data Ends : Step → ℕ → Item → Type 0 where
   writeEnds : {p o : ℕ} {x : Item} → Ends (write p o) o x
   execEndsAtom : {p o u d : ℕ} → Ends (exec p o u) p (runningAtom d)
   execEndsRule : {p o u : ℕ} {r : List ℕ} → Ends (exec p o u) p (runRule r)
+  endEnds : {p : ℕ} {x : Item} → Ends (end p) p x
+  deleteEnds : {p o : ℕ} {x : Item} → Ends (delete p o) o x
 
 -- "a chain that stood there is no longer one into it and goes no further": none of the steps lo, lo + 1, .. hi - 1 ends x,
 -- which stands in a
@@ -109,6 +113,9 @@ Governs P (h ▸ fork p o) c r = ((c ≡ o) × Governs P h p r) ⊎ ((c ≢ o) �
 Governs P (h ▸ newFile p o u) c r = ((c ≡ o) × UserRule P u r) ⊎ ((c ≢ o) × Governs P h c r)
 -- "for a new volatile none"
 Governs P (h ▸ newVolatile p o) c r = (c ≢ o) × Governs P h c r
+-- "a later holder of the number inherits neither information nor rules" (change request No. 4): none governs what left
+Governs P (h ▸ end p) c r = (c ≢ p) × Governs P h c r
+Governs P (h ▸ delete p o) c r = (c ≢ o) × Governs P h c r
 
 -- ---- what is forbidden
 

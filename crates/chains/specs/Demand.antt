@@ -20,16 +20,18 @@ use Rattle.chains.specs.History.{
   fork,
   newFile,
   newVolatile,
+  end,
+  delete,
   History,
   start,
   _▸_,
   receiver,
 }
-use Rattle.chains.specs.Chains.{Reaches, Forbidden}
+use Rattle.chains.specs.Chains.{UserRule, Item, Chain, Governs, Reaches, Forbidden}
 
 -- ---- which steps are judged
 
--- "Codes 1 to 5 answer alert if ..; 6 and 7 answer quiet."
+-- "Codes 1 to 5 answer alert if ..; 6 and 7 answer quiet"; 8 and 9 too: "Both answer quiet with tag 0" (change request No. 4).
 abbrev pub judged : Step → Bool
 judged (read p o) = true
 judged (write p o) = true
@@ -38,6 +40,27 @@ judged (exec p o u) = true
 judged (fork p o) = true
 judged (newFile p o u) = false
 judged (newVolatile p o) = false
+judged (end p) = false
+judged (delete p o) = false
+
+-- ---- numbers that are taken
+
+-- What stands right after the history h when a step takes a free number, whatever its past: "a later holder of the number
+-- inherits neither information nor rules" (change request No. 4). A new file has its user's rule, a new volatile none, a forked
+-- process what its parent has.
+abbrev pub Taken : Policy → History → Step → Type 0
+Taken P h (read p o) = Unit {0}
+Taken P h (write p o) = Unit {0}
+Taken P h (append p o) = Unit {0}
+Taken P h (exec p o u) = Unit {0}
+Taken P h (fork p o) =
+    ((x : Item) → Chain P (h ▸ fork p o) x o ↔ Chain P h x p) × ((r : List ℕ) → Governs P (h ▸ fork p o) o r ↔ Governs P h p r)
+Taken P h (newFile p o u) =
+    ((x : Item) → ¬ Chain P (h ▸ newFile p o u) x o) × ((r : List ℕ) → Governs P (h ▸ newFile p o u) o r ↔ UserRule P u r)
+Taken P h (newVolatile p o) =
+    ((x : Item) → ¬ Chain P (h ▸ newVolatile p o) x o) × ((r : List ℕ) → ¬ Governs P (h ▸ newVolatile p o) o r)
+Taken P h (end p) = Unit {0}
+Taken P h (delete p o) = Unit {0}
 
 -- ---- a list of records
 
@@ -89,3 +112,7 @@ module _ {S R : Type 0} (op : S → R → S × Answer) where
     TagTold σ P = (rs : List R) (n : ℕ) (s : Step) (a : Answer) → AcceptedAt σ rs n s a
         → (receiverOf a ≡ receiver s)
         × ((k : ℕ) → (atom (tagOf a) k ≡ 1) ↔ Reaches P (historyOf σ (take (suc n) rs)) k (receiver s))
+
+    -- Each accepted record that takes a free number begins it so.
+    abbrev pub TakenAnew : S → Policy → Type 0
+    TakenAnew σ P = (rs : List R) (n : ℕ) (s : Step) (a : Answer) → AcceptedAt σ rs n s a → Taken P (historyOf σ (take n rs)) s

@@ -3,10 +3,12 @@ use Prim.Native.Nat.{ℕ, suc, zero}
 use mathlib.Core.Path.{_≡_}
 use mathlib.Core.Logic.{_⊎_}
 
--- The seven operations of "Operations", with process p, object o and, for exec and new file, user u.
+-- The seven operations of "Operations", with process p, object o and, for exec and new file, user u; "Code 8 ends process p";
+-- "code 9 lets p remove file or volatile o" (change request No. 4).
 pub data Step : Type 0 where
-  read write append fork newVolatile : (p o : ℕ) → Step
+  read write append fork newVolatile delete : (p o : ℕ) → Step
   exec newFile : (p o u : ℕ) → Step
+  end : (p : ℕ) → Step
 
 -- "The history is the accepted steps in order": none at the session's start, then one more at the right.
 pub data History : Type 0 where
@@ -24,7 +26,7 @@ abbrev pub StepAt : History → ℕ → Step → Type 0
 StepAt start i s = ⊥
 StepAt (h ▸ t) i s = ((i ≡ size h) × (t ≡ s)) ⊎ StepAt h i s
 
--- "The receiver is p for 1 and 4, else o."
+-- "The receiver is p for 1 and 4, else o"; for 8, "with o equal to p", that is p.
 abbrev pub receiver : Step → ℕ
 receiver (read p o) = p
 receiver (write p o) = o
@@ -33,3 +35,5 @@ receiver (exec p o u) = p
 receiver (fork p o) = o
 receiver (newFile p o u) = o
 receiver (newVolatile p o) = o
+receiver (end p) = p
+receiver (delete p o) = o

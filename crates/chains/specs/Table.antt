@@ -19,7 +19,7 @@ use Rattle.lists.specs.Conditions.{Condition, _orRefuse_, firstFailed}
 use Rattle.answers.specs.Refusals.{noProcess, wrongKind, notFree, notDeclared, overLimit}
 use Rattle.session.specs.Rows.{Row}
 use Rattle.session.specs.Session.{startRow}
-use Rattle.chains.specs.History.{Step, read, write, append, exec, fork, newFile, newVolatile, receiver}
+use Rattle.chains.specs.History.{Step, read, write, append, exec, fork, newFile, newVolatile, end, delete, receiver}
 use Rattle.answers.specs.declared.Answer.{Answer}
 use Rattle.answers.specs.Answers.{refused, quiet, alert, accepted}
 use Rattle.chains.specs.Demand.{judged}
@@ -77,20 +77,22 @@ newVolatileRow = record { kind = volatileKind; tag = 0; permit = unrestrictedRul
 
 -- ---- the table: what a step names and needs, the meets that it forms, and the receiver's row afterwards
 
--- the column "o": what a step needs of its object
+-- the column "o": what a step needs of its object; an end needs a process
 pub data Need : Type 0 where
-  store file free : Need
+  store file free process : Need
 
 -- a container of the kind k serves as the object
 unfoldable pub fitsNeed : Need → ℕ → Bool
 fitsNeed store k = isStore k
 fitsNeed file k = isFile k
 fitsNeed free k = isFree k
+fitsNeed process k = isProcess k
 
 abbrev pub needsFree : Need → Bool
 needsFree store = false
 needsFree file = false
 needsFree free = true
+needsFree process = false
 
 -- a row of the table: the numbers of p and o, and of u where the code names one; what it needs of o; the meets; the row
 pub record Entry : Type 0 where
@@ -142,6 +144,9 @@ entry σ (newFile p o u) =
     record { process = p; object = o; user = some u; need = free; meets = []; row = newFileRow (ruleOr (σ .user u)) }
 entry σ (newVolatile p o) =
     record { process = p; object = o; user = none; need = free; meets = []; row = newVolatileRow }
+-- "The row becomes free" (change request No. 4)
+entry σ (end p) = record { process = p; object = p; user = none; need = process; meets = []; row = freeRow }
+entry σ (delete p o) = record { process = p; object = o; user = none; need = store; meets = []; row = freeRow }
 
 -- ---- "Refused because of the session": 11 to 15 in the order of the paper
 
@@ -153,7 +158,7 @@ processGood σ t = isProcess (σ .row (entry σ t .process) .kind)
 unfoldable pub objectGood : State → Step → Bool
 objectGood σ t = fitsNeed (entry σ t .need) (σ .row (entry σ t .object) .kind)
 
--- 12: "o of the wrong kind (codes 1 to 4)"
+-- 12: "o of the wrong kind (codes 1 to 4)", and "code 9 with o of another kind" (change request No. 4)
 unfoldable pub kindGood : State → Step → Bool
 kindGood σ t = needsFree (entry σ t .need) || objectGood σ t
 
@@ -196,7 +201,7 @@ tableConditions σ t = earlyConditions σ t ++ ((meetGood σ t orRefuse overLimi
 -- ---- one operation
 
 -- "Codes 1 to 5 answer alert if the receiver's permit rule does not cover its tag afterwards, else quiet; 6 and 7 answer
--- quiet."
+-- quiet"; so do 8 and 9.
 unfoldable pub alerts : Step → Row → Bool
 alerts s w = judged s && not (covers (w .permit) (w .tag))
 

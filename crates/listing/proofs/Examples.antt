@@ -50,12 +50,12 @@ refused-policy : policyLine 1 ≡ ascii "policy refused 1\n"
 unfolding policyLine line decimal decimalIn digit ascii
 refused-policy = refl
 
-every-word : map operationWord (1 ∷ 2 ∷ 3 ∷ 4 ∷ 5 ∷ 6 ∷ 7 ∷ [])
-    ≡ map ascii ("read" ∷ "write" ∷ "append" ∷ "exec" ∷ "fork" ∷ "file" ∷ "volatile" ∷ [])
+every-word : map operationWord (1 ∷ 2 ∷ 3 ∷ 4 ∷ 5 ∷ 6 ∷ 7 ∷ 8 ∷ 9 ∷ [])
+    ≡ map ascii ("read" ∷ "write" ∷ "append" ∷ "exec" ∷ "fork" ∷ "file" ∷ "volatile" ∷ "end" ∷ "delete" ∷ [])
 unfolding operationWord ascii
 every-word = refl
 
-unknown-codes : map operationWord (0 ∷ 8 ∷ 255 ∷ []) ≡ map ascii ("other" ∷ "other" ∷ "other" ∷ [])
+unknown-codes : map operationWord (0 ∷ 10 ∷ 255 ∷ []) ≡ map ascii ("other" ∷ "other" ∷ "other" ∷ [])
 unfolding operationWord ascii
 unknown-codes = refl
 

@@ -20,10 +20,11 @@ use Rattle.listing.proofs.TextLaws.{decimal-length, hexadecimal-length}
 -- ---- texts
 
 pub other-word : (code : ℕ) → (code ≡ 1 → ⊥) → (code ≡ 2 → ⊥) → (code ≡ 3 → ⊥) → (code ≡ 4 → ⊥) → (code ≡ 5 → ⊥) → (code ≡ 6 → ⊥) → (code ≡ 7 → ⊥)
+    → (code ≡ 8 → ⊥) → (code ≡ 9 → ⊥)
     → operationWord code ≡ ascii "other"
 unfolding operationWord
-other-word code a b d e f g h =
-    simp (ne-eqb code 1 a, ne-eqb code 2 b, ne-eqb code 3 d, ne-eqb code 4 e, ne-eqb code 5 f, ne-eqb code 6 g, ne-eqb code 7 h)
+other-word code a b d e f g h i j =
+    simp (ne-eqb code 1 a, ne-eqb code 2 b, ne-eqb code 3 d, ne-eqb code 4 e, ne-eqb code 5 f, ne-eqb code 6 g, ne-eqb code 7 h, ne-eqb code 8 i, ne-eqb code 9 j)
 
 pub access-text : (s w p o : List ℕ)
     → (((s ++ (space ∷ [])) ++ (w ++ (space ∷ []))) ++ (p ++ (space ∷ []))) ++ (o ++ (space ∷ [])) ≡ spaced (s ∷ w ∷ p ∷ o ∷ [])
@@ -59,9 +60,9 @@ cond-either P true x y p q = p
 cond-either P false x y p q = q
 
 abbrev Word : List ℕ → Type 0
-Word w = (4 ≤ length w) × (length w ≤ operationLimit)
+Word w = (3 ≤ length w) × (length w ≤ operationLimit)
 
-pub operation-bounds : (code : ℕ) → (4 ≤ length (operationWord code)) × (length (operationWord code) ≤ operationLimit)
+pub operation-bounds : (code : ℕ) → (3 ≤ length (operationWord code)) × (length (operationWord code) ≤ operationLimit)
 unfolding operationWord ascii
 operation-bounds code =
     cond-either Word (eqb code 1) _ _ (omega arith, omega arith)
@@ -70,7 +71,9 @@ operation-bounds code =
     (cond-either Word (eqb code 4) _ _ (omega arith, omega arith)
     (cond-either Word (eqb code 5) _ _ (omega arith, omega arith)
     (cond-either Word (eqb code 6) _ _ (omega arith, omega arith)
-    (cond-either Word (eqb code 7) _ _ (omega arith, omega arith) (omega arith, omega arith)))))))
+    (cond-either Word (eqb code 7) _ _ (omega arith, omega arith)
+    (cond-either Word (eqb code 8) _ _ (omega arith, omega arith)
+    (cond-either Word (eqb code 9) _ _ (omega arith, omega arith) (omega arith, omega arith)))))))))
 
 pub operation-length : (code : ℕ) → length (operationWord code ++ (space ∷ [])) ≤ operationLimit + 1
 operation-length code = simp length-append (omega (arith, operation-bounds code))

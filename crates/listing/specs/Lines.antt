@@ -28,7 +28,8 @@ unfoldable pub spaced : List (List ℕ) → List ℕ
 spaced [] = []
 spaced (f ∷ fs) = f ++ (space ∷ spaced fs)
 
--- "Words: read, write, append, exec, fork, file, volatile, other (unknown code)"
+-- "Words: read, write, append, exec, fork, file, volatile, other (unknown code)"; of codes 8 and 9 "`end` and `delete`" (change
+-- request No. 4)
 unfoldable pub operationWord : ℕ → List ℕ
 operationWord code =
     cond (eqb code 1) (ascii "read")
@@ -38,7 +39,9 @@ operationWord code =
     (cond (eqb code 5) (ascii "fork")
     (cond (eqb code 6) (ascii "file")
     (cond (eqb code 7) (ascii "volatile")
-    (ascii "other")))))))
+    (cond (eqb code 8) (ascii "end")
+    (cond (eqb code 9) (ascii "delete")
+    (ascii "other")))))))))
 
 -- the verdict's word, as in the paper's listing
 unfoldable pub verdictWord : Verdict → List ℕ

@@ -211,6 +211,8 @@ fn operation_word(code: u64) -> u64
         5 => 0x202020206b726f66,
         6 => 0x20202020656c6966,
         7 => 0x656c6974616c6f76,
+        8 => 0x2020202020646e65,
+        9 => 0x20206574656c6564,
         _ => 0x202020726568746f,
     }
 }
@@ -227,6 +229,8 @@ fn operation_length(code: u64) -> usize
         5 => 4,
         6 => 4,
         7 => 8,
+        8 => 3,
+        9 => 6,
         _ => 5,
     }
 }
@@ -234,7 +238,7 @@ fn operation_length(code: u64) -> usize
 // An operation's word and the space behind it.
 fn put_operation(out: &mut [u8], at: usize, code: u64) -> usize
     requires { ⌜ at + operationLimit < length (now out) ⌝ }
-    ensures { λ r. ⌜ WroteWithSpare (operationWord code ++ (space ∷ [])) 3 (now (out .entry)) (now (out .exit)) at r ⌝ }
+    ensures { λ r. ⌜ WroteWithSpare (operationWord code ++ (space ∷ [])) 4 (now (out .entry)) (now (out .exit)) at r ⌝ }
 {
     fields::put64(out, at, operation_word(code));
     let next = at + operation_length(code);

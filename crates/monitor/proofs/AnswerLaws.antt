@@ -10,13 +10,13 @@ use Rattle.session.specs.Rows.{Row}
 use Rattle.lists.specs.Lists.{elem}
 use Rattle.lists.specs.Conditions.{numbersOf}
 use Rattle.lists.proofs.Conditions.{given-among}
-use Rattle.chains.specs.History.{Step, read, write, append, exec, fork, newFile, newVolatile, receiver}
+use Rattle.chains.specs.History.{Step, read, write, append, exec, fork, newFile, newVolatile, end, delete, receiver}
 use Rattle.answers.specs.declared.Answer.{Answer}
 use Rattle.answers.specs.declared.Answer.the-variants.{Given, Refused}
 use Rattle.answers.specs.declared.Verdict.the-variants.{Quiet, Alert}
 use Rattle.answers.specs.Answers.{quiet, alert, accepted, isAlert, receiverOf, tagOf, quietNumber, alertNumber, answerNumber}
 use Rattle.chains.specs.Demand.{judged}
-use Rattle.chains.specs.Table.{State, newFileRow, newVolatileRow, entry, earlyConditions, tableConditions, alerts, verdict}
+use Rattle.chains.specs.Table.{State, freeRow, newFileRow, newVolatileRow, entry, earlyConditions, tableConditions, alerts, verdict}
 use Rattle.operations.specs.Effects.{sessionConditions}
 use Rattle.monitor.specs.Steps.{stepConditions, refusalOf, stepAnswer}
 use Rattle.monitor.proofs.StepLaws.{refused-answer, answered}
@@ -32,9 +32,9 @@ verdict-judged t w j = rw j (by (covers (w .permit) (w .tag)))
     by true = refl
     by false = refl
 
--- "6 and 7 answer quiet", with "empty tag"
+-- "6 and 7 answer quiet", with "empty tag"; 8 and 9 "answer quiet with tag 0"
 pub new-quiet : (σ : State) (t : Step) → judged t ≡ false → verdict t (entry σ t .row) ≡ quiet (receiver t) 0
-unfolding entry verdict alerts newFileRow newVolatileRow
+unfolding entry verdict alerts freeRow newFileRow newVolatileRow
 new-quiet σ (read p o) e = clash refl e
 new-quiet σ (write p o) e = clash refl e
 new-quiet σ (append p o) e = clash refl e
@@ -42,6 +42,8 @@ new-quiet σ (exec p o u) e = clash refl e
 new-quiet σ (fork p o) e = clash refl e
 new-quiet σ (newFile p o u) e = refl
 new-quiet σ (newVolatile p o) e = refl
+new-quiet σ (end p) e = refl
+new-quiet σ (delete p o) e = refl
 
 -- ---- numbers
 

@@ -19,10 +19,10 @@ use Rattle.session.specs.Session.{startTag, startRow, placeWords, filled, sessi
 use Rattle.answers.specs.Answers.{quiet, alert, refused}
 use Rattle.answers.specs.Refusals.{notFree}
 use Rattle.chains.specs.History.{fork}
-use Rattle.chains.specs.Table.{State, freeRow, readRow, writeRow, appendRow, execRow, forkRow, fitsNeed, entry, processGood, objectGood, kindGood, freeGood, userGood, fits, meetGood, earlyConditions, tableConditions, alerts, verdict}
+use Rattle.chains.specs.Table.{State, freeRow, readRow, writeRow, appendRow, execRow, forkRow, newFileRow, fitsNeed, entry, processGood, objectGood, kindGood, freeGood, userGood, fits, meetGood, earlyConditions, tableConditions, alerts, verdict}
 use Rattle.lists.specs.Conditions.{firstFailed}
-use Rattle.records.specs.Codes.{readCode, writeCode, appendCode, execCode, forkCode, stepWith, noRows, codeAt, isCode}
-use Rattle.records.specs.Records.{noUser, requestIn, stepIn, userFits, recordGood}
+use Rattle.records.specs.Codes.{readCode, writeCode, appendCode, execCode, forkCode, newFileCode, endCode, deleteCode, stepWith, noRows, codeAt, isCode}
+use Rattle.records.specs.Records.{noUser, requestIn, stepIn, userFits, ownObject, recordGood}
 use Rattle.operations.specs.View.{view}
 use Rattle.operations.specs.Effects.{rowsGood, sessionConditions, acceptedAnswer, acceptedEffect}
 use Rattle.monitor.specs.Steps.{stepAsked, stepConditions, refusalOf, stepAnswer, stepEffect}
@@ -103,6 +103,22 @@ pub record CheckedRuns : Type 0 where
   pub readHolding : runAnswers (startOf P)
       (recordOf execCode 3 0 0 ∷ recordOf writeCode 3 2 noUser ∷ recordOf readCode 4 1 noUser ∷ recordOf readCode 4 2 noUser ∷ [])
       ≡ quiet 3 (2 ^ 33) ∷ quiet 2 (2 ^ 33) ∷ quiet 4 (2 ^ 2) ∷ quiet 4 (2 ^ 2) ∷ []
+  -- Change request No. 4. Process 3 reads file 0, which holds 1, and deletes it; the number is taken again by a new file, which
+  -- holds nothing, so that process 4 reads nothing there; process 3 ends, is no process any more, and process 4 forks onto its
+  -- number.
+  pub leaving : runAnswers (startOf P)
+      (recordOf readCode 3 0 noUser
+      ∷ recordOf deleteCode 3 0 noUser
+      ∷ recordOf newFileCode 3 0 0
+      ∷ recordOf readCode 4 0 noUser
+      ∷ recordOf endCode 3 3 noUser
+      ∷ recordOf readCode 3 1 noUser
+      ∷ recordOf forkCode 4 3 noUser
+      ∷ [])
+      ≡ quiet 3 (2 ^ 1) ∷ quiet 0 0 ∷ quiet 0 0 ∷ quiet 4 0 ∷ quiet 3 0 ∷ refused 11 ∷ quiet 3 0 ∷ []
+  -- "7 also covers code 8 with another o, and 12 code 9 with o of another kind."
+  pub leavingRefused : runAnswers (startOf P) (recordOf endCode 3 4 noUser ∷ recordOf deleteCode 3 4 noUser ∷ recordOf deleteCode 3 5 noUser ∷ [])
+      ≡ refused 7 ∷ refused 12 ∷ refused 12 ∷ []
   -- "Meet of 62, 61, 59 with 55, 47, 31 has nine: 15."
   pub meetOver : runAnswers (startOf Q) (recordOf readCode 2 0 noUser ∷ recordOf readCode 2 1 noUser ∷ []) ≡ quiet 2 0 ∷ refused 15 ∷ []
   -- the listing (Listing has it from the image's bytes)
@@ -118,9 +134,9 @@ unfolding holds dataOf runningOf covers elem distinct heldIn unheldIn insert sor
     putRow startTag startRow placeWords filled sessionOf startOf readRow writeRow appendRow execRow forkRow fits
     alerts verdict every firstFailed freeRow fitsNeed entry stepWith noRows codeAt isCode stepIn view rowsGood
     processGood objectGood kindGood freeGood userGood meetGood earlyConditions tableConditions sessionConditions
-    acceptedAnswer acceptedEffect requestIn userFits recordGood sessionLengthGood stepAsked stepConditions refusalOf
+    acceptedAnswer acceptedEffect newFileRow requestIn userFits ownObject recordGood sessionLengthGood stepAsked stepConditions refusalOf
     stepAnswer stepEffect stepOn runAnswers
-checked-runs = record { forkItself = refl; execHolding = refl; execKeeping = refl; readHolding = refl; meetOver = refl; listing = refl; shortSession = refl }
+checked-runs = record { forkItself = refl; execHolding = refl; execKeeping = refl; readHolding = refl; leaving = refl; leavingRefused = refl; meetOver = refl; listing = refl; shortSession = refl }
 
 -- ---- the same of any rows
 

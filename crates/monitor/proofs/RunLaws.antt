@@ -37,7 +37,7 @@ valid-run s v (r ∷ rs) = valid-run (stepOn s r .0) (faithful .stays s r v) rs
 valid-rows : (s : List ℕ) → Valid s → (q : Request) → Asked q → rowsGood s (stepIn q) ≡ true
 unfolding rowsGood
 valid-rows s v q a =
-    let e : Entered (view s) q = entered (view s) q (a .codeLow) (a .codeHigh) in
+    let e : Entered (view s) q = entered (view s) q a in
     rw (e .process, e .object, e .user)
     (and-in (v .rows (q .p) (a .process)) (and-in (v .rows (q .o) (a .object)) (user-row (codeAt (q .code) .user) (λ c. v .users (q .u) (a .user c)))))
   where

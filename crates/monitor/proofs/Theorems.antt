@@ -30,7 +30,7 @@ use Rattle.image.proofs.Decode.{accepted-sound}
 use Rattle.session.proofs.Canonical.{effect-start}
 use Rattle.chains.specs.History.{Step, History, receiver}
 use Rattle.chains.specs.Chains.{Governs, Reaches, Forbidden}
-use Rattle.chains.specs.Demand.{judged, Demand3, TagTold}
+use Rattle.chains.specs.Demand.{judged, Demand3, TagTold, TakenAnew}
 use Rattle.chains.specs.Table.{entry, processGood, kindGood, freeGood, userGood, meetGood, earlyConditions, tableConditions}
 use Rattle.chains.proofs.Theorems as chains
 use Rattle.records.specs.Records.{recordLength, recordGood, stepOf}
@@ -66,6 +66,12 @@ module _ (image : List ℕ) (bytes : Bytes image) (ok : checkOf image ≡ 0) whe
       chains.tag-told stepOn stepOf view Valid faithful (policyIn image) (accepted-sound image bytes ok) (startOf (policyIn image))
       (start-valid (policyIn image) (accepted-sound image bytes ok)) (start-view (policyIn image) (accepted-sound image bytes ok))
 
+  -- and a fork, new file or new volatile takes a number to which nothing of its past comes back
+  pub number-taken : TakenAnew stepOn stepOf (startOf (policyIn image)) (policyIn image)
+  number-taken =
+      chains.number-taken stepOn stepOf view Valid faithful (policyIn image) (accepted-sound image bytes ok) (startOf (policyIn image))
+      (start-valid (policyIn image) (accepted-sound image bytes ok)) (start-view (policyIn image) (accepted-sound image bytes ok))
+
 -- The same from the session as the start left it, whatever stood there, if the start did not refuse.
 module _ (image lent : List ℕ) (bytes : Bytes image) (ok : startAnswer image lent ≡ 0) where
   pub demand3-started : Demand3 stepOn stepOf (startEffect image lent) (policyIn image)
@@ -73,6 +79,9 @@ module _ (image lent : List ℕ) (bytes : Bytes image) (ok : startAnswer image l
 
   pub tag-told-started : TagTold stepOn stepOf (startEffect image lent) (policyIn image)
   tag-told-started = rw (effect-start image lent ok .1) (tag-told image bytes (effect-start image lent ok .0))
+
+  pub number-taken-started : TakenAnew stepOn stepOf (startEffect image lent) (policyIn image)
+  number-taken-started = rw (effect-start image lent ok .1) (number-taken image bytes (effect-start image lent ok .0))
 
 -- Demand 3 spelled out, over the bytes of the image and of the records, and which answers are no refusals. The start did not
 -- refuse, and filled a lent session; a list of records was answered on it. Record number n is r, its answer a is no refusal, and
@@ -89,7 +98,7 @@ pub alert-exactly : (image lent : List ℕ) → Bytes image → startAnswer imag
 alert-exactly image lent bytes ok rs given g n r a er ea k t et j h eh =
     alert-at (startEffect image lent) (policyIn image) rs given g n r a er ea k t et h eh (demand3-started image lent bytes ok) j
 
--- The tag spelled out in the same way, for all seven codes: the answer names the receiver, and exactly the atoms that have a chain
+-- The tag spelled out in the same way, for all nine codes: the answer names the receiver, and exactly the atoms that have a chain
 -- into it.
 pub tag-exactly : (image lent : List ℕ) → Bytes image → startAnswer image lent ≡ 0
     → (rs : List (List ℕ)) (given : List Answer) → runAnswers (startEffect image lent) rs ≡ given
@@ -290,7 +299,7 @@ module _ (s r : List ℕ) (e : refusalOf s r ≡ 0) where
       (alert (receiver (stepAsked r)) (entry (view s) (stepAsked r) .row .tag))
   answer-judged j = accepted-answer s r e ∙ verdict-judged (stepAsked r) (entry (view s) (stepAsked r) .row) j
 
-  -- "6 and 7 answer quiet", with "empty tag"
+  -- "6 and 7 answer quiet", with "empty tag"; 8 and 9 "answer quiet with tag 0"
   pub answer-new : judged (stepAsked r) ≡ false → stepAnswer s r ≡ quiet (receiver (stepAsked r)) 0
   answer-new j = accepted-answer s r e ∙ new-quiet (view s) (stepAsked r) j
 

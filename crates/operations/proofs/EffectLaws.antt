@@ -5,7 +5,7 @@ use mathlib.Core.Bool.{Bool, true, false, not, cond, _&&_}
 use mathlib.Core.List.{List, [], _∷_}
 use native.Mathlib.Omega.{arith}
 use lib.Bits.{bitOr}
-use lib.ListN.{length, getD, take, drop}
+use lib.ListN.{length, getD, take, drop, replicate}
 use borrow.Author.Tests.{le-leb}
 use borrow.Rule.Slice.PartMut.{putMid}
 use Rattle.lists.specs.Lists.{every}
@@ -15,18 +15,18 @@ use Rattle.answers.specs.declared.Answer.the-variants.{Given}
 use Rattle.answers.specs.Answers.{received, refused, quiet, alert}
 use Rattle.rules.specs.Sets.{dataOf, runningOf}
 use Rattle.rules.specs.Rules.{covers, meet, unrestricted}
-use Rattle.rules.specs.Answers.{dataWidth, tagWidth, mixtureLimit, boundedOf}
+use Rattle.rules.specs.Answers.{dataWidth, tagWidth, mixtureLimit, padded, boundedOf}
 use Rattle.rules.specs.declared.Bounded.{Bounded}
 use Rattle.rules.proofs.BoundedLaws.{bounded-some, padded-take}
 use Rattle.image.specs.Limits.{containerLimit, userLimit, fileKind, volatileKind, processKind}
 use Rattle.image.specs.Policy.{unrestrictedRule}
-use Rattle.rule_words.specs.Words.{ruleOf}
+use Rattle.rule_words.specs.Words.{ruleOf, wordsOf}
 use Rattle.session.specs.Limits.{sessionLength, rowWidth, userWidth, usersAt, runAt, userRuleAt}
-use Rattle.session.specs.Rows.{Row, rowOf, rowWords, permitWords, runWords}
+use Rattle.session.specs.Rows.{Row, rowOf, rowWords, freeWords, permitWords, runWords, putRow}
 use Rattle.session.proofs.PutLaws.{container-row-length, row-lent, row-returned}
 use Rattle.chains.specs.History.{Step, read, write, append, exec, fork, newFile, newVolatile, receiver}
 use Rattle.chains.specs.Demand.{judged}
-use Rattle.chains.specs.Table.{readRow, writeRow, appendRow, execRow, forkRow, newFileRow, newVolatileRow, ruleOr, entry, fits, meetGood, alerts, verdict}
+use Rattle.chains.specs.Table.{freeRow, readRow, writeRow, appendRow, execRow, forkRow, newFileRow, newVolatileRow, ruleOr, entry, fits, meetGood, alerts, verdict}
 use Rattle.operations.specs.View.{view}
 use Rattle.operations.specs.Effects.{acceptedAnswer, acceptedEffect}
 use Rattle.operations.specs.Parts.{Ready, UsedAt, Kept, wordsFrom, contentWords, newWords, coverVerdict, coverAnswer, lateAnswer, lateEffect, sharedRun, absorbed, absorbAnswer, absorbEffect, launchTag, launchAnswer, launchEffect}
@@ -278,3 +278,21 @@ pub volatile-done : (s : List ℕ) (p o : ℕ) (m : Bounded) → m ≡ boundedOf
 unfolding entry newVolatileRow unrestrictedRule meetGood every
 volatile-done s p o m em ws ew =
     new-done s (newVolatile p o) refl newVolatileRow refl m m (quiet o 0) ws em all-short em all-short (verdict-unjudged (newVolatile p o) newVolatileRow refl) ew
+
+-- ---- what leaves
+
+free-words : rowWords freeRow ≡ freeWords
+unfolding freeRow rowWords freeWords wordsOf padded
+free-words = refl
+
+-- the row as it comes back when its words are cleared
+pub cleared : (s : List ℕ) (c : ℕ) → length s ≡ sessionLength → c < containerLimit → (ws : List ℕ) → ws ≡ replicate (length (lent s c)) 0 → returned s c ws ≡ putRow s c freeWords
+unfolding freeWords
+cleared s c l h ws e = row-returned s c ws ∙ ap (putRow s c) (e ∙ ap (λ (n : ℕ). replicate n 0) (lent-long s c l h))
+
+-- a step that frees its receiver's row
+pub left-done : (s : List ℕ) (t : Step) → entry (view s) t .row ≡ freeRow → meetGood (view s) t ≡ true → judged t ≡ false → (a : Answer) (s₁ : List ℕ)
+    → (a ≡ quiet (receiver t) 0) × (s₁ ≡ putRow s (receiver t) freeWords) → Done s t a s₁
+unfolding lateAnswer lateEffect acceptedAnswer acceptedEffect freeRow
+left-done s t er g j a s₁ (ea, es) =
+    (ea ∙ verdict-unjudged t freeRow j ∙ ap (verdict t) (sym er) ∙ rw g, es ∙ ap (putRow s (receiver t)) (sym free-words ∙ ap rowWords (sym er)) ∙ rw g)

@@ -17,7 +17,7 @@ use Rattle.rule_words.specs.Words.{ruleOf, wordsOf, allZero}
 use Rattle.session.specs.Limits.{rowWidth}
 use Rattle.session.specs.Rows.{Row, rowOf, rowWords, permitWords, runWords, containerRowGood, InUse, userRow}
 use Rattle.session.proofs.RowLaws.{row-length, row-words, row-good, good-declared}
-use Rattle.chains.specs.History.{Step, read, write, append, exec, fork, newFile, newVolatile}
+use Rattle.chains.specs.History.{Step, read, write, append, exec, fork, newFile, newVolatile, end, delete}
 use Rattle.chains.specs.Table.{freeRow, readRow, writeRow, appendRow, execRow, forkRow, newFileRow, newVolatileRow, ruleOr, entry, fits, meetGood}
 use Rattle.operations.specs.View.{view}
 use Rattle.operations.specs.Parts.{Ready, UsedAt, DeclaredAt}
@@ -108,3 +108,5 @@ module _ (s : List ℕ) where
       made _ (in-use p up .used) (permit-rule p up) (run-rule p up)
   entry-laid (newFile p o u) h m = made _ refl (user-rule u (ready-user s (newFile p o u) h u refl)) unrestricted-kept
   entry-laid (newVolatile p o) h m = made _ refl unrestricted-kept unrestricted-kept
+  entry-laid (end p) h m = laid-free
+  entry-laid (delete p o) h m = laid-free

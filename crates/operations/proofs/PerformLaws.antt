@@ -1,21 +1,22 @@
 -- A request: refused by 10 to 14, or ready for its operation, whose answer and effect are those of the whole.
 use Prim.Native.Nat.{ℕ, _<_}
 use mathlib.Core.Path.{_≡_, refl, sym, subst, ap, _∙_}
-use mathlib.Core.Logic.{_≢_}
+use mathlib.Core.Logic.{_⊎_, inl, inr, _≢_}
 use mathlib.Core.Bool.{Bool, true, false, cond}
 use mathlib.Core.List.{List, [], _∷_, _++_}
 use mathlib.Core.Option.{none, some}
 use borrow.Author.Tests.{ne-eqb}
-use Rattle.lists.specs.Lists.{elem}
+use Rattle.lists.specs.Lists.{elem, every}
 use Rattle.lists.specs.Conditions.{_orRefuse_, firstFailed, numbersOf, numbersGood}
 use Rattle.lists.proofs.Conditions.{passed, failed, none-left, first-stops, first-passed, given-none}
 use Rattle.lists.proofs.Places.{some-inj, none-some}
 use Rattle.answers.specs.Refusals.{overLimit}
 use Rattle.answers.specs.declared.Answer.{Answer}
-use Rattle.answers.specs.Answers.{refused}
+use Rattle.answers.specs.Answers.{quiet, refused}
 use Rattle.image.specs.Limits.{userLimit}
-use Rattle.chains.specs.History.{Step}
-use Rattle.chains.specs.Table.{meetGood, earlyConditions, tableConditions}
+use Rattle.session.specs.Rows.{freeWords, putRow}
+use Rattle.chains.specs.History.{Step, end, delete}
+use Rattle.chains.specs.Table.{entry, meetGood, earlyConditions, tableConditions}
 use Rattle.records.specs.declared.Request.{Request}
 use Rattle.records.specs.Codes.{codeAt}
 use Rattle.records.specs.Records.{stepIn}
@@ -23,7 +24,7 @@ use Rattle.records.proofs.CodeLaws.{Entered, entered}
 use Rattle.operations.specs.View.{view}
 use Rattle.operations.specs.Effects.{Named, sessionConditions, sessionRefusal, performAnswer, performEffect}
 use Rattle.operations.specs.Parts.{firstConditions, Ready, lateAnswer, lateEffect}
-use Rattle.operations.proofs.EffectLaws.{Done}
+use Rattle.operations.proofs.EffectLaws.{Done, left-done}
 
 -- the answer a and the session s₁ afterwards are as the step asks, all refusals counted
 abbrev pub Performed : List ℕ → Step → Answer → List ℕ → Type 0
@@ -66,7 +67,7 @@ perform-done s t e a s₁ (ea, es) = by (meetGood (view s) t) refl
 
 pub ready : (s : List ℕ) (q : Request) → Named s q → firstFailed (firstConditions s (stepIn q)) ≡ 0 → Ready s (stepIn q)
 ready s q n e =
-    let f : Entered (view s) q = entered (view s) q (n .asked .codeLow) (n .asked .codeHigh) in
+    let f : Entered (view s) q = entered (view s) q (n .asked) in
     record {
       long = n .long;
       process = rw (f .process) (n .asked .process);
@@ -86,3 +87,10 @@ ready-as s q t e h = subst (Ready s) e h
 
 pub done-as : (s : List ℕ) (q : Request) (t : Step) → stepIn q ≡ t → (a : Answer) (s₁ : List ℕ) → Done s t a s₁ → Done s (stepIn q) a s₁
 done-as s q t e a s₁ d = subst (λ (x : Step). Done s x a s₁) (sym e) d
+
+-- an end or a delete, which frees the row of o
+pub released : (s : List ℕ) (q : Request) → (stepIn q ≡ end (q .o)) ⊎ (stepIn q ≡ delete (q .p) (q .o)) → (a : Answer) (s₁ : List ℕ)
+    → (a ≡ quiet (q .o) 0) × (s₁ ≡ putRow s (q .o) freeWords) → Done s (stepIn q) a s₁
+unfolding entry meetGood every
+released s q (inl e) a s₁ h = done-as s q (end (q .o)) e a s₁ (left-done s (end (q .o)) refl refl refl a s₁ h)
+released s q (inr e) a s₁ h = done-as s q (delete (q .p) (q .o)) e a s₁ (left-done s (delete (q .p) (q .o)) refl refl refl a s₁ h)

@@ -12,7 +12,7 @@ use Rattle.lists.proofs.Conditions.{given-none}
 use Rattle.image.specs.Limits.{processKind, isFree, isProcess}
 use Rattle.session.specs.Rows.{Row, rowOf, userRuleOf, containerRow, userRow, containerRowGood, isDeclared}
 use Rattle.chains.specs.History.{Step}
-use Rattle.chains.specs.Table.{Need, store, file, free, needsFree, fitsNeed, entry, isSome, processGood, objectGood, kindGood, freeGood, userGood, earlyConditions}
+use Rattle.chains.specs.Table.{Need, store, file, free, process, needsFree, fitsNeed, entry, isSome, processGood, objectGood, kindGood, freeGood, userGood, earlyConditions}
 use Rattle.chains.proofs.KindLaws.{process-used, file-used, store-used}
 use Rattle.operations.specs.View.{view}
 use Rattle.operations.specs.Effects.{userNamedGood, rowsGood}
@@ -51,6 +51,7 @@ unfolding fitsNeed
 fit-used store k e h = store-used k h
 fit-used file k e h = file-used k h
 fit-used free k e h = clash refl e
+fit-used process k e h = process-used k h
 
 module _ (s : List ℕ) (t : Step) (h : Ready s t) where
   found : Tests s t

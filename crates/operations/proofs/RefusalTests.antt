@@ -17,7 +17,7 @@ use Rattle.image.specs.Limits.{isProcess, containerLimit, userLimit}
 use Rattle.session.specs.Limits.{rowWidth, userWidth, usersAt, kindAt, declaredAt, declared}
 use Rattle.session.specs.Rows.{Row, containerRow, userRow, rowOf, isDeclared, userRuleOf, containerRowGood, userRowGood}
 use Rattle.session.proofs.PutLaws.{row-lent, user-lent}
-use Rattle.chains.specs.Table.{Need, store, file, free, needsFree, fitsNeed, entry, isSome, processGood, objectGood, kindGood, freeGood, userGood, earlyConditions}
+use Rattle.chains.specs.Table.{Need, store, file, free, process, needsFree, fitsNeed, entry, isSome, processGood, objectGood, kindGood, freeGood, userGood, earlyConditions}
 use Rattle.records.specs.declared.Code.{Code}
 use Rattle.records.specs.declared.Request.{Request}
 use Rattle.records.specs.Codes as codes
@@ -50,7 +50,7 @@ opened : (s : List ℕ) (q : Request) → Asked q
     → rowsGood s (stepIn q) ≡ (containerRowGood (containerRow s (q .p)) && (containerRowGood (containerRow s (q .o)) && (not (codeAt (q .code) .user) || userRowGood (userRow s (q .u)))))
 unfolding rowsGood
 opened s q a =
-    let e : Entered (view s) q = entered (view s) q (a .codeLow) (a .codeHigh) in
+    let e : Entered (view s) q = entered (view s) q a in
     rw (e .process, e .object, e .user) (by (codeAt (q .code) .user))
   where
     by : (b : Bool) → (containerRowGood (containerRow s (q .p)) && (containerRowGood (containerRow s (q .o)) && userNamedGood s (cond b (some (q .u)) none)))
@@ -93,7 +93,7 @@ declared-read s u =
 
 module _ (s : List ℕ) (q : Request) (a : Asked q) where
   e : Entered (view s) q
-  e = entered (view s) q (a .codeLow) (a .codeHigh)
+  e = entered (view s) q a
 
   seen : (c : ℕ) → c < containerLimit → getD s (c * rowWidth + kindAt) 0 ≡ view s .row c .kind
   seen c l = kind-read s c ∙ ap (λ (w : Row). w .kind) (sym (view-row s c l))
@@ -119,6 +119,7 @@ module _ (s : List ℕ) (q : Request) (a : Asked q) where
       by store = (λ z. absurd (omega arith), λ z. clash z refl)
       by file = (λ z. absurd (omega arith), λ z. clash z refl)
       by free = (λ z. refl, λ z. refl)
+      by process = (λ z. absurd (omega arith), λ z. clash z refl)
 
   user-told : codeAt (q .code) .user ≡ true → (b : Bool) → eqb (getD s (usersAt + q .u * userWidth) 0) declared ≡ b → userGood (view s) (stepIn q) ≡ b
   unfolding userGood isDeclared

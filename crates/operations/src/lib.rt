@@ -7,12 +7,13 @@ ghost use lib.Dec.{eqb};
 ghost use Prim.Native.Nat.{_≤_, _<_};
 ghost use lib.ListN.{length, getD, take};
 ghost use Rattle.lists.specs.Conditions.{firstFailed};
+ghost use Rattle.answers.specs.Answers.{quiet};
 ghost use Rattle.rules.specs.Rules.{meet};
 ghost use Rattle.rules.specs.Answers.{mixtureLimit, boundedOf};
 ghost use Rattle.image.specs.Limits.{containerLimit, processKind};
 ghost use Rattle.rule_words.specs.Words.{ruleOf};
 ghost use Rattle.session.specs.Limits.{sessionLength, rowWidth};
-ghost use Rattle.session.specs.Rows.{rowOf, permitWords, runWords};
+ghost use Rattle.session.specs.Rows.{rowOf, permitWords, runWords, freeWords, putRow};
 ghost use Rattle.chains.specs.History.{read, write, append, exec, fork, newFile, newVolatile};
 ghost use Rattle.records.specs.Codes.{objectFits};
 ghost use Rattle.records.specs.Records.{stepIn};
@@ -52,6 +53,9 @@ fn object_fits(need: u8, kind: u64) -> bool
     }
     if need == records::NEEDS_FREE {
         return kind == image::FREE_KIND;
+    }
+    if need == records::NEEDS_PROCESS {
+        return image::is_process(kind);
     }
     false
 }
@@ -247,7 +251,7 @@ fn replace(row: &mut [u64], receiver: usize, tag: u64, permit: Bounded, run: Bou
     judge(row, receiver)
 }
 
-// ---- the seven operations
+// ---- the operations
 
 // The receiver takes in what the giver has: it gets the tag, and the meet of both run rules.
 fn absorb(s: &mut [u64], receiver: usize, giver: usize, tag: u64) -> Answer
@@ -379,6 +383,22 @@ fn new_volatile(s: &mut [u64], p: usize, o: usize) -> Answer
     )
 }
 
+// Codes 8 and 9: the container leaves, and its number is free.
+fn release(s: &mut [u64], c: usize) -> Answer
+    requires { ⌜ (length (now s) ≡ sessionLength) × (c < containerLimit) ⌝ }
+    ensures { λ r. ⌜ (r ≡ quiet c 0) × (now (s .exit) ≡ putRow (now (s .entry)) c freeWords) ⌝ }
+{
+    let a = c * ROW_WIDTH;
+    rule_words::clear(&mut s[a..a + ROW_WIDTH]);
+    Answer::Given(
+        Verdict::Quiet,
+        Received {
+            receiver: c,
+            tag: 0,
+        },
+    )
+}
+
 // ---- by code
 
 // What a request that is not refused by 10 to 14 does: 15, or the effect and the answer.
@@ -408,7 +428,10 @@ fn by_code(s: &mut [u64], q: Request) -> Answer
     if code == records::NEW_FILE_CODE {
         return new_file(s, p, o, u);
     }
-    new_volatile(s, p, o)
+    if code == records::NEW_VOLATILE_CODE {
+        return new_volatile(s, p, o);
+    }
+    release(s, o)
 }
 
 // A request on the session: the refusal, or the effect and the answer.

@@ -1,17 +1,19 @@
 -- A request has one of the codes: what holds of each of them holds of all. What the table says of a code, whatever the rows.
 use Prim.Native.Nat.{ℕ, zero, suc, _≤_, _<_}
 use native.Mathlib.Omega.{arith}
-use mathlib.Core.Path.{_≡_, refl}
+use native.Mathlib.Decide.{ℕ-discrete}
+use mathlib.Core.Path.{_≡_, refl, sym}
+use mathlib.Core.Logic.{_⊎_, inl, inr}
 use mathlib.Core.Bool.{true, false, cond}
 use mathlib.Core.List.{List, [], _∷_}
 use mathlib.Core.Option.{none, some}
 use lib.ListN.{getD}
 use Rattle.image.specs.Limits.{containerLimit}
-use Rattle.chains.specs.History.{read, write, append, exec, fork, newFile, newVolatile, receiver}
-use Rattle.chains.specs.Table.{State, Need, store, file, free, fitsNeed, entry}
+use Rattle.chains.specs.History.{read, write, append, exec, fork, newFile, newVolatile, end, delete, receiver}
+use Rattle.chains.specs.Table.{State, Need, store, file, free, process, fitsNeed, entry}
 use Rattle.records.specs.declared.Code.{Code}
 use Rattle.records.specs.declared.Request.{Request}
-use Rattle.records.specs.Codes.{readCode, writeCode, appendCode, execCode, forkCode, newFileCode, newVolatileCode, codeCount, stepWith, needsStore, needsFile, needsFree, needNumber, objectFits, noRows, codeAt}
+use Rattle.records.specs.Codes.{readCode, writeCode, appendCode, execCode, forkCode, newFileCode, newVolatileCode, endCode, deleteCode, codeCount, stepWith, needsStore, needsFile, needsFree, needsProcess, needNumber, objectFits, noRows, codeAt}
 use Rattle.records.specs.Records.{stepIn, Asked}
 
 abbrev pub request : ℕ → ℕ → ℕ → ℕ → Request
@@ -21,7 +23,8 @@ request n p o u = record { code = n; p = p; o = o; u = u }
 
 module _ (P : Request → Type 0) (reads : (p o u : ℕ) → P (request readCode p o u)) (writes : (p o u : ℕ) → P (request writeCode p o u))
     (appends : (p o u : ℕ) → P (request appendCode p o u)) (execs : (p o u : ℕ) → P (request execCode p o u)) (forks : (p o u : ℕ) → P (request forkCode p o u))
-    (files : (p o u : ℕ) → P (request newFileCode p o u)) (volatiles : (p o u : ℕ) → P (request newVolatileCode p o u)) where
+    (files : (p o u : ℕ) → P (request newFileCode p o u)) (volatiles : (p o u : ℕ) → P (request newVolatileCode p o u))
+    (ends : (p o u : ℕ) → P (request endCode p o u)) (deletes : (p o u : ℕ) → P (request deleteCode p o u)) where
   at-code : (n p o u : ℕ) → 1 ≤ n → n < codeCount → P (request n p o u)
   at-code zero p o u low high = absurd (omega arith)
   at-code (suc zero) p o u low high = reads p o u
@@ -31,7 +34,9 @@ module _ (P : Request → Type 0) (reads : (p o u : ℕ) → P (request readCode
   at-code (suc (suc (suc (suc (suc zero))))) p o u low high = forks p o u
   at-code (suc (suc (suc (suc (suc (suc zero)))))) p o u low high = files p o u
   at-code (suc (suc (suc (suc (suc (suc (suc zero))))))) p o u low high = volatiles p o u
-  at-code (suc (suc (suc (suc (suc (suc (suc (suc n)))))))) p o u low high = absurd (omega arith)
+  at-code (suc (suc (suc (suc (suc (suc (suc (suc zero)))))))) p o u low high = ends p o u
+  at-code (suc (suc (suc (suc (suc (suc (suc (suc (suc zero))))))))) p o u low high = deletes p o u
+  at-code (suc (suc (suc (suc (suc (suc (suc (suc (suc (suc n)))))))))) p o u low high = absurd (omega arith)
 
   pub by-code : (q : Request) → 1 ≤ q .code → q .code < codeCount → P q
   by-code q low high = at-code (q .code) (q .p) (q .o) (q .u) low high
@@ -45,23 +50,27 @@ pub record Entered (σ : State) (q : Request) : Type 0 where
   pub user : entry σ (stepIn q) .user ≡ cond (codeAt (q .code) .user) (some (q .u)) none
   pub need : codeAt (q .code) .object ≡ needNumber (entry σ (stepIn q) .need)
 
-pub entered : (σ : State) (q : Request) → 1 ≤ q .code → q .code < codeCount → Entered σ q
+pub entered : (σ : State) (q : Request) → Asked q → Entered σ q
 unfolding stepIn stepWith entry codeAt noRows
-entered σ =
-    by-code (Entered σ)
-    (λ p o u. record { process = refl; object = refl; user = refl; need = refl })
-    (λ p o u. record { process = refl; object = refl; user = refl; need = refl })
-    (λ p o u. record { process = refl; object = refl; user = refl; need = refl })
-    (λ p o u. record { process = refl; object = refl; user = refl; need = refl })
-    (λ p o u. record { process = refl; object = refl; user = refl; need = refl })
-    (λ p o u. record { process = refl; object = refl; user = refl; need = refl })
-    (λ p o u. record { process = refl; object = refl; user = refl; need = refl })
+entered σ q a =
+    by-code (λ q. (q .code ≡ endCode → q .o ≡ q .p) → Entered σ q)
+    (λ p o u own. record { process = refl; object = refl; user = refl; need = refl })
+    (λ p o u own. record { process = refl; object = refl; user = refl; need = refl })
+    (λ p o u own. record { process = refl; object = refl; user = refl; need = refl })
+    (λ p o u own. record { process = refl; object = refl; user = refl; need = refl })
+    (λ p o u own. record { process = refl; object = refl; user = refl; need = refl })
+    (λ p o u own. record { process = refl; object = refl; user = refl; need = refl })
+    (λ p o u own. record { process = refl; object = refl; user = refl; need = refl })
+    (λ p o u own. record { process = refl; object = sym (own refl); user = refl; need = refl })
+    (λ p o u own. record { process = refl; object = refl; user = refl; need = refl })
+    q (a .codeLow) (a .codeHigh) (a .own)
 
 pub need-fits : (n : Need) (k : ℕ) → objectFits (needNumber n) k ≡ fitsNeed n k
 unfolding objectFits fitsNeed
 need-fits store k = refl
 need-fits file k = refl
 need-fits free k = refl
+need-fits process k = refl
 
 -- the receiver is p or o
 pub receiver-bound : (q : Request) → Asked q → receiver (stepIn q) < containerLimit
@@ -69,7 +78,7 @@ unfolding stepIn stepWith
 receiver-bound q a =
     by-code (λ q. q .p < containerLimit → q .o < containerLimit → receiver (stepIn q) < containerLimit)
     (λ p o u hp ho. hp) (λ p o u hp ho. ho) (λ p o u hp ho. ho) (λ p o u hp ho. hp) (λ p o u hp ho. ho) (λ p o u hp ho. ho) (λ p o u hp ho. ho)
-    q (a .codeLow) (a .codeHigh) (a .process) (a .object)
+    (λ p o u hp ho. hp) (λ p o u hp ho. ho) q (a .codeLow) (a .codeHigh) (a .process) (a .object)
 
 -- ---- the step of a request, by its code
 
@@ -98,11 +107,26 @@ module _ (q : Request) where
   unfolding stepIn stepWith
   step-file e = rw e
 
-  -- the code that is none of the first six
-  pub step-volatile : Asked q → (q .code ≡ readCode → ⊥) → (q .code ≡ writeCode → ⊥) → (q .code ≡ appendCode → ⊥) → (q .code ≡ execCode → ⊥)
-      → (q .code ≡ forkCode → ⊥) → (q .code ≡ newFileCode → ⊥) → stepIn q ≡ newVolatile (q .p) (q .o)
+  pub step-volatile : q .code ≡ newVolatileCode → stepIn q ≡ newVolatile (q .p) (q .o)
   unfolding stepIn stepWith
-  step-volatile a h1 h2 h3 h4 h5 h6 = let e : q .code ≡ newVolatileCode = omega (arith, a .codeLow, a .codeHigh) in rw e
+  step-volatile e = rw e
+
+  -- the codes that are none of the first seven
+  pub step-leaves : Asked q → (q .code ≡ readCode → ⊥) → (q .code ≡ writeCode → ⊥) → (q .code ≡ appendCode → ⊥) → (q .code ≡ execCode → ⊥)
+      → (q .code ≡ forkCode → ⊥) → (q .code ≡ newFileCode → ⊥) → (q .code ≡ newVolatileCode → ⊥)
+      → (stepIn q ≡ end (q .o)) ⊎ (stepIn q ≡ delete (q .p) (q .o))
+  unfolding stepIn stepWith
+  step-leaves a h1 h2 h3 h4 h5 h6 h7 = by (ℕ-discrete (q .code) endCode)
+    where
+      above : {n k : ℕ} → k ≤ n → (n ≡ k → ⊥) → suc k ≤ n
+      above l ne = omega (arith, l, ne)
+
+      late : endCode ≤ q .code
+      late = above (above (above (above (above (above (above (a .codeLow) h1) h2) h3) h4) h5) h6) h7
+
+      by : Dec (q .code ≡ endCode) → (stepWith (q .code) (q .p) (q .o) (q .u) ≡ end (q .o)) ⊎ (stepWith (q .code) (q .p) (q .o) (q .u) ≡ delete (q .p) (q .o))
+      by (yes e) = inl (rw (a .own e, e))
+      by (no n) = let e : q .code ≡ deleteCode = omega (arith, a .codeHigh, above late n) in inr (rw e)
 
 -- ---- the table as the code has it
 
@@ -116,10 +140,12 @@ rows =
     ∷ record { object = needsFree; user = false }
     ∷ record { object = needsFree; user = true }
     ∷ record { object = needsFree; user = false }
+    ∷ record { object = needsProcess; user = false }
+    ∷ record { object = needsStore; user = false }
     ∷ []
 
 pub row-at : (n : ℕ) (z : Code) → 1 ≤ n → n < codeCount → getD rows n z ≡ codeAt n
 unfolding codeAt stepWith entry noRows
 row-at n z low high =
     by-code (λ q. getD rows (q .code) z ≡ codeAt (q .code))
-    (λ p o u. refl) (λ p o u. refl) (λ p o u. refl) (λ p o u. refl) (λ p o u. refl) (λ p o u. refl) (λ p o u. refl) (request n 0 0 0) low high
+    (λ p o u. refl) (λ p o u. refl) (λ p o u. refl) (λ p o u. refl) (λ p o u. refl) (λ p o u. refl) (λ p o u. refl) (λ p o u. refl) (λ p o u. refl) (request n 0 0 0) low high

@@ -12,7 +12,7 @@ use Rattle.fields.specs.Bytes.{field}
 use Rattle.records.specs.declared.Code.{Code}
 use Rattle.records.specs.declared.Request.{Request}
 use Rattle.records.specs.Codes.{codeCount, isCode, codeAt}
-use Rattle.records.specs.Records.{recordLength, codePlace, zeroPlace, processPlace, objectPlace, userPlace, codeSize, numberSize, noUser, requestIn, userFits, recordGood}
+use Rattle.records.specs.Records.{recordLength, codePlace, zeroPlace, processPlace, objectPlace, userPlace, codeSize, numberSize, noUser, requestIn, userFits, ownObject, recordGood}
 
 -- ---- the four fields
 
@@ -38,7 +38,7 @@ unfolding recordGood
 not-eight r h = simp (ne-eqb (length r) recordLength h)
 
 module _ (r : List ℕ) (q : Request) (e : q ≡ requestIn r) (eight : length r ≡ recordLength) where
-  opened : recordGood r ≡ (isCode (q .code) && (eqb (field r zeroPlace codeSize) 0 && (userFits q && (ltb (q .p) containerLimit && ltb (q .o) containerLimit))))
+  opened : recordGood r ≡ (isCode (q .code) && (eqb (field r zeroPlace codeSize) 0 && (userFits q && (ltb (q .p) containerLimit && (ltb (q .o) containerLimit && ownObject q)))))
   unfolding recordGood
   opened = rw e (simp (eq-eqb (length r) recordLength eight))
 
@@ -68,5 +68,8 @@ module _ (r : List ℕ) (q : Request) (e : q ≡ requestIn r) (eight : length r 
       pub process-over : userFits q ≡ true → containerLimit ≤ q .p → false ≡ recordGood r
       process-over h o = sym (opened ∙ simp (code-good, eq-eqb (field r zeroPlace codeSize) 0 z, h, le-ltb (q .p) containerLimit o))
 
-      pub by-object : userFits q ≡ true → q .p < containerLimit → ltb (q .o) containerLimit ≡ recordGood r
-      by-object h l = sym (opened ∙ simp (code-good, eq-eqb (field r zeroPlace codeSize) 0 z, h, lt-ltb (q .p) containerLimit l))
+      pub object-over : userFits q ≡ true → q .p < containerLimit → containerLimit ≤ q .o → false ≡ recordGood r
+      object-over h l o = sym (opened ∙ simp (code-good, eq-eqb (field r zeroPlace codeSize) 0 z, h, lt-ltb (q .p) containerLimit l, le-ltb (q .o) containerLimit o))
+
+      pub by-own : userFits q ≡ true → q .p < containerLimit → q .o < containerLimit → ownObject q ≡ recordGood r
+      by-own h l o = sym (opened ∙ simp (code-good, eq-eqb (field r zeroPlace codeSize) 0 z, h, lt-ltb (q .p) containerLimit l, lt-ltb (q .o) containerLimit o))

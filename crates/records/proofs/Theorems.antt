@@ -8,7 +8,7 @@ use mathlib.Core.Option.{none, some}
 use lib.ListN.{length, getD}
 use Rattle.fields.specs.Bytes.{field}
 use Rattle.records.specs.declared.Code.{Code}
-use Rattle.records.specs.Codes.{execCode, newFileCode, codeCount, codeAt}
+use Rattle.records.specs.Codes.{execCode, newFileCode, endCode, codeCount, codeAt}
 use Rattle.records.specs.Records.{noUser, requestIn, stepIn, recordGood, stepOf}
 use Rattle.records.proofs.CodeLaws.{request, rows, row-at}
 use Rattle.records.proofs.RecordLaws.{record-spelling, record-step, request-bytes}
@@ -17,13 +17,13 @@ use Rattle.records.proofs.RecordLaws.{record-spelling, record-step, req
 pub code-table : (n : ℕ) (z : Code) → 1 ≤ n → n < codeCount → getD rows n z ≡ codeAt n
 code-table = row-at
 
--- 7 is not given exactly if the record has 8 bytes, a code from 1 to 7, the zero byte, a user up to 15 with codes 4 and 6 and
--- 65535 with the others, and containers up to 255
+-- 7 is not given exactly if the record has 8 bytes, a code from 1 to 9, the zero byte, a user up to 15 with codes 4 and 6 and
+-- 65535 with the others, containers up to 255, and with code 8 its process as its object
 pub record-good : (r : List ℕ) → (recordGood r ≡ true)
-    ↔ ((length r ≡ 8) × (1 ≤ requestIn r .code) × (requestIn r .code ≤ 7) × (field r 1 1 ≡ 0)
+    ↔ ((length r ≡ 8) × (1 ≤ requestIn r .code) × (requestIn r .code ≤ 9) × (field r 1 1 ≡ 0)
     × ((requestIn r .code ≡ execCode) ⊎ (requestIn r .code ≡ newFileCode) → requestIn r .u ≤ 15)
     × (requestIn r .code ≢ execCode → requestIn r .code ≢ newFileCode → requestIn r .u ≡ noUser)
-    × (requestIn r .p ≤ 255) × (requestIn r .o ≤ 255))
+    × (requestIn r .p ≤ 255) × (requestIn r .o ≤ 255) × (requestIn r .code ≡ endCode → requestIn r .o ≡ requestIn r .p))
 record-good = record-spelling
 
 -- then it spells the step that its request asks for, else none

@@ -4,9 +4,9 @@ use Prim.Native.Nat.{ℕ}
 use mathlib.Core.Bool.{Bool, false, cond, _&&_}
 use mathlib.Core.Option.{none}
 use lib.Dec.{eqb, ltb}
-use Rattle.image.specs.Limits.{isFree, isFile, isStore}
-use Rattle.chains.specs.History.{Step, read, write, append, exec, fork, newFile, newVolatile}
-use Rattle.chains.specs.Table.{State, freeRow, Need, store, file, free, entry, isSome}
+use Rattle.image.specs.Limits.{isFree, isFile, isProcess, isStore}
+use Rattle.chains.specs.History.{Step, read, write, append, exec, fork, newFile, newVolatile, end, delete}
+use Rattle.chains.specs.Table.{State, freeRow, Need, store, file, free, process, entry, isSome}
 use Rattle.records.specs.declared.Code.{Code}
 
 -- ---- the codes
@@ -32,9 +32,15 @@ newFileCode = 6
 abbrev pub newVolatileCode : ℕ
 newVolatileCode = 7
 
+abbrev pub endCode : ℕ
+endCode = 8
+
+abbrev pub deleteCode : ℕ
+deleteCode = 9
+
 -- the places of the table: one for each code, and place 0, which is no code
 abbrev pub codeCount : ℕ
-codeCount = 8
+codeCount = 10
 
 unfoldable pub isCode : ℕ → Bool
 isCode n = ltb 0 n && ltb n codeCount
@@ -48,7 +54,9 @@ stepWith code p o u =
     (cond (eqb code execCode) (exec p o u)
     (cond (eqb code forkCode) (fork p o)
     (cond (eqb code newFileCode) (newFile p o u)
-    (newVolatile p o))))))
+    (cond (eqb code newVolatileCode) (newVolatile p o)
+    (cond (eqb code endCode) (end p)
+    (delete p o))))))))
 
 -- ---- what a code needs of its object, as a number
 
@@ -64,15 +72,23 @@ needsFile = 2
 abbrev pub needsFree : ℕ
 needsFree = 3
 
+-- a process
+abbrev pub needsProcess : ℕ
+needsProcess = 4
+
 abbrev pub needNumber : Need → ℕ
 needNumber store = needsStore
 needNumber file = needsFile
 needNumber free = needsFree
+needNumber process = needsProcess
 
 -- the need is met by the object's kind
 unfoldable pub objectFits : ℕ → ℕ → Bool
 objectFits need kind =
-    cond (eqb need needsStore) (isStore kind) (cond (eqb need needsFile) (isFile kind) (cond (eqb need needsFree) (isFree kind) false))
+    cond (eqb need needsStore) (isStore kind)
+    (cond (eqb need needsFile) (isFile kind)
+    (cond (eqb need needsFree) (isFree kind)
+    (cond (eqb need needsProcess) (isProcess kind) false)))
 
 -- ---- the table by codes: what each needs of its object, and whether it names a user ("u is 65535 except for codes 4 and 6")
 

@@ -10,7 +10,7 @@ use Rattle.image.specs.Limits.{containerLimit, userLimit}
 use Rattle.fields.specs.Bytes.{field}
 use Rattle.chains.specs.History.{Step}
 use Rattle.records.specs.declared.Request.{Request}
-use Rattle.records.specs.Codes.{isCode, codeCount, codeAt, stepWith}
+use Rattle.records.specs.Codes.{endCode, isCode, codeCount, codeAt, stepWith}
 
 -- ---- the layout of a record, in bytes
 
@@ -62,22 +62,29 @@ stepIn q = stepWith (q .code) (q .p) (q .o) (q .u)
 unfoldable pub userFits : Request → Bool
 userFits q = cond (codeAt (q .code) .user) (ltb (q .u) userLimit) (eqb (q .u) noUser)
 
--- "7 operation record (not 8 bytes, code, zero byte, u set wrongly, container over 255, user over 15)"
+-- "Code 8 ends process p, with o equal to p" (change request No. 4)
+unfoldable pub ownObject : Request → Bool
+ownObject q = cond (eqb (q .code) endCode) (eqb (q .o) (q .p)) true
+
+-- "7 operation record (not 8 bytes, code, zero byte, u set wrongly, container over 255, user over 15)"; "7 also covers code 8
+-- with another o"
 unfoldable pub recordGood : List ℕ → Bool
 recordGood r =
     eqb (length r) recordLength
     && (isCode (requestIn r .code)
     && (eqb (field r zeroPlace codeSize) 0
-    && (userFits (requestIn r) && (ltb (requestIn r .p) containerLimit && ltb (requestIn r .o) containerLimit))))
+    && (userFits (requestIn r) && (ltb (requestIn r .p) containerLimit && (ltb (requestIn r .o) containerLimit && ownObject (requestIn r))))))
 
 -- the step that a record spells, if it is a record
 unfoldable pub stepOf : List ℕ → Option Step
 stepOf r = cond (recordGood r) (some (stepIn (requestIn r))) none
 
--- what a request has that comes of a good record: a code, containers and, where the code names one, a user of the session
+-- what a request has that comes of a good record: a code, containers and, where the code names one, a user of the session; the
+-- object of an end is its process
 pub record Asked (q : Request) : Type 0 where
   pub codeLow : 1 ≤ q .code
   pub codeHigh : q .code < codeCount
   pub process : q .p < containerLimit
   pub object : q .o < containerLimit
   pub user : codeAt (q .code) .user ≡ true → q .u < userLimit
+  pub own : q .code ≡ endCode → q .o ≡ q .p

@@ -3,7 +3,7 @@ ghost use mathlib.Core.Path.{_≡_};
 ghost use Prim.Native.Nat.{_≤_, _<_};
 ghost use lib.ListN.{length, take, drop};
 ghost use Rattle.records.specs.Codes.{codeCount, codeAt};
-ghost use Rattle.records.specs.Records.{recordLength, requestIn, userFits, recordGood};
+ghost use Rattle.records.specs.Records.{recordLength, requestIn, userFits, ownObject, recordGood};
 use image::CONTAINER_LIMIT;
 use image::USER_LIMIT;
 
@@ -21,8 +21,12 @@ pub const FORK_CODE: usize = 5;
 
 pub const NEW_FILE_CODE: usize = 6;
 
-// The places of the table: one for each code, the last being new volatile, and place 0, which is no code.
-pub const CODE_COUNT: usize = 8;
+pub const NEW_VOLATILE_CODE: usize = 7;
+
+const END_CODE: usize = 8;
+
+// The places of the table: one for each code, the last being delete, and place 0, which is no code.
+pub const CODE_COUNT: usize = 10;
 
 // What a code needs of its object, and whether it names a user.
 pub struct Code {
@@ -38,7 +42,9 @@ pub const NEEDS_FILE: u8 = 2;
 
 pub const NEEDS_FREE: u8 = 3;
 
-// The table of codes: 0 no code, 1 read, 2 write, 3 append, 4 exec, 5 fork, 6 new file, 7 new volatile.
+pub const NEEDS_PROCESS: u8 = 4;
+
+// The table of codes: 0 no code, 1 read, 2 write, 3 append, 4 exec, 5 fork, 6 new file, 7 new volatile, 8 end, 9 delete.
 const CODES: [Code; CODE_COUNT] = [
     Code {
         object: NO_NEED,
@@ -70,6 +76,14 @@ const CODES: [Code; CODE_COUNT] = [
     },
     Code {
         object: NEEDS_FREE,
+        user: false,
+    },
+    Code {
+        object: NEEDS_PROCESS,
+        user: false,
+    },
+    Code {
+        object: NEEDS_STORE,
         user: false,
     },
 ];
@@ -133,6 +147,16 @@ fn user_fits(q: Request) -> bool
     q.u == NO_USER
 }
 
+// An end names its process as its object.
+fn own_object(q: Request) -> bool
+    ensures { λ r. ⌜ r ≡ ownObject q ⌝ }
+{
+    if q.code == END_CODE {
+        return q.o == q.p;
+    }
+    true
+}
+
 // The bytes are an operation record: the refusal 7 where they are not.
 pub fn record_good(bytes: &[u8]) -> bool
     ensures { λ r. ⌜ r ≡ recordGood (now (bytes .entry)) ⌝ }
@@ -156,7 +180,10 @@ pub fn record_good(bytes: &[u8]) -> bool
     if CONTAINER_LIMIT <= q.p {
         return false;
     }
-    q.o < CONTAINER_LIMIT
+    if CONTAINER_LIMIT <= q.o {
+        return false;
+    }
+    own_object(q)
 }
 
 // ---- a trace

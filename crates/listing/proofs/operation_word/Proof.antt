@@ -35,13 +35,21 @@ unfolding operationWord ascii bytesOf
 returns-7 c = rw (c .match .keys7)
 
 returns-8 : tie.Need-returns-8
+unfolding operationWord ascii bytesOf
+returns-8 c = rw (c .match .keys8)
+
+returns-9 : tie.Need-returns-9
+unfolding operationWord ascii bytesOf
+returns-9 c = rw (c .match .keys9)
+
+returns-10 : tie.Need-returns-10
 unfolding ascii bytesOf
-returns-8 c =
+returns-10 c =
     let r = c .match .rest in
-    let e = other-word (c .before .args .code) (r .0 .0 .0 .0 .0 .0 .1) (r .0 .0 .0 .0 .0 .1) (r .0 .0 .0 .0 .1) (r .0 .0 .0 .1) (r .0 .0 .1) (r .0 .1) (r .1) in
+    let e = other-word (c .before .args .code) (r .0 .0 .0 .0 .0 .0 .0 .0 .1) (r .0 .0 .0 .0 .0 .0 .0 .1) (r .0 .0 .0 .0 .0 .0 .1) (r .0 .0 .0 .0 .0 .1) (r .0 .0 .0 .0 .1) (r .0 .0 .0 .1) (r .0 .0 .1) (r .0 .1) (r .1) in
     rw e
 
 pub operation-word-spec : {M : Type 1} → statement M
 operation-word-spec =
     tie.close
-    (tie.spec returns returns-2 returns-3 returns-4 returns-5 returns-6 returns-7 returns-8)
+    (tie.spec returns returns-2 returns-3 returns-4 returns-5 returns-6 returns-7 returns-8 returns-9 returns-10)

@@ -32,8 +32,8 @@ returns c =
     let operation = c .before .before .before .before .before .before .before .before .before .before .put-operation in
     let subject = c .before .before .before .before .before .before .put-container-number in
     let object = c .before .before .put-container-number2 in
-    let p : 3 ≤ length (decimal (a .p) ++ (space ∷ [])) + 2 = omega (arith, length-append (decimal (a .p)) (space ∷ []), decimal-some (a .p)) in
-    let first = spare-join 3 (omega arith) (step .ensures) (operation .ensures) in
+    let p : 4 ≤ length (decimal (a .p) ++ (space ∷ [])) + 2 = omega (arith, length-append (decimal (a .p)) (space ∷ []), decimal-some (a .p)) in
+    let first = spare-join 4 (omega arith) (step .ensures) (operation .ensures) in
     let second = spare-join 2 p first (subject .ensures) in
     spare-as
     (access-text (decimal (a .step)) (operationWord (a .code)) (decimal (a .p)) (decimal (a .o)))

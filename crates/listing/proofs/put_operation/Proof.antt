@@ -29,11 +29,11 @@ returns c =
     let h : a .at ≤ length (a .out .now) = omega arith in
     let l : n < length (p .last .0) = omega (arith, operation-bounds (a .code)) in
     let f =
-    spare-front (operationWord (a .code)) (bytesOf 8 (w .result)) (a .out .now) (p .last .0) (a .at) (p .result) 4 n h (w .ensures)
+    spare-front (operationWord (a .code)) (bytesOf 8 (w .result)) (a .out .now) (p .last .0) (a .at) (p .result) 5 n h (w .ensures)
     (omega (arith, bytes-length 8 (w .result), operation-bounds (a .code)))
     (p .ensures)
     (omega arith) in
-    spare-byte space 3 l (omega arith) f
+    spare-byte space 4 l (omega arith) f
 
 pub put-operation-spec : {M : Type 1} → statement M
 put-operation-spec =

@@ -1,7 +1,7 @@
 -- `operations::by_code`. The code decides which step the request asks for.
 use Rattle.chains.specs.History.{read, write, append, exec, fork, newFile, newVolatile}
-use Rattle.records.proofs.CodeLaws.{step-read, step-write, step-append, step-exec, step-fork, step-file, step-volatile}
-use Rattle.operations.proofs.PerformLaws.{ready-as, done-as}
+use Rattle.records.proofs.CodeLaws.{step-read, step-write, step-append, step-exec, step-fork, step-file, step-volatile, step-leaves}
+use Rattle.operations.proofs.PerformLaws.{ready-as, done-as, released}
 use borrow.Author.Needs.{needs}
 use Rattle.operations.proofs.by_code.Statement.{statement}
 use Rattle.operations.proofs.by_code.Tie as tie
@@ -84,22 +84,32 @@ returns-6 c =
 
 new-volatile-requires : tie.Need-new-volatile-requires
 new-volatile-requires c κs =
-    let start = c .before .before .before .before .before .before .before .before in
+    let start = c .before .before .before .before .before .before .before .before .before in
     let q = start .args .q in
-    ready-as (start .args .s .now) q (newVolatile (q .p) (q .o)) (step-volatile q (start .pre .0 .asked) (c .before
-    .before .before .before .before .before .if1 .left) (c .before .before .before .before .before .if2 .left) (c
-    .before .before .before .before .if3 .left) (c .before .before .before .if4 .left) (c .before .before .if5 .left)
-    (c .before .if6 .left)) (start .pre .1)
+    ready-as (start .args .s .now) q (newVolatile (q .p) (q .o)) (step-volatile q (c .before .if7 .taken)) (start .pre
+    .1)
 
 returns-7 : tie.Need-returns-7
 returns-7 c =
-    let start = c .before .before .before .before .before .before .before .before .before .before .before in
+    let start = c .before .before .before .before .before .before .before .before .before .before .before .before in
     let q = start .args .q in
-    done-as (start .args .s .now) q (newVolatile (q .p) (q .o)) (step-volatile q (start .pre .0 .asked) (c .before
-    .before .before .before .before .before .before .before .before .if1 .left) (c .before .before .before .before
-    .before .before .before .before .if2 .left) (c .before .before .before .before .before .before .before .if3 .left)
-    (c .before .before .before .before .before .before .if4 .left) (c .before .before .before .before .before .if5
-    .left) (c .before .before .before .before .if6 .left)) _ _ (c .before .before .new-volatile .ensures)
+    done-as (start .args .s .now) q (newVolatile (q .p) (q .o)) (step-volatile q (c .before .before .before .before .if7
+    .taken)) _ _ (c .before .before .new-volatile .ensures)
+
+release-requires : tie.Need-release-requires
+release-requires c κs =
+    let start = c .before .before .before .before .before .before .before .before .before in
+    (start .pre .0 .long, start .pre .0 .asked .object)
+
+returns-8 : tie.Need-returns-8
+returns-8 c =
+    let last = c .before .before .before .before in
+    let start = last .before .before .before .before .before .before .before .before in
+    let q = start .args .q in
+    released (start .args .s .now) q (step-leaves q (start .pre .0 .asked) (last .before .before .before .before .before
+    .before .if1 .left) (last .before .before .before .before .before .if2 .left) (last .before .before .before .before
+    .if3 .left) (last .before .before .before .if4 .left) (last .before .before .if5 .left) (last .before .if6 .left)
+    (last .if7 .left)) _ _ (c .before .before .release .ensures)
 
 pub by-code-spec : {M : Type 1} → statement M
 by-code-spec =
@@ -125,4 +135,7 @@ by-code-spec =
     returns-6
     new-volatile-requires
     (λ c. search needs)
-    returns-7)
+    returns-7
+    release-requires
+    (λ c. search needs)
+    returns-8)

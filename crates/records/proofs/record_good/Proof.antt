@@ -3,7 +3,7 @@ use mathlib.Core.Path.{sym, _∙_}
 use native.Mathlib.Omega.{arith}
 use Rattle.fields.proofs.FieldLaws.{field-one}
 use Rattle.lists.proofs.Bools.{passes-test, fails-test}
-use Rattle.records.proofs.TestLaws.{not-eight, code-none, code-over, byte-set, user-wrong, process-over, by-object}
+use Rattle.records.proofs.TestLaws.{not-eight, code-none, code-over, byte-set, user-wrong, process-over, object-over, by-own}
 use borrow.Author.Needs.{needs}
 use Rattle.records.proofs.record_good.Statement.{statement}
 use Rattle.records.proofs.record_good.Tie as tie
@@ -39,12 +39,22 @@ returns-6 c =
 
 returns-7 : tie.Need-returns-7
 returns-7 c =
-    by-object _ _ (c .before .before .before .before .before .before .before .before .before .before .before .request-of
-    .ensures) (c .before .before .before .before .before .before .before .before .before .before .before .before .if1
-    .left) (c .before .before .before .before .before .before .before .before .before .if2 .left)
-    (c .before .before .before .before .before .before .before .if3 .left) (sym (field-one _ 1 (omega arith)) ∙
-    (c .before .before .before .before .before .if4 .left)) (passes-test
-    (c .before .before .before .before .user-fits .ensures) (c .before .before .before .if5 .left)) (c .before .if6 .left)
+    let user = c .before .before .before .before .before in
+    object-over _ _ (user .before .before .before .before .before .before .before .request-of .ensures) (user .before
+    .before .before .before .before .before .before .before .if1 .left) (user .before .before .before .before .before .if2
+    .left) (user .before .before .before .if3 .left) (sym (field-one _ 1 (omega arith)) ∙ (user .before .if4 .left))
+    (passes-test (user .user-fits .ensures) (c .before .before .before .before .if5 .left)) (c .before .before .if6 .left)
+    (c .if7 .taken)
+
+returns-8 : tie.Need-returns-8
+returns-8 c =
+    let user = c .before .before .before .before .before .before in
+    c .own-object .ensures ∙
+    by-own _ _ (user .before .before .before .before .before .before .before .request-of .ensures) (user .before .before
+    .before .before .before .before .before .before .if1 .left) (user .before .before .before .before .before .if2 .left)
+    (user .before .before .before .if3 .left) (sym (field-one _ 1 (omega arith)) ∙ (user .before .if4 .left)) (passes-test
+    (user .user-fits .ensures) (c .before .before .before .before .before .if5 .left)) (c .before .before .before .if6
+    .left) (c .before .if7 .left)
 
 pub record-good-spec : {M : Type 1} → statement M
 record-good-spec =
@@ -59,4 +69,6 @@ record-good-spec =
     (λ c κs. search needs)
     returns-5
     returns-6
-    returns-7)
+    returns-7
+    (λ c κs. search needs)
+    returns-8)
