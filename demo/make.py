@@ -1,6 +1,7 @@
 #!/usr/bin/env python3
 """demo/make.py [FOLDER]: turns story.txt into policy.bin and trace.bin, with names.txt (the sources, one on a line) and
-containers.txt (the number and name of each container), in FOLDER (the folder of this script by default)."""
+containers.txt (the number and name of each container, several for a number that is taken again, in order), in FOLDER (the
+folder of this script by default)."""
 
 import re
 import sys
@@ -12,6 +13,7 @@ sys.path.append(str(HERE.parent / "hosts" / "python"))
 from formats import CODES, KINDS, NO_ATOM, NO_USER, RUNNING, UNRESTRICTED, Policy, mixture, operation
 
 MAKES_CONTAINER = {"fork", "new-file", "new-volatile"}
+LEAVES = {"end", "delete"}
 TAKES_USER = {"exec", "new-file"}
 
 
@@ -21,14 +23,27 @@ class Story:
         self.trace = b""
         self.sources = []
         self.rules = []
-        self.names = []
+        self.names = []  # of the containers that are there, by number; None for a free one
+        self.holders = []  # number and name of each container, in the order in which they came
         self.users = []
 
     @staticmethod
-    def declare(name, names):
+    def absent(name, names):
         if name in names:
             raise ValueError(f"{name} is there already")
+
+    def declare(self, name, names):
+        self.absent(name, names)
         names.append(name)
+
+    def take(self, name):
+        """Gives a new container the smallest free number."""
+        self.absent(name, self.names)
+        if None not in self.names:
+            self.names.append(None)
+        number = self.names.index(None)
+        self.names[number] = name
+        self.holders.append((number, name))
 
     def atom(self, text):
         words = text.split()
@@ -45,7 +60,7 @@ class Story:
         return UNRESTRICTED if name is None else self.rules.index(name)
 
     def container(self, kind, name, options):
-        self.declare(name, self.names)
+        self.take(name)
         source = options.pop("source", None)
         atom = NO_ATOM if source is None else self.sources.index(source)
         permit, run = (self.rule_number(options.pop(key, None)) for key in ("permit", "run"))
@@ -55,11 +70,14 @@ class Story:
 
     def step(self, word, process, container, user):
         if word in MAKES_CONTAINER:
-            self.declare(container, self.names)
+            self.take(container)
         if (user is not None) != (word in TAKES_USER):
             raise ValueError("exec and new-file name a user, the others do not")
         number = NO_USER if user is None else self.users.index(user)
-        self.trace += operation(CODES[word], self.names.index(process), self.names.index(container), number)
+        place = self.names.index(container)
+        self.trace += operation(CODES[word], self.names.index(process), place, number)
+        if word in LEAVES:
+            self.names[place] = None
 
     def line(self, text):
         word, *rest = text.split()
@@ -74,6 +92,8 @@ class Story:
         elif word == "user" and len(rest) in (1, 3):
             self.declare(rest[0], self.users)
             self.policy.user(self.rule_number(rest[2] if len(rest) == 3 else None))
+        elif word == "step" and rest[:1] == ["end"] and len(rest) == 2:
+            self.step("end", rest[1], rest[1], None)
         elif word == "step" and len(rest) in (3, 5):
             self.step(*rest[:3], rest[4] if len(rest) == 5 else None)
         else:
@@ -93,7 +113,7 @@ def main():
     (folder / "policy.bin").write_bytes(story.policy.image())
     (folder / "trace.bin").write_bytes(story.trace)
     (folder / "names.txt").write_text("".join(f"{name}\n" for name in story.sources))
-    (folder / "containers.txt").write_text("".join(f"{n} {name}\n" for n, name in enumerate(story.names)))
+    (folder / "containers.txt").write_text("".join(f"{number} {name}\n" for number, name in story.holders))
 
 
 if __name__ == "__main__":

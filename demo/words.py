@@ -11,11 +11,27 @@ sys.path.append(str(HERE.parent / "hosts" / "python"))
 from formats import RUNNING
 
 VERBS = {"read": "reads", "write": "writes", "append": "appends to", "exec": "executes", "fork": "forks",
-         "file": "makes the file", "volatile": "makes the volatile"}
+         "file": "makes the file", "volatile": "makes the volatile", "end": "ends", "delete": "deletes"}
 
 
 def named(names, number):
     return names[number] if number < len(names) else str(number)
+
+
+class Containers:
+    """The names of the containers by number; a number that is taken again has its next holder's."""
+
+    def __init__(self, text):
+        self.holders = {}
+        for line in text.splitlines():
+            number, name = line.split(" ", 1)
+            self.holders.setdefault(int(number), []).append(name)
+
+    def __getitem__(self, number):
+        return self.holders[int(number)][0] if self.holders.get(int(number)) else number
+
+    def leave(self, number):
+        self.holders[int(number)].pop(0)
 
 
 def sources(names, tag):
@@ -28,7 +44,7 @@ def sources(names, tag):
 def main():
     folder = Path(sys.argv[1]) if len(sys.argv) > 1 else HERE
     names = (folder / "names.txt").read_text().splitlines()
-    containers = [line.split(" ", 1)[1] for line in (folder / "containers.txt").read_text().splitlines()]
+    containers = Containers((folder / "containers.txt").read_text())
     lines = sys.stdin.read().splitlines()
     total = None
     for line in lines:
@@ -36,12 +52,14 @@ def main():
             case ["total", _, "alerts", alerts, "refused", refused]:
                 total = f"{alerts} alerts, {refused} refused"
             case [step, op, p, o, "alert", receiver, tag]:
-                p, o, receiver = (named(containers, int(number)) for number in (p, o, receiver))
+                p, o, receiver = (containers[number] for number in (p, o, receiver))
                 holder = ", which" if receiver == o else " and"
                 print(f"alert, step {step}: {p} {VERBS[op]} {o}{holder} now holds {sources(names, int(tag, 16))}")
             case [step, op, p, o, "refused", number]:
-                p, o = (named(containers, int(place)) for place in (p, o))
-                print(f"refused with {number}, step {step}: {p} {VERBS.get(op, op)} {o}")
+                what = VERBS.get(op, op) if op == "end" and p == o else f"{VERBS.get(op, op)} {containers[o]}"
+                print(f"refused with {number}, step {step}: {containers[p]} {what}")
+            case [_, "end" | "delete", _, o, "quiet", _, _]:
+                containers.leave(o)
     if total is None:
         sys.exit(f"not a whole listing: {lines[-1] if lines else 'it is empty'}")
     print(total)

@@ -20,12 +20,13 @@
  *        4  a rule record of the image
  *        5  a container record of the image
  *        6  a user's rule number in the image
- *        7  the operation record: length, code, zero byte, user set wrongly, container over 255, user over 15
+ *        7  the operation record: length, code, zero byte, user set wrongly, container over 255, user over 15, an end
+ *           (code 8) of another object than the process itself
  *        8  the matrix: row counts differ, 0 or over 8 subjects, 0 or over 32 objects, a bit beyond the objects
  *       10  a session row that the record names is not well formed
  *       11  p is no process
- *       12  o is of the wrong kind (read, write, append, exec)
- *       13  o is not free (fork, new file, new volatile)
+ *       12  o is of the wrong kind (read, write, append, exec, delete)
+ *       13  o is not free (fork, new file, new volatile); a number is free again when its holder has left
  *       14  the user is not declared
  *       15  a meet of two rules has over 8 mixtures
  *       16  the profiles: text over YASLAUREL_TEXT_LIMIT bytes, not of the grammar, a path profiled twice
@@ -161,7 +162,8 @@ uint32_t yaslaurel_session_start(const uint8_t *image, size_t image_len, uint64_
 /*
  * Judges one operation record and brings the session up to date. An alert does not undo the access.
  * 0 quiet or 256 alert: `receiver` is then the number of the container that received, `tag` the set of its atoms, atom
- * k worth 2 to the k. Else 9, then 7, then 10 to 15, and `receiver` and `tag` keep what they held.
+ * k worth 2 to the k; for an end or a delete, the number of the container that leaves, and 0. Else 9, then 7, then 10 to
+ * 15, and `receiver` and `tag` keep what they held.
  */
 uint32_t yaslaurel_step(uint64_t *session, size_t session_len, const uint8_t *record, size_t record_len,
                         uint64_t *receiver, uint64_t *tag);

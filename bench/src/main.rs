@@ -7,8 +7,9 @@
 //!
 //! The library is called by its C functions, as every host calls it.
 //!
-//! `bench PROGRAM` also measures that watch program, `bench watch PROGRAM` measures it alone; `bench batches` measures runs
-//! of records alone, `bench profiles` texts of profiles, `bench cover` the cover test of a rule of eight.
+//! `bench PROGRAM` also measures that watch program, `bench watch PROGRAM` measures it alone; `bench operations` measures
+//! single operations alone, `bench batches` runs of records, `bench profiles` texts of profiles, `bench cover` the cover test
+//! of a rule of eight.
 //! `bench listing` is the watch program in natural Rust (`BufWriter`, `writeln!`), for the comparison of whole programs;
 //! `bench trace COUNT` writes the policy and trace that both read.
 
@@ -135,6 +136,9 @@ fn operations() {
     {
         let session = started(&work::policy(mixtures, variants));
         line(name, &steps(&session, &work::records(&[1, 1, 2, 3, 4], 1_024), 0));
+    }
+    for (name, records) in work::leaving() {
+        line(&format!("{name}, rules of 1"), &steps(&one, &records, 0));
     }
     let refused = |change: fn(&mut [u8; record::LENGTH])| {
         let mut records = work::records(&[1], 1_024);
@@ -467,7 +471,7 @@ fn listing() -> io::Result<()> {
         file.read_to_end(&mut trace)?;
     }
     writeln!(out, "step op p o verdict at tag")?;
-    let words = ["other", "read", "write", "append", "exec", "fork", "file", "volatile"];
+    let words = ["other", "read", "write", "append", "exec", "fork", "file", "volatile", "end", "delete"];
     let (mut step, mut alerts, mut refusals) = (0u64, 0u64, 0u64);
     for record in trace.chunks(record::LENGTH) {
         step += 1;
@@ -535,6 +539,10 @@ fn main() -> io::Result<()> {
     match words[..] {
         ["listing"] => return listing(),
         ["watch", program] => return watch(program),
+        ["operations"] => {
+            operations();
+            return Ok(());
+        }
         ["batches"] => {
             batches();
             return Ok(());

@@ -144,3 +144,23 @@ pub fn records(codes: &[u8], count: usize) -> Vec<[u8; record::LENGTH]> {
         })
         .collect()
 }
+
+/// Records by which containers come and leave, on a session of [`policy`], none of them refused: by turns at the numbers
+/// that are free at the start, then all containers but one process, once each.
+pub fn leaving() -> [(&'static str, Vec<[u8; record::LENGTH]>); 4] {
+    let by_turns = |takes: u8, u: u16, leaves: u8| {
+        (0..1_024).map(move |i| {
+            let (p, o) = (120 + i % 40, 160 + i / 2 % 96);
+            match i % 2 {
+                0 => record(takes, p, o, u),
+                _ => record(leaves, if leaves == 8 { o } else { p }, o, record::NO_USER),
+            }
+        })
+    };
+    [
+        ("fork and end by turns", by_turns(5, record::NO_USER, 8).collect()),
+        ("new file and delete by turns", by_turns(6, 0, 9).collect()),
+        ("end", (121..160).map(|p| record(8, p, p, record::NO_USER)).collect()),
+        ("delete", (0..120).map(|o| record(9, 120, o, record::NO_USER)).collect()),
+    ]
+}

@@ -21,7 +21,7 @@ RECORDS = {
 OPERATION = struct.Struct("<BBHHH")
 
 KINDS = {"file": 1, "volatile": 2, "process": 3}
-CODES = {"read": 1, "write": 2, "append": 3, "exec": 4, "fork": 5, "new-file": 6, "new-volatile": 7}
+CODES = {"read": 1, "write": 2, "append": 3, "exec": 4, "fork": 5, "new-file": 6, "new-volatile": 7, "end": 8, "delete": 9}
 
 RUNNING = 32  # how far the running atom of a data atom is behind it
 NO_ATOM = 255

@@ -47,7 +47,7 @@ pub const OUTPUT_LENGTH: usize = layout::image::LONGEST_NORMAL;
 #[derive(Clone, Copy, Debug, PartialEq, Eq, Hash)]
 #[non_exhaustive]
 pub enum Verdict {
-    /// The receiver's permit rule covers its tag, or the operation made a new file or volatile.
+    /// The receiver's permit rule covers its tag, or the operation made a new file or volatile, or the receiver has left.
     Quiet,
     /// The receiver's permit rule does not cover its tag. The access is not undone.
     Alert,
@@ -57,10 +57,10 @@ pub enum Verdict {
 #[derive(Clone, Copy, Debug, PartialEq, Eq, Hash)]
 pub struct Answer {
     pub verdict: Verdict,
-    /// The number of the container that received.
+    /// The number of the container that received, or that ended or was deleted.
     pub receiver: u8,
     /// The set of atoms that the receiver now holds: atom k is worth 2 to the k, data atoms 0 to 31, their running
-    /// atoms 32 to 63.
+    /// atoms 32 to 63. 0 for one that has left.
     pub tag: u64,
 }
 

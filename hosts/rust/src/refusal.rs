@@ -27,8 +27,8 @@ pub enum Refusal {
     ContainerRecord = 5,
     /// A user's rule number in the image.
     UserRule = 6,
-    /// The operation record: its length, unknown code, second byte not 0, user set wrongly, container over 255 or
-    /// user over 15.
+    /// The operation record: its length, unknown code, second byte not 0, user set wrongly, container over 255, user over
+    /// 15, or an end of another object than the process itself.
     OperationRecord = 7,
     /// The matrix: row counts differ, 0 or over 8 subjects, 0 or over 32 objects, or a bit beyond the objects.
     Matrix = 8,
@@ -39,9 +39,9 @@ pub enum Refusal {
     Row = 10,
     /// p is no process.
     NoProcess = 11,
-    /// o is of the wrong kind for a read, write, append or exec.
+    /// o is of the wrong kind for a read, write, append, exec or delete.
     WrongKind = 12,
-    /// o is not free for a fork, new file or new volatile.
+    /// o is not free for a fork, new file or new volatile. It is free again once its holder has ended or is deleted.
     NotFree = 13,
     /// The user is not declared by the policy.
     Undeclared = 14,

@@ -211,6 +211,41 @@ static void example(void)
     check(session_stayed(), "run: batches leave the session that single steps leave");
 }
 
+/* Processes end and files are deleted, on a session of the same policy: files 0 to 3, processes 4 to 6. */
+static void leaving_example(void)
+{
+    static const struct {
+        uint8_t code, p, o;
+        uint32_t answer;
+        uint64_t receiver, tag;
+    } steps[] = {
+        {1, 4, 2, 0, 4, 4},                                  /* read: object 2 */
+        {3, 4, 0, 0, 0, 5},                                  /* append: file 0 may hold 0 and 2 */
+        {9, 5, 0, 0, 0, 0},                                  /* file 0 is deleted */
+        {1, 6, 0, YASLAUREL_REFUSED_KIND, 77, 88},           /* nobody has its number */
+        {7, 6, 0, 0, 0, 0},                                  /* a volatile takes it */
+        {1, 5, 1, 0, 5, 2},                                  /* read: object 1 */
+        {3, 5, 0, 0, 0, 2},                                  /* which the volatile may hold */
+        {8, 5, 4, YASLAUREL_REFUSED_RECORD, 77, 88},         /* an end names its process twice */
+        {9, 4, 5, YASLAUREL_REFUSED_KIND, 77, 88},           /* a process is not deleted */
+        {8, 5, 5, 0, 5, 0},                                  /* process 5 ends */
+        {1, 5, 1, YASLAUREL_REFUSED_NO_PROCESS, 77, 88},     /* and reads no more */
+        {8, 5, 5, YASLAUREL_REFUSED_NO_PROCESS, 77, 88},     /* and ends once */
+        {5, 4, 5, 0, 5, 4},                                  /* a fork takes its number */
+    };
+
+    check(yaslaurel_matrix_policy(reads, 3, writes, 3, 4, out, OUTPUT) == 110 &&
+              yaslaurel_session_start(out, 110, session, SESSION) == 0,
+          "leaving: the session starts");
+    for (size_t i = 0; i < sizeof steps / sizeof steps[0]; i++) {
+        const uint8_t record[RECORD] = {steps[i].code, 0, steps[i].p, 0, steps[i].o, 0, 255, 255};
+        uint64_t receiver = 77, tag = 88;
+        uint32_t answer = yaslaurel_step(session, SESSION, record, RECORD, &receiver, &tag);
+        check(answer == steps[i].answer && receiver == steps[i].receiver && tag == steps[i].tag,
+              "leaving: a step of files that are deleted and processes that end");
+    }
+}
+
 /* Lines `profile /NUMBER {`, `/f MODES,` and `}` for so many programs from a number on. The length of the text. */
 static size_t programs(char *text, int first, int count, const char *modes)
 {
@@ -285,7 +320,7 @@ static uint32_t draw(uint64_t *state)
 /* Random bytes and numbers everywhere: every answer is one that the function can give. */
 static void random_bytes(void)
 {
-    static const uint8_t codes[] = {0, 1, 2, 3, 4, 5, 6, 7, 200, 255};
+    static const uint8_t codes[] = {0, 1, 2, 3, 4, 5, 6, 7, 8, 9, 200, 255};
     static uint8_t image[YASLAUREL_IMAGE_LIMIT + 100];
     uint32_t rows[10];
     int good = 1;
@@ -347,6 +382,7 @@ int main(void)
     lengths();
     nulls();
     example();
+    leaving_example();
     profile_example();
     random_bytes();
     printf("%u passed, %u failed\n", passed, failed);

@@ -278,8 +278,12 @@ static size_t container_of(uint64_t kind)
 /* A record for the session as it stands, now and then of any bytes. Its code. */
 static unsigned make_record(uint8_t *record)
 {
-    unsigned code = 1 + (unsigned)below(7);
-    size_t o = container_of(code <= 4 ? 1 + (code < 4 ? below(2) : 0) : 0);
+    unsigned code = 1 + (unsigned)below(9);
+    if (code == 8 && percent(60)) {
+        code = 5; /* More processes begin than end. */
+    }
+    size_t p = percent(96) ? container_of(3) : below(YASLAUREL_CONTAINERS);
+    size_t o = code == 8 ? p : container_of(code <= 4 || code == 9 ? 1 + (code != 4 ? below(2) : 0) : 0);
 
     for (size_t i = 0; i < RECORD; i++) {
         record[i] = (uint8_t)draw();
@@ -287,7 +291,7 @@ static unsigned make_record(uint8_t *record)
     if (percent(95)) {
         record[YASLAUREL_CODE_AT] = (uint8_t)code;
         record[YASLAUREL_ZERO_AT] = 0;
-        put16(record + YASLAUREL_PROCESS_AT, percent(96) ? container_of(3) : below(YASLAUREL_CONTAINERS));
+        put16(record + YASLAUREL_PROCESS_AT, p);
         put16(record + YASLAUREL_OBJECT_AT, percent(94) ? o : below(YASLAUREL_CONTAINERS));
         put16(record + YASLAUREL_USER_AT,
               code == 4 || code == 6 ? below(percent(90) ? 3 : YASLAUREL_USERS) : YASLAUREL_NO_USER);
@@ -344,6 +348,9 @@ static void try_step(int damaged)
     uint64_t *after = (uint64_t *)(void *)session_at.slice;
     size_t row = CONTAINER_ROW * numbers[0];
     require(after[row + YASLAUREL_TAG_AT] == numbers[1], "the tag is the receiver's");
+    for (size_t i = 0; record[YASLAUREL_CODE_AT] >= 8 && i < CONTAINER_ROW; i++) {
+        require(after[row + i] == 0, "a container that leaves leaves a free row");
+    }
     memcpy(session + row, after + row, WORD * CONTAINER_ROW);
     require(memcmp(session, after, WORD * SESSION) == 0, "the other rows stay");
 }

@@ -1,5 +1,6 @@
 //! One case: what library and judge are both given, and how their results are compared.
 
+use std::collections::HashSet;
 use std::fmt::Write as _;
 
 use judge::session::Record;
@@ -245,7 +246,14 @@ impl Bench {
         match expected.number {
             session::QUIET => c.quiet[usize::from(record[0])] += 1,
             session::ALERT => c.alert[usize::from(record[0])] += 1,
-            refusal => c.refused[refusal as usize] += 1,
+            refusal => {
+                c.refused[refusal as usize] += 1;
+                match record.first() {
+                    Some(8) => c.end_refused[refusal as usize] += 1,
+                    Some(9) => c.delete_refused[refusal as usize] += 1,
+                    _ => {}
+                }
+            }
         }
         // "changes no lent memory"
         let numbers = if accepted { (expected.receiver, expected.tag) } else { lent::BEFORE };
@@ -506,8 +514,19 @@ fn judged_by_chains(
 ) -> Difference {
     c.chain_traces += 1;
     c.chains += chains::list(policy, history).len() as u64;
+    // The numbers that a container has left, and those of them that were taken again.
+    let (mut left, mut again) = (HashSet::new(), HashSet::new());
     for (at, (judged, answer)) in chains::judge(policy, history).iter().zip(answers).enumerate() {
         let alert = answer.number == session::ALERT;
+        let Record { code, o, .. } = history[at];
+        if code >= 8 {
+            c.chain_left += 1;
+            left.insert(o);
+        } else if code >= 5 && left.contains(&o) {
+            c.chain_taken_again += 1;
+            again.insert(o);
+        }
+        c.chain_alerts_again += u64::from(judged.alert && again.contains(&judged.receiver));
         c.chain_steps += 1;
         c.chain_alerts += u64::from(judged.alert);
         c.chain_running += u64::from(judged.information >> 32 != 0);

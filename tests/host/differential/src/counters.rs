@@ -25,11 +25,14 @@ pub struct Counters {
     pub pairs_equal: u64,
     pub pairs_different: u64,
     pub steps: u64,
-    /// By code, 1 to 7.
-    pub quiet: [u64; 8],
-    pub alert: [u64; 8],
+    /// By code, 1 to 9.
+    pub quiet: [u64; 10],
+    pub alert: [u64; 10],
     /// By refusal number.
     pub refused: [u64; 16],
+    /// Of code 8 and of code 9, by refusal number.
+    pub end_refused: [u64; 16],
+    pub delete_refused: [u64; 16],
     pub longest_trace: usize,
     pub runs: u64,
     /// Quiet to the end, alerts, and refusals by their number.
@@ -51,6 +54,10 @@ pub struct Counters {
     pub chain_alerts: u64,
     pub chain_running: u64,
     pub chains: u64,
+    /// Steps at which a container leaves, those that take its number again, and alerts of such a number afterwards.
+    pub chain_left: u64,
+    pub chain_taken_again: u64,
+    pub chain_alerts_again: u64,
     pub texts: u64,
     /// Refusals of the policy of profiles; 0 counts what was accepted.
     pub profiles: [u64; 18],
@@ -143,8 +150,14 @@ impl Counters {
         need(self.runs_stopped, "a run stops before the end".into());
         need(self.runs_short, "a run takes a short record".into());
         need(self.runs_empty, "a run has no record".into());
-        for code in 1..=7 {
+        for code in 1..=9 {
             need(self.quiet[code], format!("code {code} answers quiet"));
+        }
+        for number in [7, 10, 11] {
+            need(self.end_refused[number], format!("code 8 answers {number}"));
+        }
+        for number in [7, 10, 11, 12] {
+            need(self.delete_refused[number], format!("code 9 answers {number}"));
         }
         for code in 1..=5 {
             need(self.alert[code], format!("code {code} answers alert"));
@@ -171,6 +184,8 @@ impl Counters {
         }
         need(self.chain_alerts, "an alert on a trace whose chains were listed".into());
         need(self.chain_running, "a running atom on a trace whose chains were listed".into());
+        need(self.chain_taken_again, "a number taken again on a trace whose chains were listed".into());
+        need(self.chain_alerts_again, "an alert of a number taken again".into());
         missing
     }
 
@@ -192,6 +207,8 @@ impl Counters {
         line("quiet, by code", by_number(&self.quiet));
         line("alert, by code", by_number(&self.alert));
         line("step, by refusal", by_number(&self.refused));
+        line("end, by refusal", by_number(&self.end_refused));
+        line("delete, by refusal", by_number(&self.delete_refused));
         line("longest trace", self.longest_trace.to_string());
         line("runs, quiet, alert", format!("{}, {}, {}", self.runs, self.runs_quiet, self.runs_alert));
         line("run, by refusal", by_number(&self.runs_refused));
@@ -209,6 +226,8 @@ impl Counters {
         line("traces judged by chains", self.chain_traces.to_string());
         let chains = (self.chain_steps, self.chain_alerts, self.chain_running, self.chains);
         line("steps, alerts, running atoms, chains", format!("{}, {}, {}, {}", chains.0, chains.1, chains.2, chains.3));
+        let again = (self.chain_left, self.chain_taken_again, self.chain_alerts_again);
+        line("left, taken again, alerts there", format!("{}, {}, {}", again.0, again.1, again.2));
         text
     }
 }

@@ -401,8 +401,9 @@ fn object_kind(r: &mut Random, code: u8) -> u64 {
         return r.below(4) as u64;
     }
     match code {
-        1..=3 => r.pick(&[1, 1, 2]),
+        1..=3 | 9 => r.pick(&[1, 1, 2]),
         4 => 1,
+        8 => 3,
         _ => 0,
     }
 }
@@ -434,10 +435,10 @@ fn about_eight(r: &mut Random, rows: &mut Rows) {
 
 /// One operation on rows made for it, well formed or damaged.
 pub fn step(r: &mut Random) -> StepCase {
-    let code = r.between(1, 7) as u8;
+    let code = r.between(1, 9) as u8;
     let pool = pool(r);
     let (p, o, u) = (r.below(CONTAINERS.most), r.below(CONTAINERS.most), r.below(USERS.most));
-    let o = if r.percent(4) { p } else { o };
+    let o = if r.percent(if code == 8 { 92 } else { 4 }) { p } else { o };
     let kind = if r.percent(6) { r.below(4) as u64 } else { 3 };
     let mut rows = Rows::default();
     rows.containers.push((p, container_row(r, kind, &pool)));
@@ -477,24 +478,41 @@ pub fn step(r: &mut Random) -> StepCase {
     StepCase { rows, background, length: length(r, SESSION_LENGTH, false), record }
 }
 
-/// A record that suits the session in most ways.
-pub fn record(r: &mut Random, session: &[u64], containers: usize) -> Vec<u8> {
-    let code = r.pick(&[1, 1, 1, 2, 2, 3, 3, 3, 4, 4, 5, 6, 7]) as u8;
+/// A record that suits the session in most ways; in so many of a hundred a container leaves.
+pub fn record(r: &mut Random, session: &[u64], containers: usize, leaving: usize) -> Vec<u8> {
+    let kind = |number: usize| session[container(number)][KIND];
+    let code = if r.percent(leaving) {
+        // The last process stays in most cases, or all that follows is refused.
+        let processes = (0..CONTAINERS.most).filter(|&number| kind(number) == 3).count();
+        let end = if processes > 1 { r.percent(40) } else { r.below(500) == 0 };
+        r.pick(if end { &[8] } else { &[9] })
+    } else if leaving == 0 {
+        r.pick(&[1, 1, 1, 2, 2, 3, 3, 3, 4, 4, 5, 6, 7])
+    } else {
+        // Where containers leave, others come, and take their numbers.
+        r.pick(&[1, 1, 1, 2, 2, 3, 3, 3, 4, 4, 5, 5, 6, 6, 7])
+    };
     // The first container from a random place on whose kind will do.
     let find = |r: &mut Random, wanted: &[u64], bound: usize| {
         let from = r.below(bound.max(1));
-        let turn = (from..bound).chain(0..from).find(|&c| wanted.contains(&session[container(c)][KIND]));
+        let turn = (from..bound).chain(0..from).find(|&c| wanted.contains(&kind(c)));
         turn.unwrap_or(from) as u16
     };
     let any = |r: &mut Random| r.below(containers.max(1)) as u16;
     let p = if r.percent(96) { find(r, &[3], containers) } else { any(r) };
     let kinds: &[u64] = match code {
-        1..=3 => &[1, 2],
+        1..=3 | 9 => &[1, 2],
         4 => &[1],
         _ => &[0],
     };
-    let bound = if code >= 5 { CONTAINERS.most } else { containers };
-    let o = if r.percent(94) { find(r, kinds, bound) } else { any(r) };
+    // A free number among the first ones is mostly one that was left.
+    let near = (0..containers).any(|number| kind(number) == 0) && r.percent(85);
+    let bound = if (5..=7).contains(&code) && !near { CONTAINERS.most } else { containers };
+    let o = match code {
+        8 if r.percent(94) => p,
+        _ if r.percent(94) => find(r, kinds, bound),
+        _ => any(r),
+    };
     let declared = (0..USERS.most).filter(|&u| session[user(u)][DECLARED] == 1).count();
     let u = match code {
         4 | 6 if declared > 0 && r.percent(95) => r.below(declared) as u16,

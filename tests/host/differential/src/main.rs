@@ -102,9 +102,10 @@ fn trace(r: &mut Random, class: usize, length: usize, chains: bool) -> Case {
     let mut session = vec![0; SESSION_LENGTH];
     judge::session::start(&image, &mut session);
     let near = (spec.containers.len() + length / 4).min(CONTAINERS.most);
+    let leaving = r.pick(&[0, 3, 15, 30]);
     let mut records = Vec::new();
     for _ in 0..length {
-        let record = generate::record(r, &session, near);
+        let record = generate::record(r, &session, near, leaving);
         judge::session::step(&mut session, &record);
         records.push(record);
     }
@@ -112,7 +113,7 @@ fn trace(r: &mut Random, class: usize, length: usize, chains: bool) -> Case {
 }
 
 fn short_trace(r: &mut Random) -> Case {
-    let length = r.between(1, 9);
+    let length = r.between(1, 12);
     trace(r, 0, length, true)
 }
 

@@ -26,11 +26,12 @@ pub struct Chain {
     pub carried: Carried,
     /// "It is a chain into the container where its last step put down, or, with no step, into that file."
     pub into: usize,
-    /// The first step that ends what this container held after the chain put down there, if any.
+    /// The first step that ends what this container held after the chain put down there, if any. A step at which the
+    /// container leaves is one, so that a chain is one into a holder of a number and not into the next.
     pub ended_by: Option<usize>,
 }
 
-/// "Codes 1 and 4 carry from o to p, codes 2, 3 and 5 from p to o." Codes 6 and 7 carry nothing.
+/// "Codes 1 and 4 carry from o to p, codes 2, 3 and 5 from p to o." The others carry nothing.
 fn carries(step: Record) -> Option<(usize, usize)> {
     match step.code {
         1 | 4 => Some((step.o, step.p)),
@@ -39,13 +40,23 @@ fn carries(step: Record) -> Option<(usize, usize)> {
     }
 }
 
+/// The container that leaves at a step: "Code 8 ends process p"; "code 9 lets p remove file or volatile o" (change request
+/// No. 4).
+fn leaves(step: Record) -> Option<usize> {
+    match step.code {
+        8 => Some(step.p),
+        9 => Some(step.o),
+        _ => None,
+    }
+}
+
 /// "A write ends what o held before". "An exec no longer ends a chain of data in p; for the twins and run rules that p
-/// held it still does" (change request No. 2).
+/// held it still does" (change request No. 2). "A chain ends when its holder leaves" (No. 4).
 fn ends(step: Record, container: usize, carried: Carried) -> bool {
     match step.code {
         2 => step.o == container,
         4 => step.p == container && !matches!(carried, Carried::Data(_)),
-        _ => false,
+        _ => leaves(step) == Some(container),
     }
 }
 
@@ -120,10 +131,16 @@ pub fn information(chains: &[Chain], container: usize, after: usize) -> u64 {
     })
 }
 
-/// "The rules governing a container", after the first `after` steps. Rules as the image writes them.
+/// "The rules governing a container", after the first `after` steps. Rules as the image writes them. The history is read
+/// backwards and no further than to where the holder of the number began: at a step that made it, or at the session's
+/// start.
 pub fn governing(policy: &Policy, history: &[Record], chains: &[Chain], container: usize, after: usize) -> Vec<Rule> {
     for at in (0..after).rev() {
         let step = history[at];
+        // "a later holder of the number inherits neither information nor rules", and nobody holds it here
+        if leaves(step) == Some(container) {
+            return vec![];
+        }
         match step.code {
             // "for a process, those of its last exec: u's, and each run rule with a chain into o just before that
             // step"
@@ -165,7 +182,7 @@ pub struct Judged {
 }
 
 /// Judges every step of a history: an alert exactly when one of the rules that govern the receiver does not cover the
-/// information that has come there; "6 and 7 answer quiet".
+/// information that has come there; "6 and 7 answer quiet", and so do 8 and 9 ("Both answer quiet with tag 0").
 pub fn judge(policy: &Policy, history: &[Record]) -> Vec<Judged> {
     let chains = list(policy, history);
     history
@@ -218,9 +235,51 @@ mod tests {
         let chains = list(&policy, &history);
         assert_eq!(information(&chains, 2, 2), 1 | 1 << 32);
         assert_eq!(information(&chains, 2, 3), 1 | 1 << 33);
-        let rules = |after| into(&chains, 2, after).filter(|chain| matches!(chain.carried, Carried::RunRule(_))).count();
+        let rules =
+            |after| into(&chains, 2, after).filter(|chain| matches!(chain.carried, Carried::RunRule(_))).count();
         assert_eq!(rules(2), 2);
         assert_eq!(rules(3), 1);
+    }
+
+    /// What file 0 held is gone when it leaves, and the next holder of its number starts with nothing; what process 2 has
+    /// read of it before stays.
+    #[test]
+    fn a_chain_ends_with_its_holder() {
+        let policy = Policy { containers: vec![file(0), file(1), process()], users: vec![UNRESTRICTED], rules: vec![] };
+        let new_file = Record { code: 6, p: 2, o: 0, u: Some(0) };
+        let history =
+            [step(1, 2, 0), step(9, 2, 0), new_file, step(1, 2, 1), step(3, 2, 0), step(5, 2, 3), step(8, 3, 3)];
+        let chains = list(&policy, &history);
+        let held: Vec<u64> = (0..=7).map(|after| information(&chains, 0, after)).collect();
+        assert_eq!(held, [0b01, 0b01, 0, 0, 0, 0b11, 0b11, 0b11]);
+        assert_eq!(information(&chains, 3, 6), 0b11);
+        assert_eq!(information(&chains, 3, 7), 0);
+        assert_eq!(information(&chains, 2, 7), 0b11);
+    }
+
+    /// The rules of a number are its holder's: none between two holders, and the next one's own.
+    #[test]
+    fn rules_stay_with_their_holder() {
+        let mut policy = Policy { containers: vec![file(0), file(1), process()], users: vec![0], rules: vec![vec![1]] };
+        policy.containers[0].permit = 0;
+        policy.containers[1].run = 0;
+        let user = |code, p, o| Record { code, p, o, u: Some(0) };
+        let history = [
+            step(5, 2, 3),
+            user(4, 3, 1),
+            step(8, 3, 3),
+            step(5, 2, 3),
+            step(9, 3, 0),
+            step(7, 3, 0),
+            step(9, 3, 0),
+            user(6, 3, 0),
+        ];
+        let chains = list(&policy, &history);
+        let count = |container, after| governing(&policy, &history, &chains, container, after).len();
+        let of_3: Vec<usize> = (0..=8).map(|after| count(3, after)).collect();
+        assert_eq!(of_3, [0, 0, 2, 0, 0, 0, 0, 0, 0]);
+        let of_0: Vec<usize> = (0..=8).map(|after| count(0, after)).collect();
+        assert_eq!(of_0, [1, 1, 1, 1, 1, 0, 0, 0, 1]);
     }
 
     /// The order of steps counts: what p reads after its write does not reach the file.

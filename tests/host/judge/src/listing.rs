@@ -5,7 +5,8 @@ use std::fmt::Write as _;
 use crate::numbers::{RECORD, SESSION};
 use crate::session::{start, step, ALERT, QUIET};
 
-/// "Words: read, write, append, exec, fork, file, volatile, other (unknown code)."
+/// "Words: read, write, append, exec, fork, file, volatile, other (unknown code)." "the listing's words are `end` and
+/// `delete`" (change request No. 4).
 fn word(code: u8) -> &'static str {
     match code {
         1 => "read",
@@ -15,6 +16,8 @@ fn word(code: u8) -> &'static str {
         5 => "fork",
         6 => "file",
         7 => "volatile",
+        8 => "end",
+        9 => "delete",
         _ => "other",
     }
 }

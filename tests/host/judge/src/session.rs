@@ -141,14 +141,18 @@ pub struct Record {
 
 /// "A record has 8 bytes: code and a zero (8 bits each), process p, object o, user u (16 bits each); u is 65535
 /// except for codes 4 and 6." "7 operation record (not 8 bytes, code, zero byte, u set wrongly, container over 255,
-/// user over 15)".
+/// user over 15)". "Code 8 ends process p, with o equal to p; code 9 lets p remove file or volatile o; u is 65535." "7
+/// also covers code 8 with another o" (change request No. 4).
 pub fn read_record(bytes: &[u8]) -> Option<Record> {
     let &[code, zero, p0, p1, o0, o1, u0, u1] = bytes else {
         return None;
     };
     let (p, o, u) = (u16::from_le_bytes([p0, p1]), u16::from_le_bytes([o0, o1]), u16::from_le_bytes([u0, u1]));
     let (p, o) = (usize::from(p), usize::from(o));
-    if !(1..=7).contains(&code) || zero != 0 || p >= CONTAINERS.most || o >= CONTAINERS.most {
+    if !(1..=9).contains(&code) || zero != 0 || p >= CONTAINERS.most || o >= CONTAINERS.most {
+        return None;
+    }
+    if code == 8 && o != p {
         return None;
     }
     let u = match code {
@@ -163,7 +167,7 @@ pub fn read_record(bytes: &[u8]) -> Option<Record> {
 /// What an accepted operation changes: one row, the receiver's.
 struct Effect {
     receiver: usize,
-    row: Row,
+    place: Place,
 }
 
 /// "15 a meet has over 8 mixtures".
@@ -178,6 +182,10 @@ fn bounded(rule: Rule) -> Result<Rule, u32> {
 /// The column "effect" of the table, for rows that are as "Session" says, after refusals 11 to 14.
 fn effect(record: Record, p: &Row, o: Option<&Row>, user: Option<&Rule>) -> Result<Effect, u32> {
     let taken = || o.expect("codes 1 to 4 were refused with 12").clone();
+    // "The row becomes free, so its number can be taken again by codes 5 to 7." The row is o's, which for 8 is p's.
+    if record.code >= 8 {
+        return Ok(Effect { receiver: record.o, place: Place::Free });
+    }
     let user = || user.expect("codes 4 and 6 were refused with 14").clone();
     // "The receiver is p for 1 and 4, else o."
     let receiver = if record.code == 1 || record.code == 4 { record.p } else { record.o };
@@ -209,7 +217,7 @@ fn effect(record: Record, p: &Row, o: Option<&Row>, user: Option<&Rule>) -> Resu
         // "empty tag, both unrestricted"
         _ => Row { kind: Kind::Volatile, tag: 0, permit: unrestricted(), run: unrestricted() },
     };
-    Ok(Effect { receiver, row })
+    Ok(Effect { receiver, place: Place::Taken(row) })
 }
 
 /// Reads the named rows and goes through "Refused because of the session" in order.
@@ -223,10 +231,11 @@ fn judged(session: &[u64], record: Record) -> Result<Effect, u32> {
     };
     // "11 p is no process"
     let p = p.row().filter(|row| row.kind == Kind::Process).ok_or(11u32)?;
-    // "12 o of the wrong kind (codes 1 to 4)"; the column "o" of the table
+    // "12 o of the wrong kind (codes 1 to 4)"; the column "o" of the table; "and 12 code 9 with o of another kind" than
+    // "file or volatile" (change request No. 4)
     let kind = o.row().map(|row| row.kind);
     let right = match record.code {
-        1..=3 => kind == Some(Kind::File) || kind == Some(Kind::Volatile),
+        1..=3 | 9 => kind == Some(Kind::File) || kind == Some(Kind::Volatile),
         4 => kind == Some(Kind::File),
         _ => true,
     };
@@ -234,7 +243,7 @@ fn judged(session: &[u64], record: Record) -> Result<Effect, u32> {
         return Err(12);
     }
     // "13 o not free (5 to 7)"
-    if record.code >= 5 && kind.is_some() {
+    if (5..=7).contains(&record.code) && kind.is_some() {
         return Err(13);
     }
     // "14 u not declared"
@@ -255,7 +264,12 @@ pub fn step(session: &mut [u64], record: &[u8]) -> Answer {
     };
     match judged(session, record) {
         Err(number) => refused(number),
-        Ok(Effect { receiver, row }) => {
+        // "Both answer quiet with tag 0"; "a free or undeclared row is all 0".
+        Ok(Effect { receiver, place: Place::Free }) => {
+            session[container_row(receiver)].fill(0);
+            Answer { number: QUIET, receiver: receiver as u64, tag: 0 }
+        }
+        Ok(Effect { receiver, place: Place::Taken(row) }) => {
             write_container(session, receiver, &row);
             // "Codes 1 to 5 answer alert if the receiver's permit rule does not cover its tag afterwards, else quiet;
             // 6 and 7 answer quiet." "An alert does not undo the access."
@@ -351,6 +365,32 @@ mod tests {
         let before = session.clone();
         assert_eq!(step(&mut session, &record(1, 0, 1, 65535)).number, 15);
         assert_eq!(session, before);
+    }
+
+    /// "The row becomes free, so its number can be taken again by codes 5 to 7." "Both answer quiet with tag 0".
+    #[test]
+    fn rows_become_free() {
+        let rows = [(0, row(Kind::Process, 5)), (1, row(Kind::File, 2)), (2, row(Kind::Process, 4))];
+        let mut session = session_with(&rows, &[]);
+        let quiet = |receiver, tag| Answer { number: QUIET, receiver, tag };
+        for (code, p, o, answer) in [
+            (9, 0, 2, refused(12)),
+            (9, 0, 3, refused(12)),
+            (8, 0, 2, refused(7)),
+            (8, 1, 1, refused(11)),
+            (9, 0, 1, quiet(1, 0)),
+            (1, 0, 1, refused(12)),
+            (7, 0, 1, quiet(1, 0)),
+            (8, 2, 2, quiet(2, 0)),
+            (8, 2, 2, refused(11)),
+            (5, 0, 2, quiet(2, 5)),
+        ] {
+            assert_eq!(step(&mut session, &record(code, p, o, 65535)), answer, "code {code} of {p} and {o}");
+        }
+        assert_eq!(
+            session,
+            session_with(&[rows[0].clone(), (1, row(Kind::Volatile, 0)), (2, row(Kind::Process, 5))], &[])
+        );
     }
 
     /// A batch stops behind what is not quiet, and counts it; a short last record is refused.

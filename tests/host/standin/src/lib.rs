@@ -9,14 +9,14 @@ use std::slice::{from_raw_parts, from_raw_parts_mut};
 use std::sync::OnceLock;
 
 use judge::numbers::{
-    container_row, user_row, CONTAINERS, HEADER, LONGEST_NORMAL, MIXTURES, RECORD, ROW_PERMIT, ROW_RUN, ROW_TAG, RULES,
-    RULE_MIXTURES, SESSION, UNRESTRICTED, USERS,
+    container_row, user_row, CONTAINERS, HEADER, LONGEST_NORMAL, MIXTURES, RECORD, ROW_KIND, ROW_PERMIT, ROW_RUN,
+    ROW_TAG, RULES, RULE_MIXTURES, SESSION, UNRESTRICTED, USERS,
 };
 use judge::rules::{covers, holds, meet, running_atoms};
 use judge::{image, matrix, normal, session};
 
 /// The planted faults, each a mistake that a reviewer would try.
-pub const FAULTS: [&str; 47] = [
+pub const FAULTS: [&str; 54] = [
     "1 a monitor that is always quiet",
     "2 a running atom passes by read",
     "3 covering is tested atom by atom",
@@ -64,6 +64,13 @@ pub const FAULTS: [&str; 47] = [
     "45 exec drops the data that p held",
     "46 exec turns the data that p held into running atoms",
     "47 exec keeps p's run rule",
+    "48 an end or a delete leaves the row as it was",
+    "49 an end or a delete clears the kind alone",
+    "50 an end of another o is refused with 12",
+    "51 a process can be deleted",
+    "52 a delete frees p",
+    "53 an end or a delete answers the old tag",
+    "54 a later holder of a number keeps the permit rule",
 ];
 
 /// The number of the planted fault, 0 for none.
@@ -230,6 +237,34 @@ fn rule(words: &[u64]) -> &[u64] {
     &words[1..1 + words[0] as usize]
 }
 
+/// The permit rule that fault 54 has left in the free row of o, which the row then no longer has.
+fn kept_permit(session: &mut [u64], bytes: &[u8]) -> Option<Vec<u64>> {
+    let record = session::read_record(bytes)?;
+    let row = session.get_mut(container_row(record.o)).filter(|row| row[ROW_KIND] == 0)?;
+    let permit = row[ROW_PERMIT].to_vec();
+    row[ROW_PERMIT].fill(0);
+    (permit[0] > 0).then_some(permit)
+}
+
+/// An end or a delete that was accepted, with the faults that it can have.
+fn leave(session: &mut [u64], before: &[u64], record: session::Record, answer: session::Answer) -> session::Answer {
+    let place = container_row(record.o);
+    let held = &before[place.clone()];
+    if fault(48) || fault(49) || fault(52) && record.code == 9 {
+        session[place.clone()].copy_from_slice(held);
+    }
+    if fault(49) {
+        session[place.clone()][ROW_KIND] = 0;
+    }
+    if fault(52) {
+        session[container_row(record.p)].fill(0);
+    }
+    if fault(54) {
+        session[place][ROW_PERMIT].copy_from_slice(&held[ROW_PERMIT]);
+    }
+    session::Answer { tag: if fault(53) { held[ROW_TAG] } else { 0 }, ..answer }
+}
+
 fn step(session: &mut [u64], bytes: &[u8]) -> session::Answer {
     if planted() == 0 {
         return session::step(session, bytes);
@@ -241,8 +276,20 @@ fn step(session: &mut [u64], bytes: &[u8]) -> session::Answer {
     } else {
         bytes
     };
+    let kept = if fault(54) { kept_permit(session, bytes) } else { None };
     let before = session.to_vec();
     let mut answer = session::step(session, bytes);
+    if fault(50) && answer.number == 7 && bytes.len() == RECORD && bytes[0] == 8 && bytes[2..4] != bytes[4..6] {
+        return session::Answer { number: 12, receiver: 0, tag: 0 };
+    }
+    if fault(51) && answer.number == 12 && bytes[0] == 9 {
+        let record = session::read_record(bytes).expect("the record was not refused with 7");
+        let row = &mut session[container_row(record.o)];
+        if row[ROW_KIND] == 3 {
+            row.fill(0);
+            return session::Answer { number: session::QUIET, receiver: record.o as u64, tag: 0 };
+        }
+    }
     if fault(13) && answer.number == 10 {
         let mut cleared = before.clone();
         for number in 0..CONTAINERS.most {
@@ -266,6 +313,12 @@ fn step(session: &mut [u64], bytes: &[u8]) -> session::Answer {
     }
     let record = session::read_record(bytes).expect("the record was accepted");
     let code = record.code;
+    if code >= 8 {
+        return leave(session, &before, record, answer);
+    }
+    if let (Some(permit), 5..=7) = (kept, code) {
+        session[container_row(record.o)][ROW_PERMIT].copy_from_slice(&permit);
+    }
     let (p, o) = (&before[container_row(record.p)], &before[container_row(record.o)]);
     let row = &mut session[container_row(answer.receiver as usize)];
     if fault(2) && code == 1 || fault(4) && code == 2 {
