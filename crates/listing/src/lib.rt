@@ -1,6 +1,6 @@
 // The listing that the watch program prints, line by line, into a lent buffer (the paper, "Checked examples").
 // Each function writes its text at a place of the buffer and returns the place behind it. Every other byte is left by the
-// public ones; a part of a step's line may change up to three bytes behind it, which the next part overwrites.
+// public ones; a part of a step's line may change up to four bytes behind it, which the next part overwrites.
 ghost use mathlib.Core.Path.{_≡_};
 ghost use mathlib.Core.List.{[], _∷_, _++_};
 ghost use Prim.Native.Nat.{_+_, _≤_, _<_};
