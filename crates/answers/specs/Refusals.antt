@@ -69,3 +69,7 @@ profileText = 16
 -- "17 when it has over 32 paths or a rule over 8 mixtures in normal form"
 abbrev pub profileLimit : ℕ
 profileLimit = 17
+
+-- change request No. 5: "18 when code 6 names a user other than p's own recorded one"
+abbrev pub otherUser : ℕ
+otherUser = 18

@@ -57,6 +57,9 @@ pub const PROFILE_TEXT: u32 = 16;
 // Profiles with over 32 paths, or with a rule of over 8 mixtures.
 pub const PROFILE_LIMIT: u32 = 17;
 
+// A new file for another user than the one on whose behalf the process runs.
+pub const OTHER_USER: u32 = 18;
+
 // The number of an alert, apart from every refusal. That of a quiet answer is 0.
 pub const ALERT_NUMBER: u32 = 256;
 

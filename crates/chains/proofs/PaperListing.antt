@@ -18,7 +18,7 @@ use Rattle.chains.specs.History.{Step, read, write, append, History, sta
 use Rattle.chains.specs.Chains.{dataAtom, Chain, readAtom, appendAny}
 use Rattle.answers.specs.Answers.{quiet, alert, refused}
 use Rattle.chains.specs.Demand.{answers, historyOf, AcceptedAt}
-use Rattle.chains.specs.Table.{readRow, writeRow, appendRow, freeRow, fitsNeed, entry, processGood, objectGood, kindGood, freeGood, userGood, fits, meetGood, earlyConditions, tableConditions, alerts, verdict, placed, operate, begin}
+use Rattle.chains.specs.Table.{readRow, writeRow, appendRow, freeRow, fitsNeed, entry, processGood, objectGood, kindGood, freeGood, userGood, behalfFits, fits, meetGood, earlyConditions, tableConditions, alerts, verdict, placed, operate, begin}
 use Rattle.session.specs.Session.{startTag, startRow}
 use Rattle.chains.proofs.TableMonitor.{table-tag-told}
 
@@ -49,7 +49,7 @@ pub record Run : Type 0 where
   pub whole : historyOf operate some (begin P) steps ≡ four ▸ write 6 1
 
 listing : Run
-unfolding operate entry fitsNeed processGood objectGood kindGood freeGood userGood meetGood earlyConditions tableConditions
+unfolding operate entry fitsNeed processGood objectGood kindGood freeGood userGood behalfFits meetGood earlyConditions tableConditions
     firstFailed every alerts verdict placed fits readRow writeRow appendRow freeRow begin startRow startTag meaning
     placeOf normalAt ruleAt unrestrictedRule unrestricted isFree isFile isVolatile isProcess isStore covers holds
     dataOf elem distinct heldIn unheldIn insert sort normal intersections meet

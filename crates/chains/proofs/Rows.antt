@@ -1,6 +1,6 @@
 -- The row of a container stands for the chains into it and the rules governing it; each row of the table keeps that.
 use Prim.Native.Nat.{ℕ}
-use mathlib.Core.Path.{_≡_, refl}
+use mathlib.Core.Path.{_≡_, refl, sym, _∙_}
 use mathlib.Core.Logic.{_⊎_, inl, inr, _≢_}
 use mathlib.Core.Bool.{true, false}
 use mathlib.Core.List.{List}
@@ -35,6 +35,7 @@ use Rattle.chains.specs.Chains.{
 }
 use Rattle.chains.specs.Table.{readRow, writeRow, appendRow, execRow, forkRow, newFileRow, newVolatileRow}
 use Rattle.session.specs.Rows.{Row}
+use Rattle.chains.specs.Behalf.{onBehalf}
 use Rattle.chains.proofs.Exact.{
   Exact,
   exact-map,
@@ -71,6 +72,11 @@ use Rattle.chains.proofs.Steps.{
   new-volatile-rules,
   fork-chains,
   fork-rules,
+  behalf-other,
+  behalf-exec,
+  behalf-fork,
+  behalf-file,
+  behalf-volatile,
 }
 
 module _ (P : Policy) where
@@ -79,6 +85,7 @@ module _ (P : Policy) where
     pub tag : Tagged (λ d. Chain P h (dataAtom d) c) (λ d. Chain P h (runningAtom d) c) (w .tag)
     pub run : Exact (λ r. Chain P h (runRule r) c) (w .run)
     pub permit : Exact (λ r. Governs P h c r) (w .permit)
+    pub behalf : w .behalf ≡ onBehalf h c
 
   -- any row: no chain leads into a free one
   pub record RowOk (h : History) (c : ℕ) (w : Row) : Type 0 where
@@ -96,6 +103,7 @@ module _ (P : Policy) where
             (λ d. other-on P h s c ne (runningAtom d)) (λ d. other-back P h s c ne (runningAtom d)) (k .good e .tag);
         run = exact-map (λ r. other-on P h s c ne (runRule r)) (λ r. other-back P h s c ne (runRule r)) (k .good e .run);
         permit = exact-map (other-rules-on P h s c ne) (other-rules-back P h s c ne) (k .good e .permit);
+        behalf = k .good e .behalf ∙ sym (behalf-other h s c ne);
       };
     }
 
@@ -106,6 +114,7 @@ module _ (P : Policy) where
         tag = tagged-map at-on at-back running-on running-back (tagged-union (gp .tag) (tagged-data (go .tag)));
         run = exact-map rule-on rule-back (exact-meet (gp .run) (go .run));
         permit = gp .permit;
+        behalf = gp .behalf;
       }
         where
           at-on : (d : ℕ) → Chain P h (dataAtom d) p ⊎ Chain P h (dataAtom d) o → Chain P (h ▸ read p o) (dataAtom d) p
@@ -135,6 +144,7 @@ module _ (P : Policy) where
         tag = tagged-map (λ d. carry P h writeAny) (λ d. back (dataAtom d)) (λ d. carry P h writeAny) (λ d. back (runningAtom d)) (gp .tag);
         run = exact-map (λ r. carry P h writeAny) (λ r. back (runRule r)) (gp .run);
         permit = go .permit;
+        behalf = go .behalf;
       }
         where
           back : (x : Item) → Chain P (h ▸ write p o) x o → Chain P h x p
@@ -146,6 +156,7 @@ module _ (P : Policy) where
         tag = tagged-map (λ d. on (dataAtom d)) (λ d. back (dataAtom d)) (λ d. on (runningAtom d)) (λ d. back (runningAtom d)) (tagged-union (go .tag) (gp .tag));
         run = exact-map (λ r. on (runRule r)) (λ r. back (runRule r)) (exact-meet (go .run) (gp .run));
         permit = go .permit;
+        behalf = go .behalf;
       }
         where
           on : (x : Item) → Chain P h x o ⊎ Chain P h x p → Chain P (h ▸ append p o) x o
@@ -155,12 +166,13 @@ module _ (P : Policy) where
           back : (x : Item) → Chain P (h ▸ append p o) x o → Chain P h x o ⊎ Chain P h x p
           back x = came P h (λ ch ne. inl ch) (λ b y ch ca. inr (append-from P h ch ca))
 
-      pub exec-good : (u : ℕ) (v : List ℕ) → Good h p wp → Good h o wo → Exact (λ r. UserRule P u r) v → Good (h ▸ exec p o u) p (execRow wp wo v)
+      pub exec-good : (u : ℕ) (v : List ℕ) → Good h p wp → Good h o wo → Exact (λ r. UserRule P u r) v → Good (h ▸ exec p o u) p (execRow wp wo v u)
       unfolding execRow
       exec-good u v gp go gu = record {
         tag = tagged-map at-on at-back running-on running-back (tagged-union (tagged-running (go .tag)) (tagged-data (gp .tag)));
         run = exact-map (λ r. exec-run-rule P h p o u r .1) (λ r. exec-run-rule P h p o u r .0) (go .run);
         permit = exact-map permit-on permit-back (exact-meet (go .run) gu);
+        behalf = sym (behalf-exec h p o u);
       }
         where
           at-on : (d : ℕ) → ⊥ ⊎ Chain P h (dataAtom d) p → Chain P (h ▸ exec p o u) (dataAtom d) p
@@ -192,6 +204,7 @@ module _ (P : Policy) where
         tag = tagged-map (λ d. on (dataAtom d)) (λ d. back (dataAtom d)) (λ d. on (runningAtom d)) (λ d. back (runningAtom d)) (gp .tag);
         run = exact-map (λ r. on (runRule r)) (λ r. back (runRule r)) (gp .run);
         permit = exact-map (λ r. fork-rules P h p o r .1) (λ r. fork-rules P h p o r .0) (gp .permit);
+        behalf = gp .behalf ∙ sym (behalf-fork h p o);
       }
         where
           on : (x : Item) → Chain P h x p → Chain P (h ▸ fork p o) x o
@@ -207,6 +220,7 @@ module _ (P : Policy) where
         tag = tagged-none (λ d. back (dataAtom d)) (λ d. back (runningAtom d));
         run = exact-unrestricted (λ r. back (runRule r));
         permit = exact-map (λ r. new-file-rules P h p o u r .1) (λ r. new-file-rules P h p o u r .0) gu;
+        behalf = sym (behalf-file h p o u);
       }
         where
           back : (x : Item) → ¬ Chain P (h ▸ newFile p o u) x o
@@ -218,6 +232,7 @@ module _ (P : Policy) where
         tag = tagged-none (λ d. back (dataAtom d)) (λ d. back (runningAtom d));
         run = exact-unrestricted (λ r. back (runRule r));
         permit = exact-unrestricted (new-volatile-rules P h p o);
+        behalf = sym (behalf-volatile h p o);
       }
         where
           back : (x : Item) → ¬ Chain P (h ▸ newVolatile p o) x o

@@ -81,6 +81,7 @@ module _ (P : Policy) where
       tag = start-tag (eqb (K .atom) noAtom) refl;
       run = exact-normal (ruleAt (P .rules) (K .run)) (start-run (isFile (K .kind)) refl);
       permit = exact-normal (ruleAt (P .rules) (K .permit)) (start-permit (isStore (K .kind)) refl);
+      behalf = refl;
     }
 
   -- nothing starts where the image has no container

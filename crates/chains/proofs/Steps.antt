@@ -5,6 +5,7 @@ use native.Mathlib.Decide.{decLt}
 use mathlib.Core.Path.{_≡_, refl, subst}
 use mathlib.Core.List.{List, [], _∷_}
 use mathlib.Core.Logic.{_⊎_, inl, inr, _≢_, _↔_}
+use borrow.Author.Tests.{eq-eqb, ne-eqb}
 use Rattle.image.specs.Policy.{Policy}
 use Rattle.chains.specs.History.{
   Step,
@@ -46,6 +47,8 @@ use Rattle.chains.specs.Chains.{
   Chain,
   Governs,
 }
+use Rattle.session.specs.Limits.{nobody}
+use Rattle.chains.specs.Behalf.{onBehalf}
 use Rattle.chains.proofs.ChainLaws.{at-lt, at-same, chain-snoc, chain-stay, chain-carry}
 
 -- ---- only the receiver is concerned
@@ -126,6 +129,32 @@ deleted-first h j p f at x (i ∷ rest) c y (s, b, z, lo, here, stands, ca, on) 
             let same : i ≡ j = omega (arith, l, k) in
             let is-delete : s ≡ delete p f = at-same h j s (delete p f) (subst (λ (n : ℕ). StepAt h n s) same here) at in
             delete-any (subst (λ (t : Step). Carries t f x b z) is-delete ca)
+
+-- ---- on whose behalf a process runs
+
+module _ (h : History) where
+  pub behalf-other : (s : Step) (c : ℕ) → c ≢ receiver s → onBehalf (h ▸ s) c ≡ onBehalf h c
+  behalf-other (read p o) c ne = refl
+  behalf-other (write p o) c ne = refl
+  behalf-other (append p o) c ne = refl
+  behalf-other (exec p o u) c ne = rw (ne-eqb c p ne)
+  behalf-other (fork p o) c ne = rw (ne-eqb c o ne)
+  behalf-other (newFile p o u) c ne = rw (ne-eqb c o ne)
+  behalf-other (newVolatile p o) c ne = rw (ne-eqb c o ne)
+  behalf-other (end p) c ne = rw (ne-eqb c p ne)
+  behalf-other (delete p o) c ne = rw (ne-eqb c o ne)
+
+  pub behalf-exec : (p o u : ℕ) → onBehalf (h ▸ exec p o u) p ≡ u
+  behalf-exec p o u = rw (eq-eqb p p refl)
+
+  pub behalf-fork : (p o : ℕ) → onBehalf (h ▸ fork p o) o ≡ onBehalf h p
+  behalf-fork p o = rw (eq-eqb o o refl)
+
+  pub behalf-file : (p o u : ℕ) → onBehalf (h ▸ newFile p o u) o ≡ nobody
+  behalf-file p o u = rw (eq-eqb o o refl)
+
+  pub behalf-volatile : (p o : ℕ) → onBehalf (h ▸ newVolatile p o) o ≡ nobody
+  behalf-volatile p o = rw (eq-eqb o o refl)
 
 module _ (P : Policy) (h : History) where
   -- ---- any other container

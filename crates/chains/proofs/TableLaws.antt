@@ -13,7 +13,7 @@ use Rattle.lists.proofs.Conditions.{zero-or-not, given-none}
 use Rattle.answers.specs.declared.Answer.{Answer}
 use Rattle.answers.specs.Answers.{refused, accepted}
 use Rattle.chains.specs.History.{Step, receiver}
-use Rattle.chains.specs.Table.{State, needsFree, ruleOr, entry, isSome, processGood, objectGood, kindGood, freeGood, userGood, meetGood, earlyConditions, tableConditions, verdict, placed, operate}
+use Rattle.chains.specs.Table.{State, needsFree, ruleOr, entry, isSome, processGood, objectGood, kindGood, freeGood, userGood, behalfFits, meetGood, earlyConditions, tableConditions, verdict, placed, operate}
 
 -- states that give the same rows and the same rules of users are equal
 pub same-state : (σ τ : State) → ((c : ℕ) → σ .row c ≡ τ .row c) → ((u : ℕ) → σ .user u ≡ τ .user u) → σ ≡ τ
@@ -49,6 +49,7 @@ module _ (σ : State) (t : Step) where
     pub process : processGood σ t ≡ true
     pub object : objectGood σ t ≡ true
     pub user : userGood σ t ≡ true
+    pub behalf : behalfFits σ t ≡ true
     pub meet : meetGood σ t ≡ true
 
   both : (b g : Bool) → (b || g) ≡ true → (not b || g) ≡ true → g ≡ true
@@ -67,5 +68,6 @@ module _ (σ : State) (t : Step) where
         process = h .0;
         object = both (needsFree (entry σ t .need)) (objectGood σ t) (unfold kindGood in (h .1 .0)) (unfold freeGood in (h .1 .1 .0));
         user = h .1 .1 .1 .0;
-        meet = h .1 .1 .1 .1;
+        behalf = h .1 .1 .1 .1 .0;
+        meet = h .1 .1 .1 .1 .1;
       })

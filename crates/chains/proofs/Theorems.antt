@@ -4,11 +4,14 @@ use Prim.Native.Nat.{ℕ, suc, zero, _<_}
 use mathlib.Core.Path.{_≡_, refl, sym, subst}
 use mathlib.Core.Logic.{_⊎_, inl, inr, _↔_}
 use mathlib.Core.List.{List, _∷_, _++_}
+use mathlib.Core.Bool.{false}
 use mathlib.Core.Option.{Option}
 use lib.ListN.{take}
+use Rattle.image.specs.Limits.{isFree}
 use Rattle.image.specs.Policy.{Policy, Sound}
 use Rattle.chains.specs.History.{Step, exec, end, delete, History, start, _▸_, StepAt}
 use Rattle.chains.specs.Chains.{Item, dataAtom, runningAtom, runRule, Starts, Carries, Ends, Leads, Chain, Governs}
+use Rattle.chains.specs.Behalf.{onBehalf}
 use Rattle.answers.specs.declared.Answer.{Answer}
 use Rattle.chains.specs.Demand.{after, historyOf, historyFrom, Demand3, TagTold, TakenAnew}
 use Rattle.chains.specs.Table.{State, begin, Faithful}
@@ -16,7 +19,7 @@ use Rattle.chains.proofs.ChainLaws.{chain-snoc, chain-stay, chain-carry
 use Rattle.chains.proofs.Inductive.{Built, listed, built}
 use Rattle.chains.proofs.Steps.{exec-data, exec-running, exec-run-rule, end-none, delete-none, deleted-first}
 use Rattle.chains.proofs.Start.{Inv, begin-ok}
-use Rattle.chains.proofs.Monitors.{Told, told-at, taken-at, history-from-append}
+use Rattle.chains.proofs.Monitors.{Told, inv-after, told-at, taken-at, history-from-append}
 
 -- ---- demand 3: of every monitor that follows the table, from every state that reads as the start of a sound policy
 
@@ -36,6 +39,13 @@ module _ {S R : Type 0} (op : S → R → S × Answer) (stepOf : R → Option St
   -- an accepted fork, new file or new volatile takes a number to which nothing of its past comes back
   pub number-taken : Faithful op stepOf view Valid → (P : Policy) → Sound P → (σ : S) → Valid σ → view σ ≡ begin P → TakenAnew op stepOf σ P
   number-taken F P ok σ v e = taken-at P op stepOf view Valid F start σ v (subst (Inv P start) (sym e) (begin-ok P ok))
+
+  -- the row of a container in use names the user on whose behalf it runs: the last exec's, through forks, or nobody
+  pub behalf-told : Faithful op stepOf view Valid → (P : Policy) → Sound P → (σ : S) → Valid σ → view σ ≡ begin P
+      → (rs : List R) (c : ℕ) → isFree (view (after op σ rs) .row c .kind) ≡ false
+      → view (after op σ rs) .row c .behalf ≡ onBehalf (historyOf op stepOf σ rs) c
+  behalf-told F P ok σ v e rs c used =
+      inv-after P op stepOf view Valid F start σ v (subst (Inv P start) (sym e) (begin-ok P ok)) rs .rows c .good used .behalf
 
 -- the history of a list of records begins with the history of its first records
 pub history-append : {S R : Type 0} (op : S → R → S × Answer) (stepOf : R → Option Step) (σ : S) (rs qs : List R)

@@ -2,5 +2,7 @@
 pub mod History
 pub mod Chains
 pub mod Demand
+-- On whose behalf a process runs, from the history alone.
+pub mod Behalf
 -- What a monitor does, as the paper's table has it. Demand 3 is proved for every monitor that follows it.
 pub mod Table

@@ -16,7 +16,8 @@ use Rattle.image.specs.Policy.{Policy, unrestrictedRule}
 use Rattle.image.specs.Normal.{Place, meaning}
 use Rattle.lists.specs.Lists.{every}
 use Rattle.lists.specs.Conditions.{Condition, _orRefuse_, firstFailed}
-use Rattle.answers.specs.Refusals.{noProcess, wrongKind, notFree, notDeclared, overLimit}
+use Rattle.answers.specs.Refusals.{noProcess, wrongKind, notFree, notDeclared, otherUser, overLimit}
+use Rattle.session.specs.Limits.{nobody}
 use Rattle.session.specs.Rows.{Row}
 use Rattle.session.specs.Session.{startRow}
 use Rattle.chains.specs.History.{Step, read, write, append, exec, fork, newFile, newVolatile, end, delete, receiver}
@@ -33,47 +34,49 @@ pub record State : Type 0 where
 
 -- "a free .. row is all 0"
 unfoldable pub freeRow : Row
-freeRow = record { kind = freeKind; tag = 0; permit = []; run = [] }
+freeRow = record { kind = freeKind; tag = 0; permit = []; run = []; behalf = 0 }
 
--- ---- the column "effect": the receiver's row afterwards, from the rows of p and o and the rule of u
+-- ---- the column "effect": the receiver's row afterwards, from the rows of p and o and the rule of u; on whose behalf: "exec sets it
+-- and fork copies it" (change request No. 5)
 
 -- "1 read: p's tag gains o's data atoms; p's run rule becomes its meet with o's"
 unfoldable pub readRow : Row → Row → Row
 readRow p o =
-    record { kind = p .kind; tag = bitOr (p .tag) (dataOf dataWidth (o .tag)); permit = p .permit; run = meet (p .run) (o .run) }
+    record { kind = p .kind; tag = bitOr (p .tag) (dataOf dataWidth (o .tag)); permit = p .permit; run = meet (p .run) (o .run); behalf = p .behalf }
 
 -- "2 write: o's tag and run rule become p's"
 unfoldable pub writeRow : Row → Row → Row
-writeRow p o = record { kind = o .kind; tag = p .tag; permit = o .permit; run = p .run }
+writeRow p o = record { kind = o .kind; tag = p .tag; permit = o .permit; run = p .run; behalf = o .behalf }
 
 -- "3 append: o's tag gains all of p's; o's run rule becomes its meet with p's"
 unfoldable pub appendRow : Row → Row → Row
 appendRow p o =
-    record { kind = o .kind; tag = bitOr (o .tag) (p .tag); permit = o .permit; run = meet (o .run) (p .run) }
+    record { kind = o .kind; tag = bitOr (o .tag) (p .tag); permit = o .permit; run = meet (o .run) (p .run); behalf = o .behalf }
 
 -- "4 exec: p's tag becomes the twins of o's data atoms"; it "keeps p's old data atoms beside the new twins. It still drops old
 -- twins and replaces the run rule" (change request No. 2); "p's run rule becomes o's; p's permit rule becomes the meet of o's run
 -- rule and u's"
-unfoldable pub execRow : Row → Row → List ℕ → Row
-execRow p o u =
+unfoldable pub execRow : Row → Row → List ℕ → ℕ → Row
+execRow p o v u =
     record {
       kind = p .kind;
       tag = bitOr (runningOf dataWidth (o .tag)) (dataOf dataWidth (p .tag));
-      permit = meet (o .run) u;
+      permit = meet (o .run) v;
       run = o .run;
+      behalf = u;
     }
 
 -- "5 fork: o becomes a copy of p"
 unfoldable pub forkRow : Row → Row
-forkRow p = record { kind = p .kind; tag = p .tag; permit = p .permit; run = p .run }
+forkRow p = record { kind = p .kind; tag = p .tag; permit = p .permit; run = p .run; behalf = p .behalf }
 
 -- "6 new file: empty tag, permit u's rule, run unrestricted"
 unfoldable pub newFileRow : List ℕ → Row
-newFileRow u = record { kind = fileKind; tag = 0; permit = u; run = unrestrictedRule }
+newFileRow v = record { kind = fileKind; tag = 0; permit = v; run = unrestrictedRule; behalf = nobody }
 
 -- "7 new volatile: empty tag, both unrestricted"
 unfoldable pub newVolatileRow : Row
-newVolatileRow = record { kind = volatileKind; tag = 0; permit = unrestrictedRule; run = unrestrictedRule }
+newVolatileRow = record { kind = volatileKind; tag = 0; permit = unrestrictedRule; run = unrestrictedRule; behalf = nobody }
 
 -- ---- the table: what a step names and needs, the meets that it forms, and the receiver's row afterwards
 
@@ -136,7 +139,7 @@ entry σ (exec p o u) =
       user = some u;
       need = file;
       meets = meet (σ .row o .run) (ruleOr (σ .user u)) ∷ [];
-      row = execRow (σ .row p) (σ .row o) (ruleOr (σ .user u));
+      row = execRow (σ .row p) (σ .row o) (ruleOr (σ .user u)) u;
     }
 entry σ (fork p o) =
     record { process = p; object = o; user = none; need = free; meets = []; row = forkRow (σ .row p) }
@@ -148,7 +151,7 @@ entry σ (newVolatile p o) =
 entry σ (end p) = record { process = p; object = p; user = none; need = process; meets = []; row = freeRow }
 entry σ (delete p o) = record { process = p; object = o; user = none; need = store; meets = []; row = freeRow }
 
--- ---- "Refused because of the session": 11 to 15 in the order of the paper
+-- ---- "Refused because of the session": 11 to 15 in the order of the paper, 18 "placed after 14"
 
 -- 11: "p is no process"
 unfoldable pub processGood : State → Step → Bool
@@ -178,6 +181,18 @@ declaredIn σ (some u) = isSome (σ .user u)
 unfoldable pub userGood : State → Step → Bool
 userGood σ t = declaredIn σ (entry σ t .user)
 
+-- 18: "code 6 names a user other than p's own recorded one"; "a process with 65535 may name any declared user"
+unfoldable pub behalfFits : State → Step → Bool
+behalfFits σ (read p o) = true
+behalfFits σ (write p o) = true
+behalfFits σ (append p o) = true
+behalfFits σ (exec p o u) = true
+behalfFits σ (fork p o) = true
+behalfFits σ (newFile p o u) = eqb (σ .row p .behalf) nobody || eqb (σ .row p .behalf) u
+behalfFits σ (newVolatile p o) = true
+behalfFits σ (end p) = true
+behalfFits σ (delete p o) = true
+
 -- a rule has at most 8 mixtures
 unfoldable pub fits : List ℕ → Bool
 fits r = leb (length r) mixtureLimit
@@ -193,6 +208,7 @@ earlyConditions σ t =
     ∷ (kindGood σ t orRefuse wrongKind)
     ∷ (freeGood σ t orRefuse notFree)
     ∷ (userGood σ t orRefuse notDeclared)
+    ∷ (behalfFits σ t orRefuse otherUser)
     ∷ []
 
 unfoldable pub tableConditions : State → Step → List Condition

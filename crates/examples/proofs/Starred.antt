@@ -47,9 +47,9 @@ pub record Starred : Type 0 where
   pub meet-of-nine : length (meet (62 ∷ 61 ∷ 59 ∷ []) (55 ∷ 47 ∷ 31 ∷ [])) ≡ 9
   pub nine-do-not-fit : boundedOf (meet (62 ∷ 61 ∷ 59 ∷ []) (55 ∷ 47 ∷ 31 ∷ [])) .fits ≡ false
   -- "Exec of a file holding 1 and 34: p holds 33", "for a p that held nothing" (change request No. 2)
-  pub exec-tag : (p o : Row) (u : List ℕ) → p .tag ≡ 0 → o .tag ≡ 2 ^ 1 + 2 ^ 34 → execRow p o u .tag ≡ 2 ^ 33
+  pub exec-tag : (p o : Row) (v : List ℕ) (u : ℕ) → p .tag ≡ 0 → o .tag ≡ 2 ^ 1 + 2 ^ 34 → execRow p o v u .tag ≡ 2 ^ 33
   -- and for a p that held data atom 3 and running atom 35: it holds 3 and 33
-  pub exec-tag-kept : (p o : Row) (u : List ℕ) → p .tag ≡ 2 ^ 3 + 2 ^ 35 → o .tag ≡ 2 ^ 1 + 2 ^ 34 → execRow p o u .tag ≡ 2 ^ 3 + 2 ^ 33
+  pub exec-tag-kept : (p o : Row) (v : List ℕ) (u : ℕ) → p .tag ≡ 2 ^ 3 + 2 ^ 35 → o .tag ≡ 2 ^ 1 + 2 ^ 34 → execRow p o v u .tag ≡ 2 ^ 3 + 2 ^ 33
   -- "Reading a file holding only 33 adds nothing."
   pub read-tag : (t : ℕ) → bitOr t (dataOf dataWidth (2 ^ 33)) ≡ t
   -- the same three and 15 as runs of records from a session's start

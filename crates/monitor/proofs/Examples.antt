@@ -13,13 +13,13 @@ use Rattle.fields.specs.Bytes.{numberIn, bytesOf, field}
 use Rattle.image.specs.Policy.{Container, Policy, unrestrictedRule, ruleAt}
 use Rattle.image.specs.Normal.{normalAt, placeOf, meaning}
 use Rattle.chains.proofs.KindLaws.{process-used}
-use Rattle.session.specs.Rows.{Row, rowWords, freeWords, permitWords, runWords, rowOf, containerRowGood, userWords, isDeclared, userRuleWords, userRuleOf, userRowGood, containerRow, userRow, putRow}
+use Rattle.session.specs.Rows.{Row, rowWords, freeWords, permitWords, runWords, rowOf, behalfGood, containerRowGood, userWords, isDeclared, userRuleWords, userRuleOf, userRowGood, containerRow, userRow, putRow}
 use Rattle.rule_words.specs.Words.{allZero, keptWell, ruleOf, wordsOf, isNormal}
 use Rattle.session.specs.Session.{startTag, startRow, placeWords, filled, sessionOf, startOf, sessionLengthGood}
 use Rattle.answers.specs.Answers.{quiet, alert, refused}
 use Rattle.answers.specs.Refusals.{notFree}
 use Rattle.chains.specs.History.{fork}
-use Rattle.chains.specs.Table.{State, freeRow, readRow, writeRow, appendRow, execRow, forkRow, newFileRow, fitsNeed, entry, processGood, objectGood, kindGood, freeGood, userGood, fits, meetGood, earlyConditions, tableConditions, alerts, verdict}
+use Rattle.chains.specs.Table.{State, freeRow, readRow, writeRow, appendRow, execRow, forkRow, newFileRow, fitsNeed, entry, processGood, objectGood, kindGood, freeGood, userGood, behalfFits, fits, meetGood, earlyConditions, tableConditions, alerts, verdict}
 use Rattle.lists.specs.Conditions.{firstFailed}
 use Rattle.records.specs.Codes.{readCode, writeCode, appendCode, execCode, forkCode, newFileCode, endCode, deleteCode, stepWith, noRows, codeAt, isCode}
 use Rattle.records.specs.Records.{noUser, requestIn, stepIn, userFits, ownObject, recordGood}
@@ -53,6 +53,10 @@ R = record {
   users = unrestrictedNumber ∷ [];
   rules = [];
 }
+
+-- a file, a process and two users, all rules unrestricted
+abbrev pub T : Policy
+T = record { containers = file 0 unrestrictedNumber ∷ process ∷ []; users = unrestrictedNumber ∷ unrestrictedNumber ∷ []; rules = [] }
 
 -- two files whose run rules have the mixtures 62, 61, 59 and 55, 47, 31, and a process
 abbrev pub Q : Policy
@@ -119,6 +123,18 @@ pub record CheckedRuns : Type 0 where
   -- "7 also covers code 8 with another o, and 12 code 9 with o of another kind."
   pub leavingRefused : runAnswers (startOf P) (recordOf endCode 3 4 noUser ∷ recordOf deleteCode 3 4 noUser ∷ recordOf deleteCode 3 5 noUser ∷ [])
       ≡ refused 7 ∷ refused 12 ∷ refused 12 ∷ []
+  -- Change request No. 5. "a process with 65535 may name any declared user"; one that runs for user 0, and one forked from it, may
+  -- name no other; a user that is not declared is 14 first.
+  pub behalf : runAnswers (startOf T)
+      (recordOf newFileCode 1 2 1
+      ∷ recordOf execCode 1 0 0
+      ∷ recordOf newFileCode 1 3 1
+      ∷ recordOf newFileCode 1 3 2
+      ∷ recordOf newFileCode 1 3 0
+      ∷ recordOf forkCode 1 4 noUser
+      ∷ recordOf newFileCode 4 5 1
+      ∷ [])
+      ≡ quiet 2 0 ∷ quiet 1 (2 ^ 32) ∷ refused 18 ∷ refused 14 ∷ quiet 3 0 ∷ quiet 4 (2 ^ 32) ∷ refused 18 ∷ []
   -- "Meet of 62, 61, 59 with 55, 47, 31 has nine: 15."
   pub meetOver : runAnswers (startOf Q) (recordOf readCode 2 0 noUser ∷ recordOf readCode 2 1 noUser ∷ []) ≡ quiet 2 0 ∷ refused 15 ∷ []
   -- the listing (Listing has it from the image's bytes)
@@ -130,13 +146,13 @@ pub checked-runs : CheckedRuns
 unfolding holds dataOf runningOf covers elem distinct heldIn unheldIn insert sort normal intersections meet unrestricted
     sameList padded isFree isFile isVolatile isProcess isStore numberIn bytesOf field unrestrictedRule ruleAt
     normalAt placeOf meaning ruleOf wordsOf allZero isNormal keptWell rowWords freeWords permitWords runWords
-    rowOf usedKind containerRowGood userWords isDeclared userRuleWords userRuleOf userRowGood containerRow userRow
+    rowOf usedKind behalfGood containerRowGood userWords isDeclared userRuleWords userRuleOf userRowGood containerRow userRow
     putRow startTag startRow placeWords filled sessionOf startOf readRow writeRow appendRow execRow forkRow fits
     alerts verdict every firstFailed freeRow fitsNeed entry stepWith noRows codeAt isCode stepIn view rowsGood
-    processGood objectGood kindGood freeGood userGood meetGood earlyConditions tableConditions sessionConditions
+    processGood objectGood kindGood freeGood userGood behalfFits meetGood earlyConditions tableConditions sessionConditions
     acceptedAnswer acceptedEffect newFileRow requestIn userFits ownObject recordGood sessionLengthGood stepAsked stepConditions refusalOf
     stepAnswer stepEffect stepOn runAnswers
-checked-runs = record { forkItself = refl; execHolding = refl; execKeeping = refl; readHolding = refl; leaving = refl; leavingRefused = refl; meetOver = refl; listing = refl; shortSession = refl }
+checked-runs = record { forkItself = refl; execHolding = refl; execKeeping = refl; readHolding = refl; leaving = refl; leavingRefused = refl; behalf = refl; meetOver = refl; listing = refl; shortSession = refl }
 
 -- ---- the same of any rows
 
@@ -146,14 +162,14 @@ unfolding firstFailed tableConditions earlyConditions processGood kindGood freeG
 fork-itself σ p h = rw (h, process-used (σ .row p .kind) h)
 
 -- for a p that held nothing
-pub exec-holding : (p o : Row) (u : List ℕ) → p .tag ≡ 0 → o .tag ≡ 2 ^ 1 + 2 ^ 34 → execRow p o u .tag ≡ 2 ^ 33
+pub exec-holding : (p o : Row) (v : List ℕ) (u : ℕ) → p .tag ≡ 0 → o .tag ≡ 2 ^ 1 + 2 ^ 34 → execRow p o v u .tag ≡ 2 ^ 33
 unfolding execRow runningOf dataOf
-exec-holding p o u n e = rw (n, e)
+exec-holding p o v u n e = rw (n, e)
 
 -- for a p that held data atom 3 and running atom 35
-pub exec-keeping : (p o : Row) (u : List ℕ) → p .tag ≡ 2 ^ 3 + 2 ^ 35 → o .tag ≡ 2 ^ 1 + 2 ^ 34 → execRow p o u .tag ≡ 2 ^ 3 + 2 ^ 33
+pub exec-keeping : (p o : Row) (v : List ℕ) (u : ℕ) → p .tag ≡ 2 ^ 3 + 2 ^ 35 → o .tag ≡ 2 ^ 1 + 2 ^ 34 → execRow p o v u .tag ≡ 2 ^ 3 + 2 ^ 33
 unfolding execRow runningOf dataOf
-exec-keeping p o u n e = rw (n, e)
+exec-keeping p o v u n e = rw (n, e)
 
 pub read-holding : (p o : Row) → o .tag ≡ 2 ^ 33 → readRow p o .tag ≡ p .tag
 unfolding readRow dataOf

@@ -2,6 +2,7 @@
 pub mod Theorems
 pub mod StepLaws
 pub mod AnswerLaws
+pub mod BehalfLaws
 pub mod StartView
 pub mod RunLaws
 pub mod DemandLaws

@@ -78,12 +78,12 @@ pub numbers : (s r : List ℕ) → numbersGood (numbersOf (stepConditions s r)) 
 unfolding stepConditions sessionConditions tableConditions earlyConditions numbersOf numbersGood elem
 numbers s r = refl
 
-conditions : (s r : List ℕ) → length (stepConditions s r) ≡ 8
+conditions : (s r : List ℕ) → length (stepConditions s r) ≡ 9
 unfolding stepConditions sessionConditions tableConditions earlyConditions
 conditions s r = refl
 
 -- each number exactly under its condition
-pub refused-at : (s r : List ℕ) (k : ℕ) → k < 8 → (refusalOf s r ≡ numberAt (stepConditions s r) k) ↔ FailsFirst (stepConditions s r) k
+pub refused-at : (s r : List ℕ) (k : ℕ) → k < 9 → (refusalOf s r ≡ numberAt (stepConditions s r) k) ↔ FailsFirst (stepConditions s r) k
 unfolding refusalOf
 refused-at s r k l = given-exactly (stepConditions s r) (numbers s r) k (omega (arith, conditions s r))
 
@@ -102,11 +102,12 @@ module _ (s r : List ℕ) (e : refusalOf s r ≡ 0) where
 
   step-meet : meetGood (view s) (stepAsked r) ≡ true
   unfolding stepConditions sessionConditions tableConditions earlyConditions
-  step-meet = holds .1 .1 .1 .1 .1 .1 .1
+  step-meet = holds .1 .1 .1 .1 .1 .1 .1 .1
 
   step-first : firstFailed (firstConditions s (stepAsked r)) ≡ 0
   unfolding stepConditions sessionConditions tableConditions earlyConditions firstConditions firstFailed
-  step-first = rw (holds .1 .1 .0, holds .1 .1 .1 .0, holds .1 .1 .1 .1 .0, holds .1 .1 .1 .1 .1 .0, holds .1 .1 .1 .1 .1 .1 .0)
+  step-first =
+      rw (holds .1 .1 .0, holds .1 .1 .1 .0, holds .1 .1 .1 .1 .0, holds .1 .1 .1 .1 .1 .0, holds .1 .1 .1 .1 .1 .1 .0, holds .1 .1 .1 .1 .1 .1 .1 .0)
 
   step-ready : Ready s (stepAsked r)
   unfolding stepAsked
@@ -114,7 +115,8 @@ module _ (s r : List ℕ) (e : refusalOf s r ≡ 0) where
 
   step-table : firstFailed (tableConditions (view s) (stepAsked r)) ≡ 0
   unfolding stepConditions sessionConditions tableConditions earlyConditions firstFailed
-  step-table = rw (holds .1 .1 .1 .0, holds .1 .1 .1 .1 .0, holds .1 .1 .1 .1 .1 .0, holds .1 .1 .1 .1 .1 .1 .0, holds .1 .1 .1 .1 .1 .1 .1)
+  step-table =
+      rw (holds .1 .1 .1 .0, holds .1 .1 .1 .1 .0, holds .1 .1 .1 .1 .1 .0, holds .1 .1 .1 .1 .1 .1 .0, holds .1 .1 .1 .1 .1 .1 .1 .0, holds .1 .1 .1 .1 .1 .1 .1 .1)
 
   pub accepted-answer : stepAnswer s r ≡ verdict (stepAsked r) (entry (view s) (stepAsked r) .row)
   unfolding stepAnswer acceptedAnswer

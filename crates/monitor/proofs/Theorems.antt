@@ -4,7 +4,7 @@
 -- and any length.
 use Prim.Native.Nat.{ℕ, suc, _*_, _<_}
 use native.Mathlib.Omega.{arith}
-use mathlib.Core.Path.{_≡_, ap, _∙_}
+use mathlib.Core.Path.{_≡_, sym, ap, _∙_}
 use mathlib.Core.Logic.{_↔_, _≢_}
 use mathlib.Core.Bool.{true, false, cond}
 use mathlib.Core.List.{List, [], _∷_, _++_}
@@ -16,22 +16,24 @@ use Rattle.lists.specs.Conditions.{numbersOf, numberAt}
 use Rattle.lists.proofs.Bools.{clash}
 use Rattle.lists.proofs.Conditions.{given-among, given-none}
 use Rattle.fields.specs.Bytes.{Bytes}
-use Rattle.answers.specs.Refusals.{operationRecord, lentLength, row, noProcess, wrongKind, notFree, notDeclared, overLimit}
+use Rattle.answers.specs.Refusals.{operationRecord, lentLength, row, noProcess, wrongKind, notFree, notDeclared, otherUser, overLimit}
 use Rattle.answers.specs.declared.Answer.{Answer}
 use Rattle.answers.specs.Answers.{quiet, alert, refused, accepted, isAlert, receiverOf, tagOf, answerNumber}
 use Rattle.rules.specs.Sets.{atom}
 use Rattle.rules.specs.Rules.{covers}
-use Rattle.image.specs.Limits.{containerLimit, userLimit}
+use Rattle.image.specs.Limits.{containerLimit, userLimit, isFree}
 use Rattle.image.specs.Image.{checkOf, policyIn}
 use Rattle.session.specs.Limits.{sessionLength}
 use Rattle.session.specs.Rows.{rowWords, containerRowGood, userRowGood, containerRow, userRow}
 use Rattle.session.specs.Session.{startOf, startAnswer, startEffect, sessionLengthGood}
 use Rattle.image.proofs.Decode.{accepted-sound}
 use Rattle.session.proofs.Canonical.{effect-start}
-use Rattle.chains.specs.History.{Step, History, receiver}
+use Rattle.chains.specs.History.{Step, newFile, History, receiver}
 use Rattle.chains.specs.Chains.{Governs, Reaches, Forbidden}
-use Rattle.chains.specs.Demand.{judged, Demand3, TagTold, TakenAnew}
-use Rattle.chains.specs.Table.{entry, processGood, kindGood, freeGood, userGood, meetGood, earlyConditions, tableConditions}
+use Rattle.chains.specs.Behalf.{onBehalf}
+use Rattle.chains.specs.Demand.{judged, historyOf, Demand3, TagTold, TakenAnew}
+use Rattle.chains.specs.Table.{entry, processGood, kindGood, freeGood, userGood, behalfFits, meetGood, earlyConditions, tableConditions}
+use Rattle.chains.proofs.KindLaws.{process-used}
 use Rattle.chains.proofs.Theorems as chains
 use Rattle.records.specs.Records.{recordLength, recordGood, stepOf}
 use Rattle.records.specs.Traces.{traceRecords}
@@ -45,6 +47,7 @@ use Rattle.monitor.specs.Stops.{isQuiet, ran, ranEffect}
 use Rattle.monitor.proofs.StepLaws.{numbers, refused-at, refused-answer, refused-effect, step-long, step-record, step-receiver, step-laid, effect-long, accepted-answer, accepted-effect, answered, answered-zero, faithful}
 use Rattle.monitor.proofs.AnswerLaws as answers
 use Rattle.monitor.proofs.AnswerLaws.{verdict-judged, new-quiet, number-told}
+use Rattle.monitor.proofs.BehalfLaws.{Other, behalf-fails, other-same, process-named}
 use Rattle.monitor.proofs.StartView.{start-valid, start-view}
 use Rattle.monitor.proofs.RunLaws.{valid-run, never-10, runEffect-append}
 use Rattle.monitor.proofs.DemandLaws.{alert-at, tag-at, alert-last}
@@ -168,7 +171,7 @@ ran-exactly image lent bytes ok rs s es t qs r et e j =
 
 -- ---- each refusal has its condition, and is given only under it: of any session and any record (the paper, "Refused ..")
 
--- the session's length is 5,280
+-- the session's length is 5,536
 pub length-good : (s : List ℕ) → (sessionLengthGood s ≡ true) ↔ (length s ≡ sessionLength)
 unfolding sessionLengthGood
 length-good s = (eqb-true (length s) sessionLength, eq-eqb (length s) sessionLength)
@@ -212,24 +215,32 @@ module _ (s r : List ℕ) where
   unfolding stepConditions sessionConditions tableConditions earlyConditions numberAt numbersOf
   refused-14 = refused-at s r 6 (omega arith)
 
+  pub refused-18 : (refusalOf s r ≡ otherUser)
+      ↔ ((sessionLengthGood s ≡ true) × ((recordGood r ≡ true) × ((rowsGood s (stepAsked r) ≡ true)
+      × ((processGood (view s) (stepAsked r) ≡ true) × ((kindGood (view s) (stepAsked r) ≡ true)
+      × ((freeGood (view s) (stepAsked r) ≡ true) × ((userGood (view s) (stepAsked r) ≡ true)
+      × (behalfFits (view s) (stepAsked r) ≡ false))))))))
+  unfolding stepConditions sessionConditions tableConditions earlyConditions numberAt numbersOf
+  refused-18 = refused-at s r 7 (omega arith)
+
   pub refused-15 : (refusalOf s r ≡ overLimit)
       ↔ ((sessionLengthGood s ≡ true) × ((recordGood r ≡ true) × ((rowsGood s (stepAsked r) ≡ true)
       × ((processGood (view s) (stepAsked r) ≡ true) × ((kindGood (view s) (stepAsked r) ≡ true)
       × ((freeGood (view s) (stepAsked r) ≡ true) × ((userGood (view s) (stepAsked r) ≡ true)
-      × (meetGood (view s) (stepAsked r) ≡ false))))))))
+      × ((behalfFits (view s) (stepAsked r) ≡ true) × (meetGood (view s) (stepAsked r) ≡ false)))))))))
   unfolding stepConditions sessionConditions tableConditions earlyConditions numberAt numbersOf
-  refused-15 = refused-at s r 7 (omega arith)
+  refused-15 = refused-at s r 8 (omega arith)
 
   pub not-refused : (refusalOf s r ≡ 0)
       ↔ ((sessionLengthGood s ≡ true) × ((recordGood r ≡ true) × ((rowsGood s (stepAsked r) ≡ true)
       × ((processGood (view s) (stepAsked r) ≡ true) × ((kindGood (view s) (stepAsked r) ≡ true)
       × ((freeGood (view s) (stepAsked r) ≡ true) × ((userGood (view s) (stepAsked r) ≡ true)
-      × (meetGood (view s) (stepAsked r) ≡ true))))))))
+      × ((behalfFits (view s) (stepAsked r) ≡ true) × (meetGood (view s) (stepAsked r) ≡ true)))))))))
   unfolding refusalOf stepConditions sessionConditions tableConditions earlyConditions
   not-refused = given-none (stepConditions s r) (numbers s r)
 
   -- no other number is given
-  pub refusals : elem (refusalOf s r) (0 ∷ lentLength ∷ operationRecord ∷ row ∷ noProcess ∷ wrongKind ∷ notFree ∷ notDeclared ∷ overLimit ∷ []) ≡ true
+  pub refusals : elem (refusalOf s r) (0 ∷ lentLength ∷ operationRecord ∷ row ∷ noProcess ∷ wrongKind ∷ notFree ∷ notDeclared ∷ otherUser ∷ overLimit ∷ []) ≡ true
   unfolding refusalOf stepConditions sessionConditions tableConditions earlyConditions numbersOf
   refusals = given-among (stepConditions s r)
 
@@ -261,6 +272,46 @@ module _ (image : List ℕ) (bytes : Bytes image) (ok : checkOf image ≡ 0) (rs
 
   pub reached-never-10 : (r : List ℕ) → refusalOf (runEffect (startOf (policyIn image)) rs) r ≢ 10
   reached-never-10 = never-10 (runEffect (startOf (policyIn image)) rs) reached
+
+-- ---- on whose behalf a process runs (change request No. 5)
+
+module _ (image : List ℕ) (bytes : Bytes image) (ok : checkOf image ≡ 0) (rs : List (List ℕ)) where
+  -- On every session reached from a start, the 21st number of a row in use is what the history says: the user of the last exec,
+  -- through forks, or nobody.
+  pub behalf-told : (c : ℕ) → isFree (view (runEffect (startOf (policyIn image)) rs) .row c .kind) ≡ false
+      → view (runEffect (startOf (policyIn image)) rs) .row c .behalf ≡ onBehalf (historyOf stepOn stepOf (startOf (policyIn image)) rs) c
+  unfolding runEffect
+  behalf-told =
+      chains.behalf-told stepOn stepOf view Valid faithful (policyIn image) (accepted-sound image bytes ok) (startOf (policyIn image))
+      (start-valid (policyIn image) (accepted-sound image bytes ok)) (start-view (policyIn image) (accepted-sound image bytes ok)) rs
+
+  -- Of records that 9, 7 and 10 to 14 do not refuse, 18 refuses exactly a new file for a user other than the one on whose behalf
+  -- its process runs, where that is not nobody.
+  pub refused-18-told : (r : List ℕ) → recordGood r ≡ true
+      → rowsGood (runEffect (startOf (policyIn image)) rs) (stepAsked r) ≡ true
+      → processGood (view (runEffect (startOf (policyIn image)) rs)) (stepAsked r) ≡ true
+      → kindGood (view (runEffect (startOf (policyIn image)) rs)) (stepAsked r) ≡ true
+      → freeGood (view (runEffect (startOf (policyIn image)) rs)) (stepAsked r) ≡ true
+      → userGood (view (runEffect (startOf (policyIn image)) rs)) (stepAsked r) ≡ true
+      → (refusalOf (runEffect (startOf (policyIn image)) rs) r ≡ otherUser) ↔ Other (onBehalf (historyOf stepOn stepOf (startOf (policyIn image)) rs)) (stepAsked r)
+  refused-18-told r g7 g10 g11 g12 g13 g14 = (to, back)
+    where
+      s : List ℕ
+      s = runEffect (startOf (policyIn image)) rs
+
+      runs : (p o u : ℕ) → stepAsked r ≡ newFile p o u → view s .row p .behalf ≡ onBehalf (historyOf stepOn stepOf (startOf (policyIn image)) rs) p
+      runs p o u e = behalf-told p (process-used (view s .row p .kind) (process-named (view s) p o u (ap (processGood (view s)) (sym e) ∙ g11)))
+
+      to : refusalOf s r ≡ otherUser → Other (onBehalf (historyOf stepOn stepOf (startOf (policyIn image)) rs)) (stepAsked r)
+      to e =
+          other-same (λ p. view s .row p .behalf) (onBehalf (historyOf stepOn stepOf (startOf (policyIn image)) rs)) (stepAsked r) runs
+          (behalf-fails (view s) (stepAsked r) .0 (refused-18 s r .0 e .1 .1 .1 .1 .1 .1 .1))
+
+      back : Other (onBehalf (historyOf stepOn stepOf (startOf (policyIn image)) rs)) (stepAsked r) → refusalOf s r ≡ otherUser
+      back x =
+          refused-18 s r .1
+          (length-good s .1 (reached-length image bytes ok rs), (g7, (g10, (g11, (g12, (g13, (g14, behalf-fails (view s) (stepAsked r) .1
+          (other-same (onBehalf (historyOf stepOn stepOf (startOf (policyIn image)) rs)) (λ p. view s .row p .behalf) (stepAsked r) (λ p o u e. sym (runs p o u e)) x))))))))
 
 -- ---- what one step changes: of any session and any record
 

@@ -7,7 +7,7 @@ use answers::Received;
 use answers::Verdict;
 use session::SESSION_LENGTH;
 
-// One step: the record on the session, which must have 5,280 numbers. Any bytes and any numbers end in an answer.
+// One step: the record on the session, which must have 5,536 numbers. Any bytes and any numbers end in an answer.
 pub fn step(session: &mut [u64], bytes: &[u8]) -> Answer
     ensures { λ r. ⌜ (r ≡ stepAnswer (now (session .entry)) (now (bytes .entry))) × (now (session .exit) ≡ stepEffect (now (session .entry)) (now (bytes .entry))) ⌝ }
 {
@@ -41,7 +41,7 @@ fn is_quiet(answer: Answer) -> bool
     }
 }
 
-// The records of the trace on the session, which must have 5,280 numbers, up to and with the first that is not answered quiet. Any
+// The records of the trace on the session, which must have 5,536 numbers, up to and with the first that is not answered quiet. Any
 // bytes and any numbers end in an answer.
 pub fn run(session: &mut [u64], trace: &[u8]) -> Ran
     ensures { λ r. ⌜ (r ≡ ran (now (session .entry)) (now (trace .entry))) × (now (session .exit) ≡ ranEffect (now (session .entry)) (now (trace .entry))) ⌝ }

@@ -21,7 +21,7 @@ use Rattle.rules.proofs.BoundedLaws.{bounded-some, padded-take}
 use Rattle.image.specs.Limits.{containerLimit, userLimit, fileKind, volatileKind, processKind}
 use Rattle.image.specs.Policy.{unrestrictedRule}
 use Rattle.rule_words.specs.Words.{ruleOf, wordsOf}
-use Rattle.session.specs.Limits.{sessionLength, rowWidth, userWidth, usersAt, runAt, userRuleAt}
+use Rattle.session.specs.Limits.{sessionLength, rowWidth, userWidth, usersAt, runAt, userRuleAt, nobody}
 use Rattle.session.specs.Rows.{Row, rowOf, rowWords, freeWords, permitWords, runWords, putRow}
 use Rattle.session.proofs.PutLaws.{container-row-length, row-lent, row-returned}
 use Rattle.chains.specs.History.{Step, read, write, append, exec, fork, newFile, newVolatile, receiver}
@@ -71,10 +71,10 @@ run-short s c h = rw (view-row s c (h .low)) (row-used s c h .runShort)
 
 -- another tag and run rule, as a row
 content-seen : (s : List ℕ) (c : ℕ) → UsedAt s c → (t : ℕ) (r : List ℕ) (m : Bounded) → m ≡ boundedOf r → length r ≤ mixtureLimit → (ws : List ℕ) → ws ≡ contentWords (lent s c) t m
-    → ws ≡ rowWords (record { kind = view s .row c .kind; tag = t; permit = view s .row c .permit; run = r })
+    → ws ≡ rowWords (record { kind = view s .row c .kind; tag = t; permit = view s .row c .permit; run = r; behalf = view s .row c .behalf })
 content-seen s c h t r m e l ws ew =
     ew ∙ ap (λ (x : List ℕ). contentWords x t m) (row-lent s c) ∙ content-row s c h t r m e l
-    ∙ ap (λ (w : Row). rowWords (record { kind = w .kind; tag = t; permit = w .permit; run = r })) (sym (view-row s c (h .low)))
+    ∙ ap (λ (w : Row). rowWords (record { kind = w .kind; tag = t; permit = w .permit; run = r; behalf = w .behalf })) (sym (view-row s c (h .low)))
 
 -- ---- answers
 
@@ -110,20 +110,20 @@ module _ (s : List ℕ) (t : Step) (g : meetGood (view s) t ≡ true) where
   -- all of it new
   new-done : (w : Row) → entry (view s) t .row ≡ w → (m n : Bounded) (a : Answer) (ws : List ℕ)
       → m ≡ boundedOf (w .permit) → length (w .permit) ≤ mixtureLimit → n ≡ boundedOf (w .run) → length (w .run) ≤ mixtureLimit
-      → a ≡ verdict t w → ws ≡ newWords (w .kind) (w .tag) m n
+      → a ≡ verdict t w → ws ≡ newWords (w .kind) (w .tag) m n (w .behalf)
       → Done s t a (returned s (receiver t) ws)
   new-done w ew m n a ws em lm en ln ea e =
-      put-done a ws (ea ∙ ap (verdict t) (sym ew)) (e ∙ new-row (w .kind) (w .tag) (w .permit) (w .run) m n em lm en ln ∙ ap rowWords (sym ew))
+      put-done a ws (ea ∙ ap (verdict t) (sym ew)) (e ∙ new-row (w .kind) (w .tag) (w .permit) (w .run) m n (w .behalf) em lm en ln ∙ ap rowWords (sym ew))
 
   -- of a process
   replace-done : (w : Row) → entry (view s) t .row ≡ w → (m n : Bounded) (a : Answer) (ws : List ℕ) → judged t ≡ true → w .kind ≡ processKind
       → m ≡ boundedOf (w .permit) → length (w .permit) ≤ mixtureLimit → n ≡ boundedOf (w .run) → length (w .run) ≤ mixtureLimit
-      → a ≡ coverAnswer (receiver t) (take (m .count) (m .mixtures)) (w .tag) → ws ≡ newWords processKind (w .tag) m n
+      → a ≡ coverAnswer (receiver t) (take (m .count) (m .mixtures)) (w .tag) → ws ≡ newWords processKind (w .tag) m n (w .behalf)
       → Done s t a (returned s (receiver t) ws)
   replace-done w ew m n a ws j ek em lm en ln ea e =
       new-done w ew m n a ws em lm en ln
       (ea ∙ ap (λ (x : List ℕ). coverAnswer (receiver t) x (w .tag)) (bounded-rule (w .permit) m em lm .1) ∙ verdict-covers t w j)
-      (e ∙ ap (λ (k : ℕ). newWords k (w .tag) m n) (sym ek))
+      (e ∙ ap (λ (k : ℕ). newWords k (w .tag) m n (w .behalf)) (sym ek))
 
 -- ---- a container that takes in what another has
 
@@ -190,20 +190,20 @@ module _ (s : List ℕ) (p o : ℕ) where
       put-done s (write p o) refl a ws
       (ea ∙ ap₂ (λ (x : List ℕ) (y : ℕ). coverAnswer o x y) (lent-permit s o (uo .low)) et ∙ verdict-covers (write p o) w refl)
       (content-seen s o uo t (view s .row p .run) m em (run-short s p (ready-process s (write p o) h)) ws ew
-      ∙ ap (λ (y : ℕ). rowWords (record { kind = view s .row o .kind; tag = y; permit = view s .row o .permit; run = view s .row p .run })) et)
+      ∙ ap (λ (y : ℕ). rowWords (record { kind = view s .row o .kind; tag = y; permit = view s .row o .permit; run = view s .row p .run; behalf = view s .row o .behalf })) et)
 
   pub fork-fit : Ready s (fork p o) → (m : Bounded) → m ≡ boundedOf (view s .row p .permit) → (length (lent s o) ≡ rowWidth) × (m .count ≤ mixtureLimit)
   unfolding entry
   fork-fit h m em =
       (lent-long s o (h .long) (h .object), bounded-rule (view s .row p .permit) m em (permit-short s p (ready-process s (fork p o) h)) .0)
 
-  pub fork-done : Ready s (fork p o) → (m : Bounded) → m ≡ boundedOf (view s .row p .permit) → (n : Bounded) → n ≡ boundedOf (view s .row p .run) → (t : ℕ) → t ≡ view s .row p .tag → (a : Answer) (ws : List ℕ)
-      → a ≡ coverAnswer o (take (m .count) (m .mixtures)) t → ws ≡ newWords processKind t m n → Done s (fork p o) a (returned s o ws)
+  pub fork-done : Ready s (fork p o) → (m : Bounded) → m ≡ boundedOf (view s .row p .permit) → (n : Bounded) → n ≡ boundedOf (view s .row p .run) → (t : ℕ) → t ≡ view s .row p .tag → (b : ℕ) → b ≡ view s .row p .behalf → (a : Answer) (ws : List ℕ)
+      → a ≡ coverAnswer o (take (m .count) (m .mixtures)) t → ws ≡ newWords processKind t m n b → Done s (fork p o) a (returned s o ws)
   unfolding entry forkRow meetGood every
-  fork-done h m em n en t et a ws ea ew =
+  fork-done h m em n en t et b eb a ws ea ew =
       let up : UsedAt s p = ready-process s (fork p o) h in
       replace-done s (fork p o) refl (forkRow (view s .row p)) refl m n a ws refl (process-kind s (fork p o) h) em (permit-short s p up) en (run-short s p up)
-      (rw et at ea) (rw et at ew)
+      (rw et at ea) (rw (et, eb) at ew)
 
 -- the two rules that an exec meets, and their places
 module _ (s : List ℕ) (p o u : ℕ) (h : Ready s (exec p o u)) where
@@ -227,10 +227,10 @@ pub one-fit : (x : ℕ) (m : Bounded) → m ≡ boundedOf (x ∷ []) → m .fits
 unfolding boundedOf
 one-fit x m e = ap (λ (n : Bounded). n .fits) e
 
-pub launch-done : (s : List ℕ) (p o : ℕ) (m n : Bounded) → n ≡ boundedOf (view s .row o .run) → (t : ℕ) → t ≡ launchTag s p o → (a : Answer) (ws : List ℕ)
-    → a ≡ coverAnswer p (take (m .count) (m .mixtures)) t → ws ≡ newWords processKind t m n → (a ≡ launchAnswer s p o m) × (returned s p ws ≡ launchEffect s p o m)
+pub launch-done : (s : List ℕ) (p o u : ℕ) (m n : Bounded) → n ≡ boundedOf (view s .row o .run) → (t : ℕ) → t ≡ launchTag s p o → (a : Answer) (ws : List ℕ)
+    → a ≡ coverAnswer p (take (m .count) (m .mixtures)) t → ws ≡ newWords processKind t m n u → (a ≡ launchAnswer s p o m) × (returned s p ws ≡ launchEffect s p o u m)
 unfolding launchAnswer launchEffect
-launch-done s p o m n en t et a ws ea ew = (ea ∙ rw et, row-returned s p ws ∙ rw (ew, en, et))
+launch-done s p o u m n en t et a ws ea ew = (ea ∙ rw et, row-returned s p ws ∙ rw (ew, en, et))
 
 -- the tag, made of the running atoms n of o and the data atoms of p
 pub launch-tag : (s : List ℕ) (p o n k t r : ℕ) → n ≡ view s .row o .tag → r ≡ runningOf dataWidth n → k ≡ view s .row p .tag → t ≡ bitOr r (dataOf dataWidth k) → t ≡ launchTag s p o
@@ -252,12 +252,12 @@ module _ (s : List ℕ) (p o u : ℕ) (h : Ready s (exec p o u)) (m : Bounded) (
   unfolding entry
   exec-fit f = (ready-process s (exec p o u) h, ready-object s (exec p o u) h refl, bounded-rule (meet (view s .row o .run) (ruleOr (view s .user u))) m em (exec-short f) .0)
 
-  pub exec-done : m .fits ≡ true → (a : Answer) (s₁ : List ℕ) → (a ≡ launchAnswer s p o m) × (s₁ ≡ launchEffect s p o m) → Done s (exec p o u) a s₁
+  pub exec-done : m .fits ≡ true → (a : Answer) (s₁ : List ℕ) → (a ≡ launchAnswer s p o m) × (s₁ ≡ launchEffect s p o u m) → Done s (exec p o u) a s₁
   unfolding entry execRow launchTag launchAnswer launchEffect
   exec-done f a s₁ (ea, es) =
-      let ws : List ℕ = newWords processKind (launchTag s p o) m (boundedOf (view s .row o .run)) in
+      let ws : List ℕ = newWords processKind (launchTag s p o) m (boundedOf (view s .row o .run)) u in
       let d : Done s (exec p o u) a (returned s p ws) =
-      replace-done s (exec p o u) (exec-meet ∙ f) (execRow (view s .row p) (view s .row o) (ruleOr (view s .user u))) refl m (boundedOf (view s .row o .run)) a ws refl (process-kind s (exec p o u) h) em (exec-short f) refl
+      replace-done s (exec p o u) (exec-meet ∙ f) (execRow (view s .row p) (view s .row o) (ruleOr (view s .user u)) u) refl m (boundedOf (view s .row o .run)) a ws refl (process-kind s (exec p o u) h) em (exec-short f) refl
       (run-short s o (ready-object s (exec p o u) h refl)) ea refl in
       (d .0, es ∙ sym (row-returned s p ws) ∙ d .1)
 
@@ -266,7 +266,7 @@ unfolding unrestricted
 all-short = omega arith
 
 pub file-done : (s : List ℕ) (p o u : ℕ) → Ready s (newFile p o u) → (m : Bounded) → m ≡ boundedOf (ruleOr (view s .user u)) → (n : Bounded) → n ≡ boundedOf (unrestricted tagWidth) → (ws : List ℕ)
-    → ws ≡ newWords fileKind 0 m n → Done s (newFile p o u) (quiet o 0) (returned s o ws)
+    → ws ≡ newWords fileKind 0 m n nobody → Done s (newFile p o u) (quiet o 0) (returned s o ws)
 unfolding entry newFileRow unrestrictedRule meetGood every
 file-done s p o u h m em n en ws ew =
     let w : Row = newFileRow (ruleOr (view s .user u)) in
@@ -274,7 +274,7 @@ file-done s p o u h m em n en ws ew =
     (verdict-unjudged (newFile p o u) w refl) ew
 
 pub volatile-done : (s : List ℕ) (p o : ℕ) (m : Bounded) → m ≡ boundedOf (unrestricted tagWidth) → (ws : List ℕ)
-    → ws ≡ newWords volatileKind 0 m m → Done s (newVolatile p o) (quiet o 0) (returned s o ws)
+    → ws ≡ newWords volatileKind 0 m m nobody → Done s (newVolatile p o) (quiet o 0) (returned s o ws)
 unfolding entry newVolatileRow unrestrictedRule meetGood every
 volatile-done s p o m em ws ew =
     new-done s (newVolatile p o) refl newVolatileRow refl m m (quiet o 0) ws em all-short em all-short (verdict-unjudged (newVolatile p o) newVolatileRow refl) ew

@@ -1,28 +1,30 @@
 -- The row that an accepted step puts passes the row test of the session, and reads back as it was put.
-use Prim.Native.Nat.{ℕ, _≤_}
+use Prim.Native.Nat.{ℕ, _≤_, _<_}
 use native.Mathlib.Omega.{arith}
 use mathlib.Core.Path.{_≡_, refl}
 use mathlib.Core.Bool.{true}
 use mathlib.Core.List.{List, [], _∷_}
+use lib.Dec.{eqb}
 use lib.ListN.{length}
+use borrow.Author.Tests.{eq-eqb, lt-ltb}
 use Rattle.lists.specs.Lists.{every}
-use Rattle.lists.proofs.Bools.{and-0}
+use Rattle.lists.proofs.Bools.{and-0, and-in, or-1}
 use Rattle.rules.specs.Rules.{normal, meet, intersections, unrestricted}
 use Rattle.rules.specs.Answers.{mixtureLimit, padded}
 use Rattle.rules.proofs.RuleLaws.{normal-normal}
 use Rattle.rules.proofs.MeetAll.{normal-one}
-use Rattle.image.specs.Limits.{isFree, isFile, isVolatile, isStore, usedKind}
+use Rattle.image.specs.Limits.{userLimit, fileKind, volatileKind, processKind, isFree, isFile, isVolatile, isProcess, isStore, usedKind}
 use Rattle.image.specs.Policy.{unrestrictedRule}
 use Rattle.rule_words.specs.Words.{ruleOf, wordsOf, allZero}
-use Rattle.session.specs.Limits.{rowWidth}
-use Rattle.session.specs.Rows.{Row, rowOf, rowWords, permitWords, runWords, containerRowGood, InUse, userRow}
-use Rattle.session.proofs.RowLaws.{row-length, row-words, row-good, good-declared}
+use Rattle.session.specs.Limits.{rowWidth, nobody}
+use Rattle.session.specs.Rows.{Row, rowOf, rowWords, permitWords, runWords, behalfGood, containerRowGood, InUse, userRow}
+use Rattle.session.proofs.RowLaws.{nobody-good, row-length, row-words, row-good, good-declared}
 use Rattle.chains.specs.History.{Step, read, write, append, exec, fork, newFile, newVolatile, end, delete}
 use Rattle.chains.specs.Table.{freeRow, readRow, writeRow, appendRow, execRow, forkRow, newFileRow, newVolatileRow, ruleOr, entry, fits, meetGood}
 use Rattle.operations.specs.View.{view}
 use Rattle.operations.specs.Parts.{Ready, UsedAt, DeclaredAt}
 use Rattle.operations.proofs.ViewLaws.{view-row, view-user}
-use Rattle.operations.proofs.ReadyLaws.{ready-process, ready-object, ready-user}
+use Rattle.operations.proofs.ReadyLaws.{process-kind, ready-process, ready-object, ready-user}
 use Rattle.operations.proofs.RowSteps.{row-used, fits-short}
 
 -- ---- rows that can be put: their numbers are a row of the session, read back as the row, and pass the row test
@@ -58,14 +60,20 @@ unrestricted-kept : RuleKept unrestrictedRule
 unfolding unrestrictedRule unrestricted
 unrestricted-kept = record { short = omega arith; normalised = normal-one _ }
 
-made : (w : Row) → usedKind (w .kind) ≡ true → RuleKept (w .permit) → RuleKept (w .run) → Laid w
-made w k p r = laid-used w (record {
+made : (w : Row) → usedKind (w .kind) ≡ true → RuleKept (w .permit) → RuleKept (w .run) → behalfGood (w .kind) (w .behalf) ≡ true → Laid w
+made w k p r b = laid-used w (record {
   used = k;
   permitShort = p .short;
   permitNormal = p .normalised;
   runShort = r .short;
   runNormal = r .normalised;
+  behalfKept = b;
 })
+
+-- a process may name any user's number
+user-behalf : (k u : ℕ) → k ≡ processKind → u < userLimit → behalfGood k u ≡ true
+unfolding behalfGood isProcess
+user-behalf k u e l = or-1 (eqb u nobody) _ (and-in (eq-eqb k processKind e) (lt-ltb u userLimit l))
 
 -- ---- the rows and rules that a step finds
 
@@ -93,20 +101,20 @@ module _ (s : List ℕ) where
   unfolding entry meetGood readRow writeRow appendRow execRow forkRow newFileRow newVolatileRow usedKind isStore isFile isVolatile
   entry-laid (read p o) h m =
       let up : UsedAt s p = ready-process s (read p o) h in
-      made _ (in-use p up .used) (permit-rule p up) (met-kept (view s .row p .run) (view s .row o .run) m)
+      made _ (in-use p up .used) (permit-rule p up) (met-kept (view s .row p .run) (view s .row o .run) m) (in-use p up .behalfKept)
   entry-laid (write p o) h m =
       let uo : UsedAt s o = ready-object s (write p o) h refl in
-      made _ (in-use o uo .used) (permit-rule o uo) (run-rule p (ready-process s (write p o) h))
+      made _ (in-use o uo .used) (permit-rule o uo) (run-rule p (ready-process s (write p o) h)) (in-use o uo .behalfKept)
   entry-laid (append p o) h m =
       let uo : UsedAt s o = ready-object s (append p o) h refl in
-      made _ (in-use o uo .used) (permit-rule o uo) (met-kept (view s .row o .run) (view s .row p .run) m)
+      made _ (in-use o uo .used) (permit-rule o uo) (met-kept (view s .row o .run) (view s .row p .run) m) (in-use o uo .behalfKept)
   entry-laid (exec p o u) h m =
       made _ (in-use p (ready-process s (exec p o u) h) .used) (met-kept (view s .row o .run) (ruleOr (view s .user u)) m)
-      (run-rule o (ready-object s (exec p o u) h refl))
+      (run-rule o (ready-object s (exec p o u) h refl)) (user-behalf (view s .row p .kind) u (process-kind s (exec p o u) h) (h .user u refl))
   entry-laid (fork p o) h m =
       let up : UsedAt s p = ready-process s (fork p o) h in
-      made _ (in-use p up .used) (permit-rule p up) (run-rule p up)
-  entry-laid (newFile p o u) h m = made _ refl (user-rule u (ready-user s (newFile p o u) h u refl)) unrestricted-kept
-  entry-laid (newVolatile p o) h m = made _ refl unrestricted-kept unrestricted-kept
+      made _ (in-use p up .used) (permit-rule p up) (run-rule p up) (in-use p up .behalfKept)
+  entry-laid (newFile p o u) h m = made _ refl (user-rule u (ready-user s (newFile p o u) h u refl)) unrestricted-kept (nobody-good fileKind)
+  entry-laid (newVolatile p o) h m = made _ refl unrestricted-kept unrestricted-kept (nobody-good volatileKind)
   entry-laid (end p) h m = laid-free
   entry-laid (delete p o) h m = laid-free

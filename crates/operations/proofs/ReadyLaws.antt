@@ -42,7 +42,7 @@ tests s t e = of (given-none (firstConditions s t) numbers .0 e)
       rows = h .0;
       process = h .1 .0;
       object = both (needsFree (entry (view s) t .need)) (objectGood (view s) t) (unfold kindGood in (h .1 .1 .0)) (unfold freeGood in (h .1 .1 .1 .0));
-      user = h .1 .1 .1 .1;
+      user = h .1 .1 .1 .1 .0;
     })
 
 -- what a need asks of a kind makes it used, unless it is a free one

@@ -1,4 +1,4 @@
--- The refusals 10 to 14 tested one by one: what each test found decides `rowsGood` and the first condition that fails.
+-- The refusals 10 to 14 and 18 tested one by one: what each test found decides `rowsGood` and the first condition that fails.
 use Prim.Native.Nat.{ℕ, _+_, _-_, _*_, _<_}
 use native.Mathlib.Omega.{arith}
 use mathlib.Core.Path.{_≡_, refl, sym, ap, ap₂, _∙_}
@@ -12,18 +12,18 @@ use lib.Seq.{getD-drop, getD-take}
 use borrow.Author.Tests.{eq-eqb, ne-eqb, not-true, not-false}
 use Rattle.lists.specs.Conditions.{firstFailed}
 use Rattle.lists.proofs.Bools.{or-1, passes-test, fails-test, clash, refuted}
-use Rattle.answers.specs.Refusals.{row, noProcess, wrongKind, notFree, notDeclared}
+use Rattle.answers.specs.Refusals.{row, noProcess, wrongKind, notFree, notDeclared, otherUser}
 use Rattle.image.specs.Limits.{isProcess, containerLimit, userLimit}
-use Rattle.session.specs.Limits.{rowWidth, userWidth, usersAt, kindAt, declaredAt, declared}
+use Rattle.session.specs.Limits.{rowWidth, userWidth, usersAt, kindAt, declaredAt, declared, nobody}
 use Rattle.session.specs.Rows.{Row, containerRow, userRow, rowOf, isDeclared, userRuleOf, containerRowGood, userRowGood}
 use Rattle.session.proofs.PutLaws.{row-lent, user-lent}
-use Rattle.chains.specs.Table.{Need, store, file, free, process, needsFree, fitsNeed, entry, isSome, processGood, objectGood, kindGood, freeGood, userGood, earlyConditions}
+use Rattle.chains.specs.Table.{Need, store, file, free, process, needsFree, fitsNeed, entry, isSome, processGood, objectGood, kindGood, freeGood, userGood, behalfFits, earlyConditions}
 use Rattle.records.specs.declared.Code.{Code}
 use Rattle.records.specs.declared.Request.{Request}
 use Rattle.records.specs.Codes as codes
-use Rattle.records.specs.Codes.{needNumber, objectFits, codeAt}
+use Rattle.records.specs.Codes.{newFileCode, needNumber, objectFits, codeAt}
 use Rattle.records.specs.Records.{stepIn, Asked}
-use Rattle.records.proofs.CodeLaws.{Entered, entered, need-fits}
+use Rattle.records.proofs.CodeLaws.{Entered, entered, need-fits, behalf-other, behalf-file, unnamed-other}
 use Rattle.operations.specs.View.{view}
 use Rattle.operations.specs.Effects.{Named, userNamedGood, rowsGood}
 use Rattle.operations.specs.Parts.{firstConditions}
@@ -170,21 +170,37 @@ module _ (s : List ℕ) (q : Request) (a : Asked q) where
           unfolding freeGood
           free-passes = or-1 (not (needsFree need)) _ (passes-test fit y)
 
-          early-user : (b : Bool) → userGood (view s) (stepIn q) ≡ b → firstFailed (firstConditions s (stepIn q)) ≡ cond b 0 notDeclared
+          undeclared : userGood (view s) (stepIn q) ≡ false → firstFailed (firstConditions s (stepIn q)) ≡ notDeclared
           unfolding firstConditions earlyConditions firstFailed
-          early-user b u = simp (passes-test r h, passes-test (ep ∙ process-told) g, kind-passes, free-passes, u)
+          undeclared u = simp (passes-test r h, passes-test (ep ∙ process-told) g, kind-passes, free-passes, u)
+
+          by-behalf : userGood (view s) (stepIn q) ≡ true → (b : Bool) → behalfFits (view s) (stepIn q) ≡ b → firstFailed (firstConditions s (stepIn q)) ≡ cond b 0 otherUser
+          unfolding firstConditions earlyConditions firstFailed
+          by-behalf u b f = simp (passes-test r h, passes-test (ep ∙ process-told) g, kind-passes, free-passes, u, f)
 
           user-is : k .user ≡ codeAt (q .code) .user
           user-is = ap (λ (x : Code). x .user) ke
 
           pub early-none : not (k .user) ≡ true → 0 ≡ firstFailed (firstConditions s (stepIn q))
-          early-none n = sym (early-user true (unnamed-told (sym user-is ∙ not-true (k .user) n)))
+          early-none n =
+              let f : codeAt (q .code) .user ≡ false = sym user-is ∙ not-true (k .user) n in
+              sym (by-behalf (unnamed-told f) true (behalf-other (view s) q a (unnamed-other q f)))
 
           pub early-14 : not (k .user) ≡ false → (getD s (usersAt + q .u * userWidth) 0 ≡ declared → ⊥) → notDeclared ≡ firstFailed (firstConditions s (stepIn q))
-          early-14 n z = sym (early-user false (user-told (sym user-is ∙ not-false (k .user) n) false (ne-eqb (getD s (usersAt + q .u * userWidth) 0) declared z)))
+          early-14 n z = sym (undeclared (user-told (sym user-is ∙ not-false (k .user) n) false (ne-eqb (getD s (usersAt + q .u * userWidth) 0) declared z)))
 
-          pub early-passed : not (k .user) ≡ false → getD s (usersAt + q .u * userWidth) 0 ≡ declared → 0 ≡ firstFailed (firstConditions s (stepIn q))
-          early-passed n z = sym (early-user true (user-told (sym user-is ∙ not-false (k .user) n) true (eq-eqb (getD s (usersAt + q .u * userWidth) 0) declared z)))
+          module _ (n : not (k .user) ≡ false) (z : getD s (usersAt + q .u * userWidth) 0 ≡ declared) where
+            user-passes : userGood (view s) (stepIn q) ≡ true
+            user-passes = user-told (sym user-is ∙ not-false (k .user) n) true (eq-eqb (getD s (usersAt + q .u * userWidth) 0) declared z)
+
+            pub early-passed : (q .code ≡ newFileCode → ⊥) → 0 ≡ firstFailed (firstConditions s (stepIn q))
+            early-passed ne = sym (by-behalf user-passes true (behalf-other (view s) q a ne))
+
+            pub early-18 : q .code ≡ newFileCode → (b : ℕ) → b ≡ view s .row (q .p) .behalf → (x : ℕ) → x ≡ cond (eqb b nobody || eqb b (q .u)) 0 otherUser
+                → x ≡ firstFailed (firstConditions s (stepIn q))
+            early-18 c b eb x ex =
+                ex ∙ ap (λ (m : ℕ). cond (eqb m nobody || eqb m (q .u)) 0 otherUser) eb
+                ∙ sym (by-behalf user-passes _ (behalf-file (view s) q c))
 
 -- a request names a user below 16 if its code names one
 pub user-low : (s : List ℕ) (q : Request) (k : Code) → Named s q → k ≡ codeAt (q .code) → not (k .user) ≡ false → q .u < userLimit

@@ -19,7 +19,7 @@ use Rattle.rules.proofs.BoundedLaws.{bounded-test, bounded-fits}
 use Rattle.rules.proofs.RuleLaws.{meet-comm}
 use Rattle.rules.proofs.RefineLaws.{refines-meet}
 use Rattle.rules.proofs.MeetLaws.{meet-one}
-use Rattle.session.specs.Limits.{rowWidth, userWidth, usersAt, kindAt, tagAt, permitAt, runAt, userRuleAt}
+use Rattle.session.specs.Limits.{rowWidth, userWidth, usersAt, kindAt, tagAt, permitAt, runAt, behalfAt, userRuleAt}
 use Rattle.rule_words.specs.Words.{ruleWidth, ruleOf, wordsOf}
 use Rattle.session.specs.Rows.{Row, InUse, rowOf, rowWords, permitWords, runWords, containerRow, userRow, userRuleWords, userRuleOf}
 use Rattle.rule_words.proofs.WordLaws.{bounded-words}
@@ -77,6 +77,13 @@ tag-read : (s : List ℕ) (c : ℕ) → getD s (c * rowWidth + tagAt) 0 ≡ rowO
 unfolding rowOf containerRow
 tag-read s c = sym (getD-take rowWidth (drop (c * rowWidth) s) tagAt 0 (omega arith) ∙ getD-drop (c * rowWidth) s tagAt 0)
 
+behalf-read : (s : List ℕ) (c : ℕ) → getD s (c * rowWidth + behalfAt) 0 ≡ rowOf (containerRow s c) .behalf
+unfolding rowOf containerRow
+behalf-read s c = sym (getD-take rowWidth (drop (c * rowWidth) s) behalfAt 0 (omega arith) ∙ getD-drop (c * rowWidth) s behalfAt 0)
+
+pub behalf-seen : (s : List ℕ) (c : ℕ) → c < containerLimit → getD s (c * rowWidth + behalfAt) 0 ≡ view s .row c .behalf
+behalf-seen s c l = behalf-read s c ∙ ap (λ (w : Row). w .behalf) (sym (view-row s c l))
+
 pub tag-seen : (s : List ℕ) (c : ℕ) → c < containerLimit → getD s (c * rowWidth + tagAt) 0 ≡ view s .row c .tag
 tag-seen s c l = tag-read s c ∙ ap (λ (w : Row). w .tag) (sym (view-row s c l))
 
@@ -99,15 +106,15 @@ module _ (s : List ℕ) (c : ℕ) (h : UsedAt s c) where
 
   -- another tag and run rule, as a row
   pub content-row : (t : ℕ) (r : List ℕ) (m : Bounded) → m ≡ boundedOf r → length r ≤ mixtureLimit
-      → contentWords (containerRow s c) t m ≡ rowWords (record { kind = rowOf (containerRow s c) .kind; tag = t; permit = rowOf (containerRow s c) .permit; run = r })
+      → contentWords (containerRow s c) t m ≡ rowWords (record { kind = rowOf (containerRow s c) .kind; tag = t; permit = rowOf (containerRow s c) .permit; run = r; behalf = rowOf (containerRow s c) .behalf })
   unfolding contentWords boundedWords rowWords rowOf
-  content-row t r m e l = ap₂ (λ (x y : List ℕ). getD (containerRow s c) kindAt 0 ∷ t ∷ (x ++ y)) permit-kept-words (bounded-words r m e l)
+  content-row t r m e l = ap₂ (λ (x y : List ℕ). getD (containerRow s c) kindAt 0 ∷ t ∷ (x ++ (y ++ (getD (containerRow s c) behalfAt 0 ∷ [])))) permit-kept-words (bounded-words r m e l)
 
 -- a new row, as a row
-pub new-row : (k t : ℕ) (p r : List ℕ) (m n : Bounded) → m ≡ boundedOf p → length p ≤ mixtureLimit → n ≡ boundedOf r → length r ≤ mixtureLimit
-    → newWords k t m n ≡ rowWords (record { kind = k; tag = t; permit = p; run = r })
+pub new-row : (k t : ℕ) (p r : List ℕ) (m n : Bounded) (b : ℕ) → m ≡ boundedOf p → length p ≤ mixtureLimit → n ≡ boundedOf r → length r ≤ mixtureLimit
+    → newWords k t m n b ≡ rowWords (record { kind = k; tag = t; permit = p; run = r; behalf = b })
 unfolding newWords boundedWords rowWords
-new-row k t p r m n e l f d = ap₂ (λ (x y : List ℕ). k ∷ t ∷ (x ++ y)) (bounded-words p m e l) (bounded-words r n f d)
+new-row k t p r m n b e l f d = ap₂ (λ (x y : List ℕ). k ∷ t ∷ (x ++ (y ++ (b ∷ [])))) (bounded-words p m e l) (bounded-words r n f d)
 
 -- ---- rules that are made
 
@@ -267,6 +274,13 @@ module _ (s : List ℕ) (x y : ℕ) (h : (eqb (getD s x 0) 1 && eqb (getD s y 0)
   pub meet-single : KeptAt s x → KeptAt s y → bitAnd (getD s (x + 1) 0) (getD s (y + 1) 0) ∷ [] ≡ meet (ruleOf (wordsFrom s x)) (ruleOf (wordsFrom s y))
   meet-single k l = meet-singles _ _ _ _ (single-rule s x k single-first) (single-rule s y l (eqb-true (getD s y 0) 1 (and-1 (eqb (getD s x 0) 1) h)))
 
+-- the number behind the words of two rules
+last-alone : (row : List ℕ) → length row ≡ ruleWidth + ruleWidth + 1 → drop ruleWidth (drop ruleWidth row) ≡ getD row (ruleWidth + ruleWidth) 0 ∷ []
+last-alone row l =
+    drop-drop ruleWidth ruleWidth row
+    ∙ drop-cons row (ruleWidth + ruleWidth) 0 (omega arith)
+    ∙ ap (λ (x : List ℕ). getD row (ruleWidth + ruleWidth) 0 ∷ x) (drop-of-length-le row {i = ruleWidth + ruleWidth + 1} (omega arith))
+
 -- ---- a row with another tag and run rule
 
 module _ (row : List ℕ) (t : ℕ) (l : length row ≡ rowWidth) where
@@ -274,12 +288,12 @@ module _ (row : List ℕ) (t : ℕ) (l : length row ≡ rowWidth) where
   unfolding contentWords boundedWords permitWords
   content-put ws m e = by row l
     where
-      by : (row : List ℕ) → length row ≡ rowWidth → putMid runAt ruleWidth (set row tagAt t) ws ≡ getD row kindAt 0 ∷ t ∷ (take ruleWidth (drop permitAt row) ++ (m .count ∷ m .mixtures))
+      by : (row : List ℕ) → length row ≡ rowWidth
+          → putMid runAt ruleWidth (set row tagAt t) ws ≡ getD row kindAt 0 ∷ t ∷ (take ruleWidth (drop permitAt row) ++ ((m .count ∷ m .mixtures) ++ (getD row behalfAt 0 ∷ [])))
       by [] l = absurd (omega arith)
       by (a ∷ []) l = absurd (omega arith)
       by (a ∷ b ∷ row) l =
-          let f : drop ruleWidth (drop ruleWidth row) ≡ [] = drop-drop ruleWidth ruleWidth row ∙ drop-of-length-le row {i = ruleWidth + ruleWidth} (omega arith) in
-          ap₂ (λ (x y : List ℕ). a ∷ t ∷ (take ruleWidth row ++ (x ++ y))) e f ∙ ap (λ (x : List ℕ). a ∷ t ∷ (take ruleWidth row ++ x)) (append-nil (m .count ∷ m .mixtures))
+          ap₂ (λ (x y : List ℕ). a ∷ t ∷ (take ruleWidth row ++ (x ++ y))) e (last-alone row (omega arith))
 
   -- where the run rule has one mixture, only that one changes
   pub single-put : (m : ℕ) → Kept (runWords row) → getD (runWords row) 0 0 ≡ 1 → set (set row tagAt t) (runAt + 1) m ≡ contentWords row t (boundedOf (m ∷ []))
@@ -287,16 +301,18 @@ module _ (row : List ℕ) (t : ℕ) (l : length row ≡ rowWidth) where
   single-put m k e = by row l k e
     where
       by : (row : List ℕ) → length row ≡ rowWidth → Kept (take ruleWidth (drop runAt row)) → getD (take ruleWidth (drop runAt row)) 0 0 ≡ 1
-          → set (set row tagAt t) (runAt + 1) m ≡ getD row kindAt 0 ∷ t ∷ (take ruleWidth (drop permitAt row) ++ (1 ∷ m ∷ 0 ∷ 0 ∷ 0 ∷ 0 ∷ 0 ∷ 0 ∷ 0 ∷ []))
+          → set (set row tagAt t) (runAt + 1) m ≡ getD row kindAt 0 ∷ t ∷ (take ruleWidth (drop permitAt row) ++ (1 ∷ m ∷ 0 ∷ 0 ∷ 0 ∷ 0 ∷ 0 ∷ 0 ∷ 0 ∷ getD row behalfAt 0 ∷ []))
       by [] l k e = absurd (omega arith)
       by (a ∷ []) l k e = absurd (omega arith)
       by (a ∷ b ∷ row) l k e =
           let p : List ℕ = take ruleWidth row in
-          let z : List ℕ = 0 ∷ 0 ∷ 0 ∷ 0 ∷ 0 ∷ 0 ∷ 0 ∷ [] in
+          let z : List ℕ = 0 ∷ 0 ∷ 0 ∷ 0 ∷ 0 ∷ 0 ∷ 0 ∷ getD row (ruleWidth + ruleWidth) 0 ∷ [] in
           let x : ℕ = getD (take ruleWidth (drop ruleWidth row)) 1 0 in
           let f : row ≡ (p ++ (1 ∷ [])) ++ (x ∷ z) =
           sym (take-append-drop ruleWidth row)
-          ∙ ap (λ (y : List ℕ). p ++ y) (sym (take-all ruleWidth (drop ruleWidth row) (omega (arith, length-drop ruleWidth row))) ∙ single-words (take ruleWidth (drop ruleWidth row)) k e)
+          ∙ ap (λ (y : List ℕ). p ++ y)
+          (sym (take-append-drop ruleWidth (drop ruleWidth row))
+          ∙ ap₂ (λ (u v : List ℕ). u ++ v) (single-words (take ruleWidth (drop ruleWidth row)) k e) (last-alone row (omega arith)))
           ∙ sym (append-assoc p (1 ∷ []) (x ∷ z)) in
           let n : length (p ++ (1 ∷ [])) ≡ 10 = length-append p (1 ∷ []) ∙ omega (arith, length-take ruleWidth row) in
           ap (λ (y : List ℕ). a ∷ t ∷ y) (ap (λ (y : List ℕ). set y 10 m) f ∙ set-at (p ++ (1 ∷ [])) x z m 10 n ∙ append-assoc p (1 ∷ []) (m ∷ z))
@@ -305,12 +321,13 @@ module _ (row : List ℕ) (t : ℕ) (l : length row ≡ rowWidth) where
     content-permit : permitWords (contentWords row t m) ≡ permitWords row
     content-permit = unfold contentWords in (by (permitWords row) (permit-long row l))
       where
-        by : (p : List ℕ) → length p ≡ ruleWidth → permitWords (getD row kindAt 0 ∷ t ∷ (p ++ boundedWords m)) ≡ p
-        by p e = unfold permitWords in (take-at p (boundedWords m) ruleWidth e)
+        by : (p : List ℕ) → length p ≡ ruleWidth → permitWords (getD row kindAt 0 ∷ t ∷ (p ++ (boundedWords m ++ (getD row behalfAt 0 ∷ [])))) ≡ p
+        by p e = unfold permitWords in (take-at p (boundedWords m ++ (getD row behalfAt 0 ∷ [])) ruleWidth e)
 
     content-length : length (m .mixtures) ≡ mixtureLimit → length (contentWords row t m) ≡ rowWidth
     unfolding contentWords boundedWords
-    content-length k = omega (arith, length-append (permitWords row) (m .count ∷ m .mixtures), permit-long row l)
+    content-length k =
+        omega (arith, length-append (permitWords row) ((m .count ∷ m .mixtures) ++ (getD row behalfAt 0 ∷ [])), length-append (m .count ∷ m .mixtures) (getD row behalfAt 0 ∷ []), permit-long row l)
 
     content-tag : rowOf (contentWords row t m) .tag ≡ t
     unfolding rowOf contentWords
@@ -332,24 +349,25 @@ module _ (row : List ℕ) (t : ℕ) (l : length row ≡ rowWidth) where
 
 -- ---- a new row
 
-module _ (k t : ℕ) (p m : Bounded) (lp : length (p .mixtures) ≡ mixtureLimit) where
-  new-permit : permitWords (newWords k t p m) ≡ boundedWords p
+module _ (k t : ℕ) (p m : Bounded) (b : ℕ) (lp : length (p .mixtures) ≡ mixtureLimit) where
+  new-permit : permitWords (newWords k t p m b) ≡ boundedWords p
   unfolding permitWords newWords
-  new-permit = take-at (boundedWords p) (boundedWords m) ruleWidth (unfold boundedWords in (ap suc lp))
+  new-permit = take-at (boundedWords p) (boundedWords m ++ (b ∷ [])) ruleWidth (unfold boundedWords in (ap suc lp))
 
-  new-length : length (m .mixtures) ≡ mixtureLimit → length (newWords k t p m) ≡ rowWidth
+  new-length : length (m .mixtures) ≡ mixtureLimit → length (newWords k t p m b) ≡ rowWidth
   unfolding newWords boundedWords
-  new-length lm = omega (arith, length-append (p .count ∷ p .mixtures) (m .count ∷ m .mixtures))
+  new-length lm =
+      omega (arith, length-append (p .count ∷ p .mixtures) ((m .count ∷ m .mixtures) ++ (b ∷ [])), length-append (m .count ∷ m .mixtures) (b ∷ []))
 
-  new-tag : rowOf (newWords k t p m) .tag ≡ t
+  new-tag : rowOf (newWords k t p m b) .tag ≡ t
   unfolding rowOf newWords
   new-tag = refl
 
-  new-said : rowOf (newWords k t p m) .permit ≡ take (p .count) (p .mixtures)
+  new-said : rowOf (newWords k t p m b) .permit ≡ take (p .count) (p .mixtures)
   unfolding rowOf
   new-said = ap ruleOf new-permit ∙ unfold ruleOf boundedWords in refl
 
-  module _ (row₁ : List ℕ) (e : row₁ ≡ newWords k t p m) where
+  module _ (row₁ : List ℕ) (e : row₁ ≡ newWords k t p m b) where
     pub new-judged : length (m .mixtures) ≡ mixtureLimit → p .count ≤ mixtureLimit → (length row₁ ≡ rowWidth) × (getD (permitWords row₁) 0 0 ≤ mixtureLimit)
     unfolding boundedWords
     new-judged lm h = rw e (new-length lm, rw new-permit h)

@@ -3,7 +3,7 @@
 use Prim.Native.Nat.{ℕ, _+_, _≤_, _<_}
 use mathlib.Core.Path.{_≡_}
 use mathlib.Core.Bool.{Bool, true, false, cond}
-use mathlib.Core.List.{List, _∷_, _++_}
+use mathlib.Core.List.{List, [], _∷_, _++_}
 use mathlib.Core.Option.{some}
 use lib.Bits.{bitOr}
 use lib.ListN.{length, getD, take, drop}
@@ -18,7 +18,7 @@ use Rattle.rules.specs.Rules.{covers, meet}
 use Rattle.rules.specs.declared.Bounded.{Bounded}
 use Rattle.image.specs.Limits.{containerLimit, userLimit, processKind, isFree}
 use Rattle.rule_words.specs.Words.{ruleWidth, keptWell}
-use Rattle.session.specs.Limits.{sessionLength, kindAt}
+use Rattle.session.specs.Limits.{sessionLength, kindAt, behalfAt}
 use Rattle.session.specs.Rows.{Row, rowWords, permitWords, containerRow, containerRowGood, putRow, userRow, userRowGood, isDeclared}
 use Rattle.rules.specs.Sets.{dataOf, runningOf}
 use Rattle.rules.specs.Answers.{dataWidth, boundedOf}
@@ -29,11 +29,11 @@ use Rattle.operations.specs.Effects.{rowsGood, acceptedAnswer, acceptedE
 
 -- ---- before a meet is formed
 
--- 10 to 14
+-- 10 to 14, and 18
 unfoldable pub firstConditions : List ℕ → Step → List Condition
 firstConditions s t = (rowsGood s t orRefuse row) ∷ earlyConditions (view s) t
 
--- the session has its length, the step names rows of it, and is not refused by 10 to 14
+-- the session has its length, the step names rows of it, and is not refused by 10 to 14 or 18
 pub record Ready (s : List ℕ) (t : Step) : Type 0 where
   pub long : length s ≡ sessionLength
   pub process : entry (view s) t .process < containerLimit
@@ -86,11 +86,11 @@ boundedWords m = m .count ∷ m .mixtures
 
 -- the row with another tag and run rule
 unfoldable pub contentWords : List ℕ → ℕ → Bounded → List ℕ
-contentWords row tag run = getD row kindAt 0 ∷ tag ∷ (permitWords row ++ boundedWords run)
+contentWords row tag run = getD row kindAt 0 ∷ tag ∷ (permitWords row ++ (boundedWords run ++ (getD row behalfAt 0 ∷ [])))
 
 -- the row with all of it new
-unfoldable pub newWords : ℕ → ℕ → Bounded → Bounded → List ℕ
-newWords kind tag permit run = kind ∷ tag ∷ (boundedWords permit ++ boundedWords run)
+unfoldable pub newWords : ℕ → ℕ → Bounded → Bounded → ℕ → List ℕ
+newWords kind tag permit run behalf = kind ∷ tag ∷ (boundedWords permit ++ (boundedWords run ++ (behalf ∷ [])))
 
 -- the verdict by whether the tag is covered
 abbrev pub coverVerdict : Bool → Verdict
@@ -108,7 +108,7 @@ sharedRun s c d = meet (view s .row c .run) (view s .row d .run)
 
 unfoldable pub absorbed : List ℕ → ℕ → ℕ → ℕ → Row
 absorbed s c d t =
-    record { kind = view s .row c .kind; tag = t; permit = view s .row c .permit; run = sharedRun s c d }
+    record { kind = view s .row c .kind; tag = t; permit = view s .row c .permit; run = sharedRun s c d; behalf = view s .row c .behalf }
 
 unfoldable pub absorbAnswer : List ℕ → ℕ → ℕ → ℕ → Answer
 absorbAnswer s c d t = cond (fits (sharedRun s c d)) (coverAnswer c (view s .row c .permit) t) (refused overLimit)
@@ -116,7 +116,7 @@ absorbAnswer s c d t = cond (fits (sharedRun s c d)) (coverAnswer c (view s .row
 unfoldable pub absorbEffect : List ℕ → ℕ → ℕ → ℕ → List ℕ
 absorbEffect s c d t = cond (fits (sharedRun s c d)) (putRow s c (rowWords (absorbed s c d t))) s
 
--- ---- process p becomes what runs o: the run rule and the running atoms of o beside p's data atoms, under the permit rule m
+-- ---- process p becomes what runs o for u: the run rule and the running atoms of o beside p's data atoms, under the permit rule m
 
 unfoldable pub launchTag : List ℕ → ℕ → ℕ → ℕ
 launchTag s p o = bitOr (runningOf dataWidth (view s .row o .tag)) (dataOf dataWidth (view s .row p .tag))
@@ -124,5 +124,5 @@ launchTag s p o = bitOr (runningOf dataWidth (view s .row o .tag)) (dataOf dataW
 unfoldable pub launchAnswer : List ℕ → ℕ → ℕ → Bounded → Answer
 launchAnswer s p o m = coverAnswer p (take (m .count) (m .mixtures)) (launchTag s p o)
 
-unfoldable pub launchEffect : List ℕ → ℕ → ℕ → Bounded → List ℕ
-launchEffect s p o m = putRow s p (newWords processKind (launchTag s p o) m (boundedOf (view s .row o .run)))
+unfoldable pub launchEffect : List ℕ → ℕ → ℕ → ℕ → Bounded → List ℕ
+launchEffect s p o u m = putRow s p (newWords processKind (launchTag s p o) m (boundedOf (view s .row o .run)) u)

@@ -1,18 +1,19 @@
 // The operations on a lent session: what a request is refused for because of the session, and what it does (the paper,
 // "Operations" and "Refused because of the session").
 ghost use mathlib.Core.Path.{_≡_};
-ghost use mathlib.Core.Bool.{true, _&&_};
+ghost use mathlib.Core.Bool.{true, cond, _&&_, _||_};
 ghost use mathlib.Core.List.{[], _∷_};
 ghost use lib.Dec.{eqb};
 ghost use Prim.Native.Nat.{_≤_, _<_};
 ghost use lib.ListN.{length, getD, take};
 ghost use Rattle.lists.specs.Conditions.{firstFailed};
 ghost use Rattle.answers.specs.Answers.{quiet};
+ghost use Rattle.answers.specs.Refusals.{otherUser};
 ghost use Rattle.rules.specs.Rules.{meet};
 ghost use Rattle.rules.specs.Answers.{mixtureLimit, boundedOf};
 ghost use Rattle.image.specs.Limits.{containerLimit, processKind};
 ghost use Rattle.rule_words.specs.Words.{ruleOf};
-ghost use Rattle.session.specs.Limits.{sessionLength, rowWidth};
+ghost use Rattle.session.specs.Limits.{sessionLength, rowWidth, nobody};
 ghost use Rattle.session.specs.Rows.{rowOf, permitWords, runWords, freeWords, putRow};
 ghost use Rattle.chains.specs.History.{read, write, append, exec, fork, newFile, newVolatile};
 ghost use Rattle.records.specs.Codes.{objectFits};
@@ -29,8 +30,10 @@ use image::VOLATILE_KIND;
 use records::Request;
 use rule_words::RULE_WIDTH;
 use rules::Bounded;
+use session::BEHALF_AT;
 use session::DECLARED;
 use session::KIND_AT;
+use session::NOBODY;
 use session::PERMIT_AT;
 use session::ROW_WIDTH;
 use session::RUN_AT;
@@ -81,7 +84,20 @@ fn rows_good(s: &[u64], q: Request) -> bool
     session::user_row_good(&s[c..c + USER_WIDTH])
 }
 
-// The refusals 10 to 14 in their order, 0 where there is none.
+// The refusal 18 of a new file for the user, 0 where there is none.
+fn behalf_refusal(behalf: u64, u: usize) -> u32
+    ensures { λ r. ⌜ r ≡ cond (eqb behalf nobody || eqb behalf u) 0 otherUser ⌝ }
+{
+    if behalf == NOBODY {
+        return 0;
+    }
+    if behalf == u as u64 {
+        return 0;
+    }
+    answers::OTHER_USER
+}
+
+// The refusals 10 to 14 and 18 in their order, 0 where there is none.
 fn early_refusal(s: &[u64], q: Request) -> u32
     requires { ⌜ Named (now s) q ⌝ }
     ensures { λ r. ⌜ r ≡ firstFailed (firstConditions (now (s .entry)) (stepIn q)) ⌝ }
@@ -108,7 +124,10 @@ fn early_refusal(s: &[u64], q: Request) -> u32
     if s[c] != DECLARED {
         return answers::NOT_DECLARED;
     }
-    0
+    if q.code != records::NEW_FILE_CODE {
+        return 0;
+    }
+    behalf_refusal(behalf_of(s, q.p), q.u)
 }
 
 // ---- what is read
@@ -119,6 +138,14 @@ fn tag_of(s: &[u64], c: usize) -> u64
     ensures { λ r. ⌜ r ≡ view (now (s .entry)) .row c .tag ⌝ }
 {
     s[c * ROW_WIDTH + TAG_AT]
+}
+
+// The user on whose behalf a container runs.
+fn behalf_of(s: &[u64], c: usize) -> u64
+    requires { ⌜ (length (now s) ≡ sessionLength) × (c < containerLimit) ⌝ }
+    ensures { λ r. ⌜ r ≡ view (now (s .entry)) .row c .behalf ⌝ }
+{
+    s[c * ROW_WIDTH + BEHALF_AT]
 }
 
 // A rule of the session, to be written: the words as they stand, the unused ones being 0.
@@ -243,11 +270,11 @@ fn narrow(row: &mut [u64], receiver: usize, tag: u64, mixture: u64) -> Answer
 }
 
 // Makes the receiver's row that of a process, and answers.
-fn replace(row: &mut [u64], receiver: usize, tag: u64, permit: Bounded, run: Bounded) -> Answer
+fn replace(row: &mut [u64], receiver: usize, tag: u64, permit: Bounded, run: Bounded, behalf: u64) -> Answer
     requires { ⌜ (length (now row) ≡ rowWidth) × (permit .count ≤ mixtureLimit) ⌝ }
-    ensures { λ r. ⌜ (r ≡ coverAnswer receiver (take (permit .count) (permit .mixtures)) tag) × (now (row .exit) ≡ newWords processKind tag permit run) ⌝ }
+    ensures { λ r. ⌜ (r ≡ coverAnswer receiver (take (permit .count) (permit .mixtures)) tag) × (now (row .exit) ≡ newWords processKind tag permit run behalf) ⌝ }
 {
-    session::put_row(row, PROCESS_KIND, tag, permit, run);
+    session::put_row(row, PROCESS_KIND, tag, permit, run, behalf);
     judge(row, receiver)
 }
 
@@ -306,16 +333,16 @@ fn append(s: &mut [u64], p: usize, o: usize) -> Answer
     absorb(s, o, p, stored | held)
 }
 
-// The process becomes what runs the object, under the permit rule; it keeps its data atoms.
-fn launch(s: &mut [u64], p: usize, o: usize, permit: Bounded) -> Answer
+// The process becomes what runs the object for the user, under the permit rule; it keeps its data atoms.
+fn launch(s: &mut [u64], p: usize, o: usize, u: usize, permit: Bounded) -> Answer
     requires { ⌜ (UsedAt (now s) p) × (UsedAt (now s) o) × (permit .count ≤ mixtureLimit) ⌝ }
-    ensures { λ r. ⌜ (r ≡ launchAnswer (now (s .entry)) p o permit) × (now (s .exit) ≡ launchEffect (now (s .entry)) p o permit) ⌝ }
+    ensures { λ r. ⌜ (r ≡ launchAnswer (now (s .entry)) p o permit) × (now (s .exit) ≡ launchEffect (now (s .entry)) p o u permit) ⌝ }
 {
     let run = rule_at(s, o * ROW_WIDTH + RUN_AT);
     let running = rules::running_atoms(tag_of(s, o));
     let tag = rules::add_data_atoms(running, tag_of(s, p));
     let a = p * ROW_WIDTH;
-    replace(&mut s[a..a + ROW_WIDTH], p, tag, permit, run)
+    replace(&mut s[a..a + ROW_WIDTH], p, tag, permit, run, u as u64)
 }
 
 // Code 4: the process executes the object for the user.
@@ -327,13 +354,13 @@ fn exec(s: &mut [u64], p: usize, o: usize, u: usize) -> Answer
     let y = USERS_AT + u * USER_WIDTH + USER_RULE_AT;
     if both_single(s[x], s[y]) {
         let permit = rules::one(mixture_at(s, x, y));
-        return launch(s, p, o, permit);
+        return launch(s, p, o, u, permit);
     }
     let permit = meet_at(s, x, y);
     if !permit.fits {
         return Answer::Refused(answers::OVER_LIMIT);
     }
-    launch(s, p, o, permit)
+    launch(s, p, o, u, permit)
 }
 
 // Code 5: the object becomes a copy of the process.
@@ -344,8 +371,9 @@ fn fork(s: &mut [u64], p: usize, o: usize) -> Answer
     let permit = rule_at(s, p * ROW_WIDTH + PERMIT_AT);
     let run = rule_at(s, p * ROW_WIDTH + RUN_AT);
     let tag = tag_of(s, p);
+    let behalf = behalf_of(s, p);
     let b = o * ROW_WIDTH;
-    replace(&mut s[b..b + ROW_WIDTH], o, tag, permit, run)
+    replace(&mut s[b..b + ROW_WIDTH], o, tag, permit, run, behalf)
 }
 
 // Code 6: the object becomes a file of the user.
@@ -356,7 +384,7 @@ fn new_file(s: &mut [u64], p: usize, o: usize, u: usize) -> Answer
     let permit = rule_at(s, USERS_AT + u * USER_WIDTH + USER_RULE_AT);
     let all = rules::unrestricted();
     let b = o * ROW_WIDTH;
-    session::put_row(&mut s[b..b + ROW_WIDTH], FILE_KIND, 0, permit, all);
+    session::put_row(&mut s[b..b + ROW_WIDTH], FILE_KIND, 0, permit, all, NOBODY);
     Answer::Given(
         Verdict::Quiet,
         Received {
@@ -373,7 +401,7 @@ fn new_volatile(s: &mut [u64], p: usize, o: usize) -> Answer
 {
     let all = rules::unrestricted();
     let b = o * ROW_WIDTH;
-    session::put_row(&mut s[b..b + ROW_WIDTH], VOLATILE_KIND, 0, all, all);
+    session::put_row(&mut s[b..b + ROW_WIDTH], VOLATILE_KIND, 0, all, all, NOBODY);
     Answer::Given(
         Verdict::Quiet,
         Received {

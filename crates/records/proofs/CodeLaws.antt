@@ -2,15 +2,18 @@
 use Prim.Native.Nat.{ℕ, zero, suc, _≤_, _<_}
 use native.Mathlib.Omega.{arith}
 use native.Mathlib.Decide.{ℕ-discrete}
-use mathlib.Core.Path.{_≡_, refl, sym}
+use mathlib.Core.Path.{_≡_, refl, sym, ap}
 use mathlib.Core.Logic.{_⊎_, inl, inr}
-use mathlib.Core.Bool.{true, false, cond}
+use mathlib.Core.Bool.{true, false, cond, _||_}
 use mathlib.Core.List.{List, [], _∷_}
 use mathlib.Core.Option.{none, some}
+use lib.Dec.{eqb}
 use lib.ListN.{getD}
+use Rattle.lists.proofs.Bools.{clash}
 use Rattle.image.specs.Limits.{containerLimit}
+use Rattle.session.specs.Limits.{nobody}
 use Rattle.chains.specs.History.{read, write, append, exec, fork, newFile, newVolatile, end, delete, receiver}
-use Rattle.chains.specs.Table.{State, Need, store, file, free, process, fitsNeed, entry}
+use Rattle.chains.specs.Table.{State, Need, store, file, free, process, fitsNeed, entry, behalfFits}
 use Rattle.records.specs.declared.Code.{Code}
 use Rattle.records.specs.declared.Request.{Request}
 use Rattle.records.specs.Codes.{readCode, writeCode, appendCode, execCode, forkCode, newFileCode, newVolatileCode, endCode, deleteCode, codeCount, stepWith, needsStore, needsFile, needsFree, needsProcess, needNumber, objectFits, noRows, codeAt}
@@ -71,6 +74,23 @@ need-fits store k = refl
 need-fits file k = refl
 need-fits free k = refl
 need-fits process k = refl
+
+-- what 18 asks: nothing unless the code is that of a new file
+pub behalf-other : (σ : State) (q : Request) → Asked q → (q .code ≡ newFileCode → ⊥) → behalfFits σ (stepIn q) ≡ true
+unfolding stepIn stepWith behalfFits
+behalf-other σ q a ne =
+    by-code (λ q. (q .code ≡ newFileCode → ⊥) → behalfFits σ (stepIn q) ≡ true)
+    (λ p o u n. refl) (λ p o u n. refl) (λ p o u n. refl) (λ p o u n. refl) (λ p o u n. refl) (λ p o u n. absurd (n refl)) (λ p o u n. refl) (λ p o u n. refl) (λ p o u n. refl)
+    q (a .codeLow) (a .codeHigh) ne
+
+pub behalf-file : (σ : State) (q : Request) → q .code ≡ newFileCode → behalfFits σ (stepIn q) ≡ (eqb (σ .row (q .p) .behalf) nobody || eqb (σ .row (q .p) .behalf) (q .u))
+unfolding stepIn stepWith behalfFits
+behalf-file σ q e = rw e
+
+-- the code of a new file names a user
+pub unnamed-other : (q : Request) → codeAt (q .code) .user ≡ false → q .code ≡ newFileCode → ⊥
+unfolding codeAt stepWith entry noRows
+unnamed-other q f e = clash (ap (λ (n : ℕ). codeAt n .user) e) f
 
 -- the receiver is p or o
 pub receiver-bound : (q : Request) → Asked q → receiver (stepIn q) < containerLimit

@@ -23,7 +23,7 @@ use Rattle.fields.proofs.RecordLaws.{record-at}
 use Rattle.lists.proofs.Places.{map-at}
 use Rattle.image.proofs.RecordsByPlace.{users-count, containers-count}
 use Rattle.image.proofs.RulesByNumber.{normal-short}
-use Rattle.session.specs.Limits.{rowWidth, userWidth}
+use Rattle.session.specs.Limits.{rowWidth, userWidth, nobody}
 use Rattle.session.specs.Rows.{rowWords, userWords}
 use Rattle.session.specs.Session.{filled, startTag, startRow, placeWords}
 use Rattle.session.proofs.RowLaws.{row-length, user-length}
@@ -84,10 +84,10 @@ module _ (r rules m : List ℕ) (good : containerGood (length rules / ruleSize) 
   atom-good = container-atom (length rules / ruleSize) (containerIn r) good
 
   pub container-row : (k t : ℕ) (p q : List ℕ) → k ≡ field r kindField size8 → t ≡ startTag (field r atomField size8) → p ≡ wordsOf (normalAt (rulesIn rules m) (field r permitField size16)) → q ≡ wordsOf (normalAt (rulesIn rules m) (field r runField size16))
-      → k ∷ t ∷ (p ++ q) ≡ placeWords (placeOf (rulesIn rules m) (containerIn r))
+      → k ∷ t ∷ (p ++ (q ++ (nobody ∷ []))) ≡ placeWords (placeOf (rulesIn rules m) (containerIn r))
   unfolding placeWords rowWords startRow placeOf containerIn
   container-row k t p q e f g h =
-      ap₂ (λ (x y : ℕ). x ∷ y ∷ (p ++ q)) e f ∙ ap₂ (λ (x y : List ℕ). field r kindField size8 ∷ startTag (field r atomField size8) ∷ (x ++ y)) g h
+      ap₂ (λ (x y : ℕ). x ∷ y ∷ (p ++ (q ++ (nobody ∷ [])))) e f ∙ ap₂ (λ (x y : List ℕ). field r kindField size8 ∷ startTag (field r atomField size8) ∷ (x ++ (y ++ (nobody ∷ [])))) g h
 
 -- ---- containers
 

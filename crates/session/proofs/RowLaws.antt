@@ -1,21 +1,21 @@
 -- Rows as numbers and as what they say.
-use Prim.Native.Nat.{ℕ, _≤_}
+use Prim.Native.Nat.{ℕ, _+_, _≤_}
 use mathlib.Core.Path.{_≡_, refl, sym, ap, ap₂, _∙_}
 use mathlib.Core.Bool.{Bool, true, false, cond, _&&_, _||_}
-use mathlib.Core.List.{List, _∷_, _++_}
+use mathlib.Core.List.{List, [], _∷_, _++_}
 use mathlib.Core.Logic.{⊎-elim}
 use native.Mathlib.Omega.{arith}
 use lib.Dec.{eqb}
-use lib.ListN.{length, getD, take, drop, replicate, length-take, length-drop, length-append, take-append-drop}
-use lib.Seq.{drop-cons, drop-drop, drop-at, take-at, take-all}
+use lib.ListN.{length, getD, take, drop, replicate, length-take, length-drop, length-append, take-append-drop, drop-of-length-le}
+use lib.Seq.{getD-drop, drop-cons, drop-drop, drop-at, take-at, take-all}
 use borrow.Author.Tests.{eqb-true, ne-eqb}
 use Rattle.lists.proofs.Bools.{and-0, and-1, or-cases, clash}
 use Rattle.rules.specs.Rules.{normal}
 use Rattle.rules.specs.Answers.{mixtureLimit}
 use Rattle.image.specs.Limits.{fileKind, volatileKind, processKind, isFree, isFile, isVolatile, isProcess, isStore, usedKind}
-use Rattle.session.specs.Limits.{rowWidth, userWidth, kindAt, tagAt, permitAt, runAt, declaredAt, userRuleAt, declared}
+use Rattle.session.specs.Limits.{rowWidth, userWidth, kindAt, tagAt, permitAt, runAt, behalfAt, nobody, declaredAt, userRuleAt, declared}
 use Rattle.rule_words.specs.Words.{ruleWidth, ruleOf, wordsOf, allZero, keptWell}
-use Rattle.session.specs.Rows.{Row, rowWords, freeWords, permitWords, runWords, rowOf, containerRowGood, InUse, userWords, undeclaredWords, isDeclared, userRuleWords, userRuleOf, userRowGood}
+use Rattle.session.specs.Rows.{Row, rowWords, freeWords, permitWords, runWords, rowOf, behalfGood, containerRowGood, InUse, userWords, undeclaredWords, isDeclared, userRuleWords, userRuleOf, userRowGood}
 use Rattle.rule_words.proofs.ZeroLaws.{zeros, zero-is}
 use Rattle.rule_words.proofs.KeptWords.{words-kept, kept-count, kept-normal, kept-short, kept-words}
 use Rattle.rule_words.proofs.WordLaws.{words-rule, words-nine}
@@ -43,6 +43,12 @@ pub used-free : (k : ℕ) → usedKind k ≡ true → isFree k ≡ false
 unfolding isFree
 used-free k h = ne-eqb k 0 (λ e. omega (arith, used-kind k h .0))
 
+-- ---- on whose behalf
+
+pub nobody-good : (k : ℕ) → behalfGood k nobody ≡ true
+unfolding behalfGood
+nobody-good k = refl
+
 -- ---- a row in use
 
 pub row-kind : (w : Row) → getD (rowWords w) kindAt 0 ≡ w .kind
@@ -52,35 +58,46 @@ row-kind w = refl
 module _ (w : Row) (p : length (w .permit) ≤ mixtureLimit) (r : length (w .run) ≤ mixtureLimit) where
   pub row-length : length (rowWords w) ≡ rowWidth
   unfolding rowWords
-  row-length = omega (arith, length-append (wordsOf (w .permit)) (wordsOf (w .run)), words-nine (w .permit) p, words-nine (w .run) r)
+  row-length =
+      omega (arith, length-append (wordsOf (w .permit)) (wordsOf (w .run) ++ (w .behalf ∷ [])), length-append (wordsOf (w .run)) (w .behalf ∷ []), words-nine (w .permit) p, words-nine (w .run) r)
 
   pub row-permit : permitWords (rowWords w) ≡ wordsOf (w .permit)
   unfolding permitWords rowWords
-  row-permit = take-at (wordsOf (w .permit)) (wordsOf (w .run)) ruleWidth (words-nine (w .permit) p)
+  row-permit = take-at (wordsOf (w .permit)) (wordsOf (w .run) ++ (w .behalf ∷ [])) ruleWidth (words-nine (w .permit) p)
 
   pub row-run : runWords (rowWords w) ≡ wordsOf (w .run)
   unfolding runWords rowWords
   row-run =
-      ap (take ruleWidth) (drop-at (wordsOf (w .permit)) (wordsOf (w .run)) ruleWidth (words-nine (w .permit) p))
-      ∙ take-all ruleWidth (wordsOf (w .run)) (omega (arith, words-nine (w .run) r))
+      ap (take ruleWidth) (drop-at (wordsOf (w .permit)) (wordsOf (w .run) ++ (w .behalf ∷ [])) ruleWidth (words-nine (w .permit) p))
+      ∙ take-at (wordsOf (w .run)) (w .behalf ∷ []) ruleWidth (words-nine (w .run) r)
+
+  pub row-behalf : getD (rowWords w) behalfAt 0 ≡ w .behalf
+  unfolding rowWords
+  row-behalf = sym (getD-drop behalfAt (rowWords w) 0 0) ∙ ap (λ (x : List ℕ). getD x 0 0) last
+    where
+      last : drop (ruleWidth + ruleWidth) (wordsOf (w .permit) ++ (wordsOf (w .run) ++ (w .behalf ∷ []))) ≡ w .behalf ∷ []
+      last =
+          sym (drop-drop ruleWidth ruleWidth (wordsOf (w .permit) ++ (wordsOf (w .run) ++ (w .behalf ∷ []))))
+          ∙ ap (drop ruleWidth) (drop-at (wordsOf (w .permit)) (wordsOf (w .run) ++ (w .behalf ∷ [])) ruleWidth (words-nine (w .permit) p))
+          ∙ drop-at (wordsOf (w .run)) (w .behalf ∷ []) ruleWidth (words-nine (w .run) r)
 
   pub row-words : rowOf (rowWords w) ≡ w
   unfolding rowOf
   row-words =
       let e : ruleOf (permitWords (rowWords w)) ≡ w .permit = ap ruleOf row-permit ∙ words-rule (w .permit) in
       let f : ruleOf (runWords (rowWords w)) ≡ w .run = ap ruleOf row-run ∙ words-rule (w .run) in
-      said e f
+      said e f row-behalf
     where
-      said : ruleOf (permitWords (rowWords w)) ≡ w .permit → ruleOf (runWords (rowWords w)) ≡ w .run
-          → record { kind = getD (rowWords w) kindAt 0; tag = getD (rowWords w) tagAt 0; permit = ruleOf (permitWords (rowWords w)); run = ruleOf (runWords (rowWords w)) } ≡ w
-      said e f = unfold rowWords in (λ i. record { kind = w .kind; tag = w .tag; permit = e i; run = f i })
+      said : ruleOf (permitWords (rowWords w)) ≡ w .permit → ruleOf (runWords (rowWords w)) ≡ w .run → getD (rowWords w) behalfAt 0 ≡ w .behalf
+          → record { kind = getD (rowWords w) kindAt 0; tag = getD (rowWords w) tagAt 0; permit = ruleOf (permitWords (rowWords w)); run = ruleOf (runWords (rowWords w)); behalf = getD (rowWords w) behalfAt 0 } ≡ w
+      said e f g = unfold rowWords in (λ i. record { kind = w .kind; tag = w .tag; permit = e i; run = f i; behalf = g i })
 
 pub row-good : (w : Row) → InUse w → containerRowGood (rowWords w) ≡ true
 unfolding containerRowGood
 row-good w u =
     let p : length (w .permit) ≤ mixtureLimit = u .permitShort in
     let r : length (w .run) ≤ mixtureLimit = u .runShort in
-    rw (row-kind w, used-free (w .kind) (u .used), row-permit w p r, row-run w p r, u .used, words-kept (w .permit) p (u .permitNormal), words-kept (w .run) r (u .runNormal))
+    rw (row-kind w, used-free (w .kind) (u .used), row-permit w p r, row-run w p r, u .used, words-kept (w .permit) p (u .permitNormal), words-kept (w .run) r (u .runNormal), row-behalf w p r, u .behalfKept)
 
 -- ---- a free row
 
@@ -104,18 +121,21 @@ good-free ws l g f = zero-is ws rowWidth l (rw f at g)
 
 module _ (ws : List ℕ) (g : containerRowGood ws ≡ true) where
   module _ (f : isFree (getD ws kindAt 0) ≡ false) where
-    good-tests : (usedKind (getD ws kindAt 0) && (keptWell (permitWords ws) && keptWell (runWords ws))) ≡ true
+    good-tests : (usedKind (getD ws kindAt 0) && (keptWell (permitWords ws) && (keptWell (runWords ws) && behalfGood (getD ws kindAt 0) (getD ws behalfAt 0)))) ≡ true
     unfolding containerRowGood
     good-tests = rw f at g
 
-    good-rules : (keptWell (permitWords ws) && keptWell (runWords ws)) ≡ true
+    good-rules : (keptWell (permitWords ws) && (keptWell (runWords ws) && behalfGood (getD ws kindAt 0) (getD ws behalfAt 0))) ≡ true
     good-rules = and-1 (usedKind (getD ws kindAt 0)) good-tests
 
     pub good-permit : keptWell (permitWords ws) ≡ true
-    good-permit = and-0 (keptWell (permitWords ws)) (keptWell (runWords ws)) good-rules
+    good-permit = and-0 (keptWell (permitWords ws)) _ good-rules
+
+    good-last : (keptWell (runWords ws) && behalfGood (getD ws kindAt 0) (getD ws behalfAt 0)) ≡ true
+    good-last = and-1 (keptWell (permitWords ws)) good-rules
 
     pub good-run : keptWell (runWords ws) ≡ true
-    good-run = and-1 (keptWell (permitWords ws)) good-rules
+    good-run = and-0 (keptWell (runWords ws)) _ good-last
 
     pub good-counts : (getD (permitWords ws) 0 0 ≤ mixtureLimit) × (getD (runWords ws) 0 0 ≤ mixtureLimit)
     good-counts = (kept-count (permitWords ws) good-permit, kept-count (runWords ws) good-run)
@@ -124,11 +144,12 @@ module _ (ws : List ℕ) (g : containerRowGood ws ≡ true) where
     unfolding rowOf
     good-used =
         record {
-          used = and-0 (usedKind (getD ws kindAt 0)) (keptWell (permitWords ws) && keptWell (runWords ws)) good-tests;
+          used = and-0 (usedKind (getD ws kindAt 0)) _ good-tests;
           permitShort = kept-short (permitWords ws) good-permit;
           permitNormal = kept-normal (permitWords ws) good-permit;
           runShort = kept-short (runWords ws) good-run;
           runNormal = kept-normal (runWords ws) good-run;
+          behalfKept = and-1 (keptWell (runWords ws)) good-last;
         }
 
 module _ (ws : List ℕ) (l : length ws ≡ rowWidth) (g : containerRowGood ws ≡ true) (f : isFree (getD ws kindAt 0) ≡ false) where
@@ -138,7 +159,10 @@ module _ (ws : List ℕ) (l : length ws ≡ rowWidth) (g : containerRowGood ws �
   run-is : runWords ws ≡ wordsOf (ruleOf (runWords ws))
   run-is = kept-words (runWords ws) (unfold runWords in (omega (arith, length-take ruleWidth (drop runAt ws), length-drop runAt ws))) (good-run ws g f)
 
-  row-split : ws ≡ getD ws kindAt 0 ∷ getD ws tagAt 0 ∷ (permitWords ws ++ runWords ws)
+  last-split : drop behalfAt ws ≡ getD ws behalfAt 0 ∷ []
+  last-split = drop-cons ws behalfAt 0 (omega arith) ∙ ap (λ (x : List ℕ). getD ws behalfAt 0 ∷ x) (drop-of-length-le ws {i = rowWidth} (omega arith))
+
+  row-split : ws ≡ getD ws kindAt 0 ∷ getD ws tagAt 0 ∷ (permitWords ws ++ (runWords ws ++ (getD ws behalfAt 0 ∷ [])))
   unfolding permitWords runWords
   row-split =
       drop-cons ws 0 0 (omega arith)
@@ -147,11 +171,13 @@ module _ (ws : List ℕ) (l : length ws ≡ rowWidth) (g : containerRowGood ws �
       ∙ ap (λ (x : List ℕ). getD ws 1 0 ∷ x)
       (sym (take-append-drop ruleWidth (drop permitAt ws))
       ∙ ap (λ (x : List ℕ). take ruleWidth (drop permitAt ws) ++ x)
-      (drop-drop ruleWidth permitAt ws ∙ sym (take-all ruleWidth (drop runAt ws) (omega (arith, length-drop runAt ws))))))
+      (drop-drop ruleWidth permitAt ws
+      ∙ sym (take-append-drop ruleWidth (drop runAt ws))
+      ∙ ap (λ (x : List ℕ). take ruleWidth (drop runAt ws) ++ x) (drop-drop ruleWidth runAt ws ∙ last-split))))
 
   pub good-words : ws ≡ rowWords (rowOf ws)
   unfolding rowWords rowOf
-  good-words = row-split ∙ ap₂ (λ (x y : List ℕ). getD ws kindAt 0 ∷ getD ws tagAt 0 ∷ (x ++ y)) permit-is run-is
+  good-words = row-split ∙ ap₂ (λ (x y : List ℕ). getD ws kindAt 0 ∷ getD ws tagAt 0 ∷ (x ++ (y ++ (getD ws behalfAt 0 ∷ [])))) permit-is run-is
 
 -- ---- a user row
 

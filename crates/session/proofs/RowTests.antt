@@ -7,8 +7,8 @@ use lib.ListN.{getD}
 use borrow.Author.Tests.{eq-eqb, ne-eqb}
 use Rattle.image.specs.Limits.{isFree, usedKind}
 use Rattle.rule_words.specs.Words.{allZero, keptWell}
-use Rattle.session.specs.Limits.{kindAt, declaredAt, declared}
-use Rattle.session.specs.Rows.{permitWords, runWords, containerRowGood, isDeclared, userRuleWords, userRowGood}
+use Rattle.session.specs.Limits.{kindAt, behalfAt, declaredAt, declared}
+use Rattle.session.specs.Rows.{permitWords, runWords, behalfGood, containerRowGood, isDeclared, userRuleWords, userRowGood}
 
 module _ (ws : List ℕ) where
   pub free-row : isFree (getD ws kindAt 0) ≡ true → allZero ws ≡ containerRowGood ws
@@ -25,9 +25,14 @@ module _ (ws : List ℕ) where
       unfolding containerRowGood
       bad-permit p = rw (f, u, p)
 
-      pub by-run : keptWell (permitWords ws) ≡ true → keptWell (runWords ws) ≡ containerRowGood ws
-      unfolding containerRowGood
-      by-run p = rw (f, u, p)
+      module _ (p : keptWell (permitWords ws) ≡ true) where
+        pub bad-run : keptWell (runWords ws) ≡ false → false ≡ containerRowGood ws
+        unfolding containerRowGood
+        bad-run r = rw (f, u, p, r)
+
+        pub by-behalf : keptWell (runWords ws) ≡ true → behalfGood (getD ws kindAt 0) (getD ws behalfAt 0) ≡ containerRowGood ws
+        unfolding containerRowGood
+        by-behalf r = rw (f, u, p, r)
 
   pub undeclared-row : getD ws declaredAt 0 ≡ 0 → allZero ws ≡ userRowGood ws
   unfolding userRowGood

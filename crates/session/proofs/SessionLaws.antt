@@ -21,7 +21,7 @@ use Rattle.image.proofs.WrittenMeaning.{formGood, shapeGood, placeGood, Encodab
 use Rattle.session.specs.Limits.{sessionLength, rowWidth, userWidth, usersAt}
 use Rattle.session.specs.Rows.{Row, rowWords, rowOf, InUse, userWords, userRuleOf, containerRow, userRow}
 use Rattle.session.specs.Session.{filled, startTag, startRow, placeWords, sessionOf}
-use Rattle.session.proofs.RowLaws.{used-kind, row-length, row-words, row-kind, user-length, user-words}
+use Rattle.session.proofs.RowLaws.{nobody-good, used-kind, row-length, row-words, row-kind, user-length, user-words}
 use Rattle.session.proofs.RowsOfOneWidth.{wide, used, all-wide, filled-length, filled-row, filled-apart}
 
 -- ---- what a good place and a good rule say
@@ -52,6 +52,7 @@ place-used p h =
       permitNormal = form-normal (p .permit) permit;
       runShort = form-short (p .run) run;
       runNormal = form-normal (p .run) run;
+      behalfKept = nobody-good (p .kind);
     }
 
 -- ---- the rows are those of a session, and in use

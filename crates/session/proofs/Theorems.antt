@@ -69,7 +69,7 @@ normal-effect i s b e l = started-effect (normalImage (policyIn i)) s (normal-ch
 
 -- ---- THE STARTED SESSION
 
--- a started session has 5,280 numbers, and every row of it is as "Session" says
+-- a started session has 5,536 numbers, and every row of it is as "Session" says
 pub started-length : (i : List ℕ) → Bytes i → checkOf i ≡ 0 → length (startOf (policyIn i)) ≡ sessionLength
 started-length i b e = start-length (policyIn i) (accepted-sound i b e)
 

@@ -1,20 +1,21 @@
 -- The numbers of the paper's section "Session", each named once: lengths in words of 64 bits, and places in a row.
 use Prim.Native.Nat.{ℕ}
 
--- "exactly 5,280 numbers of 64 bits: 256 rows of 20, then 16 user rows of 10"
+-- "exactly .. numbers of 64 bits: 256 rows .., then 16 user rows of 10"; "Each container row gets a 21st number", "The session is
+-- now 5,536 numbers long" (change request No. 5)
 
 abbrev pub sessionLength : ℕ
-sessionLength = 5280
+sessionLength = 5536
 
 abbrev pub rowWidth : ℕ
-rowWidth = 20
+rowWidth = 21
 
 abbrev pub userWidth : ℕ
 userWidth = 10
 
 -- the user rows begin behind the container rows
 abbrev pub usersAt : ℕ
-usersAt = 5120
+usersAt = 5376
 
 -- ---- "A container row: kind .., information tag, permit count, 8 mixtures, run count, 8 mixtures"
 
@@ -29,6 +30,13 @@ permitAt = 2
 
 abbrev pub runAt : ℕ
 runAt = 11
+
+-- "a 21st number: the user for a process, 65535 for an initial process, a file or a volatile"
+abbrev pub behalfAt : ℕ
+behalfAt = 20
+
+abbrev pub nobody : ℕ
+nobody = 65535
 
 -- ---- "A user row: 1 if declared, count, 8 mixtures"
 

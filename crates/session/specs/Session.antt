@@ -10,16 +10,16 @@ use Rattle.image.specs.Limits.{noAtom, containerLimit, userLimit}
 use Rattle.image.specs.Policy.{Policy}
 use Rattle.image.specs.Image.{policyIn, imageConditions}
 use Rattle.image.specs.Normal.{Place, Meaning, meaning}
-use Rattle.session.specs.Limits.{sessionLength, rowWidth, userWidth}
+use Rattle.session.specs.Limits.{sessionLength, rowWidth, userWidth, nobody}
 use Rattle.session.specs.Rows.{Row, rowWords, userWords}
 
 -- "At start a file holds its atom; the other containers hold nothing": they name none
 unfoldable pub startTag : ℕ → ℕ
 startTag atom = cond (eqb atom noAtom) 0 (2 ^ atom)
 
--- a container at the start, its rules in normal form
+-- a container at the start, its rules in normal form; "65535 for an initial process, a file or a volatile"
 unfoldable pub startRow : Place → Row
-startRow p = record { kind = p .kind; tag = startTag (p .atom); permit = p .permit; run = p .run }
+startRow p = record { kind = p .kind; tag = startTag (p .atom); permit = p .permit; run = p .run; behalf = nobody }
 
 unfoldable pub placeWords : Place → List ℕ
 placeWords p = rowWords (startRow p)
@@ -30,7 +30,7 @@ filled w zero rows = []
 filled w (suc n) [] = replicate w 0 ++ filled w n []
 filled w (suc n) (r ∷ rows) = r ++ filled w n rows
 
--- "256 rows of 20, then 16 user rows of 10"
+-- "256 rows .., then 16 user rows of 10"
 unfoldable pub sessionOf : Meaning → List ℕ
 sessionOf m =
     filled rowWidth containerLimit (map placeWords (m .places)) ++ filled userWidth userLimit (map userWords (m .users))

@@ -1,7 +1,7 @@
 // The session: the test of a row, and the start (the paper, "Session").
 ghost use mathlib.Core.Path.{_≡_};
 ghost use mathlib.Core.Bool.{true, _||_};
-ghost use mathlib.Core.List.{_∷_, _++_, map};
+ghost use mathlib.Core.List.{[], _∷_, _++_, map};
 ghost use lib.Dec.{eqb, ltb};
 ghost use Prim.Native.Nat.{_*_, _/_, _≤_};
 ghost use lib.ListN.{length, replicate};
@@ -12,20 +12,20 @@ ghost use Rattle.image.specs.Policy.{named, containerGood};
 ghost use Rattle.image.specs.Image.{containerIn, containersIn, usersIn, spansIn, rulesIn, spansGood};
 ghost use Rattle.image.specs.Normal.{normalAt, placeOf};
 ghost use Rattle.session.specs.Limits.{rowWidth, userWidth};
-ghost use Rattle.session.specs.Rows.{containerRowGood, userWords, userRowGood};
+ghost use Rattle.session.specs.Rows.{behalfGood, containerRowGood, userWords, userRowGood};
 ghost use Rattle.session.specs.Session.{filled, startTag, placeWords, startAnswer, startEffect};
 use rules::Bounded;
 
 // ---- the numbers of the layout, in words
 
-pub const SESSION_LENGTH: usize = 5280;
+pub const SESSION_LENGTH: usize = 5536;
 
-pub const ROW_WIDTH: usize = 20;
+pub const ROW_WIDTH: usize = 21;
 
 pub const USER_WIDTH: usize = 10;
 
 // The user rows begin behind the container rows.
-pub const USERS_AT: usize = 5120;
+pub const USERS_AT: usize = 5376;
 
 // The places in a container row.
 pub const KIND_AT: usize = 0;
@@ -36,6 +36,11 @@ pub const PERMIT_AT: usize = 2;
 
 pub const RUN_AT: usize = 11;
 
+pub const BEHALF_AT: usize = 20;
+
+// The number there of a process that runs on behalf of no user, and of every file and volatile.
+pub const NOBODY: u64 = 65535;
+
 // The places in a user row.
 pub const DECLARED_AT: usize = 0;
 
@@ -45,6 +50,19 @@ pub const USER_RULE_AT: usize = 1;
 pub const DECLARED: u64 = 1;
 
 // ---- the test of a row
+
+// The number behind the rules of a row in use: the user of a process, or nobody.
+fn behalf_good(kind: u64, behalf: u64) -> bool
+    ensures { λ r. ⌜ r ≡ behalfGood kind behalf ⌝ }
+{
+    if behalf == NOBODY {
+        return true;
+    }
+    if !image::is_process(kind) {
+        return false;
+    }
+    behalf < image::USER_LIMIT as u64
+}
 
 // The container row is as the session keeps it.
 pub fn container_row_good(row: &[u64]) -> bool
@@ -61,7 +79,10 @@ pub fn container_row_good(row: &[u64]) -> bool
     if !rule_words::kept_well(&row[PERMIT_AT..PERMIT_AT + rule_words::RULE_WIDTH]) {
         return false;
     }
-    rule_words::kept_well(&row[RUN_AT..RUN_AT + rule_words::RULE_WIDTH])
+    if !rule_words::kept_well(&row[RUN_AT..RUN_AT + rule_words::RULE_WIDTH]) {
+        return false;
+    }
+    behalf_good(kind, row[BEHALF_AT])
 }
 
 // The user row is as the session keeps it.
@@ -126,10 +147,11 @@ fn tag_of(atom: usize) -> u64
 }
 
 // The numbers of a row in use.
-pub fn put_row(row: &mut [u64], kind: u64, tag: u64, permit: Bounded, run: Bounded)
+pub fn put_row(row: &mut [u64], kind: u64, tag: u64, permit: Bounded, run: Bounded, behalf: u64)
     requires { ⌜ length (now row) ≡ rowWidth ⌝ }
-    ensures { λ _. ⌜ now (row .exit) ≡ kind ∷ tag ∷ ((permit .count ∷ permit .mixtures) ++ (run .count ∷ run .mixtures)) ⌝ }
+    ensures { λ _. ⌜ now (row .exit) ≡ kind ∷ tag ∷ ((permit .count ∷ permit .mixtures) ++ ((run .count ∷ run .mixtures) ++ (behalf ∷ []))) ⌝ }
 {
+    row[BEHALF_AT] = behalf;
     row[KIND_AT] = kind;
     row[TAG_AT] = tag;
     rule_words::put_rule(
@@ -144,6 +166,7 @@ fn put_container(row: &mut [u64], r: &[u8], rules: &[u8], m: &[u8])
     requires { ⌜ (length (now row) ≡ rowWidth) × (length (now r) ≡ containerSize) × (containerGood (length (now rules) / ruleSize) (containerIn (now r)) ≡ true) × (spansGood (length (now m) / mixtureSize) 0 (spansIn (now rules)) ≡ true) ⌝ }
     ensures { λ _. ⌜ now (row .exit) ≡ placeWords (placeOf (rulesIn (now (rules .entry)) (now (m .entry))) (containerIn (now (r .entry)))) ⌝ }
 {
+    row[BEHALF_AT] = NOBODY;
     row[KIND_AT] = fields::read8(r, image::KIND_FIELD) as u64;
     row[TAG_AT] = tag_of(fields::read8(r, image::ATOM_FIELD));
     image::put_rule_at(

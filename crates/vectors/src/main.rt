@@ -42,14 +42,14 @@ fn empty_policy() {
 // "Code 9 with a short session: 9."
 fn short_session() {
     let record: [u8; RECORD_LENGTH] = [9, 0, 4, 0, 2, 0, 255, 255];
-    let mut short = [0u64; 5279];
+    let mut short = [0u64; 5535];
     let mut whole = [0u64; SESSION_LENGTH];
     line(
-        b"code 9, session of 5279",
+        b"code 9, session of 5535",
         refusal(monitor::step(&mut short, &record)),
     );
     line(
-        b"code 9, session of 5280",
+        b"code 9, session of 5536",
         refusal(monitor::step(&mut whole, &record)),
     );
 }

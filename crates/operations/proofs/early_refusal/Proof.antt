@@ -1,6 +1,6 @@
 -- `operations::early_refusal`. Condition by condition: the first that fails gives its number.
 use native.Mathlib.Omega.{arith}
-use Rattle.operations.proofs.RefusalTests.{user-low, early-10, early-11, early-12, early-13, early-14, early-none, early-passed}
+use Rattle.operations.proofs.RefusalTests.{user-low, early-10, early-11, early-12, early-13, early-14, early-18, early-none, early-passed}
 use borrow.Author.Needs.{needs}
 use Rattle.operations.proofs.early_refusal.Statement.{statement}
 use Rattle.operations.proofs.early_refusal.Tie as tie
@@ -72,17 +72,25 @@ returns-6 c =
 
 returns-7 : tie.Need-returns-7
 returns-7 c =
-    early-passed _ _ (c .before .before .before .before .before .before .before .before .before .before .before .before
-    .before .before .before .before .before .pre .asked) _
-    (c .before .before .before .before .before .before .before .before .before .before .before .before .before .before
-    .before .rows-good .ensures)
-    (c .before .before .before .before .before .before .before .before .before .before .before .before .before .before
-    .if1 .left) _ (c .before .before .before .before .before .before .before .before .before .before .before
-    .is-process .ensures)
-    (c .before .before .before .before .before .before .before .before .before .before .if2 .left) _
-    (c .before .before .before .before .before .before .before .before .before .code-at .ensures) _
-    (c .before .before .before .before .before .before .object-fits .ensures)
-    (c .before .before .before .before .before .if3 .left) (c .before .before .before .if5 .left) (c .if6 .left)
+    early-passed _ _ (c .before .before .before .before .before .before .before .before .before .before .before .before .before .before .before .before .before .before .before .pre .asked) _
+    (c .before .before .before .before .before .before .before .before .before .before .before .before .before .before .before .before .before .rows-good .ensures)
+    (c .before .before .before .before .before .before .before .before .before .before .before .before .before .before .before .before .if1 .left) _
+    (c .before .before .before .before .before .before .before .before .before .before .before .before .before .is-process .ensures)
+    (c .before .before .before .before .before .before .before .before .before .before .before .before .if2 .left) _
+    (c .before .before .before .before .before .before .before .before .before .before .before .code-at .ensures) _
+    (c .before .before .before .before .before .before .before .before .object-fits .ensures)
+    (c .before .before .before .before .before .before .before .if3 .left) (c .before .before .before .before .before .if5 .left) (c .before .before .if6 .left) (c .if7 .taken)
+
+returns-8 : tie.Need-returns-8
+returns-8 c =
+    early-18 _ _ (c .before .before .before .before .before .before .before .before .before .before .before .before .before .before .before .before .before .before .before .before .before .pre .asked) _
+    (c .before .before .before .before .before .before .before .before .before .before .before .before .before .before .before .before .before .before .before .rows-good .ensures)
+    (c .before .before .before .before .before .before .before .before .before .before .before .before .before .before .before .before .before .before .if1 .left) _
+    (c .before .before .before .before .before .before .before .before .before .before .before .before .before .before .before .is-process .ensures)
+    (c .before .before .before .before .before .before .before .before .before .before .before .before .before .before .if2 .left) _
+    (c .before .before .before .before .before .before .before .before .before .before .before .before .before .code-at .ensures) _
+    (c .before .before .before .before .before .before .before .before .before .before .object-fits .ensures)
+    (c .before .before .before .before .before .before .before .before .before .if3 .left) (c .before .before .before .before .before .before .before .if5 .left) (c .before .before .before .before .if6 .left) (c .before .before .if7 .left) _ (c .before .behalf-of .ensures) _ (c .behalf-refusal .ensures)
 
 pub early-refusal-spec : {M : Type 1} → statement M
 early-refusal-spec =
@@ -110,4 +118,7 @@ early-refusal-spec =
     mul-if6
     shared-slice-read-if6
     returns-6
-    returns-7)
+    returns-7
+    (λ c κs. search needs)
+    (λ c κs. search needs)
+    returns-8)

@@ -36,6 +36,10 @@ tag-of-requires : tie.Need-tag-of-requires
 unfolding entry
 tag-of-requires c κs = search needs
 
+behalf-of-requires : tie.Need-behalf-of-requires
+unfolding entry
+behalf-of-requires c κs = search needs
+
 mul-b : tie.Need-mul-b
 unfolding entry
 mul-b c = search needs
@@ -54,19 +58,25 @@ part-replace-end c = search needs
 
 replace-requires : tie.Need-replace-requires
 unfolding entry
-replace-requires c κs = let start = c .before .before .before .before .before .before .before .before in let s = start .args .s .now in fork-fit s (start .args .p) (start .args .o) (start .pre) _ (copied s _ _ _ (permit-kept s (start .args .p) (ready-process s (fork (start .args .p) (start .args .o)) (start .pre))) (c .before .before .before .before .before .rule-at .ensures))
+replace-requires c κs =
+    let first = c .before .before .before .before .before .before .before in
+    let start = first .before .before .before in
+    let s = start .args .s .now in
+    fork-fit s (start .args .p) (start .args .o) (start .pre) _ (copied s _ _ _ (permit-kept s (start .args .p)
+    (ready-process s (fork (start .args .p) (start .args .o)) (start .pre))) (first .rule-at .ensures))
 
 returns : tie.Need-returns
 unfolding entry
 returns c =
-    let start = c .before .before .before .before .before .before .before .before .before .before .before in
+    let tagged = c .before .before .before .before .before .before in
+    let first = tagged .before .before .before .before in
+    let start = first .before .before .before in
     let s = start .args .s .now in
     fork-done s (start .args .p) (start .args .o) (start .pre) _ (copied s _ _ _ (permit-kept s (start .args .p)
-    (ready-process s (fork (start .args .p) (start .args .o)) (start .pre)))
-    (c .before .before .before .before .before .before .before .before .rule-at .ensures)) _ (copied s _ _ _
+    (ready-process s (fork (start .args .p) (start .args .o)) (start .pre))) (first .rule-at .ensures)) _ (copied s _ _ _
     (run-kept s (start .args .p) (ready-process s (fork (start .args .p) (start .args .o)) (start .pre)))
-    (c .before .before .before .before .before .before .rule-at2 .ensures)) _
-    (c .before .before .before .before .tag-of .ensures) _ _ (c .before .before .replace .ensures .0)
+    (tagged .before .before .rule-at2 .ensures)) _ (tagged .tag-of .ensures) _
+    (c .before .before .before .before .behalf-of .ensures) _ _ (c .before .before .replace .ensures .0)
     (c .before .before .replace .ensures .1)
 
 pub fork-spec : {M : Type 1} → statement M
@@ -80,6 +90,7 @@ fork-spec =
     add-rule-at-2
     rule-at-requires-2
     tag-of-requires
+    behalf-of-requires
     mul-b
     add-replace
     mul-replace

@@ -14,7 +14,7 @@ returns c =
     let running = tagged .before .before .before in
     let start = running .before .before .before .before .before .before in
     let s = start .args .s .now in
-    launch-done s (start .args .p) (start .args .o) (start .args .permit) _ (copied s _ _ _ (run-kept s (start .args
+    launch-done s (start .args .p) (start .args .o) (start .args .u) (start .args .permit) _ (copied s _ _ _ (run-kept s (start .args
     .o) (start .pre .1)) (running .before .before .before .rule-at .ensures)) _ (launch-tag s (start .args .p) (start
     .args .o) _ _ _ _ (running .before .tag-of .ensures) (running .running-atoms .ensures) (tagged .before .tag-of2
     .ensures) (tagged .add-data-atoms .ensures)) _ _ (c .before .before .replace .ensures .0) (c .before .before

@@ -2,7 +2,7 @@
 use Rattle.session.specs.Rows.{permitWords, runWords}
 use mathlib.Core.Path.{sym, _∙_}
 use Rattle.lists.proofs.Bools.{passes-test, fails-test}
-use Rattle.session.proofs.RowTests.{free-row, other-kind, bad-permit, by-run}
+use Rattle.session.proofs.RowTests.{free-row, other-kind, bad-permit, bad-run, by-behalf}
 use borrow.Author.Needs.{needs}
 use Rattle.session.proofs.container_row_good.Statement.{statement}
 use Rattle.session.proofs.container_row_good.Tie as tie
@@ -23,10 +23,20 @@ returns-3 c =
 returns-4 : tie.Need-returns-4
 unfolding permitWords runWords
 returns-4 c =
-    let free = c .before .before .before .before .before .before .before in
-    c .kept-well2 .ensures
-    ∙ by-run _ (sym (free .before .is-free .ensures) ∙ free .if1 .left) (passes-test (c .before .before .before .before .before .before .used-kind .ensures) (c .before .before .before .before .before .if2 .left))
-    (passes-test (c .before .before .before .kept-well .ensures) (c .before .before .if3 .left))
+    let used = c .before .before .before .before .before .before .before in
+    let free = used .before in
+    bad-run _ (sym (free .before .is-free .ensures) ∙ free .if1 .left) (passes-test (used .used-kind .ensures) (c .before .before .before .before .before .before .if2 .left))
+    (passes-test (c .before .before .before .before .kept-well .ensures) (c .before .before .before .if3 .left)) (fails-test (c .before .kept-well2 .ensures) (c .if4 .taken))
+
+returns-5 : tie.Need-returns-5
+unfolding permitWords runWords
+returns-5 c =
+    let used = c .before .before .before .before .before .before .before .before .before in
+    let free = used .before in
+    c .behalf-good .ensures
+    ∙ by-behalf _ (sym (free .before .is-free .ensures) ∙ free .if1 .left) (passes-test (used .used-kind .ensures) (c .before .before .before .before .before .before .before .before .if2 .left))
+    (passes-test (c .before .before .before .before .before .before .kept-well .ensures) (c .before .before .before .before .before .if3 .left))
+    (passes-test (c .before .before .before .kept-well2 .ensures) (c .before .before .if4 .left))
 
 pub container-row-good-spec : {M : Type 1} → statement M
 container-row-good-spec =
@@ -49,4 +59,7 @@ container-row-good-spec =
     (λ c. search needs)
     (λ c. search needs)
     (λ c κs. search needs)
-    returns-4)
+    returns-4
+    (λ c. search needs)
+    (λ c κs. search needs)
+    returns-5)
