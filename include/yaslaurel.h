@@ -11,7 +11,8 @@
  *   1          yaslaurel_matrix_verdict alone: not consistent
  *   a length   YASLAUREL_HEADER_LENGTH or more: of the image written, from the three functions that write one
  *   256        yaslaurel_step and yaslaurel_run alone: alert
- *   1 to 17    otherwise: refused, with the number of the first condition that fails, in this order
+ *   1 to 18    otherwise: refused, with the number of the first condition that fails, in this order; 18 is a refusal
+ *              from yaslaurel_step and yaslaurel_run alone, which give no length
  *
  *        9  the session is not YASLAUREL_SESSION_LENGTH numbers, or the output is under YASLAUREL_OUTPUT_LENGTH bytes
  *        1  the image is under YASLAUREL_HEADER_LENGTH or over YASLAUREL_IMAGE_LIMIT bytes
@@ -28,6 +29,8 @@
  *       12  o is of the wrong kind (read, write, append, exec, delete)
  *       13  o is not free (fork, new file, new volatile); a number is free again when its holder has left
  *       14  the user is not declared
+ *       18  a new file for another user than the one on whose behalf p runs; a process that runs on nobody's behalf may
+ *           name any declared user
  *       15  a meet of two rules has over 8 mixtures
  *       16  the profiles: text over YASLAUREL_TEXT_LIMIT bytes, not of the grammar, a path profiled twice
  *       17  the profiles: over YASLAUREL_PATHS paths, or a rule of over 8 mixtures in normal form
@@ -82,7 +85,7 @@ extern "C" {
 #define YASLAUREL_MIXTURES 2048u
 #define YASLAUREL_RULE_MIXTURES 8u /* mixtures of one rule at most */
 
-/* What stands for none: no atom of a container, the unrestricted rule, no user of an operation. */
+/* What stands for none: no atom of a container, the unrestricted rule, no user of an operation or of a container. */
 #define YASLAUREL_NO_ATOM 255u
 #define YASLAUREL_UNRESTRICTED 65535u
 #define YASLAUREL_NO_USER 65535u
@@ -107,12 +110,13 @@ extern "C" {
 #define YASLAUREL_USER_AT 6u
 
 /* A session, in numbers of 64 bits: a row for each container, then one for each user. */
-#define YASLAUREL_CONTAINER_ROW 20u
+#define YASLAUREL_CONTAINER_ROW 21u
 #define YASLAUREL_USER_ROW 10u
 #define YASLAUREL_USERS_AT (YASLAUREL_CONTAINERS * YASLAUREL_CONTAINER_ROW) /* the first user's row */
 #define YASLAUREL_SESSION_LENGTH (YASLAUREL_USERS_AT + YASLAUREL_USERS * YASLAUREL_USER_ROW)
 #define YASLAUREL_KIND_AT 0u /* in a container's row */
 #define YASLAUREL_TAG_AT 1u
+#define YASLAUREL_BEHALF_AT 20u /* the user on whose behalf a process runs, else YASLAUREL_NO_USER */
 
 /* Answers that are no refusals. */
 #define YASLAUREL_ACCEPTED 0u
@@ -139,6 +143,7 @@ extern "C" {
 #define YASLAUREL_REFUSED_MEET 15u
 #define YASLAUREL_REFUSED_PROFILE_TEXT 16u
 #define YASLAUREL_REFUSED_PROFILE_LIMIT 17u
+#define YASLAUREL_REFUSED_OTHER_USER 18u
 
 /*
  * Checks a policy image. 0 if it is accepted, else 1 to 6.
@@ -163,7 +168,7 @@ uint32_t yaslaurel_session_start(const uint8_t *image, size_t image_len, uint64_
  * Judges one operation record and brings the session up to date. An alert does not undo the access.
  * 0 quiet or 256 alert: `receiver` is then the number of the container that received, `tag` the set of its atoms, atom
  * k worth 2 to the k; for an end or a delete, the number of the container that leaves, and 0. Else 9, then 7, then 10 to
- * 15, and `receiver` and `tag` keep what they held.
+ * 14, 18 or 15, and `receiver` and `tag` keep what they held.
  */
 uint32_t yaslaurel_step(uint64_t *session, size_t session_len, const uint8_t *record, size_t record_len,
                         uint64_t *receiver, uint64_t *tag);
@@ -172,9 +177,9 @@ uint32_t yaslaurel_step(uint64_t *session, size_t session_len, const uint8_t *re
  * Judges the records that lie one behind the other in `records`, each as yaslaurel_step does (the last may be short,
  * and is then refused with 7), up to and with the first that is not answered quiet, or to the end.
  * 0 if each was quiet, also if there is none; 256 alert, with `receiver` and `tag` as from yaslaurel_step; else that
- * record's refusal, 7 or 10 to 15, which changes nothing of its own, while the records before it stay done. `taken` is
- * then how many were judged, the last included; `receiver` and `tag` are written in an alert alone. 9 comes first, also
- * without records, and nothing changes, `taken` neither.
+ * record's refusal, 7, 10 to 15 or 18, which changes nothing of its own, while the records before it stay done.
+ * `taken` is then how many were judged, the last included; `receiver` and `tag` are written in an alert alone. 9 comes
+ * first, also without records, and nothing changes, `taken` neither.
  * To go on, call again with the records behind: YASLAUREL_RECORD_LENGTH times `taken` bytes further, none left if that
  * is `records_len` or more. The answers are those of yaslaurel_step on each record in turn.
  */

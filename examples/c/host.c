@@ -100,6 +100,8 @@ static const char *meaning(uint32_t refusal)
         return "o is not free";
     case YASLAUREL_REFUSED_UNDECLARED:
         return "the user is not declared";
+    case YASLAUREL_REFUSED_OTHER_USER:
+        return "the file is for another user than the process's own";
     case YASLAUREL_REFUSED_MEET:
         return "two rules meet in over 8 mixtures";
     default:

@@ -102,6 +102,7 @@ pub mod record {
 /// A session, in numbers of 64 bits.
 pub mod session {
     use super::image::{CONTAINERS, USERS};
+    use super::record::NO_USER;
     use std::ops::Range;
 
     /// Mixtures of a rule at most.
@@ -111,13 +112,19 @@ pub mod session {
     pub const RULE: usize = 1 + RULE_MIXTURES;
 
     /// Numbers of a container's row.
-    pub const CONTAINER_ROW: usize = 20;
+    pub const CONTAINER_ROW: usize = 21;
 
     /// Places in a container's row.
     pub const KIND: usize = 0;
     pub const TAG: usize = 1;
     pub const PERMIT: usize = 2;
     pub const RUN: usize = PERMIT + RULE;
+    /// The user on whose behalf a process runs.
+    pub const BEHALF: usize = RUN + RULE;
+
+    /// What stands there for nobody: in the row of a process that has executed nothing and is no fork of one that has, of
+    /// a file and of a volatile.
+    pub const NOBODY: u64 = NO_USER as u64;
 
     /// Numbers of a user's row.
     pub const USER_ROW: usize = 10;

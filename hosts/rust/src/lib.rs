@@ -25,6 +25,7 @@
 //! The functions whose names end in `_into` or `_in` work on memory that the caller lends, of any length: a wrong length
 //! is a [`Refusal`]. The others bring their own.
 
+mod container;
 pub mod ffi;
 pub mod layout;
 mod operation;
@@ -33,6 +34,7 @@ mod run;
 
 use std::fmt;
 
+pub use container::{Container, Kind};
 pub use operation::Operation;
 pub use refusal::Refusal;
 pub use run::{run_in, Run};
@@ -92,7 +94,7 @@ fn refusal(number: u32) -> Refusal {
     Refusal::from_number(number).expect("the library's contract gives no other number")
 }
 
-/// An image's length, or a refusal: no number of a refusal is as large as a header is long.
+/// An image's length, or a refusal: no refusal of a function that writes an image is as large as a header is long.
 #[inline]
 fn length(number: u32) -> Result<usize, Refusal> {
     if (number as usize) < layout::image::HEADER {
@@ -245,13 +247,35 @@ impl Session {
         run_in(&mut self.words[..], records)
     }
 
+    /// What a number stands for just now; nothing for a free one.
+    ///
+    /// ```
+    /// use yaslaurel::{matrix_policy, Kind, Operation, Refusal, Session};
+    /// // Files 0 and 1, process 2, user 0.
+    /// let mut session = Session::start(&matrix_policy(&[0b11], &[0b10], 2)?)?;
+    /// let file = session.container(1).expect("a file of the policy");
+    /// assert_eq!((file.kind, file.tag, file.user), (Kind::File, 0b10, None));
+    /// assert_eq!(session.container(3), None);
+    ///
+    /// // An exec says on whose behalf a process runs, and a fork runs on the same user's.
+    /// assert_eq!(session.container(2).and_then(|process| process.user), None);
+    /// session.step(&Operation::Exec { process: 2, file: 0, user: 0 }.record())?;
+    /// session.step(&Operation::Fork { process: 2, child: 3 }.record())?;
+    /// let child = session.container(3).expect("the fork took it");
+    /// assert_eq!((child.kind, child.tag, child.user), (Kind::Process, 1 << 32, Some(0)));
+    /// # Ok::<(), Refusal>(())
+    /// ```
+    pub fn container(&self, number: u8) -> Option<Container> {
+        Container::read(&self.words[layout::session::container(usize::from(number))])
+    }
+
     /// The numbers of the session: the rows of the containers, then those of the users, as [`layout::session`] has
     /// them.
     pub fn words(&self) -> &[u64; SESSION_LENGTH] {
         &self.words
     }
 
-    /// A session from its numbers, as [`words`](Session::words) gave them. Any numbers will do: an operation that
+    /// A session from its numbers, as [`words`](Session::words) of this edition gave them. Any numbers will do: an operation that
     /// names a row that is not well formed is refused with [`Refusal::Row`].
     ///
     /// ```

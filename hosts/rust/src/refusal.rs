@@ -3,7 +3,8 @@ use std::fmt;
 
 /// Why a call was refused. A refused call changes nothing that it was lent.
 ///
-/// The numbers are the paper's. Where several conditions fail, the first in this order counts: 9, 1 to 8, 10 to 17.
+/// The numbers are the paper's. Where several conditions fail, the first in this order counts: 9, 1 to 8, 10 to
+/// 14, 18, 15 to 17.
 ///
 /// ```
 /// use yaslaurel::Refusal;
@@ -52,11 +53,13 @@ pub enum Refusal {
     ProfileText = 16,
     /// The text has over [`PATHS`](crate::layout::profiles::PATHS) paths, or a rule has over 8 mixtures in normal form.
     ProfileLimit = 17,
+    /// A process makes a new file for another user than the one on whose behalf it runs.
+    OtherUser = 18,
 }
 
 impl Refusal {
     /// All refusals, by rising number.
-    pub const ALL: [Refusal; 17] = [
+    pub const ALL: [Refusal; 18] = [
         Refusal::ImageLength,
         Refusal::Sections,
         Refusal::RecordCount,
@@ -74,9 +77,10 @@ impl Refusal {
         Refusal::Meet,
         Refusal::ProfileText,
         Refusal::ProfileLimit,
+        Refusal::OtherUser,
     ];
 
-    /// The refusal of a number from 1 to 17.
+    /// The refusal of a number from 1 to 18.
     ///
     /// ```
     /// use yaslaurel::Refusal;
@@ -84,7 +88,7 @@ impl Refusal {
     ///     assert_eq!(Refusal::from_number(refusal.number()), Some(refusal));
     /// }
     /// assert_eq!(Refusal::from_number(0), None);
-    /// assert_eq!(Refusal::from_number(18), None);
+    /// assert_eq!(Refusal::from_number(19), None);
     /// ```
     #[inline]
     pub fn from_number(number: u32) -> Option<Refusal> {
@@ -117,6 +121,7 @@ impl Refusal {
             Refusal::Meet => "a meet of two rules has over 8 mixtures",
             Refusal::ProfileText => "the text of profiles is too long, breaks the grammar or profiles a path twice",
             Refusal::ProfileLimit => "the profiles have over 32 paths, or a rule of over 8 mixtures",
+            Refusal::OtherUser => "a new file for another user than the process's own",
         }
     }
 }

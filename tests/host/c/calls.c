@@ -246,6 +246,66 @@ static void leaving_example(void)
     }
 }
 
+/* On whose behalf processes run, on a session of file 0, process 1 and users 0 and 1, all unrestricted. */
+static void behalf_example(void)
+{
+    static const uint8_t header[] = {YASLAUREL_LEADING, 0, 18, 0, 12, 0, 30, 0, 4, 0, 34, 0, 0, 0, 34, 0, 0, 0};
+    static const struct {
+        uint8_t code, p, o;
+        uint16_t u;
+        uint32_t answer;
+        uint64_t receiver, tag;
+    } steps[] = {
+        {6, 1, 2, 1, 0, 2, 0},                                 /* on nobody's behalf, a file for any user */
+        {4, 1, 0, 1, 0, 1, (uint64_t)1 << 32},                 /* an exec as user 1 */
+        {5, 1, 3, YASLAUREL_NO_USER, 0, 3, (uint64_t)1 << 32}, /* a fork runs on the same user's behalf */
+        {6, 3, 4, 0, YASLAUREL_REFUSED_OTHER_USER, 77, 88},    /* and makes no file for another */
+        {6, 3, 4, 2, YASLAUREL_REFUSED_UNDECLARED, 77, 88},    /* which is judged behind 14 */
+        {6, 3, 4, 1, 0, 4, 0},                                 /* but for its own */
+        {4, 3, 0, 0, 0, 3, (uint64_t)1 << 32},                 /* an exec may name another user */
+        {6, 3, 5, 0, 0, 5, 0},                                 /* for whom the process then makes files */
+        {2, 1, 0, YASLAUREL_NO_USER, 0, 0, (uint64_t)1 << 32}, /* a write gives a file no user */
+    };
+    static const uint64_t users[] = {YASLAUREL_NO_USER, 1, YASLAUREL_NO_USER, 0, YASLAUREL_NO_USER,
+                                     YASLAUREL_NO_USER, 0};
+    static const struct {
+        uint64_t container, user;
+        uint8_t code, o;
+        uint32_t answer;
+    } damages[] = {
+        {1, 15, 1, 0, 0}, {1, 16, 1, 0, 10}, {0, 0, 1, 0, 10}, {2, 1, 1, 2, 10}, {6, YASLAUREL_NO_USER, 7, 6, 10},
+    };
+    uint8_t image[34];
+    uint64_t receiver, tag;
+
+    memset(image, 255, sizeof image);
+    memcpy(image, header, HEADER);
+    image[HEADER] = 1;
+    image[HEADER + 1] = 0;
+    image[HEADER + YASLAUREL_CONTAINER_LENGTH] = 3;
+    check(yaslaurel_session_start(image, sizeof image, session, SESSION) == 0, "behalf: the session starts");
+    for (size_t i = 0; i < sizeof steps / sizeof steps[0]; i++) {
+        const uint8_t record[RECORD] = {
+            steps[i].code, 0, steps[i].p, 0, steps[i].o, 0, (uint8_t)steps[i].u, (uint8_t)(steps[i].u >> 8)};
+        receiver = 77;
+        tag = 88;
+        uint32_t answer = yaslaurel_step(session, SESSION, record, RECORD, &receiver, &tag);
+        check(answer == steps[i].answer && receiver == steps[i].receiver && tag == steps[i].tag,
+              "behalf: a step of processes that make files for users");
+    }
+    for (size_t i = 0; i < sizeof users / sizeof users[0]; i++) {
+        check(session[YASLAUREL_CONTAINER_ROW * i + YASLAUREL_BEHALF_AT] == users[i], "behalf: the user of a container");
+    }
+    memcpy(before, session, sizeof session);
+    for (size_t i = 0; i < sizeof damages / sizeof damages[0]; i++) {
+        const uint8_t record[RECORD] = {damages[i].code, 0, 1, 0, damages[i].o, 0, 255, 255};
+        memcpy(session, before, sizeof session);
+        session[YASLAUREL_CONTAINER_ROW * damages[i].container + YASLAUREL_BEHALF_AT] = damages[i].user;
+        check(yaslaurel_step(session, SESSION, record, RECORD, &receiver, &tag) == damages[i].answer,
+              "behalf: a user that a row may or may not have");
+    }
+}
+
 /* Lines `profile /NUMBER {`, `/f MODES,` and `}` for so many programs from a number on. The length of the text. */
 static size_t programs(char *text, int first, int count, const char *modes)
 {
@@ -383,6 +443,7 @@ int main(void)
     nulls();
     example();
     leaving_example();
+    behalf_example();
     profile_example();
     random_bytes();
     printf("%u passed, %u failed\n", passed, failed);

@@ -299,6 +299,32 @@ static unsigned make_record(uint8_t *record)
     return code;
 }
 
+/* The user that the receiver of an accepted record then has. */
+static uint64_t behalf_after(const uint8_t *record, size_t receiver)
+{
+    switch (record[YASLAUREL_CODE_AT]) {
+    case 4:
+        return record[YASLAUREL_USER_AT];
+    case 5:
+        return session[CONTAINER_ROW * record[YASLAUREL_PROCESS_AT] + YASLAUREL_BEHALF_AT];
+    case 6:
+    case 7:
+        return YASLAUREL_NO_USER;
+    case 8:
+    case 9:
+        return 0;
+    default:
+        return session[CONTAINER_ROW * receiver + YASLAUREL_BEHALF_AT];
+    }
+}
+
+/* Whether a record makes a file for another user than the one of its process. */
+static int other_user(const uint8_t *record)
+{
+    uint64_t own = session[CONTAINER_ROW * record[YASLAUREL_PROCESS_AT] + YASLAUREL_BEHALF_AT];
+    return record[YASLAUREL_CODE_AT] == 6 && own != YASLAUREL_NO_USER && own != record[YASLAUREL_USER_AT];
+}
+
 /* One step on the session as it stands, or after damage to it. */
 static void try_step(int damaged)
 {
@@ -332,21 +358,26 @@ static void try_step(int damaged)
     read_only(&record_at, 0);
 
     int accepted = answer == YASLAUREL_QUIET || answer == YASLAUREL_ALERT;
-    require(accepted || answer == 7 || (answer >= 9 && answer <= 15), "the step gives an answer or 7, 9 to 15");
+    require(accepted || answer == 7 || (answer >= 9 && answer <= 15) || answer == 18,
+            "the step gives an answer or 7, 9 to 15, 18");
     require((answer == 9) == (session_length != SESSION), "the step gives 9 for a session of wrong length alone");
     require(damaged || answer != 10, "a session that only start and step have written is not refused with 10");
     require(stayed(&record_at, 0), "the record stays");
     require(stayed(&numbers_at, accepted ? sizeof before : 0), "receiver and tag stay in a refusal");
     steps[answer]++;
+    require(answer != 18 || other_user(record), "18 is for a new file for another user alone");
     if (!accepted) {
         require(stayed(&session_at, 0), "the session stays in a refusal");
         return;
     }
+    require(!other_user(record), "a new file for another user is refused");
     require(stayed(&session_at, WORD * SESSION), "memory beside the session stays");
     require(numbers[0] == record[YASLAUREL_PROCESS_AT] || numbers[0] == record[YASLAUREL_OBJECT_AT],
             "the receiver is p or o");
     uint64_t *after = (uint64_t *)(void *)session_at.slice;
     size_t row = CONTAINER_ROW * numbers[0];
+    require(after[row + YASLAUREL_BEHALF_AT] == behalf_after(record, numbers[0]),
+            "an exec sets the receiver's user, a fork copies it, a new file or volatile has none, the others keep it");
     require(after[row + YASLAUREL_TAG_AT] == numbers[1], "the tag is the receiver's");
     for (size_t i = 0; record[YASLAUREL_CODE_AT] >= 8 && i < CONTAINER_ROW; i++) {
         require(after[row + i] == 0, "a container that leaves leaves a free row");
@@ -553,8 +584,8 @@ static int all_reached(int print)
     int all = REACHED(print, checks, 0, 1, 2, 3, 4, 5, 6);
     all &= REACHED(print, normals, LENGTH, 1, 2, 3, 4, 5, 6, 9);
     all &= REACHED(print, starts, 0, 1, 2, 3, 4, 5, 6, 9);
-    all &= REACHED(print, steps, YASLAUREL_QUIET, YASLAUREL_ALERT, 7, 9, 10, 11, 12, 13, 14, 15);
-    all &= REACHED(print, runs, YASLAUREL_QUIET, YASLAUREL_ALERT, 7, 9, 10, 11, 12, 13, 14, 15);
+    all &= REACHED(print, steps, YASLAUREL_QUIET, YASLAUREL_ALERT, 7, 9, 10, 11, 12, 13, 14, 15, 18);
+    all &= REACHED(print, runs, YASLAUREL_QUIET, YASLAUREL_ALERT, 7, 9, 10, 11, 12, 13, 14, 15, 18);
     all &= REACHED(print, verdicts, 0, 1, 8);
     all &= REACHED(print, policies, LENGTH, 8, 9);
     all &= REACHED(print, profiles, LENGTH, 9, 16, 17);

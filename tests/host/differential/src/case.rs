@@ -7,7 +7,7 @@ use judge::session::Record;
 use judge::{chains, image, matrix, normal, profiles, session};
 use yaslaurel::layout::image::HEADER;
 use yaslaurel::layout::record;
-use yaslaurel::layout::session::{container, user, CONTAINER_ROW, USER_ROW};
+use yaslaurel::layout::session::{container, user, BEHALF, CONTAINER_ROW, NOBODY, USER_ROW};
 use yaslaurel::{MatrixVerdict, Refusal, Session, Verdict, SESSION_LENGTH};
 
 use crate::counters::Counters;
@@ -244,11 +244,18 @@ impl Bench {
         let expected = session::step(&mut self.judge_session, record);
         let accepted = expected.number == session::QUIET || expected.number == session::ALERT;
         match expected.number {
-            session::QUIET => c.quiet[usize::from(record[0])] += 1,
+            session::QUIET => {
+                c.quiet[usize::from(record[0])] += 1;
+                if record[0] == 6 {
+                    let process = &self.judge_session[container(usize::from(record[record::PROCESS]))];
+                    *if process[BEHALF] == NOBODY { &mut c.files_by_nobody } else { &mut c.files_by_user } += 1;
+                }
+            }
             session::ALERT => c.alert[usize::from(record[0])] += 1,
             refusal => {
                 c.refused[refusal as usize] += 1;
                 match record.first() {
+                    Some(6) => c.file_refused[refusal as usize] += 1,
                     Some(8) => c.end_refused[refusal as usize] += 1,
                     Some(9) => c.delete_refused[refusal as usize] += 1,
                     _ => {}
@@ -502,7 +509,16 @@ fn history_case(image: &[u8], records: &[Vec<u8>], c: &mut Counters) -> Differen
             answers.push(session::Answer { number, receiver: u64::from(answer.receiver), tag: answer.tag });
         }
     }
-    judged_by_chains(&policy, &history, &answers, c)
+    judged_by_chains(&policy, &history, &answers, c).or_else(|| judged_by_execs(&session, &history, c))
+}
+
+/// Compares the user that the session has for each container with the one that the history alone gives it.
+fn judged_by_execs(session: &Session, history: &[Record], c: &mut Counters) -> Difference {
+    (0..=u8::MAX).filter_map(|number| Some((number, session.container(number)?))).find_map(|(number, container)| {
+        let expected = chains::on_behalf(history, usize::from(number));
+        *if expected.is_none() { &mut c.chain_nobody } else { &mut c.chain_users } += 1;
+        differ(&format!("user of container {number}"), container.user.map(usize::from), expected)
+    })
 }
 
 /// Compares the answers with those of the judge of chains, which knows the image and which records were accepted.

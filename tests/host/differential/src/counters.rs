@@ -29,16 +29,20 @@ pub struct Counters {
     pub quiet: [u64; 10],
     pub alert: [u64; 10],
     /// By refusal number.
-    pub refused: [u64; 16],
-    /// Of code 8 and of code 9, by refusal number.
-    pub end_refused: [u64; 16],
-    pub delete_refused: [u64; 16],
+    pub refused: [u64; 19],
+    /// Of code 6, of code 8 and of code 9, by refusal number.
+    pub file_refused: [u64; 19],
+    pub end_refused: [u64; 19],
+    pub delete_refused: [u64; 19],
+    /// New files by processes that run on nobody's behalf, and by those that run on their user's.
+    pub files_by_nobody: u64,
+    pub files_by_user: u64,
     pub longest_trace: usize,
     pub runs: u64,
     /// Quiet to the end, alerts, and refusals by their number.
     pub runs_quiet: u64,
     pub runs_alert: u64,
-    pub runs_refused: [u64; 16],
+    pub runs_refused: [u64; 19],
     /// Runs that stopped before the end, that took a short record, that had no record at all.
     pub runs_stopped: u64,
     pub runs_short: u64,
@@ -58,6 +62,9 @@ pub struct Counters {
     pub chain_left: u64,
     pub chain_taken_again: u64,
     pub chain_alerts_again: u64,
+    /// Containers whose user was read off the history: nobody's, and a user's.
+    pub chain_nobody: u64,
+    pub chain_users: u64,
     pub texts: u64,
     /// Refusals of the policy of profiles; 0 counts what was accepted.
     pub profiles: [u64; 18],
@@ -141,7 +148,7 @@ impl Counters {
         }
         need(self.normalised[9], "normaliser answers 9".into());
         need(self.started[9], "start answers 9".into());
-        for number in [7, 9, 10, 11, 12, 13, 14, 15] {
+        for number in [7, 9, 10, 11, 12, 13, 14, 15, 18] {
             need(self.refused[number], format!("step answers {number}"));
             need(self.runs_refused[number], format!("run answers {number}"));
         }
@@ -153,6 +160,11 @@ impl Counters {
         for code in 1..=9 {
             need(self.quiet[code], format!("code {code} answers quiet"));
         }
+        for number in [7, 10, 11, 13, 14, 18] {
+            need(self.file_refused[number], format!("code 6 answers {number}"));
+        }
+        need(self.files_by_nobody, "a new file by a process that runs on nobody's behalf".into());
+        need(self.files_by_user, "a new file by a process that runs on its user's behalf".into());
         for number in [7, 10, 11] {
             need(self.end_refused[number], format!("code 8 answers {number}"));
         }
@@ -186,6 +198,8 @@ impl Counters {
         need(self.chain_running, "a running atom on a trace whose chains were listed".into());
         need(self.chain_taken_again, "a number taken again on a trace whose chains were listed".into());
         need(self.chain_alerts_again, "an alert of a number taken again".into());
+        need(self.chain_nobody, "a container on nobody's behalf at the end of a history".into());
+        need(self.chain_users, "a process on a user's behalf at the end of a history".into());
         missing
     }
 
@@ -207,6 +221,8 @@ impl Counters {
         line("quiet, by code", by_number(&self.quiet));
         line("alert, by code", by_number(&self.alert));
         line("step, by refusal", by_number(&self.refused));
+        line("new file, by refusal", by_number(&self.file_refused));
+        line("new files by nobody, by users", format!("{}, {}", self.files_by_nobody, self.files_by_user));
         line("end, by refusal", by_number(&self.end_refused));
         line("delete, by refusal", by_number(&self.delete_refused));
         line("longest trace", self.longest_trace.to_string());
@@ -228,6 +244,7 @@ impl Counters {
         line("steps, alerts, running atoms, chains", format!("{}, {}, {}, {}", chains.0, chains.1, chains.2, chains.3));
         let again = (self.chain_left, self.chain_taken_again, self.chain_alerts_again);
         line("left, taken again, alerts there", format!("{}, {}, {}", again.0, again.1, again.2));
+        line("containers of nobody, of users", format!("{}, {}", self.chain_nobody, self.chain_users));
         text
     }
 }

@@ -6,7 +6,8 @@ use yaslaurel::layout::image::{
 };
 use yaslaurel::layout::record::{CODE, NO_USER, OBJECT, PROCESS, USER, ZERO};
 use yaslaurel::layout::session::{
-    container, rule, user, CONTAINER_ROW, DECLARED, KIND, PERMIT, RULE, RULE_MIXTURES, RUN, TAG, USER_ROW, USER_RULE,
+    container, rule, user, BEHALF, CONTAINER_ROW, DECLARED, KIND, NOBODY, PERMIT, RULE, RULE_MIXTURES, RUN, TAG,
+    USER_ROW, USER_RULE,
 };
 use yaslaurel::SESSION_LENGTH;
 
@@ -330,6 +331,7 @@ fn container_row(r: &mut Random, kind: u64, pool: &[u64]) -> [u64; CONTAINER_ROW
     row[TAG] = tag(r);
     row[rule(PERMIT)].copy_from_slice(&rule_words(&normal_rule(r, pool)));
     row[rule(RUN)].copy_from_slice(&rule_words(&normal_rule(r, pool)));
+    row[BEHALF] = if kind == 3 && r.percent(60) { r.below(USERS.most) as u64 } else { NOBODY };
     row
 }
 
@@ -352,7 +354,8 @@ fn damage_rule(r: &mut Random, words: &mut [u64]) {
 }
 
 fn damage_row(r: &mut Random, row: &mut [u64]) {
-    match r.below(4) {
+    match r.below(5) {
+        4 => row[BEHALF] = r.pick(&[0, 15, 16, 255, NOBODY - 1, NOBODY, NOBODY + 1, 1 << 32, u64::MAX]),
         0 => row[KIND] = r.pick(&[0, 4, 1 << 32, (1 << 32) + 1, u64::MAX, 2, 3]),
         1 => row[r.below(CONTAINER_ROW)] ^= 1 << r.below(64),
         2 => damage_rule(r, &mut row[rule(PERMIT)]),
@@ -459,6 +462,11 @@ pub fn step(r: &mut Random) -> StepCase {
     if r.percent(12) {
         about_eight(r, &mut rows);
     }
+    // Half of the files are made for the user of the process, where it has one.
+    let process = &mut rows.containers[0].1;
+    if code == 6 && process[KIND] == 3 && process[BEHALF] != NOBODY && r.percent(50) {
+        process[BEHALF] = u as u64;
+    }
     if r.percent(35) {
         for _ in 0..r.pick(&[1, 1, 2]) {
             let at = r.below(rows.containers.len() + 1);
@@ -514,7 +522,9 @@ pub fn record(r: &mut Random, session: &[u64], containers: usize, leaving: usize
         _ => any(r),
     };
     let declared = (0..USERS.most).filter(|&u| session[user(u)][DECLARED] == 1).count();
+    let own = session[container(usize::from(p))][BEHALF];
     let u = match code {
+        6 if own < USERS.most as u64 && r.percent(60) => own as u16,
         4 | 6 if declared > 0 && r.percent(95) => r.below(declared) as u16,
         4 | 6 => r.below(USERS.most) as u16,
         _ => NO_USER,

@@ -198,6 +198,19 @@ pub fn judge(policy: &Policy, history: &[Record]) -> Vec<Judged> {
         .collect()
 }
 
+/// "Show on whose behalf a process runs. So far this is implied by the last exec." "exec sets it and fork copies it" (change
+/// request No. 5). From the history alone, for a number that is taken behind its last step: the user of the last exec,
+/// looked for in the parent's history where a fork came after it; nobody "for an initial process, a file or a volatile".
+pub fn on_behalf(history: &[Record], container: usize) -> Option<usize> {
+    let (step, before) = history.split_last()?;
+    match step.code {
+        4 if step.p == container => step.u,
+        5 if step.o == container => on_behalf(before, step.p),
+        6 | 7 if step.o == container => None,
+        _ => on_behalf(before, container),
+    }
+}
+
 #[cfg(test)]
 mod tests {
     use super::*;

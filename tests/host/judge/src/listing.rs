@@ -25,7 +25,7 @@ fn word(code: u8) -> &'static str {
 /// The listing of a trace: "Fields stand one space apart, and byte 10 ends each line."
 pub fn listing(policy: &[u8], trace: &[u8]) -> String {
     let mut text = String::new();
-    // "Its buffer of 5,280 zeros is filled by the start."
+    // "Its buffer" of zeros "is filled by the start."; "The session is now 5,536 numbers long" (change request No. 5).
     let mut session = vec![0; SESSION];
     let refusal = start(policy, &mut session);
     if refusal != 0 {

@@ -56,9 +56,10 @@ pub const UNRESTRICTED: u16 = 65535;
 /// "Its length is at most 18,994; the output must hold that many bytes".
 pub const LONGEST_NORMAL: usize = 18_994;
 
-/// "The session is a lent slice of exactly 5,280 numbers of 64 bits: 256 rows of 20, then 16 user rows of 10."
-pub const SESSION: usize = 5_280;
-const CONTAINER_ROW: usize = 20;
+/// "The session is a lent slice" of "256 rows", "then 16 user rows of 10." "Each container row gets a 21st number"; "The
+/// session is now 5,536 numbers long" (change request No. 5).
+pub const SESSION: usize = 5_536;
+const CONTAINER_ROW: usize = 21;
 const USER_ROW: usize = 10;
 
 /// The numbers of a container's row.
@@ -78,6 +79,11 @@ pub const ROW_KIND: usize = 0;
 pub const ROW_TAG: usize = 1;
 pub const ROW_PERMIT: Range<usize> = 2..11;
 pub const ROW_RUN: Range<usize> = 11..20;
+
+/// "Each container row gets a 21st number: the user for a process, 65535 for an initial process, a file or a volatile"
+/// (change request No. 5).
+pub const ROW_USER: usize = 20;
+pub const NOBODY: u64 = 65535;
 
 /// "A user row: 1 if declared, count, 8 mixtures."
 pub const ROW_DECLARED: usize = 0;
@@ -110,7 +116,7 @@ mod tests {
         assert_eq!(HEADER + SECTIONS.map(|section| section.size * section.most).iter().sum::<usize>(), LONGEST_NORMAL);
         assert_eq!(user_row(USERS.most).start, SESSION);
         assert_eq!((ROW_PERMIT.len(), ROW_RUN.len(), ROW_RULE.len()), (RULE_WORDS, RULE_WORDS, RULE_WORDS));
-        assert_eq!((ROW_RUN.end, ROW_RULE.end), (CONTAINER_ROW, USER_ROW));
+        assert_eq!((ROW_RUN.end, ROW_USER + 1, ROW_RULE.end), (ROW_USER, CONTAINER_ROW, USER_ROW));
         assert_eq!(RULE_WORDS, 1 + RULE_MIXTURES);
     }
 }

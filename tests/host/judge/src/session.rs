@@ -2,8 +2,8 @@
 
 use crate::image::{read, Kind};
 use crate::numbers::{
-    container_row, user_row, CONTAINERS, NO_USER, RECORD, ROW_DECLARED, ROW_KIND, ROW_PERMIT, ROW_RULE, ROW_RUN,
-    ROW_TAG, RULE_MIXTURES, RULE_WORDS, SESSION, USERS,
+    container_row, user_row, CONTAINERS, NOBODY, NO_USER, RECORD, ROW_DECLARED, ROW_KIND, ROW_PERMIT, ROW_RULE,
+    ROW_RUN, ROW_TAG, ROW_USER, RULE_MIXTURES, RULE_WORDS, SESSION, USERS,
 };
 use crate::rules::{covers, data_atoms, meet, normal, running_atoms, unrestricted, Rule};
 
@@ -31,6 +31,8 @@ struct Row {
     tag: u64,
     permit: Rule,
     run: Rule,
+    /// The user on whose behalf a process runs; none for "an initial process, a file or a volatile".
+    user: Option<usize>,
 }
 
 /// What a well-formed container row says.
@@ -59,8 +61,18 @@ fn read_rule(words: &[u64]) -> Option<Rule> {
     well.then(|| mixtures.to_vec())
 }
 
+/// "the user for a process, 65535 for an initial process, a file or a volatile"; "10 covers any value but these (0 to 15 or
+/// 65535 in a process)" (change request No. 5). Nothing for a value that 10 covers.
+fn read_behalf(kind: Kind, word: u64) -> Option<Option<usize>> {
+    match word {
+        NOBODY => Some(None),
+        user if kind == Kind::Process && user < USERS.most as u64 => Some(Some(user as usize)),
+        _ => None,
+    }
+}
+
 /// "A container row: kind (0 free, else as in the image), information tag, permit count, 8 mixtures, run count,
-/// 8 mixtures." "a free or undeclared row is all 0". Nothing for a row that is not as "Session" says.
+/// 8 mixtures." "a free or undeclared row is all 0"; "a free row still holds 0" (change request No. 5). Nothing for a row that is not as "Session" says.
 fn read_container(words: &[u64]) -> Option<Place> {
     if words[ROW_KIND] == 0 {
         return words.iter().all(|&word| word == 0).then_some(Place::Free);
@@ -68,7 +80,8 @@ fn read_container(words: &[u64]) -> Option<Place> {
     let kind = Kind::of(words[ROW_KIND])?;
     let permit = read_rule(&words[ROW_PERMIT])?;
     let run = read_rule(&words[ROW_RUN])?;
-    Some(Place::Taken(Row { kind, tag: words[ROW_TAG], permit, run }))
+    let user = read_behalf(kind, words[ROW_USER])?;
+    Some(Place::Taken(Row { kind, tag: words[ROW_TAG], permit, run, user }))
 }
 
 /// "A user row: 1 if declared, count, 8 mixtures." Nothing for a row that is not as "Session" says, an empty
@@ -95,6 +108,7 @@ fn write_container(session: &mut [u64], number: usize, row: &Row) {
     words[ROW_TAG] = row.tag;
     words[ROW_PERMIT].copy_from_slice(&rule_words(&row.permit));
     words[ROW_RUN].copy_from_slice(&rule_words(&row.run));
+    words[ROW_USER] = row.user.map_or(NOBODY, |user| user as u64);
 }
 
 fn write_user(session: &mut [u64], number: usize, rule: &[u64]) {
@@ -121,6 +135,8 @@ pub fn start(image: &[u8], session: &mut [u64]) -> u32 {
             tag: container.atom.map_or(0, |atom| 1 << atom),
             permit: normal(&policy.rule(container.permit)),
             run: normal(&policy.rule(container.run)),
+            // "65535 for an initial process, a file or a volatile"
+            user: None,
         };
         write_container(session, number, &row);
     }
@@ -179,7 +195,7 @@ fn bounded(rule: Rule) -> Result<Rule, u32> {
     }
 }
 
-/// The column "effect" of the table, for rows that are as "Session" says, after refusals 11 to 14.
+/// The column "effect" of the table, for rows that are as "Session" says, after refusals 11 to 14 and 18.
 fn effect(record: Record, p: &Row, o: Option<&Row>, user: Option<&Rule>) -> Result<Effect, u32> {
     let taken = || o.expect("codes 1 to 4 were refused with 12").clone();
     // "The row becomes free, so its number can be taken again by codes 5 to 7." The row is o's, which for 8 is p's.
@@ -204,18 +220,18 @@ fn effect(record: Record, p: &Row, o: Option<&Row>, user: Option<&Rule>) -> Resu
         }
         // "p's tag becomes the twins of o's data atoms"; "Code 4 now keeps p's old data atoms beside the new twins. It
         // still drops old twins" (change request No. 2); "p's run rule becomes o's; p's permit rule becomes the meet of
-        // o's run rule and u's"
+        // o's run rule and u's"; "exec sets it" (change request No. 5)
         4 => {
             let o = taken();
             let tag = data_atoms(p.tag) | running_atoms(o.tag);
-            Row { kind: p.kind, tag, permit: bounded(meet(&o.run, &user()))?, run: o.run }
+            Row { kind: p.kind, tag, permit: bounded(meet(&o.run, &user()))?, run: o.run, user: record.u }
         }
-        // "o becomes a copy of p"
+        // "o becomes a copy of p"; "and fork copies it" (change request No. 5)
         5 => p.clone(),
         // "empty tag, permit u's rule, run unrestricted"
-        6 => Row { kind: Kind::File, tag: 0, permit: user(), run: unrestricted() },
+        6 => Row { kind: Kind::File, tag: 0, permit: user(), run: unrestricted(), user: None },
         // "empty tag, both unrestricted"
-        _ => Row { kind: Kind::Volatile, tag: 0, permit: unrestricted(), run: unrestricted() },
+        _ => Row { kind: Kind::Volatile, tag: 0, permit: unrestricted(), run: unrestricted(), user: None },
     };
     Ok(Effect { receiver, place: Place::Taken(row) })
 }
@@ -249,6 +265,11 @@ fn judged(session: &[u64], record: Record) -> Result<Effect, u32> {
     // "14 u not declared"
     if record.u.is_some() && user.is_none() {
         return Err(14);
+    }
+    // "18 when code 6 names a user other than p's own recorded one, placed after 14; a process with 65535 may name any
+    // declared user" (change request No. 5)
+    if record.code == 6 && p.user.is_some() && p.user != record.u {
+        return Err(18);
     }
     effect(record, p, o.row(), user.as_ref())
 }
@@ -320,7 +341,7 @@ mod tests {
     }
 
     fn row(kind: Kind, tag: u64) -> Row {
-        Row { kind, tag, permit: unrestricted(), run: unrestricted() }
+        Row { kind, tag, permit: unrestricted(), run: unrestricted(), user: None }
     }
 
     fn record(code: u8, p: u16, o: u16, u: u16) -> Vec<u8> {
@@ -391,6 +412,57 @@ mod tests {
             session,
             session_with(&[rows[0].clone(), (1, row(Kind::Volatile, 0)), (2, row(Kind::Process, 5))], &[])
         );
+    }
+
+    /// "exec sets it and fork copies it"; "18 when code 6 names a user other than p's own recorded one, placed after 14; a
+    /// process with 65535 may name any declared user."
+    #[test]
+    fn a_process_makes_files_for_its_own_user() {
+        let rows = [(0, row(Kind::Process, 0)), (1, row(Kind::File, 2))];
+        let users = [(0, unrestricted()), (1, unrestricted())];
+        let mut session = session_with(&rows, &users);
+        let quiet = |receiver, tag| Answer { number: QUIET, receiver, tag };
+        let twin = 2 << 32;
+        for (code, p, o, u, answer) in [
+            (6, 0, 2, 1, quiet(2, 0)),
+            (4, 0, 1, 1, quiet(0, twin)),
+            (5, 0, 3, 65535, quiet(3, twin)),
+            (6, 3, 4, 0, refused(18)),
+            (6, 3, 4, 2, refused(14)),
+            (6, 3, 1, 0, refused(13)),
+            (6, 3, 4, 1, quiet(4, 0)),
+            (4, 3, 1, 0, quiet(3, twin)),
+            (6, 3, 5, 0, quiet(5, 0)),
+            (6, 0, 6, 0, refused(18)),
+            (2, 0, 1, 65535, quiet(1, twin)),
+        ] {
+            assert_eq!(step(&mut session, &record(code, p, o, u)), answer, "code {code} of {p} and {o} for {u}");
+        }
+        let behalf = |number: usize| session[container_row(number)][ROW_USER];
+        assert_eq!([0, 1, 2, 3, 4, 5, 6].map(behalf), [1, NOBODY, NOBODY, 0, NOBODY, NOBODY, 0]);
+    }
+
+    /// "10 covers any value but these (0 to 15 or 65535 in a process), and a free row still holds 0."
+    #[test]
+    fn other_values_of_the_user_are_refused() {
+        let rows = [(0, row(Kind::Process, 0)), (1, row(Kind::File, 2)), (2, row(Kind::Volatile, 0))];
+        let whole = session_with(&rows, &[]);
+        for (container, value, code, o, number) in [
+            (0, 0, 1, 1, QUIET),
+            (0, 15, 1, 1, QUIET),
+            (0, 16, 1, 1, 10),
+            (0, 65534, 1, 1, 10),
+            (0, 65536, 1, 1, 10),
+            (1, 0, 1, 1, 10),
+            (2, 15, 1, 2, 10),
+            (3, 65535, 7, 3, 10),
+            (3, 0, 7, 3, QUIET),
+        ] {
+            let mut session = whole.clone();
+            session[container_row(container)][ROW_USER] = value;
+            let answer = step(&mut session, &record(code, 0, o, 65535));
+            assert_eq!(answer.number, number, "container {container} with {value}");
+        }
     }
 
     /// A batch stops behind what is not quiet, and counts it; a short last record is refused.

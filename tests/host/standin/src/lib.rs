@@ -9,14 +9,14 @@ use std::slice::{from_raw_parts, from_raw_parts_mut};
 use std::sync::OnceLock;
 
 use judge::numbers::{
-    container_row, user_row, CONTAINERS, HEADER, LONGEST_NORMAL, MIXTURES, RECORD, ROW_KIND, ROW_PERMIT, ROW_RUN,
-    ROW_TAG, RULES, RULE_MIXTURES, SESSION, UNRESTRICTED, USERS,
+    container_row, user_row, CONTAINERS, HEADER, LONGEST_NORMAL, MIXTURES, NOBODY, RECORD, ROW_KIND, ROW_PERMIT,
+    ROW_RUN, ROW_TAG, ROW_USER, RULES, RULE_MIXTURES, SESSION, UNRESTRICTED, USERS,
 };
 use judge::rules::{covers, holds, meet, running_atoms};
 use judge::{image, matrix, normal, session};
 
 /// The planted faults, each a mistake that a reviewer would try.
-pub const FAULTS: [&str; 54] = [
+pub const FAULTS: [&str; 64] = [
     "1 a monitor that is always quiet",
     "2 a running atom passes by read",
     "3 covering is tested atom by atom",
@@ -71,6 +71,16 @@ pub const FAULTS: [&str; 54] = [
     "52 a delete frees p",
     "53 an end or a delete answers the old tag",
     "54 a later holder of a number keeps the permit rule",
+    "55 exec keeps the user that p had",
+    "56 a fork runs on nobody's behalf",
+    "57 a write gives o the user of p",
+    "58 a process with user 16 passes",
+    "59 a file with user 0 passes",
+    "60 a free row with user 65535 passes",
+    "61 18 goes before 14",
+    "62 a process that runs on nobody's behalf is refused with 18",
+    "63 an exec for another user is refused with 18",
+    "64 the users are read behind 256 rows of 20",
 ];
 
 /// The number of the planted fault, 0 for none.
@@ -265,6 +275,50 @@ fn leave(session: &mut [u64], before: &[u64], record: session::Record, answer: s
     session::Answer { tag: if fault(53) { held[ROW_TAG] } else { 0 }, ..answer }
 }
 
+/// Makes well formed what faults 13 and 58 to 60 do not look at.
+fn overlook(session: &mut [u64]) {
+    for number in 0..CONTAINERS.most {
+        let row = &mut session[container_row(number)];
+        for place in if fault(13) { vec![ROW_PERMIT, ROW_RUN] } else { vec![] } {
+            let words = &mut row[place];
+            let count = words[0].min(RULE_MIXTURES as u64) as usize;
+            words[1 + count..].fill(0);
+        }
+        match (planted(), row[ROW_KIND], row[ROW_USER]) {
+            (58, 3, 16) | (59, 1, 0) => row[ROW_USER] = NOBODY,
+            (60, 0, NOBODY) => row[ROW_USER] = 0,
+            _ => {}
+        }
+    }
+}
+
+/// Whether faults 61 to 63 refuse with 18 what is answered by this number.
+fn refused_18(session: &[u64], bytes: &[u8], number: u32) -> bool {
+    let Some(record) = session::read_record(bytes) else { return false };
+    let Some(row) = session.get(container_row(record.p)) else { return false };
+    let other = row[ROW_USER] != NOBODY && record.u.map(|u| u as u64) != Some(row[ROW_USER]);
+    let accepted = number == session::QUIET || number == session::ALERT;
+    match planted() {
+        61 => record.code == 6 && number == 14 && other,
+        62 => record.code == 6 && accepted && row[ROW_USER] == NOBODY,
+        63 => record.code == 4 && (accepted || number == 15) && other,
+        _ => false,
+    }
+}
+
+/// A step that reads the user of the record where it would stand behind container rows without a user.
+fn step_of_old_users(session: &mut [u64], bytes: &[u8]) -> session::Answer {
+    let user = session::read_record(bytes).and_then(|record| record.u).filter(|_| session.len() == SESSION);
+    let Some(user) = user else { return session::step(session, bytes) };
+    let place = user_row(user);
+    let from = place.start - CONTAINERS.most;
+    let kept = session[place.clone()].to_vec();
+    session.copy_within(from..from + place.len(), place.start);
+    let answer = session::step(session, bytes);
+    session[place].copy_from_slice(&kept);
+    answer
+}
+
 fn step(session: &mut [u64], bytes: &[u8]) -> session::Answer {
     if planted() == 0 {
         return session::step(session, bytes);
@@ -278,7 +332,11 @@ fn step(session: &mut [u64], bytes: &[u8]) -> session::Answer {
     };
     let kept = if fault(54) { kept_permit(session, bytes) } else { None };
     let before = session.to_vec();
-    let mut answer = session::step(session, bytes);
+    let mut answer = if fault(64) { step_of_old_users(session, bytes) } else { session::step(session, bytes) };
+    if refused_18(&before, bytes, answer.number) {
+        session.copy_from_slice(&before);
+        return session::Answer { number: 18, receiver: 0, tag: 0 };
+    }
     if fault(50) && answer.number == 7 && bytes.len() == RECORD && bytes[0] == 8 && bytes[2..4] != bytes[4..6] {
         return session::Answer { number: 12, receiver: 0, tag: 0 };
     }
@@ -290,15 +348,9 @@ fn step(session: &mut [u64], bytes: &[u8]) -> session::Answer {
             return session::Answer { number: session::QUIET, receiver: record.o as u64, tag: 0 };
         }
     }
-    if fault(13) && answer.number == 10 {
+    if [13, 58, 59, 60].contains(&planted()) && answer.number == 10 {
         let mut cleared = before.clone();
-        for number in 0..CONTAINERS.most {
-            for place in [ROW_PERMIT, ROW_RUN] {
-                let words = &mut cleared[container_row(number)][place];
-                let count = words[0].min(RULE_MIXTURES as u64) as usize;
-                words[1 + count..].fill(0);
-            }
-        }
+        overlook(&mut cleared);
         let again = session::step(&mut cleared, bytes);
         if again.number == 0 {
             session.copy_from_slice(&cleared);
@@ -335,6 +387,12 @@ fn step(session: &mut [u64], bytes: &[u8]) -> session::Answer {
     }
     if fault(47) && code == 4 {
         row[ROW_RUN].copy_from_slice(&p[ROW_RUN]);
+    }
+    if fault(55) && code == 4 || fault(57) && code == 2 {
+        row[ROW_USER] = p[ROW_USER];
+    }
+    if fault(56) && code == 5 {
+        row[ROW_USER] = NOBODY;
     }
     if fault(5) && code == 1 {
         let narrowed = meet(rule(&p[ROW_PERMIT]), rule(&o[ROW_RUN]));
