@@ -29,7 +29,7 @@ use race::{median, race, Outcome, Variant};
 use yaslaurel::layout::image::{CONTAINERS, HEADER};
 use yaslaurel::layout::profiles::{PATHS, PATH_LIMIT, TEXT_LIMIT};
 use yaslaurel::layout::record;
-use yaslaurel::layout::session::{container, rule, KIND, PERMIT, RULE_MIXTURES, RUN};
+use yaslaurel::layout::session::{container, rule, BEHALF, KIND, NOBODY, PERMIT, RULE_MIXTURES, RUN};
 use yaslaurel::{ffi, OUTPUT_LENGTH, SESSION_LENGTH};
 
 const ROUNDS: usize = 31;
@@ -154,6 +154,11 @@ fn operations() {
     let wide: Vec<u64> = over_eight();
     let reads = vec![work::record(1, 1, 0, record::NO_USER); 1_024];
     line("refused with 15", &steps(&wide, &reads, 15));
+    // Every process runs on behalf of user 1, and makes files for user 0.
+    let mut behalf = one.clone();
+    (120..160).for_each(|number| behalf[container(number)][BEHALF] = 1);
+    let files: Vec<_> = (0..1_024).map(|i| work::record(6, 120 + i % 40, 160 + i % 96, 0)).collect();
+    line("refused with 18", &steps(&behalf, &files, 18));
 
     head("One read, by the mixtures of its rules", "mixtures");
     for mixtures in 1..=8 {
@@ -256,6 +261,7 @@ fn over_eight() -> Vec<u64> {
         row[rule(PERMIT)][..2].copy_from_slice(&[1, u64::MAX]);
         row[RUN] = run.len() as u64;
         row[rule(RUN)][1..].copy_from_slice(&run);
+        row[BEHALF] = NOBODY;
     }
     session
 }
