@@ -309,9 +309,29 @@ module _ (image : List ℕ) (bytes : Bytes image) (ok : checkOf image ≡ 0) (rs
 
       back : Other (onBehalf (historyOf stepOn stepOf (startOf (policyIn image)) rs)) (stepAsked r) → refusalOf s r ≡ otherUser
       back x =
-          refused-18 s r .1
-          (length-good s .1 (reached-length image bytes ok rs), (g7, (g10, (g11, (g12, (g13, (g14, behalf-fails (view s) (stepAsked r) .1
-          (other-same (onBehalf (historyOf stepOn stepOf (startOf (policyIn image)) rs)) (λ p. view s .row p .behalf) (stepAsked r) (λ p o u e. sym (runs p o u e)) x))))))))
+          refused-18 s r .1 (
+            length-good s .1 (reached-length image bytes ok rs),
+            (
+              g7,
+              (
+                g10,
+                (
+                  g11,
+                  (
+                    g12,
+                    (
+                      g13,
+                      (
+                        g14,
+                        behalf-fails (view s) (stepAsked r) .1
+                            (other-same (onBehalf (historyOf stepOn stepOf (startOf (policyIn image)) rs)) (λ p. view s .row p .behalf) (stepAsked r) (λ p o u e. sym (runs p o u e)) x),
+                      ),
+                    ),
+                  ),
+                ),
+              ),
+            ),
+          )
 
 -- ---- what one step changes: of any session and any record
 

@@ -16,7 +16,7 @@ ghost use Rattle.rule_words.specs.Words.{ruleOf};
 ghost use Rattle.session.specs.Limits.{sessionLength, rowWidth, nobody};
 ghost use Rattle.session.specs.Rows.{rowOf, permitWords, runWords, freeWords, putRow};
 ghost use Rattle.chains.specs.History.{read, write, append, exec, fork, newFile, newVolatile};
-ghost use Rattle.records.specs.Codes.{objectFits};
+ghost use Rattle.records.specs.Codes.{objectFits, codeAt};
 ghost use Rattle.records.specs.Records.{stepIn};
 ghost use Rattle.operations.specs.View.{view};
 ghost use Rattle.operations.specs.Effects.{Named, rowsGood, performAnswer, performEffect};
@@ -27,6 +27,7 @@ use answers::Verdict;
 use image::FILE_KIND;
 use image::PROCESS_KIND;
 use image::VOLATILE_KIND;
+use records::Code;
 use records::Request;
 use rule_words::RULE_WIDTH;
 use rules::Bounded;
@@ -64,8 +65,8 @@ fn object_fits(need: u8, kind: u64) -> bool
 }
 
 // The rows that the request names are as the session says: the refusal 10 where they are not.
-fn rows_good(s: &[u64], q: Request) -> bool
-    requires { ⌜ Named (now s) q ⌝ }
+fn rows_good(s: &[u64], q: Request, need: Code) -> bool
+    requires { ⌜ (Named (now s) q) × (need ≡ codeAt (q .code)) ⌝ }
     ensures { λ r. ⌜ r ≡ rowsGood (now (s .entry)) (stepIn q) ⌝ }
 {
     let a = q.p * ROW_WIDTH;
@@ -76,7 +77,6 @@ fn rows_good(s: &[u64], q: Request) -> bool
     if !session::container_row_good(&s[b..b + ROW_WIDTH]) {
         return false;
     }
-    let need = records::code_at(q.code);
     if !need.user {
         return true;
     }
@@ -102,14 +102,14 @@ fn early_refusal(s: &[u64], q: Request) -> u32
     requires { ⌜ Named (now s) q ⌝ }
     ensures { λ r. ⌜ r ≡ firstFailed (firstConditions (now (s .entry)) (stepIn q)) ⌝ }
 {
-    if !rows_good(s, q) {
+    let need = records::code_at(q.code);
+    if !rows_good(s, q, need) {
         return answers::ROW;
     }
     let a = q.p * ROW_WIDTH;
     if !image::is_process(s[a + KIND_AT]) {
         return answers::NO_PROCESS;
     }
-    let need = records::code_at(q.code);
     let b = q.o * ROW_WIDTH;
     if !object_fits(need.object, s[b + KIND_AT]) {
         if need.object == records::NEEDS_FREE {
@@ -270,7 +270,14 @@ fn narrow(row: &mut [u64], receiver: usize, tag: u64, mixture: u64) -> Answer
 }
 
 // Makes the receiver's row that of a process, and answers.
-fn replace(row: &mut [u64], receiver: usize, tag: u64, permit: Bounded, run: Bounded, behalf: u64) -> Answer
+fn replace(
+    row: &mut [u64],
+    receiver: usize,
+    tag: u64,
+    permit: Bounded,
+    run: Bounded,
+    behalf: u64,
+) -> Answer
     requires { ⌜ (length (now row) ≡ rowWidth) × (permit .count ≤ mixtureLimit) ⌝ }
     ensures { λ r. ⌜ (r ≡ coverAnswer receiver (take (permit .count) (permit .mixtures)) tag) × (now (row .exit) ≡ newWords processKind tag permit run behalf) ⌝ }
 {
