@@ -1,0 +1,3 @@
+-- What a reader must believe of this crate (change request No. 7). Returns says how a right that returns is judged without a closure.
+pub mod Judgements
+pub mod Returns
