@@ -1,31 +1,21 @@
 -- The judgement from the tests that lead to it.
 use Prim.Native.Nat.{ℕ}
-use mathlib.Core.Path.{_≡_, refl, sym, ap, _∙_}
-use mathlib.Core.Bool.{Bool, true, false, _&&_}
-use mathlib.Core.List.{[], _∷_}
+use mathlib.Core.Path.{_≡_, refl, sym, _∙_}
+use mathlib.Core.Bool.{true, false, _&&_}
 use lib.Dec.{eqb}
 use lib.ListN.{length}
-use borrow.Author.Tests.{eqb-true}
-use Rattle.lists.specs.Conditions.{firstFailed, _orRefuse_}
-use Rattle.lists.proofs.Conditions.{passed, failed, none-left}
-use Rattle.lists.proofs.Bools.{and-0, and-1}
+use borrow.Author.Tests.{eq-eqb, eqb-true}
+use Rattle.lists.specs.Conditions.{firstFailed}
+use Rattle.lists.proofs.Bools.{and-in, and-0, and-1}
 use Rattle.answers.specs.Refusals.{matrix}
 use Rattle.matrix.specs.Flows.{matrixGood}
 use Rattle.matrix.specs.Verdicts.{consistent}
-use Rattle.matrix.proofs.GoodLaws.{Good, good-parts}
+use Rattle.matrix.proofs.GoodLaws.{good-parts}
 use Rattle.withdrawals.specs.Judgements.{Matrix, matrixOf, wellFormed, sameCounts, comparable, rowsHeld, noneAdded, allKept, staysConsistent, readNeeded, writeNeeded, subjectNeeded, minimal, judgementConditions, judgementOf}
+use Rattle.withdrawals.specs.Rights.{Comparable}
 use Rattle.withdrawals.specs.Returns.{Proposed}
 
 -- ---- what is known of three matrices that are not refused
-
-pub record Comparable (old required proposed : Matrix) : Type 0 where
-  pub oldGood : Good (old .reads) (old .writes) (old .objects)
-  pub requiredGood : Good (required .reads) (required .writes) (required .objects)
-  pub goodRows : matrixGood (proposed .reads) (proposed .writes) (proposed .objects) ≡ true
-  pub requiredSubjects : length (old .reads) ≡ length (required .reads)
-  pub requiredObjects : old .objects ≡ required .objects
-  pub subjects : length (old .reads) ≡ length (proposed .reads)
-  pub objects : old .objects ≡ proposed .objects
 
 module _ (old required proposed : Matrix) where
   pub comparable-parts : comparable old required proposed ≡ true → Comparable old required proposed
@@ -37,34 +27,47 @@ module _ (old required proposed : Matrix) where
       let r = and-0 (sameCounts old required) (sameCounts old proposed) h3 in
       let p = and-1 (sameCounts old required) h3 in
       record {
-        oldGood = good-parts (old .reads) (old .writes) (old .objects) (and-0 (wellFormed old) _ h);
-        requiredGood = good-parts (required .reads) (required .writes) (required .objects) (and-0 (wellFormed required) _ h1);
-        goodRows = and-0 (wellFormed proposed) _ h2;
+        oldGood = and-0 (wellFormed old) _ h;
+        requiredGood = and-0 (wellFormed required) _ h1;
+        proposedGood = and-0 (wellFormed proposed) _ h2;
         requiredSubjects = eqb-true (length (old .reads)) (length (required .reads)) (and-0 (eqb (length (old .reads)) (length (required .reads))) _ r);
         requiredObjects = eqb-true (old .objects) (required .objects) (and-1 (eqb (length (old .reads)) (length (required .reads))) r);
-        subjects = eqb-true (length (old .reads)) (length (proposed .reads)) (and-0 (eqb (length (old .reads)) (length (proposed .reads))) _ p);
-        objects = eqb-true (old .objects) (proposed .objects) (and-1 (eqb (length (old .reads)) (length (proposed .reads))) p);
+        proposedSubjects = eqb-true (length (old .reads)) (length (proposed .reads)) (and-0 (eqb (length (old .reads)) (length (proposed .reads))) _ p);
+        proposedObjects = eqb-true (old .objects) (proposed .objects) (and-1 (eqb (length (old .reads)) (length (proposed .reads))) p);
       }
+
+  pub parts-comparable : Comparable old required proposed → comparable old required proposed ≡ true
+  unfolding comparable wellFormed sameCounts
+  parts-comparable c =
+      and-in (c .oldGood)
+      (and-in (c .requiredGood)
+      (and-in (c .proposedGood)
+      (and-in (and-in (eq-eqb (length (old .reads)) (length (required .reads)) (c .requiredSubjects)) (eq-eqb (old .objects) (required .objects) (c .requiredObjects)))
+      (and-in (eq-eqb (length (old .reads)) (length (proposed .reads)) (c .proposedSubjects)) (eq-eqb (old .objects) (proposed .objects) (c .proposedObjects))))))
+
+  -- the write rows are as many as the read rows
+  writes-even : (m : Matrix) → matrixGood (m .reads) (m .writes) (m .objects) ≡ true → length (m .writes) ≡ length (m .reads)
+  writes-even m g = good-parts (m .reads) (m .writes) (m .objects) g .even
 
   pub old-even : comparable old required proposed ≡ true → (length (old .reads) ≡ length (proposed .reads)) × (length (old .writes) ≡ length (proposed .writes))
   old-even h =
       let c = comparable-parts h in
-      (c .subjects, c .oldGood .even ∙ c .subjects ∙ sym (good-parts (proposed .reads) (proposed .writes) (proposed .objects) (c .goodRows) .even))
+      (c .proposedSubjects, writes-even old (c .oldGood) ∙ c .proposedSubjects ∙ sym (writes-even proposed (c .proposedGood)))
 
   pub required-even : comparable old required proposed ≡ true → (length (proposed .reads) ≡ length (required .reads)) × (length (proposed .writes) ≡ length (required .writes))
   required-even h =
       let c = comparable-parts h in
-      let e : length (proposed .reads) ≡ length (required .reads) = sym (c .subjects) ∙ c .requiredSubjects in
-      (e, good-parts (proposed .reads) (proposed .writes) (proposed .objects) (c .goodRows) .even ∙ e ∙ sym (c .requiredGood .even))
+      let e : length (proposed .reads) ≡ length (required .reads) = sym (c .proposedSubjects) ∙ c .requiredSubjects in
+      (e, writes-even proposed (c .proposedGood) ∙ e ∙ sym (writes-even required (c .requiredGood)))
 
   pub proposed-is : comparable old required proposed ≡ true → consistent (proposed .reads) (proposed .writes) (proposed .objects) ≡ true
       → Proposed (old .reads) (old .writes) (proposed .reads) (proposed .writes) (proposed .objects)
   proposed-is h k =
       let c = comparable-parts h in
-      let g = good-parts (proposed .reads) (proposed .writes) (proposed .objects) (c .goodRows) in
+      let g = good-parts (proposed .reads) (proposed .writes) (proposed .objects) (c .proposedGood) in
       record {
-        oldReadsEven = c .subjects;
-        oldWritesEven = c .oldGood .even ∙ c .subjects;
+        oldReadsEven = c .proposedSubjects;
+        oldWritesEven = writes-even old (c .oldGood) ∙ c .proposedSubjects;
         even = g .even;
         few = g .few;
         good = g .writesGood;

@@ -33,7 +33,7 @@ consistent-requires c κs =
     let t3 = c in
     let t2 = t3 .before .before in
     let t1 = t2 .before .before in
-    comparable-parts _ _ _ (passes-test (t1 .before .comparable .ensures) (t1 .if1 .left)) .goodRows
+    comparable-parts _ _ _ (passes-test (t1 .before .comparable .ensures) (t1 .if1 .left)) .proposedGood
 
 returns-4 : tie.Need-returns-4
 returns-4 c =
