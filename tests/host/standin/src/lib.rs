@@ -3,6 +3,7 @@
 //! they must fail.
 
 mod profiles;
+mod withdrawals;
 
 use std::env;
 use std::slice::{from_raw_parts, from_raw_parts_mut};
@@ -13,10 +14,11 @@ use judge::numbers::{
     RULE_MIXTURES, SESSION, UNRESTRICTED, USERS,
 };
 use judge::rules::{covers, holds, meet};
+use judge::withdrawals::Rows;
 use judge::{image, matrix, normal, session};
 
 /// The planted faults, each a mistake that a reviewer would try.
-pub const FAULTS: [&str; 44] = [
+pub const FAULTS: [&str; 54] = [
     "1 a monitor that is always quiet",
     "2 a running atom passes by read",
     "3 covering is tested atom by atom",
@@ -61,6 +63,16 @@ pub const FAULTS: [&str; 44] = [
     "42 17 goes before 16",
     "43 a repeated profile beyond the 32nd path is not found",
     "44 a text refused with 16 clears the output",
+    "45 a proposal is compared by its rights to read alone",
+    "46 withdrawn rights are put back together",
+    "47 a right that the old matrix lacked is put back",
+    "48 the old matrix has to be consistent, not the proposed one",
+    "49 condition 4 goes before condition 3",
+    "50 the last condition that fails is given",
+    "51 differing counts are answered 1",
+    "52 a right that must stay and that the old matrix lacks is answered 8",
+    "53 a proposal that withdraws nothing is answered 4",
+    "54 only rights to read are put back",
 ];
 
 /// The number of the planted fault, 0 for none.
@@ -348,6 +360,38 @@ fn smallest_target(reads: &[u32], writes: &[u32], objects: usize) -> (u32, u32) 
         }
     }
     (0, 0)
+}
+
+/// # Safety
+/// As `include/yaslaurel.h` says.
+#[no_mangle]
+pub unsafe extern "C" fn yaslaurel_matrix_judge(
+    old_reads: *const u32,
+    old_reads_length: usize,
+    old_writes: *const u32,
+    old_writes_length: usize,
+    old_objects: u32,
+    required_reads: *const u32,
+    required_reads_length: usize,
+    required_writes: *const u32,
+    required_writes_length: usize,
+    required_objects: u32,
+    proposed_reads: *const u32,
+    proposed_reads_length: usize,
+    proposed_writes: *const u32,
+    proposed_writes_length: usize,
+    proposed_objects: u32,
+) -> u32 {
+    let rows = |reads, reads_length, writes, writes_length, objects| Rows {
+        reads: from_raw_parts(reads, reads_length).to_vec(),
+        writes: from_raw_parts(writes, writes_length).to_vec(),
+        objects,
+    };
+    withdrawals::answer(
+        &rows(old_reads, old_reads_length, old_writes, old_writes_length, old_objects),
+        &rows(required_reads, required_reads_length, required_writes, required_writes_length, required_objects),
+        &rows(proposed_reads, proposed_reads_length, proposed_writes, proposed_writes_length, proposed_objects),
+    )
 }
 
 /// # Safety
