@@ -19,7 +19,7 @@ use Rattle.matrix.specs.Rows.{bitAt}
 use Rattle.matrix.proofs.BitLaws.{has-is, has-not, has-and, has-or, has-above, has-ext}
 use Rattle.matrix.proofs.CountLaws.{Least, some-at, some-none, none-at, least-some}
 use Rattle.withdrawals.specs.Judgements.{allBelow}
-use Rattle.withdrawals.specs.Returns.{Bounded, leadsTo, reachedFrom, withFlows, sourceFits, rowFits}
+use Rattle.withdrawals.specs.Returns.{Bounded, reachedFrom, rowClosed, leadsTo, withFlows, sourceFits, rowFits}
 use Rattle.withdrawals.proofs.BelowLaws.{all-at, all-in, or-none, some-next}
 use Rattle.withdrawals.proofs.RightLaws.{holds-bits}
 
@@ -105,6 +105,25 @@ module _ (rows : List ℕ) (n targets : ℕ) where
         by true = has-or row targets b
         by false = sym (or-none (has row b))
 
+    -- a row of bits g holds the row of all that is reached
+    held-is : (g : ℕ → Bool) (row reached : ℕ) → ((b : ℕ) → has row b ≡ g b) → ((b : ℕ) → has reached b ≡ reachedFrom (bitAt rows) n targets b)
+        → holds row reached ≡ allBelow (λ b. cond (reachedFrom (bitAt rows) n targets b) (g b) true) n
+    held-is g row reached f e = same-test (holds row reached) (allBelow (λ b. cond (reachedFrom (bitAt rows) n targets b) (g b) true) n) to back
+      where
+        to : holds row reached ≡ true → allBelow (λ b. cond (reachedFrom (bitAt rows) n targets b) (g b) true) n ≡ true
+        to h = all-in (λ b. cond (reachedFrom (bitAt rows) n targets b) (g b) true) n (λ b m. one b (reachedFrom (bitAt rows) n targets b) refl)
+          where
+            one : (b : ℕ) (r : Bool) → reachedFrom (bitAt rows) n targets b ≡ r → cond r (g b) true ≡ true
+            one b true q = sym (f b) ∙ holds-bits row reached .0 h b (e b ∙ q)
+            one b false q = refl
+
+        back : allBelow (λ b. cond (reachedFrom (bitAt rows) n targets b) (g b) true) n ≡ true → holds row reached ≡ true
+        back h = holds-bits row reached .1 (λ b q. one b (sym (e b) ∙ q) (decLt b n))
+          where
+            one : (b : ℕ) → reachedFrom (bitAt rows) n targets b ≡ true → Dec (b < n) → has row b ≡ true
+            one b q (yes m) = f b ∙ (rw q at (all-at (λ b. cond (reachedFrom (bitAt rows) n targets b) (g b) true) n b h m))
+            one b q (no m) = clash q (reached-below b (omega arith))
+
     pub row-fits-is : (a sources reached : ℕ) → a < n → ((b : ℕ) → has reached b ≡ reachedFrom (bitAt rows) n targets b)
         → rowFits (getD rows a 0) a sources targets reached ≡ sourceFits (bitAt rows) n sources targets a
     unfolding rowFits sourceFits
@@ -113,24 +132,14 @@ module _ (rows : List ℕ) (n targets : ℕ) where
         flow : (b : ℕ) → has (cond (has sources a) (bitOr (getD rows a 0) targets) (getD rows a 0)) b ≡ withFlows (bitAt rows) sources targets a b
         flow b = row-has (getD rows a 0) sources a b ∙ (unfold withFlows bitAt in refl)
 
-        to : holds (cond (has sources a) (bitOr (getD rows a 0) targets) (getD rows a 0)) reached ≡ true
-            → allBelow (λ b. cond (reachedFrom (bitAt rows) n targets b) (withFlows (bitAt rows) sources targets a b) true) n ≡ true
-        to h = all-in (λ b. cond (reachedFrom (bitAt rows) n targets b) (withFlows (bitAt rows) sources targets a b) true) n (λ b m. one b (reachedFrom (bitAt rows) n targets b) refl)
-          where
-            one : (b : ℕ) (r : Bool) → reachedFrom (bitAt rows) n targets b ≡ r → cond r (withFlows (bitAt rows) sources targets a b) true ≡ true
-            one b true q = sym (flow b) ∙ holds-bits (cond (has sources a) (bitOr (getD rows a 0) targets) (getD rows a 0)) reached .0 h b (e b ∙ q)
-            one b false q = refl
-
-        back : allBelow (λ b. cond (reachedFrom (bitAt rows) n targets b) (withFlows (bitAt rows) sources targets a b) true) n ≡ true
-            → holds (cond (has sources a) (bitOr (getD rows a 0) targets) (getD rows a 0)) reached ≡ true
-        back h = holds-bits (cond (has sources a) (bitOr (getD rows a 0) targets) (getD rows a 0)) reached .1 (λ b q. one b (sym (e b) ∙ q) (decLt b n))
-          where
-            one : (b : ℕ) → reachedFrom (bitAt rows) n targets b ≡ true → Dec (b < n) → has (cond (has sources a) (bitOr (getD rows a 0) targets) (getD rows a 0)) b ≡ true
-            one b q (yes m) = flow b ∙ (rw q at (all-at (λ b. cond (reachedFrom (bitAt rows) n targets b) (withFlows (bitAt rows) sources targets a b) true) n b h m))
-            one b q (no m) = clash q (reached-below b (omega arith))
-
         by : (leadsTo (bitAt rows) n sources a ≡ true) ⊎ (leadsTo (bitAt rows) n sources a ≡ false)
             → cond (eqb (bitAnd (getD rows a 0) sources) 0) true (holds (cond (has sources a) (bitOr (getD rows a 0) targets) (getD rows a 0)) reached)
             ≡ cond (leadsTo (bitAt rows) n sources a) (allBelow (λ b. cond (reachedFrom (bitAt rows) n targets b) (withFlows (bitAt rows) sources targets a b) true) n) true
-        by (inl h) = rw (leads-test sources a l h, h) (same-test (holds (cond (has sources a) (bitOr (getD rows a 0) targets) (getD rows a 0)) reached) (allBelow (λ b. cond (reachedFrom (bitAt rows) n targets b) (withFlows (bitAt rows) sources targets a b) true) n) to back)
+        by (inl h) = rw (leads-test sources a l h, h) (held-is (withFlows (bitAt rows) sources targets a) (cond (has sources a) (bitOr (getD rows a 0) targets) (getD rows a 0)) reached flow e)
         by (inr h) = rw (leads-none sources a l h, h)
+
+-- the test of one row for itself
+pub row-closed-is : (rows : List ℕ) (n : ℕ) → Bounded n rows → (a reached : ℕ) → ((b : ℕ) → has reached b ≡ reachedFrom (bitAt rows) n (getD rows a 0) b)
+    → holds (getD rows a 0) reached ≡ rowClosed rows n a
+unfolding rowClosed bitAt
+row-closed-is rows n w a reached e = held-is rows n (getD rows a 0) w (bitAt rows a) (getD rows a 0) reached (λ b. refl) e

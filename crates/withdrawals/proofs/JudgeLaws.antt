@@ -2,6 +2,7 @@
 use Prim.Native.Nat.{ℕ}
 use mathlib.Core.Path.{_≡_, refl, sym, _∙_}
 use mathlib.Core.Bool.{true, false, _&&_}
+use mathlib.Core.List.{List}
 use lib.Dec.{eqb}
 use lib.ListN.{length}
 use borrow.Author.Tests.{eq-eqb, eqb-true}
@@ -13,7 +14,7 @@ use Rattle.matrix.specs.Verdicts.{consistent}
 use Rattle.matrix.proofs.GoodLaws.{good-parts}
 use Rattle.withdrawals.specs.Judgements.{Matrix, matrixOf, wellFormed, sameCounts, comparable, rowsHeld, noneAdded, allKept, staysConsistent, readNeeded, writeNeeded, subjectNeeded, minimal, judgementConditions, judgementOf}
 use Rattle.withdrawals.specs.Rights.{Comparable}
-use Rattle.withdrawals.specs.Returns.{Proposed}
+use Rattle.withdrawals.specs.Returns.{Proposed, flowJudgement}
 
 -- ---- what is known of three matrices that are not refused
 
@@ -60,9 +61,8 @@ module _ (old required proposed : Matrix) where
       let e : length (proposed .reads) ≡ length (required .reads) = sym (c .proposedSubjects) ∙ c .requiredSubjects in
       (e, writes-even proposed (c .proposedGood) ∙ e ∙ sym (writes-even required (c .requiredGood)))
 
-  pub proposed-is : comparable old required proposed ≡ true → consistent (proposed .reads) (proposed .writes) (proposed .objects) ≡ true
-      → Proposed (old .reads) (old .writes) (proposed .reads) (proposed .writes) (proposed .objects)
-  proposed-is h k =
+  pub proposed-is : comparable old required proposed ≡ true → Proposed (old .reads) (old .writes) (proposed .reads) (proposed .writes) (proposed .objects)
+  proposed-is h =
       let c = comparable-parts h in
       let g = good-parts (proposed .reads) (proposed .writes) (proposed .objects) (c .proposedGood) in
       record {
@@ -71,15 +71,9 @@ module _ (old required proposed : Matrix) where
         even = g .even;
         few = g .few;
         good = g .writesGood;
-        kept = k;
       }
 
   -- ---- the judgement
-
-  -- the old matrix's number of objects plays no part
-  pub minimal-old : (n : ℕ) → minimal (matrixOf (old .reads) (old .writes) n) proposed ≡ minimal old proposed
-  unfolding minimal subjectNeeded readNeeded writeNeeded
-  minimal-old n = refl
 
   pub judged-8 : comparable old required proposed ≡ false → matrix ≡ judgementOf old required proposed
   unfolding judgementOf judgementConditions firstFailed
@@ -96,15 +90,22 @@ module _ (old required proposed : Matrix) where
       judged-2 h = rw (c, h1, h)
 
       module _ (h2 : (rowsHeld (proposed .reads) (required .reads) && rowsHeld (proposed .writes) (required .writes)) ≡ true) where
-        pub judged-3 : consistent (proposed .reads) (proposed .writes) (proposed .objects) ≡ false → 3 ≡ judgementOf old required proposed
-        unfolding judgementOf judgementConditions firstFailed noneAdded allKept staysConsistent
-        judged-3 h = rw (c, h1, h2, h)
+        pub judged-flows : (n : ℕ) → flowJudgement (matrixOf (old .reads) (old .writes) n) proposed ≡ judgementOf old required proposed
+        unfolding judgementOf judgementConditions firstFailed noneAdded allKept flowJudgement minimal subjectNeeded readNeeded writeNeeded
+        judged-flows n = rw (c, h1, h2)
 
-        module _ (h3 : consistent (proposed .reads) (proposed .writes) (proposed .objects) ≡ true) (n : ℕ) where
-          pub judged-4 : minimal (matrixOf (old .reads) (old .writes) n) proposed ≡ false → 4 ≡ judgementOf old required proposed
-          unfolding judgementOf judgementConditions firstFailed noneAdded allKept staysConsistent
-          judged-4 h = rw (c, h1, h2, h3, sym (minimal-old n) ∙ h)
+-- ---- the conditions on flows
 
-          pub judged-0 : minimal (matrixOf (old .reads) (old .writes) n) proposed ≡ true → 0 ≡ judgementOf old required proposed
-          unfolding judgementOf judgementConditions firstFailed noneAdded allKept staysConsistent
-          judged-0 h = rw (c, h1, h2, h3, sym (minimal-old n) ∙ h)
+module _ (oldReads oldWrites reads writes : List ℕ) (n : ℕ) where
+  pub flows-3 : consistent reads writes n ≡ false → 3 ≡ flowJudgement (matrixOf oldReads oldWrites n) (matrixOf reads writes n)
+  unfolding flowJudgement staysConsistent
+  flows-3 h = rw h
+
+  module _ (k : consistent reads writes n ≡ true) where
+    pub flows-4 : minimal (matrixOf oldReads oldWrites n) (matrixOf reads writes n) ≡ false → 4 ≡ flowJudgement (matrixOf oldReads oldWrites n) (matrixOf reads writes n)
+    unfolding flowJudgement staysConsistent
+    flows-4 h = rw (k, h)
+
+    pub flows-0 : minimal (matrixOf oldReads oldWrites n) (matrixOf reads writes n) ≡ true → 0 ≡ flowJudgement (matrixOf oldReads oldWrites n) (matrixOf reads writes n)
+    unfolding flowJudgement staysConsistent
+    flows-0 h = rw (k, h)

@@ -14,16 +14,16 @@ use lib.ListN.{length, getD}
 use borrow.Author.Tests.{eq-eqb}
 use Rattle.lists.proofs.Bools.{and-in, or-0, same-test}
 use Rattle.matrix.specs.Limits.{objectLimit}
-use Rattle.matrix.specs.Flows.{has, subjectCarries, granted, rowsWithin}
+use Rattle.matrix.specs.Flows.{has, subjectCarries, granted}
 use Rattle.matrix.specs.Verdicts.{consistent}
 use Rattle.matrix.specs.Rows.{bitAt, spelling}
 use Rattle.matrix.proofs.BitLaws.{has-without}
 use Rattle.matrix.proofs.RowLaws.{spelling-fits, spelling-bits, spelling-above}
 use Rattle.matrix.proofs.VerdictLaws.{granted-beyond}
 use Rattle.withdrawals.specs.Judgements.{matrixOf, withdrawn, withRight, readNeeded, writeNeeded, subjectNeeded}
-use Rattle.withdrawals.specs.Returns.{Bounded, withFlows, staysClosed, lossNeeded, objectNeeded, lossesNeeded, Proposed, Judging}
+use Rattle.withdrawals.specs.Returns.{Bounded, tableClosed, withFlows, staysClosed, lossNeeded, objectNeeded, lossesNeeded, Proposed, Judging}
 use Rattle.withdrawals.proofs.BelowLaws.{all-same}
-use Rattle.withdrawals.proofs.TransitiveLaws.{Transitive, transitive-same, consistent-transitive, stays-transitive}
+use Rattle.withdrawals.proofs.TransitiveLaws.{Transitive, transitive-same, consistent-transitive, table-transitive, stays-transitive}
 use Rattle.withdrawals.proofs.RightLaws.{granted-read, granted-write}
 
 -- ---- the rights to object k, one after the other
@@ -55,25 +55,45 @@ module _ (f : ℕ → ℕ → Bool) (n lostReads lostWrites reads writes k : ℕ
 
 -- ---- the table of granted flows
 
-pub judging : (oldReads oldWrites reads writes rows flows : List ℕ) (n : ℕ) → Proposed oldReads oldWrites reads writes n → n ≤ length rows
-    → flows ≡ spelling (granted reads writes) n rows → Judging oldReads oldWrites reads writes flows n
-judging oldReads oldWrites reads writes rows flows n p h e =
-    record {
-      proposed = p;
-      bounded = record { few = p .few; fit = spelling-fits (granted reads writes) n rows flows e h; beyond = λ a b l m. ap (λ (x : List ℕ). bitAt x a b) e ∙ beyond a b l m (decLt b objectLimit) };
-      bits = λ a b l m. ap (λ (x : List ℕ). bitAt x a b) e ∙ spelling-bits (granted reads writes) n rows a b l (omega (arith, p .few));
-    }
+-- the table without a bit beyond the objects
+pub bounded : (oldReads oldWrites reads writes rows flows : List ℕ) (n : ℕ) → Proposed oldReads oldWrites reads writes n → n ≤ length rows
+    → flows ≡ spelling (granted reads writes) n rows → Bounded n flows
+bounded oldReads oldWrites reads writes rows flows n p h e =
+    record { few = p .few; fit = spelling-fits (granted reads writes) n rows flows e h; beyond = λ a b l m. ap (λ (x : List ℕ). bitAt x a b) e ∙ beyond a b l m (decLt b objectLimit) }
   where
     beyond : (a b : ℕ) → a < n → n ≤ b → Dec (b < objectLimit) → bitAt (spelling (granted reads writes) n rows) a b ≡ false
     beyond a b l m (yes q) = spelling-bits (granted reads writes) n rows a b l q ∙ granted-beyond reads writes n a b (p .good) l m
     beyond a b l m (no q) = spelling-above (granted reads writes) n rows a b l (omega arith)
+
+table-bits : (reads writes rows flows : List ℕ) (n : ℕ) → n ≤ objectLimit → flows ≡ spelling (granted reads writes) n rows
+    → (a b : ℕ) → a < n → b < n → bitAt flows a b ≡ granted reads writes a b
+table-bits reads writes rows flows n f e a b l m = ap (λ (x : List ℕ). bitAt x a b) e ∙ spelling-bits (granted reads writes) n rows a b l (omega arith)
+
+-- it is transitive exactly where the matrix is consistent
+pub table-consistent : (reads writes rows flows : List ℕ) (n : ℕ) → n ≤ objectLimit → flows ≡ spelling (granted reads writes) n rows
+    → tableClosed flows n ≡ consistent reads writes n
+table-consistent reads writes rows flows n f e =
+    let same : (a b : ℕ) → a < n → b < n → bitAt flows a b ≡ granted reads writes a b = table-bits reads writes rows flows n f e in
+    same-test (tableClosed flows n) (consistent reads writes n)
+    (λ h. consistent-transitive reads writes n .1 (transitive-same (bitAt flows) (granted reads writes) n same (table-transitive flows n .0 h)))
+    (λ h. table-transitive flows n .1 (transitive-same (granted reads writes) (bitAt flows) n (λ a b p q. sym (same a b p q)) (consistent-transitive reads writes n .0 h)))
+
+pub judging : (oldReads oldWrites reads writes rows flows : List ℕ) (n : ℕ) → Proposed oldReads oldWrites reads writes n → n ≤ length rows
+    → flows ≡ spelling (granted reads writes) n rows → consistent reads writes n ≡ true → Judging oldReads oldWrites reads writes flows n
+judging oldReads oldWrites reads writes rows flows n p h e k =
+    record {
+      proposed = p;
+      bounded = bounded oldReads oldWrites reads writes rows flows n p h e;
+      bits = table-bits reads writes rows flows n (p .few) e;
+      kept = k;
+    }
 
 -- ---- a right that returns
 
 module _ (oldReads oldWrites reads writes flows : List ℕ) (n : ℕ) (j : Judging oldReads oldWrites reads writes flows n) where
   transitive : Transitive (bitAt flows) n
   transitive =
-      transitive-same (granted reads writes) (bitAt flows) n (λ a b p q. sym (j .bits a b p q)) (consistent-transitive reads writes n .0 (j .proposed .kept))
+      transitive-same (granted reads writes) (bitAt flows) n (λ a b p q. sym (j .bits a b p q)) (consistent-transitive reads writes n .0 (j .kept))
 
   same : (a : ℕ) → a < n → bitAt flows a a ≡ true
   same a l = j .bits a a l l ∙ (unfold granted in or-0 (eqb a a) (subjectCarries reads writes a a) (eq-eqb a a refl))

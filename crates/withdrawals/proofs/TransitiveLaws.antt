@@ -4,14 +4,16 @@ use mathlib.Core.Path.{_≡_, refl, sym, ap, _∙_}
 use mathlib.Core.Bool.{Bool, true, false, cond, _&&_, _||_}
 use mathlib.Core.List.{List}
 use mathlib.Core.Logic.{_⊎_, inl, inr, _↔_}
+use lib.ListN.{getD}
 use Rattle.lists.proofs.Bools.{and-in, and-0, and-1, or-0, or-1, or-cases, decide}
 use Rattle.matrix.specs.Flows.{has, granted, Path, step, onward}
 use Rattle.matrix.specs.Verdicts.{someBelow, leastBelow, consistent}
+use Rattle.matrix.specs.Rows.{bitAt}
 use Rattle.matrix.proofs.PathLaws.{path-source, path-target}
 use Rattle.matrix.proofs.CountLaws.{Least, some-at, least-some}
 use Rattle.matrix.proofs.FlowLaws.{consistent-granted}
 use Rattle.withdrawals.specs.Judgements.{allBelow}
-use Rattle.withdrawals.specs.Returns.{leadsTo, reachedFrom, withFlows, sourceFits, staysClosed}
+use Rattle.withdrawals.specs.Returns.{reachedFrom, rowClosed, tableClosed, leadsTo, withFlows, sourceFits, staysClosed}
 use Rattle.withdrawals.proofs.BelowLaws.{all-at, all-in}
 
 abbrev pub Transitive : (ℕ → ℕ → Bool) → ℕ → Type 0
@@ -29,6 +31,32 @@ consistent-transitive reads writes n = (
   (λ h a b c p q r x y. consistent-granted reads writes n .0 h a c (onward (step p q x) r y)),
   (λ t. consistent-granted reads writes n .1 (λ a b p. path-one (granted reads writes) n a b t p)),
 )
+
+-- ---- a table that is transitive
+
+pub table-transitive : (rows : List ℕ) (n : ℕ) → (tableClosed rows n ≡ true) ↔ Transitive (bitAt rows) n
+unfolding tableClosed rowClosed reachedFrom bitAt
+table-transitive rows n = (to, back)
+  where
+    to : tableClosed rows n ≡ true → Transitive (bitAt rows) n
+    to h a b c p q r x y =
+        let s : reachedFrom (bitAt rows) n (getD rows a 0) c ≡ true = some-at (λ y. has (getD rows a 0) y && bitAt rows y c) n b q (and-in x y) in
+        rw s at (all-at (λ b. cond (reachedFrom (bitAt rows) n (getD rows a 0) b) (bitAt rows a b) true) n c (all-at (rowClosed rows n) n a h p) r)
+
+    back : Transitive (bitAt rows) n → tableClosed rows n ≡ true
+    back t =
+        all-in (rowClosed rows n) n
+        (λ a p. all-in (λ b. cond (reachedFrom (bitAt rows) n (getD rows a 0) b) (bitAt rows a b) true) n (λ b q. one a b p q (reachedFrom (bitAt rows) n (getD rows a 0) b) refl))
+      where
+        step-on : (a b : ℕ) → a < n → b < n → Least (λ y. has (getD rows a 0) y && bitAt rows y b) n (leastBelow (λ y. has (getD rows a 0) y && bitAt rows y b) n) → bitAt rows a b ≡ true
+        step-on a b p q u =
+            t a (leastBelow (λ y. has (getD rows a 0) y && bitAt rows y b) n) b p (u .below) q
+            (and-0 (has (getD rows a 0) (leastBelow (λ y. has (getD rows a 0) y && bitAt rows y b) n)) (bitAt rows (leastBelow (λ y. has (getD rows a 0) y && bitAt rows y b) n) b) (u .passes))
+            (and-1 (has (getD rows a 0) (leastBelow (λ y. has (getD rows a 0) y && bitAt rows y b) n)) (u .passes))
+
+        one : (a b : ℕ) → a < n → b < n → (r : Bool) → reachedFrom (bitAt rows) n (getD rows a 0) b ≡ r → cond r (bitAt rows a b) true ≡ true
+        one a b p q true e = step-on a b p q (least-some (λ y. has (getD rows a 0) y && bitAt rows y b) n e)
+        one a b p q false e = refl
 
 -- ---- with each source and each target added
 

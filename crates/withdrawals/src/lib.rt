@@ -1,17 +1,15 @@
 // A proposal to withdraw rights of a matrix, judged (change request No. 7).
 ghost use mathlib.Core.Path.{_≡_};
-ghost use Prim.Native.Nat.{ℕ, _≤_, _<_, _^_};
-ghost use mathlib.Core.Bool.{true, _&&_};
+ghost use Prim.Native.Nat.{ℕ, _<_};
+ghost use mathlib.Core.Bool.{_&&_};
 ghost use lib.Dec.{eqb};
 ghost use lib.ListN.{length};
 ghost use Rattle.matrix.specs.Limits.{objectLimit};
-ghost use Rattle.matrix.specs.Flows.{has, matrixGood};
-ghost use Rattle.matrix.specs.Verdicts.{consistent};
+ghost use Rattle.matrix.specs.Flows.{has};
 ghost use Rattle.matrix.specs.Rows.{bitAt};
-ghost use Rattle.withdrawals.specs.Judgements.{matrixOf, sameCounts, comparable, rowsHeld, noneAdded, minimal, judgementOf, judgementNumber};
-ghost use Rattle.withdrawals.specs.Returns.{Bounded, reachedFrom, staysClosed, rowFits, lossNeeded, lossesNeeded, Judging, Proposed};
+ghost use Rattle.withdrawals.specs.Judgements.{matrixOf, comparable, rowsHeld, minimal, judgementOf, judgementNumber};
+ghost use Rattle.withdrawals.specs.Returns.{Bounded, reachedFrom, tableClosed, staysClosed, rowFits, lossNeeded, lossesNeeded, Proposed, Judging, flowJudgement};
 use matrix::OBJECT_LIMIT;
-use matrix::consistent;
 use matrix::fill_granted;
 use matrix::matrix_good;
 
@@ -89,6 +87,23 @@ fn reached_from(flows: &[u32], n: usize, targets: u32) -> u32
         }
     }
     reached
+}
+
+// The flows are transitive: what is reached from the objects in a row is in that row.
+fn table_closed(flows: &[u32], n: usize) -> bool
+    requires { ⌜ Bounded n (now flows) ⌝ }
+    ensures { λ r. ⌜ r ≡ tableClosed (now (flows .entry)) n ⌝ }
+{
+    let mut a = 0;
+    while a < n {
+        let row = flows[a];
+        let reached = reached_from(flows, n, row);
+        if row & reached != reached {
+            return false;
+        }
+        a += 1;
+    }
+    true
 }
 
 // All that is reached stands in a's row with the new flows, if a leads to one of the sources.
@@ -182,23 +197,6 @@ fn subjects_needed(
     true
 }
 
-// A consistent matrix becomes inconsistent if any single right withdrawn from the old one is put back alone.
-fn minimal(
-    old_reads: &[u32],
-    old_writes: &[u32],
-    reads: &[u32],
-    writes: &[u32],
-    objects: u32,
-) -> bool
-    requires { ⌜ Proposed (now «old_reads») (now «old_writes») (now reads) (now writes) objects ⌝ }
-    ensures { λ r. ⌜ r ≡ minimal (matrixOf (now («old_reads» .entry)) (now («old_writes» .entry)) objects) (matrixOf (now (reads .entry)) (now (writes .entry)) objects) ⌝ }
-{
-    let n = objects as usize;
-    let mut flows = [0u32; OBJECT_LIMIT];
-    fill_granted(reads, writes, &mut flows, n);
-    subjects_needed(old_reads, old_writes, reads, writes, &flows, n)
-}
-
 // None of the three matrices is malformed, and their counts do not differ.
 fn comparable(
     old_reads: &[u32],
@@ -234,6 +232,30 @@ fn comparable(
         return false;
     }
     same_counts(old_reads.len(), old_objects, reads.len(), objects)
+}
+
+// Conditions 3 and 4: the proposed matrix is consistent, and becomes inconsistent if any single right withdrawn from the old one is put
+// back alone.
+fn judge_flows(
+    old_reads: &[u32],
+    old_writes: &[u32],
+    reads: &[u32],
+    writes: &[u32],
+    objects: u32,
+) -> Judgement
+    requires { ⌜ Proposed (now «old_reads») (now «old_writes») (now reads) (now writes) objects ⌝ }
+    ensures { λ r. ⌜ judgementNumber r ≡ flowJudgement (matrixOf (now («old_reads» .entry)) (now («old_writes» .entry)) objects) (matrixOf (now (reads .entry)) (now (writes .entry)) objects) ⌝ }
+{
+    let n = objects as usize;
+    let mut flows = [0u32; OBJECT_LIMIT];
+    fill_granted(reads, writes, &mut flows, n);
+    if !table_closed(&flows, n) {
+        return Judgement::Inconsistent;
+    }
+    if !subjects_needed(old_reads, old_writes, reads, writes, &flows, n) {
+        return Judgement::NotMinimal;
+    }
+    Judgement::Accepted
 }
 
 // The judgement on a proposal: the old matrix, the rights that must stay, and the proposed matrix, each as its read rows, its write
@@ -273,11 +295,5 @@ pub fn judge(
     if !rights_held(reads, writes, required_reads, required_writes) {
         return Judgement::RightLost;
     }
-    if !consistent(reads, writes, objects) {
-        return Judgement::Inconsistent;
-    }
-    if !minimal(old_reads, old_writes, reads, writes, objects) {
-        return Judgement::NotMinimal;
-    }
-    Judgement::Accepted
+    judge_flows(old_reads, old_writes, reads, writes, objects)
 }

@@ -1,7 +1,8 @@
 -- Each answer is the judgement that the tests before it leave.
+use mathlib.Core.Path.{_∙_}
 use Rattle.lists.proofs.Bools.{passes-test, fails-test}
 use borrow.Author.Needs.{needs}
-use Rattle.withdrawals.proofs.JudgeLaws.{comparable-parts, old-even, required-even, proposed-is, judged-8, judged-1, judged-2, judged-3, judged-4, judged-0}
+use Rattle.withdrawals.proofs.JudgeLaws.{old-even, required-even, proposed-is, judged-8, judged-1, judged-2, judged-flows}
 use Rattle.withdrawals.proofs.judge.Statement.{statement}
 use Rattle.withdrawals.proofs.judge.Tie as tie
 
@@ -17,10 +18,7 @@ returns-2 c =
     judged-1 _ _ _ (passes-test (t1 .before .comparable .ensures) (t1 .if1 .left)) (fails-test (c .before .rights-held .ensures) (c .if2 .taken))
 
 rights-held-requires-2 : tie.Need-rights-held-requires-2
-rights-held-requires-2 c κs =
-    let t2 = c in
-    let t1 = t2 .before .before in
-    required-even _ _ _ (passes-test (t1 .before .comparable .ensures) (t1 .if1 .left))
+rights-held-requires-2 c κs = let t1 = c .before .before in required-even _ _ _ (passes-test (t1 .before .comparable .ensures) (t1 .if1 .left))
 
 returns-3 : tie.Need-returns-3
 returns-3 c =
@@ -28,43 +26,16 @@ returns-3 c =
     let t1 = t2 .before .before in
     judged-2 _ _ _ (passes-test (t1 .before .comparable .ensures) (t1 .if1 .left)) (passes-test (t2 .before .rights-held .ensures) (t2 .if2 .left)) (fails-test (c .before .rights-held2 .ensures) (c .if3 .taken))
 
-consistent-requires : tie.Need-consistent-requires
-consistent-requires c κs =
-    let t3 = c in
-    let t2 = t3 .before .before in
-    let t1 = t2 .before .before in
-    comparable-parts _ _ _ (passes-test (t1 .before .comparable .ensures) (t1 .if1 .left)) .proposedGood
+judge-flows-requires : tie.Need-judge-flows-requires
+judge-flows-requires c κs = let t1 = c .before .before .before .before in proposed-is _ _ _ (passes-test (t1 .before .comparable .ensures) (t1 .if1 .left))
 
 returns-4 : tie.Need-returns-4
 returns-4 c =
-    let t3 = c .before .before in
+    let t3 = c .before in
     let t2 = t3 .before .before in
     let t1 = t2 .before .before in
-    judged-3 _ _ _ (passes-test (t1 .before .comparable .ensures) (t1 .if1 .left)) (passes-test (t2 .before .rights-held .ensures) (t2 .if2 .left)) (passes-test (t3 .before .rights-held2 .ensures) (t3 .if3 .left)) (fails-test (c .before .consistent .ensures) (c .if4 .taken))
-
-minimal-requires : tie.Need-minimal-requires
-minimal-requires c κs =
-    let t4 = c in
-    let t3 = t4 .before .before in
-    let t2 = t3 .before .before in
-    let t1 = t2 .before .before in
-    proposed-is _ _ _ (passes-test (t1 .before .comparable .ensures) (t1 .if1 .left)) (passes-test (t4 .before .consistent .ensures) (t4 .if4 .left))
-
-returns-5 : tie.Need-returns-5
-returns-5 c =
-    let t4 = c .before .before in
-    let t3 = t4 .before .before in
-    let t2 = t3 .before .before in
-    let t1 = t2 .before .before in
-    judged-4 _ _ _ (passes-test (t1 .before .comparable .ensures) (t1 .if1 .left)) (passes-test (t2 .before .rights-held .ensures) (t2 .if2 .left)) (passes-test (t3 .before .rights-held2 .ensures) (t3 .if3 .left)) (passes-test (t4 .before .consistent .ensures) (t4 .if4 .left)) _ (fails-test (c .before .minimal .ensures) (c .if5 .taken))
-
-returns-6 : tie.Need-returns-6
-returns-6 c =
-    let t4 = c .before .before in
-    let t3 = t4 .before .before in
-    let t2 = t3 .before .before in
-    let t1 = t2 .before .before in
-    judged-0 _ _ _ (passes-test (t1 .before .comparable .ensures) (t1 .if1 .left)) (passes-test (t2 .before .rights-held .ensures) (t2 .if2 .left)) (passes-test (t3 .before .rights-held2 .ensures) (t3 .if3 .left)) (passes-test (t4 .before .consistent .ensures) (t4 .if4 .left)) _ (passes-test (c .before .minimal .ensures) (c .if5 .left))
+    c .judge-flows .ensures
+    ∙ judged-flows _ _ _ (passes-test (t1 .before .comparable .ensures) (t1 .if1 .left)) (passes-test (t2 .before .rights-held .ensures) (t2 .if2 .left)) (passes-test (t3 .before .rights-held2 .ensures) (t3 .if3 .left)) _
 
 pub judge-spec : {M : Type 1} → statement M
 judge-spec =
@@ -76,8 +47,5 @@ judge-spec =
     returns-2
     rights-held-requires-2
     returns-3
-    consistent-requires
-    returns-4
-    minimal-requires
-    returns-5
-    returns-6)
+    judge-flows-requires
+    returns-4)
