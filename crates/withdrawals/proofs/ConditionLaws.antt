@@ -1,16 +1,16 @@
 -- What each condition says of rights and flows.
 use Prim.Native.Nat.{ℕ, _≤_, _<_}
-use mathlib.Core.Path.{_≡_, refl, sym, ap, _∙_}
+use mathlib.Core.Path.{_≡_, refl, ap, _∙_}
 use mathlib.Core.Bool.{Bool, true, false, not, cond, _&&_}
 use mathlib.Core.List.{List}
-use mathlib.Core.Logic.{_⊎_, inl, inr, _↔_}
+use mathlib.Core.Logic.{_↔_}
 use native.Mathlib.Decide.{decLt}
 use native.Mathlib.Omega.{arith}
 use lib.ListN.{length, getD, List·getD-eq-default}
 use borrow.Author.Tests.{not-true}
 use Rattle.rules.specs.Sets.{holds}
-use Rattle.lists.proofs.Bools.{and-in, and-0, and-1, decide, clash, refuted}
-use Rattle.matrix.specs.Flows.{has, matrixGood, rowsWithin}
+use Rattle.lists.proofs.Bools.{and-in, and-0, and-1, clash}
+use Rattle.matrix.specs.Flows.{has, rowsWithin}
 use Rattle.matrix.specs.Verdicts.{consistent, firstSource, firstTarget}
 use Rattle.matrix.specs.Rows.{bitAt}
 use Rattle.matrix.proofs.BitLaws.{has-above}

@@ -9,15 +9,15 @@ use native.Mathlib.Numerals.{add-one}
 use native.Mathlib.Omega.{arith}
 use lib.Bits.{bitAnd, bitOr}
 use lib.Dec.{eqb}
-use lib.ListN.{length, getD}
+use lib.ListN.{getD}
 use borrow.Author.Tests.{eq-eqb, ne-eqb}
 use Rattle.rules.specs.Sets.{holds}
-use Rattle.lists.proofs.Bools.{and-in, and-0, and-1, decide, clash, refuted, same-test}
+use Rattle.lists.proofs.Bools.{decide, clash, same-test}
 use Rattle.matrix.specs.Flows.{has}
 use Rattle.matrix.specs.Verdicts.{someBelow, leastBelow}
 use Rattle.matrix.specs.Rows.{bitAt}
 use Rattle.matrix.proofs.BitLaws.{has-is, has-not, has-and, has-or, has-above, has-ext}
-use Rattle.matrix.proofs.CountLaws.{Least, some-at, some-none, none-at, least-some}
+use Rattle.matrix.proofs.CountLaws.{Least, some-none, none-at, least-some}
 use Rattle.withdrawals.specs.Judgements.{allBelow}
 use Rattle.withdrawals.specs.Returns.{Bounded, reachedFrom, rowClosed, leadsTo, withFlows, sourceFits, rowFits}
 use Rattle.withdrawals.proofs.BelowLaws.{all-at, all-in, or-none, some-next}

@@ -6,13 +6,13 @@ use mathlib.Core.Bool.{Bool, true, false}
 use mathlib.Core.List.{List, [], _∷_}
 use mathlib.Core.Logic.{_↔_}
 use Rattle.lists.specs.Lists.{elem}
-use Rattle.lists.specs.Conditions.{Condition, firstFailed, numbersOf, numberAt, numbersGood}
+use Rattle.lists.specs.Conditions.{Condition, numbersOf, numberAt, numbersGood}
 use Rattle.lists.proofs.Conditions.{given-exactly, given-none, given-among}
 use Rattle.lists.proofs.Bools.{refuted, clash}
 use Rattle.answers.specs.Refusals.{matrix}
 use Rattle.matrix.specs.Flows.{granted}
 use Rattle.matrix.specs.Verdicts.{consistent}
-use Rattle.withdrawals.specs.Judgements.{Matrix, comparable, noneAdded, allKept, staysConsistent, minimal, judgementConditions, judgementOf}
+use Rattle.withdrawals.specs.Judgements.{Matrix, comparable, judgementConditions, judgementOf}
 use Rattle.withdrawals.specs.Rights.{Comparable, NoneAdded, AllKept, AllGranted, EachNeeded}
 use Rattle.withdrawals.specs.Returns.{withFlows, staysClosed}
 use Rattle.withdrawals.proofs.TransitiveLaws as transitive

@@ -1,13 +1,13 @@
 -- A matrix is consistent exactly when its granted flows are transitive, and so are those of a matrix to which a right returns.
 use Prim.Native.Nat.{ℕ, _<_}
-use mathlib.Core.Path.{_≡_, refl, sym, ap, _∙_}
-use mathlib.Core.Bool.{Bool, true, false, cond, _&&_, _||_}
+use mathlib.Core.Path.{_≡_, refl, sym, _∙_}
+use mathlib.Core.Bool.{Bool, true, false, cond, _&&_}
 use mathlib.Core.List.{List}
 use mathlib.Core.Logic.{_⊎_, inl, inr, _↔_}
 use lib.ListN.{getD}
-use Rattle.lists.proofs.Bools.{and-in, and-0, and-1, or-0, or-1, or-cases, decide}
+use Rattle.lists.proofs.Bools.{and-in, and-0, and-1, or-0, or-1, or-cases}
 use Rattle.matrix.specs.Flows.{has, granted, Path, step, onward}
-use Rattle.matrix.specs.Verdicts.{someBelow, leastBelow, consistent}
+use Rattle.matrix.specs.Verdicts.{leastBelow, consistent}
 use Rattle.matrix.specs.Rows.{bitAt}
 use Rattle.matrix.proofs.PathLaws.{path-source, path-target}
 use Rattle.matrix.proofs.CountLaws.{Least, some-at, least-some}

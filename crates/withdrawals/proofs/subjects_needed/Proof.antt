@@ -1,8 +1,8 @@
 -- The invariant: the rights of the subjects before s are needed.
-use Prim.Native.Nat.{_-_, _<_, _^_}
+use Prim.Native.Nat.{_-_}
 use native.Mathlib.Omega.{arith}
-use mathlib.Core.Path.{_≡_, sym, _∙_}
-use lib.ListN.{length, getD}
+use mathlib.Core.Path.{_≡_, _∙_}
+use lib.ListN.{length}
 use Rattle.lists.proofs.Bools.{passes-test, fails-test}
 use borrow.Author.Needs.{needs}
 use Rattle.withdrawals.specs.Judgements.{matrixOf, subjectNeeded, minimal}
