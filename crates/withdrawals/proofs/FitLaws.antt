@@ -19,7 +19,7 @@ use Rattle.matrix.specs.Rows.{bitAt}
 use Rattle.matrix.proofs.BitLaws.{has-is, has-not, has-and, has-or, has-above, has-ext}
 use Rattle.matrix.proofs.CountLaws.{Least, some-none, none-at, least-some}
 use Rattle.withdrawals.specs.Judgements.{allBelow}
-use Rattle.withdrawals.specs.Returns.{Bounded, reachedFrom, rowClosed, leadsTo, withFlows, sourceFits, rowFits}
+use Rattle.withdrawals.specs.Returns.{FlowTable, reachedFrom, rowClosed, leadsTo, withFlows, sourceFits, rowFits}
 use Rattle.withdrawals.proofs.BelowLaws.{all-at, all-in, or-none, some-next}
 use Rattle.withdrawals.proofs.RightLaws.{holds-bits}
 
@@ -31,13 +31,13 @@ none-in-zero b = has-above 0 0 b (omega arith) (omega arith)
 
 pub record Reaching (rows : List ℕ) (n targets reached y : ℕ) : Type 0 where
   pub place : y ≤ n
-  pub bounded : Bounded n rows
+  pub table : FlowTable n rows
   pub bits : (b : ℕ) → has reached b ≡ someBelow (λ i. has targets i && bitAt rows i b) y
 
 module _ (rows : List ℕ) (n targets : ℕ) where
-  pub reaching-start : Bounded n rows → Reaching rows n targets 0 0
+  pub reaching-start : FlowTable n rows → Reaching rows n targets 0 0
   unfolding someBelow
-  reaching-start w = record { place = omega arith; bounded = w; bits = none-in-zero }
+  reaching-start w = record { place = omega arith; table = w; bits = none-in-zero }
 
   next-bit : (y b : ℕ) → someBelow (λ i. has targets i && bitAt rows i b) (y + 1)
       ≡ (someBelow (λ i. has targets i && bitAt rows i b) y || (has targets y && bitAt rows y b))
@@ -45,7 +45,7 @@ module _ (rows : List ℕ) (n targets : ℕ) where
 
   pub reaching-take : (reached y : ℕ) → Reaching rows n targets reached y → y < n → targets / 2 ^ y % 2 ≡ 1
       → Reaching rows n targets (bitOr reached (getD rows y 0)) (y + 1)
-  reaching-take reached y r l t = record { place = omega arith; bounded = r .bounded; bits = λ b. one b ∙ sym (next-bit y b) }
+  reaching-take reached y r l t = record { place = omega arith; table = r .table; bits = λ b. one b ∙ sym (next-bit y b) }
     where
       one : (b : ℕ) → has (bitOr reached (getD rows y 0)) b ≡ (someBelow (λ i. has targets i && bitAt rows i b) y || (has targets y && bitAt rows y b))
       one b = has-or reached (getD rows y 0) b ∙ ap₂ (λ (u v : Bool). u || v) (r .bits b) (bit b)
@@ -55,7 +55,7 @@ module _ (rows : List ℕ) (n targets : ℕ) where
 
   pub reaching-skip : (reached y : ℕ) → Reaching rows n targets reached y → y < n → (targets / 2 ^ y % 2 ≡ 1 → ⊥)
       → Reaching rows n targets reached (y + 1)
-  reaching-skip reached y r l t = record { place = omega arith; bounded = r .bounded; bits = λ b. r .bits b ∙ sym (next-bit y b ∙ one b) }
+  reaching-skip reached y r l t = record { place = omega arith; table = r .table; bits = λ b. r .bits b ∙ sym (next-bit y b ∙ one b) }
     where
       one : (b : ℕ) → (someBelow (λ i. has targets i && bitAt rows i b) y || (has targets y && bitAt rows y b)) ≡ someBelow (λ i. has targets i && bitAt rows i b) y
       one b = rw (has-not targets y t) (or-none (someBelow (λ i. has targets i && bitAt rows i b) y))
@@ -68,7 +68,7 @@ module _ (rows : List ℕ) (n targets : ℕ) where
 
   -- ---- the test of one row
 
-  module _ (w : Bounded n rows) where
+  module _ (w : FlowTable n rows) where
     reached-below : (b : ℕ) → n ≤ b → reachedFrom (bitAt rows) n targets b ≡ false
     unfolding reachedFrom
     reached-below b l = some-none (λ y. has targets y && bitAt rows y b) n (λ y m. none y (w .beyond y b m l))
@@ -139,7 +139,7 @@ module _ (rows : List ℕ) (n targets : ℕ) where
         by (inr h) = rw (leads-none sources a l h, h)
 
 -- the test of one row for itself
-pub row-closed-is : (rows : List ℕ) (n : ℕ) → Bounded n rows → (a reached : ℕ) → ((b : ℕ) → has reached b ≡ reachedFrom (bitAt rows) n (getD rows a 0) b)
+pub row-closed-is : (rows : List ℕ) (n : ℕ) → FlowTable n rows → (a reached : ℕ) → ((b : ℕ) → has reached b ≡ reachedFrom (bitAt rows) n (getD rows a 0) b)
     → holds (getD rows a 0) reached ≡ rowClosed rows n a
 unfolding rowClosed bitAt
 row-closed-is rows n w a reached e = held-is rows n (getD rows a 0) w (bitAt rows a) (getD rows a 0) reached (λ b. refl) e

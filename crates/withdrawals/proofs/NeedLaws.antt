@@ -20,7 +20,7 @@ use Rattle.matrix.proofs.BitLaws.{has-without}
 use Rattle.matrix.proofs.RowLaws.{spelling-fits, spelling-bits, spelling-above}
 use Rattle.matrix.proofs.VerdictLaws.{granted-beyond}
 use Rattle.withdrawals.specs.Judgements.{matrixOf, withdrawn, withRight, readNeeded, writeNeeded, subjectNeeded}
-use Rattle.withdrawals.specs.Returns.{Bounded, tableClosed, withFlows, staysClosed, lossNeeded, objectNeeded, lossesNeeded, Proposed, Judging}
+use Rattle.withdrawals.specs.Returns.{FlowTable, tableClosed, withFlows, staysClosed, lossNeeded, objectNeeded, lossesNeeded, Proposed, Judging}
 use Rattle.withdrawals.proofs.BelowLaws.{all-same}
 use Rattle.withdrawals.proofs.TransitiveLaws.{Transitive, transitive-same, consistent-transitive, table-transitive, stays-transitive}
 use Rattle.withdrawals.proofs.RightLaws.{granted-read, granted-write}
@@ -55,9 +55,9 @@ module _ (f : ℕ → ℕ → Bool) (n lostReads lostWrites reads writes k : ℕ
 -- ---- the table of granted flows
 
 -- the table without a bit beyond the objects
-pub bounded : (oldReads oldWrites reads writes rows flows : List ℕ) (n : ℕ) → Proposed oldReads oldWrites reads writes n → n ≤ length rows
-    → flows ≡ spelling (granted reads writes) n rows → Bounded n flows
-bounded oldReads oldWrites reads writes rows flows n p h e =
+pub flow-table : (oldReads oldWrites reads writes rows flows : List ℕ) (n : ℕ) → Proposed oldReads oldWrites reads writes n → n ≤ length rows
+    → flows ≡ spelling (granted reads writes) n rows → FlowTable n flows
+flow-table oldReads oldWrites reads writes rows flows n p h e =
     record { few = p .few; fit = spelling-fits (granted reads writes) n rows flows e h; beyond = λ a b l m. ap (λ (x : List ℕ). bitAt x a b) e ∙ beyond a b l m (decLt b objectLimit) }
   where
     beyond : (a b : ℕ) → a < n → n ≤ b → Dec (b < objectLimit) → bitAt (spelling (granted reads writes) n rows) a b ≡ false
@@ -82,7 +82,7 @@ pub judging : (oldReads oldWrites reads writes rows flows : List ℕ) (n : ℕ) 
 judging oldReads oldWrites reads writes rows flows n p h e k =
     record {
       proposed = p;
-      bounded = bounded oldReads oldWrites reads writes rows flows n p h e;
+      table = flow-table oldReads oldWrites reads writes rows flows n p h e;
       bits = table-bits reads writes rows flows n (p .few) e;
       kept = k;
     }

@@ -16,7 +16,7 @@ use Rattle.matrix.specs.Rows.{bitAt}
 use Rattle.withdrawals.specs.Judgements.{Matrix, allBelow, staysConsistent, minimal}
 
 -- the first n rows of a table have no bit beyond the objects
-pub record Bounded (n : ℕ) (rows : List ℕ) : Type 0 where
+pub record FlowTable (n : ℕ) (rows : List ℕ) : Type 0 where
   pub few : n ≤ objectLimit
   pub fit : n ≤ length rows
   pub beyond : (a b : ℕ) → a < n → n ≤ b → bitAt rows a b ≡ false
@@ -82,7 +82,7 @@ pub record Proposed (oldReads oldWrites reads writes : List ℕ) (n : ℕ) : Typ
 -- the same, with the table of its granted flows, which is consistent
 pub record Judging (oldReads oldWrites reads writes flows : List ℕ) (n : ℕ) : Type 0 where
   pub proposed : Proposed oldReads oldWrites reads writes n
-  pub bounded : Bounded n flows
+  pub table : FlowTable n flows
   pub bits : (a b : ℕ) → a < n → b < n → bitAt flows a b ≡ granted reads writes a b
   pub kept : consistent reads writes n ≡ true
 

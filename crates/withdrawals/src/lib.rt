@@ -8,7 +8,7 @@ ghost use Rattle.matrix.specs.Limits.{objectLimit};
 ghost use Rattle.matrix.specs.Flows.{has};
 ghost use Rattle.matrix.specs.Rows.{bitAt};
 ghost use Rattle.withdrawals.specs.Judgements.{matrixOf, comparable, rowsHeld, minimal, judgementOf, judgementNumber};
-ghost use Rattle.withdrawals.specs.Returns.{Bounded, reachedFrom, tableClosed, staysClosed, rowFits, lossNeeded, lossesNeeded, Proposed, Judging, flowJudgement};
+ghost use Rattle.withdrawals.specs.Returns.{FlowTable, reachedFrom, tableClosed, staysClosed, rowFits, lossNeeded, lossesNeeded, Proposed, Judging, flowJudgement};
 use matrix::OBJECT_LIMIT;
 use matrix::fill_granted;
 use matrix::matrix_good;
@@ -73,7 +73,7 @@ fn same_counts(subjects: usize, objects: u32, other_subjects: usize, other_objec
 
 // All that is reached from one of the targets.
 fn reached_from(flows: &[u32], n: usize, targets: u32) -> u32
-    requires { ⌜ Bounded n (now flows) ⌝ }
+    requires { ⌜ FlowTable n (now flows) ⌝ }
     ensures { λ r. ⌜ ((b : ℕ) → has r b ≡ reachedFrom (bitAt (now (flows .entry))) n targets b) ⌝ }
 {
     let mut reached: u32 = 0;
@@ -91,7 +91,7 @@ fn reached_from(flows: &[u32], n: usize, targets: u32) -> u32
 
 // The flows are transitive: what is reached from the objects in a row is in that row.
 fn table_closed(flows: &[u32], n: usize) -> bool
-    requires { ⌜ Bounded n (now flows) ⌝ }
+    requires { ⌜ FlowTable n (now flows) ⌝ }
     ensures { λ r. ⌜ r ≡ tableClosed (now (flows .entry)) n ⌝ }
 {
     let mut a = 0;
@@ -122,7 +122,7 @@ fn row_fits(row: u32, a: usize, sources: u32, targets: u32, reached: u32) -> boo
 
 // The flows, which are transitive, are so with a flow from each source to each target added.
 fn stays_closed(flows: &[u32], n: usize, sources: u32, targets: u32) -> bool
-    requires { ⌜ Bounded n (now flows) ⌝ }
+    requires { ⌜ FlowTable n (now flows) ⌝ }
     ensures { λ r. ⌜ r ≡ staysClosed (bitAt (now (flows .entry))) n sources targets ⌝ }
 {
     let reached = reached_from(flows, n, targets);
@@ -138,7 +138,7 @@ fn stays_closed(flows: &[u32], n: usize, sources: u32, targets: u32) -> bool
 
 // The right to object k was not lost, or its return adds flows that compose beyond those granted.
 fn loss_needed(flows: &[u32], n: usize, lost: u32, k: usize, sources: u32, targets: u32) -> bool
-    requires { ⌜ Bounded n (now flows) × (k < n) ⌝ }
+    requires { ⌜ FlowTable n (now flows) × (k < n) ⌝ }
     ensures { λ r. ⌜ r ≡ lossNeeded (bitAt (now (flows .entry))) n lost k sources targets ⌝ }
 {
     if (lost >> k) % 2 == 1 {
@@ -156,7 +156,7 @@ fn losses_needed(
     reads: u32,
     writes: u32,
 ) -> bool
-    requires { ⌜ Bounded n (now flows) ⌝ }
+    requires { ⌜ FlowTable n (now flows) ⌝ }
     ensures { λ r. ⌜ r ≡ lossesNeeded (bitAt (now (flows .entry))) n «lost_reads» «lost_writes» reads writes ⌝ }
 {
     let mut k = 0;

@@ -2,13 +2,13 @@
 use mathlib.Core.Path.{sym, _∙_}
 use Rattle.lists.proofs.Bools.{passes-test, fails-test}
 use borrow.Author.Needs.{needs}
-use Rattle.withdrawals.proofs.NeedLaws.{bounded, table-consistent, judging}
+use Rattle.withdrawals.proofs.NeedLaws.{flow-table, table-consistent, judging}
 use Rattle.withdrawals.proofs.JudgeLaws.{flows-3, flows-4, flows-0}
 use Rattle.withdrawals.proofs.judge_flows.Statement.{statement}
 use Rattle.withdrawals.proofs.judge_flows.Tie as tie
 
 table-closed-requires : tie.Need-table-closed-requires
-table-closed-requires c κs = let g = c .before .before in let p = g .before .before .before .before .before .before .pre in bounded _ _ _ _ _ _ _ p (p .few) (g .fill-granted .ensures)
+table-closed-requires c κs = let g = c .before .before in let p = g .before .before .before .before .before .before .pre in flow-table _ _ _ _ _ _ _ p (p .few) (g .fill-granted .ensures)
 
 returns : tie.Need-returns
 returns c =
