@@ -1,17 +1,22 @@
 -- Rights: one row of rights within another, and the flows that a right adds when it returns.
 use Prim.Native.Nat.{ℕ, zero, suc, _^_, _≤_, _<_}
-use mathlib.Core.Path.{_≡_, refl, sym, ap, _∙_}
+use mathlib.Core.Path.{_≡_, refl, sym, ap, ap₂, _∙_}
 use mathlib.Core.Bool.{Bool, true, false, _&&_, _||_}
 use mathlib.Core.List.{List, [], _∷_}
 use mathlib.Core.Logic.{_⊎_, inl, inr, _↔_}
+use native.Mathlib.Decide.{ℕ-discrete}
 use native.Mathlib.Omega.{arith}
+use lib.Bits.{bitOr}
 use lib.Dec.{eqb}
-use lib.ListN.{length, getD}
+use lib.ListN.{length, getD, set}
+use lib.Seq.{getD-set-same, getD-set-other}
+use borrow.Author.Tests.{eq-eqb, ne-eqb}
 use Rattle.rules.specs.Sets.{atom, holds}
 use Rattle.rules.proofs.SetLaws.{atom-le, atoms-holds, holds-has}
 use Rattle.lists.proofs.Bools.{decide}
 use Rattle.matrix.specs.Flows.{has, subjectCarries, granted}
-use Rattle.matrix.proofs.BitLaws.{has-atom, atom-has, has-none, has-or}
+use Rattle.matrix.specs.Rows.{bitAt}
+use Rattle.matrix.proofs.BitLaws.{has-atom, atom-has, has-none, has-or, has-single}
 use Rattle.withdrawals.specs.Judgements.{withRight}
 use Rattle.withdrawals.specs.Returns.{withFlows}
 use Rattle.withdrawals.proofs.BelowLaws.{or-none, or-assoc}
@@ -23,6 +28,21 @@ holds-bits m t = (λ h k e. atom-has m k (holds-has m t k h (has-atom t k e)), �
     by : ((k : ℕ) → has t k ≡ true → has m k ≡ true) → (k : ℕ) → (has t k ≡ true) ⊎ (has t k ≡ false) → atom t k ≤ atom m k
     by f k (inl e) = omega (arith, atom-le t k, has-atom m k (f k e))
     by f k (inr e) = omega (arith, has-none t k e)
+
+-- the right that is put back, and no other
+pub right-back : (rows : List ℕ) (s k t j : ℕ) → s < length rows → bitAt (withRight rows s k) t j ≡ (bitAt rows t j || (eqb s t && eqb k j))
+unfolding bitAt withRight
+right-back rows s k t j l = by (ℕ-discrete t s)
+  where
+    by : Dec (t ≡ s) → has (getD (set rows s (bitOr (getD rows s 0) (2 ^ k))) t 0) j ≡ (has (getD rows t 0) j || (eqb s t && eqb k j))
+    by (yes e) =
+        rw (eq-eqb s t (sym e))
+        (ap (λ (x : ℕ). has x j) (ap (λ (x : ℕ). getD (set rows s (bitOr (getD rows s 0) (2 ^ k))) x 0) e ∙ getD-set-same rows s (bitOr (getD rows s 0) (2 ^ k)) 0 l)
+        ∙ has-or (getD rows s 0) (2 ^ k) j
+        ∙ ap₂ (λ (x : ℕ) (y : Bool). has (getD rows x 0) j || y) (sym e) (has-single k j))
+    by (no n) =
+        rw (ne-eqb s t (λ e. n (sym e)))
+        (ap (λ (x : ℕ). has x j) (getD-set-other rows s t (bitOr (getD rows s 0) (2 ^ k)) 0 n) ∙ sym (or-none (has (getD rows t 0) j)))
 
 -- ---- the flows of a matrix to which one right returns
 

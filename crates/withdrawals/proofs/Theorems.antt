@@ -2,9 +2,11 @@
 use Prim.Native.Nat.{ℕ, _<_}
 use native.Mathlib.Omega.{arith}
 use mathlib.Core.Path.{_≡_, refl}
-use mathlib.Core.Bool.{Bool, true, false}
+use mathlib.Core.Bool.{Bool, true, false, _&&_, _||_}
 use mathlib.Core.List.{List, [], _∷_}
 use mathlib.Core.Logic.{_↔_}
+use lib.Dec.{eqb}
+use lib.ListN.{length}
 use Rattle.lists.specs.Lists.{elem}
 use Rattle.lists.specs.Conditions.{Condition, numbersOf, numberAt, numbersGood}
 use Rattle.lists.proofs.Conditions.{given-exactly, given-none, given-among}
@@ -12,10 +14,12 @@ use Rattle.lists.proofs.Bools.{refuted, clash}
 use Rattle.answers.specs.Refusals.{matrix}
 use Rattle.matrix.specs.Flows.{granted}
 use Rattle.matrix.specs.Verdicts.{consistent}
-use Rattle.withdrawals.specs.Judgements.{Matrix, comparable, judgementConditions, judgementOf}
+use Rattle.matrix.specs.Rows.{bitAt}
+use Rattle.withdrawals.specs.Judgements.{Matrix, withRight, comparable, judgementConditions, judgementOf}
 use Rattle.withdrawals.specs.Rights.{Comparable, NoneAdded, AllKept, AllGranted, EachNeeded}
 use Rattle.withdrawals.specs.Returns.{withFlows, staysClosed}
 use Rattle.withdrawals.proofs.TransitiveLaws as transitive
+use Rattle.withdrawals.proofs.RightLaws as rights
 use Rattle.withdrawals.proofs.JudgeLaws.{comparable-parts, parts-comparable}
 use Rattle.withdrawals.proofs.ConditionLaws.{none-added, all-kept, stays-consistent, each-needed}
 
@@ -35,6 +39,12 @@ pub returns-transitive : (f : ℕ → ℕ → Bool) (n sources targets : ℕ) �
     (staysClosed f n sources targets ≡ true)
     ↔ ((a b c : ℕ) → a < n → b < n → c < n → withFlows f sources targets a b ≡ true → withFlows f sources targets b c ≡ true → withFlows f sources targets a c ≡ true)
 returns-transitive = transitive.stays-transitive
+
+-- ---- a right put back alone
+
+-- the rows have that right, all that they had, and no other
+pub right-back : (rows : List ℕ) (s k t j : ℕ) → s < length rows → bitAt (withRight rows s k) t j ≡ (bitAt rows t j || (eqb s t && eqb k j))
+right-back = rights.right-back
 
 -- ---- the judgement
 
