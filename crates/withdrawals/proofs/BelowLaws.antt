@@ -25,6 +25,24 @@ all-same f g zero e = refl
 all-same f g (suc n) e =
     ap₂ (λ (b x : Bool). b && x) (e 0 (omega arith)) (all-same (λ k. f (suc k)) (λ k. g (suc k)) n (λ k l. e (suc k) (omega arith)))
 
+-- where not each passes, one that fails
+pub record Miss (f : ℕ → Bool) (n : ℕ) : Type 0 where
+  pub place : ℕ
+  pub below : place < n
+  pub fails : f place ≡ false
+
+pub all-miss : (f : ℕ → Bool) (n : ℕ) → allBelow f n ≡ false → Miss f n
+unfolding allBelow
+all-miss f zero h = clash refl h
+all-miss f (suc n) h = by (f 0) refl (all-miss (λ k. f (suc k)) n)
+  where
+    by : (b : Bool) → f 0 ≡ b → (allBelow (λ k. f (suc k)) n ≡ false → Miss (λ k. f (suc k)) n) → Miss f (suc n)
+    by false e ih = record { place = 0; below = omega arith; fails = e }
+    by true e ih =
+        let g : allBelow (λ k. f (suc k)) n ≡ false = rw e at h in
+        let m : Miss (λ k. f (suc k)) n = ih g in
+        record { place = suc (m .place); below = omega (arith, m .below); fails = m .fails }
+
 pub or-none : (x : Bool) → (x || false) ≡ x
 or-none true = refl
 or-none false = refl

@@ -16,12 +16,12 @@ use Rattle.matrix.specs.Flows.{granted}
 use Rattle.matrix.specs.Verdicts.{consistent}
 use Rattle.matrix.specs.Rows.{bitAt}
 use Rattle.withdrawals.specs.Judgements.{Matrix, withRight, comparable, judgementConditions, judgementOf}
-use Rattle.withdrawals.specs.Rights.{Comparable, NoneAdded, AllKept, AllGranted, EachNeeded}
+use Rattle.withdrawals.specs.Rights.{Comparable, NoneAdded, SomeAdded, AllKept, SomeLost, AllGranted, SomeUngranted, EachNeeded, SomeReturns}
 use Rattle.withdrawals.specs.Returns.{withFlows, staysClosed}
 use Rattle.withdrawals.proofs.TransitiveLaws as transitive
 use Rattle.withdrawals.proofs.RightLaws as rights
 use Rattle.withdrawals.proofs.JudgeLaws.{comparable-parts, parts-comparable}
-use Rattle.withdrawals.proofs.ConditionLaws.{none-added, all-kept, stays-consistent, each-needed}
+use Rattle.withdrawals.proofs.ConditionLaws.{none-added, some-added, all-kept, some-lost, stays-consistent, not-consistent, each-needed, some-returns}
 
 -- ---- consistency without a closure
 
@@ -85,39 +85,39 @@ module _ (old required proposed : Matrix) where
       (λ _. under (all-kept required proposed) (λ _. under (stays-consistent proposed) (λ _. each-needed old required proposed c)))))
 
   -- 1 exactly if a right is new
-  pub fails-1 : (judgementOf old required proposed ≡ 1) ↔ (Comparable old required proposed × (NoneAdded old proposed → ⊥))
+  pub fails-1 : (judgementOf old required proposed ≡ 1) ↔ (Comparable old required proposed × SomeAdded old proposed)
   unfolding judgementOf judgementConditions numbersGood numbersOf numberAt elem
-  fails-1 = through (given-exactly cs refl 1 (omega arith)) (under comparable-same (λ _. fails (none-added old proposed)))
+  fails-1 = through (given-exactly cs refl 1 (omega arith)) (under comparable-same (λ c. some-added old required proposed c))
 
   -- 2 exactly if none is new, and something that must stay is not kept
   pub fails-2 : (judgementOf old required proposed ≡ 2)
-      ↔ (Comparable old required proposed × (NoneAdded old proposed × (AllKept required proposed → ⊥)))
+      ↔ (Comparable old required proposed × (NoneAdded old proposed × SomeLost required proposed))
   unfolding judgementOf judgementConditions numbersGood numbersOf numberAt elem
   fails-2 =
       through (given-exactly cs refl 2 (omega arith))
-      (under comparable-same (λ _. under (none-added old proposed) (λ _. fails (all-kept required proposed))))
+      (under comparable-same (λ c. under (none-added old proposed) (λ _. some-lost old required proposed c)))
 
   -- 3 exactly if these hold, and a composed flow is not granted
   pub fails-3 : (judgementOf old required proposed ≡ 3)
       ↔ (Comparable old required proposed
-      × (NoneAdded old proposed × (AllKept required proposed × (AllGranted (proposed .reads) (proposed .writes) (proposed .objects) → ⊥))))
+      × (NoneAdded old proposed × (AllKept required proposed × SomeUngranted (proposed .reads) (proposed .writes) (proposed .objects))))
   unfolding judgementOf judgementConditions numbersGood numbersOf numberAt elem
   fails-3 =
       through (given-exactly cs refl 3 (omega arith))
-      (under comparable-same (λ _. under (none-added old proposed) (λ _. under (all-kept required proposed) (λ _. fails (stays-consistent proposed)))))
+      (under comparable-same (λ _. under (none-added old proposed) (λ _. under (all-kept required proposed) (λ _. not-consistent proposed))))
 
   -- 4 exactly if these hold, and a right that was withdrawn may return alone
   pub fails-4 : (judgementOf old required proposed ≡ 4)
       ↔ (Comparable old required proposed
       × (NoneAdded old proposed
       × (AllKept required proposed
-      × (AllGranted (proposed .reads) (proposed .writes) (proposed .objects) × (EachNeeded old proposed → ⊥)))))
+      × (AllGranted (proposed .reads) (proposed .writes) (proposed .objects) × SomeReturns old proposed))))
   unfolding judgementOf judgementConditions numbersGood numbersOf numberAt elem
   fails-4 =
       through (given-exactly cs refl 4 (omega arith))
       (under comparable-same
       (λ c. under (none-added old proposed)
-      (λ _. under (all-kept required proposed) (λ _. under (stays-consistent proposed) (λ _. fails (each-needed old required proposed c))))))
+      (λ _. under (all-kept required proposed) (λ _. under (stays-consistent proposed) (λ _. some-returns old required proposed c)))))
 
   -- 8 exactly if one of the three is malformed or counts differ
   pub refused-8 : (judgementOf old required proposed ≡ matrix) ↔ (Comparable old required proposed → ⊥)
