@@ -1,7 +1,7 @@
 -- The judgement from the tests that lead to it.
 use Prim.Native.Nat.{ℕ}
-use mathlib.Core.Path.{_≡_, sym, _∙_}
-use mathlib.Core.Bool.{true, false, _&&_}
+use mathlib.Core.Path.{_≡_, refl, sym, ap, _∙_}
+use mathlib.Core.Bool.{true, false, cond, _&&_}
 use mathlib.Core.List.{List}
 use lib.Dec.{eqb}
 use lib.ListN.{length}
@@ -12,7 +12,9 @@ use Rattle.answers.specs.Refusals.{matrix}
 use Rattle.matrix.specs.Flows.{matrixGood}
 use Rattle.matrix.specs.Verdicts.{consistent}
 use Rattle.matrix.proofs.GoodLaws.{good-parts}
-use Rattle.withdrawals.specs.Judgements.{Matrix, matrixOf, wellFormed, sameCounts, comparable, rowsHeld, noneAdded, allKept, staysConsistent, readNeeded, writeNeeded, subjectNeeded, minimal, judgementConditions, judgementOf}
+use Rattle.withdrawals.specs.declared.Judgement.{Judgement}
+use Rattle.withdrawals.specs.declared.Judgement.the-variants.{Accepted, RightAdded, RightLost, Inconsistent, NotMinimal, Refused}
+use Rattle.withdrawals.specs.Judgements.{Matrix, matrixOf, wellFormed, sameCounts, comparable, rowsHeld, noneAdded, allKept, staysConsistent, readNeeded, writeNeeded, subjectNeeded, minimal, judgementConditions, judgementOf, judgementNumber}
 use Rattle.withdrawals.specs.Rights.{Comparable}
 use Rattle.withdrawals.specs.Returns.{Proposed, flowJudgement}
 
@@ -109,3 +111,23 @@ module _ (oldReads oldWrites reads writes : List ℕ) (n : ℕ) where
     pub flows-0 : minimal (matrixOf oldReads oldWrites n) (matrixOf reads writes n) ≡ true → 0 ≡ flowJudgement (matrixOf oldReads oldWrites n) (matrixOf reads writes n)
     unfolding flowJudgement staysConsistent
     flows-0 h = rw (k, h)
+
+-- ---- the cases of the answer
+
+-- the case of a number
+caseOf : ℕ → Judgement
+caseOf n =
+    cond (eqb n 0) Accepted
+    (cond (eqb n 1) RightAdded (cond (eqb n 2) RightLost (cond (eqb n 3) Inconsistent (cond (eqb n 4) NotMinimal Refused))))
+
+case-back : (j : Judgement) → caseOf (judgementNumber j) ≡ j
+unfolding caseOf
+case-back Accepted = refl
+case-back RightAdded = refl
+case-back RightLost = refl
+case-back Inconsistent = refl
+case-back NotMinimal = refl
+case-back Refused = refl
+
+pub numbers-apart : (i j : Judgement) → judgementNumber i ≡ judgementNumber j → i ≡ j
+numbers-apart i j e = sym (case-back i) ∙ ap caseOf e ∙ case-back j

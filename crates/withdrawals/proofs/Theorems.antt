@@ -15,12 +15,14 @@ use Rattle.answers.specs.Refusals.{matrix}
 use Rattle.matrix.specs.Flows.{granted}
 use Rattle.matrix.specs.Verdicts.{consistent}
 use Rattle.matrix.specs.Rows.{bitAt}
-use Rattle.withdrawals.specs.Judgements.{Matrix, withRight, comparable, judgementConditions, judgementOf}
+use Rattle.withdrawals.specs.Judgements.{Matrix, withRight, comparable, judgementConditions, judgementOf, judgementNumber}
+use Rattle.withdrawals.specs.declared.Judgement.{Judgement}
 use Rattle.withdrawals.specs.Rights.{Comparable, NoneAdded, SomeAdded, AllKept, SomeLost, AllGranted, SomeUngranted, EachNeeded, SomeReturns}
 use Rattle.withdrawals.specs.Returns.{withFlows, staysClosed}
 use Rattle.withdrawals.proofs.TransitiveLaws as transitive
 use Rattle.withdrawals.proofs.RightLaws as rights
 use Rattle.withdrawals.proofs.JudgeLaws.{comparable-parts, parts-comparable}
+use Rattle.withdrawals.proofs.JudgeLaws as judgements
 use Rattle.withdrawals.proofs.ConditionLaws.{none-added, some-added, all-kept, some-lost, stays-consistent, not-consistent, each-needed, some-returns}
 
 -- ---- consistency without a closure
@@ -128,3 +130,7 @@ module _ (old required proposed : Matrix) where
   pub judged-among : elem (judgementOf old required proposed) (0 ∷ matrix ∷ 1 ∷ 2 ∷ 3 ∷ 4 ∷ []) ≡ true
   unfolding judgementOf judgementConditions numbersOf
   judged-among = given-among cs
+
+-- an answer is known by its number: what fixes the number fixes the case
+pub numbers-apart : (i j : Judgement) → judgementNumber i ≡ judgementNumber j → i ≡ j
+numbers-apart = judgements.numbers-apart
