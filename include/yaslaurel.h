@@ -9,6 +9,7 @@
  *
  *   0          accepted; for yaslaurel_step and yaslaurel_run: quiet; for yaslaurel_matrix_verdict: consistent
  *   1          yaslaurel_matrix_verdict alone: not consistent
+ *   1 to 4     yaslaurel_matrix_judge alone: the first condition that fails
  *   a length   YASLAUREL_HEADER_LENGTH or more: of the image written, from the three functions that write one
  *   256        yaslaurel_step and yaslaurel_run alone: alert
  *   1 to 18    otherwise: refused, with the number of the first condition that fails, in this order; 18 is a refusal
@@ -23,7 +24,8 @@
  *        6  a user's rule number in the image
  *        7  the operation record: length, code, zero byte, user set wrongly, container over 255, user over 15, an end
  *           (code 8) of another object than the process itself
- *        8  the matrix: row counts differ, 0 or over 8 subjects, 0 or over 32 objects, a bit beyond the objects
+ *        8  a matrix: row counts differ, 0 or over 8 subjects, 0 or over 32 objects, a bit beyond the objects; of three
+ *           matrices also: other counts than the first
  *       10  a session row that the record names is not well formed
  *       11  p is no process
  *       12  o is of the wrong kind (read, write, append, exec, delete)
@@ -125,6 +127,12 @@ extern "C" {
 #define YASLAUREL_CONSISTENT 0u
 #define YASLAUREL_NOT_CONSISTENT 1u
 
+/* Conditions of a proposal to withdraw rights. */
+#define YASLAUREL_RIGHT_ADDED 1u
+#define YASLAUREL_RIGHT_LOST 2u
+#define YASLAUREL_PROPOSAL_NOT_CONSISTENT 3u
+#define YASLAUREL_NOT_MINIMAL 4u
+
 /* Refusals. */
 #define YASLAUREL_REFUSED_IMAGE_LENGTH 1u
 #define YASLAUREL_REFUSED_SECTIONS 2u
@@ -194,6 +202,20 @@ uint32_t yaslaurel_run(uint64_t *session, size_t session_len, const uint8_t *rec
  */
 uint32_t yaslaurel_matrix_verdict(const uint32_t *reads, size_t reads_len, const uint32_t *writes, size_t writes_len,
                                   uint32_t objects, uint32_t *count, uint32_t *source, uint32_t *target);
+
+/*
+ * Judges a proposal to withdraw rights of an access matrix: the old matrix, the rights that must stay as a second one,
+ * and the proposed matrix, each as for yaslaurel_matrix_verdict.
+ * 0 accepted. Else the first condition that fails: 1 the proposal has no right that the old matrix lacks; 2 it keeps
+ * all that must stay; 3 it is consistent; 4 it becomes inconsistent if any single right that was withdrawn is put back
+ * alone. Else 8, for one of the matrices or where their counts of subjects or of objects differ. A right that must stay
+ * and that the old matrix lacks is no fault of form: 1 or 2 fails then.
+ */
+uint32_t yaslaurel_matrix_judge(const uint32_t *old_reads, size_t old_reads_len, const uint32_t *old_writes,
+                                size_t old_writes_len, uint32_t old_objects, const uint32_t *required_reads,
+                                size_t required_reads_len, const uint32_t *required_writes, size_t required_writes_len,
+                                uint32_t required_objects, const uint32_t *proposed_reads, size_t proposed_reads_len,
+                                const uint32_t *proposed_writes, size_t proposed_writes_len, uint32_t proposed_objects);
 
 /*
  * Writes the policy image that an access matrix stands for to the front of `out`; the bytes behind it stay.

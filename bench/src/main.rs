@@ -9,7 +9,7 @@
 //!
 //! `bench PROGRAM` also measures that watch program, `bench watch PROGRAM` measures it alone; `bench operations` measures
 //! single operations alone, `bench batches` runs of records, `bench profiles` texts of profiles, `bench cover` the cover test
-//! of a rule of eight.
+//! of a rule of eight, `bench proposals` proposals to withdraw rights.
 //! `bench listing` is the watch program in natural Rust (`BufWriter`, `writeln!`), for the comparison of whole programs;
 //! `bench trace COUNT` writes the policy and trace that both read.
 
@@ -24,13 +24,14 @@ use std::process::{Command, Stdio};
 use std::time::Instant;
 use std::{env, fs};
 
+use judge::withdrawals::Rows;
 use plain::{Natural, Tuned};
 use race::{median, race, Outcome, Variant};
 use yaslaurel::layout::image::{CONTAINERS, HEADER};
 use yaslaurel::layout::profiles::{PATHS, PATH_LIMIT, TEXT_LIMIT};
 use yaslaurel::layout::record;
 use yaslaurel::layout::session::{container, rule, BEHALF, KIND, NOBODY, PERMIT, RULE_MIXTURES, RUN};
-use yaslaurel::{ffi, OUTPUT_LENGTH, SESSION_LENGTH};
+use yaslaurel::{ffi, Matrix, OUTPUT_LENGTH, SESSION_LENGTH};
 
 const ROUNDS: usize = 31;
 
@@ -387,6 +388,46 @@ fn matrices() {
     }
 }
 
+/// Proposals to withdraw rights: document 004's table and the largest matrix.
+fn proposals() {
+    head("Proposal to withdraw rights", "proposal");
+    let matrix = |reads, writes, objects| Matrix { reads, writes, objects };
+    let table = matrix(&[3, 3, 28, 28, 32], &[28, 28, 96, 96, 0], 7);
+    let six_less = Matrix { reads: &[3, 3, 0, 0, 32], ..table };
+    let nothing_of_it = matrix(&[0; 5], &[0; 5], 7);
+    let all = matrix(&[u32::MAX; 8], &[u32::MAX; 8], 32);
+    let nothing = matrix(&[0; 8], &[0; 8], 32);
+    let few = matrix(
+        &[0xffff_ff83, 0x14, 0x3c, 0x3c, 0x14, 0x14, 0x3c, 0x3c],
+        &[0xffff_ffc3, 0x7c, 0x68, 0x68, 0x7c, 0x7c, 0x68, 0x68],
+        32,
+    );
+    for (name, old, required, proposed, answer) in [
+        ("document 004's table, 6 of its 21 rights withdrawn", table, nothing_of_it, six_less, 0),
+        ("the table itself, answered 3", table, nothing_of_it, table, 3),
+        ("the table out of nothing, answered 1", nothing_of_it, nothing_of_it, table, 1),
+        ("8 subjects, 32 objects, nothing withdrawn", all, nothing, all, 0),
+        ("8 subjects, 32 objects, 408 of 512 rights withdrawn", all, nothing, few, 0),
+        ("8 subjects, 32 objects, all rights withdrawn, answered 4", all, nothing, nothing, 4),
+    ] {
+        let rows = |m: Matrix<'_>| Rows { reads: m.reads.to_vec(), writes: m.writes.to_vec(), objects: m.objects };
+        let judged = [rows(old), rows(required), rows(proposed)];
+        let library =
+            move || yaslaurel::judge_withdrawal(old, required, proposed).map_or(8, |judgement| judgement.number());
+        assert_eq!(library(), answer, "the proposals are what the table says");
+        let outcome = on_image(
+            &[],
+            20,
+            vec![
+                ("library", Box::new(move |_| u64::from(library()))),
+                ("judge", Box::new(|_| u64::from(judge::withdrawals::judge(&judged[0], &judged[1], &judged[2])))),
+                ("natural", Box::new(move |_| u64::from(plain::judge(old, required, proposed)))),
+            ],
+        );
+        line(name, &outcome);
+    }
+}
+
 /// Texts of profiles that are accepted, then those that take longest to refuse.
 fn texts() {
     head("Policy of profiles", "text");
@@ -561,6 +602,10 @@ fn main() -> io::Result<()> {
             cover::cover();
             return Ok(());
         }
+        ["proposals"] => {
+            proposals();
+            return Ok(());
+        }
         ["trace", count] => {
             fs::write("policy.bin", work::policy(1, 6))?;
             return fs::write("trace.bin", whole_trace(count.parse().expect("a number of records")));
@@ -581,6 +626,7 @@ fn main() -> io::Result<()> {
     let sizes = [1, 4, 16, 64, 256];
     images(&sizes.map(|files| (format!("{files} files"), work::policy_of_files(files, 2, 9))));
     matrices();
+    proposals();
     texts();
     growth();
     watch(words.first().unwrap_or(&"target/bin/watch"))

@@ -7,6 +7,7 @@ ghost use Rattle.monitor.specs.Steps.{stepAnswer, stepEffect};
 ghost use Rattle.monitor.specs.Stops.{ran, ranEffect};
 ghost use Rattle.normaliser.specs.Normaliser.{normalAnswer, normalEffect};
 ghost use Rattle.matrix.specs.Verdicts.{matrixVerdict};
+ghost use Rattle.withdrawals.specs.Judgements.{matrixOf, judgementOf};
 ghost use Rattle.derivation.specs.Derived.{derivedAnswer, derivedEffect};
 ghost use Rattle.confinement.specs.Images.{profileAnswer, profileEffect};
 ghost use Rattle.capi.specs.Hosts.{receiverAfter, tagAfter, takenAfter, alertReceiver, alertTag, valueAfter};
@@ -146,6 +147,39 @@ pub extern "C" fn yaslaurel_matrix_verdict(
             INCONSISTENT
         }
     }
+}
+
+// 0 if the proposal to withdraw rights is accepted, else the first condition that fails, 1 to 4, or 8. The old matrix, the rights that
+// must stay, and the proposed matrix.
+#[no_mangle]
+pub extern "C" fn yaslaurel_matrix_judge(
+    old_reads: &[u32],
+    old_writes: &[u32],
+    old_objects: u32,
+    required_reads: &[u32],
+    required_writes: &[u32],
+    required_objects: u32,
+    reads: &[u32],
+    writes: &[u32],
+    objects: u32,
+) -> u32
+    ensures { λ r. ⌜ r ≡ judgementOf
+        (matrixOf (now («old_reads» .entry)) (now («old_writes» .entry)) «old_objects»)
+        (matrixOf (now («required_reads» .entry)) (now («required_writes» .entry)) «required_objects»)
+        (matrixOf (now (reads .entry)) (now (writes .entry)) objects) ⌝ }
+{
+    let judgement = withdrawals::judge(
+        old_reads,
+        old_writes,
+        old_objects,
+        required_reads,
+        required_writes,
+        required_objects,
+        reads,
+        writes,
+        objects,
+    );
+    withdrawals::judgement_number(judgement)
 }
 
 // The length of the derived policy's image, written to the front of out; else the refusal, 9 or 8, and out is as it was.

@@ -33,7 +33,7 @@ pub atom-has : (row k : ℕ) → atom row k ≡ 1 → has row k ≡ true
 unfolding has
 atom-has row k h = eq-eqb (atom row k) 1 h
 
-has-none : (row k : ℕ) → has row k ≡ false → atom row k ≡ 0
+pub has-none : (row k : ℕ) → has row k ≡ false → atom row k ≡ 0
 unfolding has
 has-none row k h = by (ℕ-discrete (atom row k) 1)
   where
@@ -100,7 +100,7 @@ has-complement (suc w) g (suc k) h l =
     ∙ has-complement w (g / 2) k (omega arith) (omega arith)
     ∙ ap not (sym (has-next g k))
 
-has-and : (a b k : ℕ) → has (bitAnd a b) k ≡ (has a k && has b k)
+pub has-and : (a b k : ℕ) → has (bitAnd a b) k ≡ (has a k && has b k)
 has-and a b k = by (decide (has a k)) (decide (has b k))
   where
     by : (has a k ≡ true) ⊎ (has a k ≡ false) → (has b k ≡ true) ⊎ (has b k ≡ false) → has (bitAnd a b) k ≡ (has a k && has b k)

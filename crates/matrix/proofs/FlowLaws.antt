@@ -8,9 +8,9 @@ use native.Mathlib.Decide.{ℕ-discrete, decLt}
 use native.Mathlib.Nat.{div-lt-iff-lt-mul}
 use native.Mathlib.Omega.{arith}
 use lib.Pow.{pow-pos}
-use lib.Dec.{eqb, ltb}
+use lib.Dec.{ltb}
 use lib.ListN.{length, getD}
-use borrow.Author.Tests.{eqb-true, eq-eqb, not-true, not-false, ltb-true, lt-ltb}
+use borrow.Author.Tests.{not-true, not-false, ltb-true, lt-ltb}
 use Rattle.lists.proofs.Bools.{and-in, and-0, and-1, decide, clash, refuted, same-test}
 use Rattle.lists.specs.Lists.{every}
 use Rattle.lists.proofs.Every.{every-0, every-1, every-nil, every-cons}
@@ -129,12 +129,6 @@ module _ (reads writes : List ℕ) (n : ℕ) where
         where
           none : (a b : ℕ) → a < n → b < n → ungranted reads writes n a b ≡ false
           none a b p q = refuted (ungranted reads writes n a b) (λ u. clash h (flow-inconsistent a b (ungranted-flow a b p q .0 u)))
-
-  -- the count, as it is tested
-  pub count-zero : (count : ℕ) → count ≡ flowCount reads writes n → eqb count 0 ≡ consistent reads writes n
-  count-zero count e =
-      same-test (eqb count 0) (consistent reads writes n)
-      (λ h. count-consistent .0 (sym e ∙ eqb-true count 0 h)) (λ h. eq-eqb count 0 (e ∙ count-consistent .1 h))
 
 -- ---- the rows: no bit beyond the objects
 

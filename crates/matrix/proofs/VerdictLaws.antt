@@ -45,7 +45,7 @@ carries-beyond (r ∷ reads) (w ∷ writes) n a b g h =
     by true = refl
     by false = refl
 
-granted-beyond : (reads writes : List ℕ) (n a b : ℕ) → rowsWithin n writes ≡ true → a < n → n ≤ b → granted reads writes a b ≡ false
+pub granted-beyond : (reads writes : List ℕ) (n a b : ℕ) → rowsWithin n writes ≡ true → a < n → n ≤ b → granted reads writes a b ≡ false
 unfolding granted
 granted-beyond reads writes n a b g l h =
     let e : eqb a b ≡ false = ne-eqb a b (λ q. omega arith) in

@@ -5,7 +5,7 @@ ghost use mathlib.Core.Bool.{true};
 ghost use lib.ListN.{length};
 ghost use Rattle.matrix.specs.Limits.{objectLimit};
 ghost use Rattle.matrix.specs.Flows.{matrixGood, rowsWithin, counted, has, granted, within};
-ghost use Rattle.matrix.specs.Verdicts.{ungranted, flowCount, consistent, judgedBy, consistencyValues, matrixVerdict};
+ghost use Rattle.matrix.specs.Verdicts.{ungranted, flowCount, judgedBy, consistencyValues, matrixVerdict};
 ghost use Rattle.matrix.specs.Rows.{bitAt, spelling, joinedAt, Passed, Closed};
 
 // The most subjects and objects that a matrix has.
@@ -189,17 +189,6 @@ fn compose(reads: &[u32], writes: &[u32], rows: &mut [u32], n: usize)
 {
     fill_granted(reads, writes, rows, n);
     close(rows, n);
-}
-
-// Each composed flow of a matrix is granted.
-pub fn consistent(reads: &[u32], writes: &[u32], objects: u32) -> bool
-    requires { ⌜ matrixGood (now reads) (now writes) objects ≡ true ⌝ }
-    ensures { λ r. ⌜ r ≡ consistent (now (reads .entry)) (now (writes .entry)) objects ⌝ }
-{
-    let n = objects as usize;
-    let mut rows = [0u32; OBJECT_LIMIT];
-    compose(reads, writes, &mut rows, n);
-    count_flows(reads, writes, &rows, n) == 0
 }
 
 // The verdict on a matrix. Row s is what subject s reads, or writes, bit k standing for object k.

@@ -36,6 +36,23 @@ extern "C" {
         source: *mut u32,
         target: *mut u32,
     ) -> u32;
+    pub fn yaslaurel_matrix_judge(
+        old_reads: *const u32,
+        old_reads_len: usize,
+        old_writes: *const u32,
+        old_writes_len: usize,
+        old_objects: u32,
+        required_reads: *const u32,
+        required_reads_len: usize,
+        required_writes: *const u32,
+        required_writes_len: usize,
+        required_objects: u32,
+        proposed_reads: *const u32,
+        proposed_reads_len: usize,
+        proposed_writes: *const u32,
+        proposed_writes_len: usize,
+        proposed_objects: u32,
+    ) -> u32;
     pub fn yaslaurel_matrix_policy(
         reads: *const u32,
         reads_len: usize,

@@ -31,6 +31,7 @@ pub mod layout;
 mod operation;
 mod refusal;
 mod run;
+mod withdrawal;
 
 use std::fmt;
 
@@ -38,6 +39,7 @@ pub use container::{Container, Kind};
 pub use operation::Operation;
 pub use refusal::Refusal;
 pub use run::{run_in, Run};
+pub use withdrawal::{judge_withdrawal, Judgement, Matrix};
 
 /// Numbers of 64 bits in a session.
 pub const SESSION_LENGTH: usize = layout::session::LENGTH;

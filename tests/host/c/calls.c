@@ -75,6 +75,10 @@ static const char profiles[] = "profile /bin/mailer {\n"
                                "/bin/mailer px,\n"
                                "}\n";
 
+/* Document 004's Table 1. */
+static const uint32_t table_reads[5] = {3, 3, 28, 28, 32};
+static const uint32_t table_writes[5] = {28, 28, 96, 96, 0};
+
 /* The matrix of the paper's example. */
 static const uint32_t reads[3] = {5, 3, 2};
 static const uint32_t writes[3] = {1, 2, 10};
@@ -149,6 +153,9 @@ static void nulls(void)
           "verdict: null rows");
     check(yaslaurel_matrix_policy(yaslaurel_rows(NULL), 0, yaslaurel_rows(NULL), 0, 4, out, OUTPUT) == 8,
           "matrix policy: null rows");
+    check(yaslaurel_matrix_judge(yaslaurel_rows(NULL), 0, yaslaurel_rows(NULL), 0, 4, yaslaurel_rows(NULL), 0,
+                                 yaslaurel_rows(NULL), 0, 4, yaslaurel_rows(NULL), 0, yaslaurel_rows(NULL), 0, 4) == 8,
+          "judge: null rows");
     check(yaslaurel_profiles_policy(yaslaurel_bytes(NULL), 0, yaslaurel_output(NULL), 0) == 9, "profiles: nulls");
     check(receiver == 11 && tag == 22 && taken == 33 && count == 1 && source == 2 && target == 3,
           "refused calls leave the numbers");
@@ -378,6 +385,36 @@ static uint32_t draw(uint64_t *state)
 }
 
 /* Random bytes and numbers everywhere: every answer is one that the function can give. */
+/* Document 004's Table 1: the judgement on a proposal, with nothing that must stay. */
+static uint32_t judged(const uint32_t *proposed_reads, const uint32_t *proposed_writes, uint32_t objects)
+{
+    static const uint32_t none[5] = {0, 0, 0, 0, 0};
+
+    return yaslaurel_matrix_judge(table_reads, 5, table_writes, 5, 7, none, 5, none, 5, 7, proposed_reads, 5,
+                                  proposed_writes, 5, objects);
+}
+
+static void withdrawals(void)
+{
+    static const uint32_t none[5] = {0, 0, 0, 0, 0};
+    static const uint32_t six[5] = {3, 3, 0, 0, 32}, five[5] = {0, 0, 28, 28, 0}, four[5] = {28, 28, 0, 0, 0};
+    static const uint32_t more[5] = {3, 3, 0, 0, 33}, stays[5] = {0, 0, 4, 0, 0};
+
+    check(judged(table_reads, table_writes, 7) == YASLAUREL_PROPOSAL_NOT_CONSISTENT, "judge: the table itself");
+    check(judged(six, table_writes, 7) == YASLAUREL_ACCEPTED, "judge: its solution of six");
+    check(judged(five, table_writes, 7) == YASLAUREL_NOT_MINIMAL, "judge: its five");
+    check(judged(table_reads, four, 7) == YASLAUREL_ACCEPTED, "judge: its four");
+    check(judged(five, four, 7) == YASLAUREL_NOT_MINIMAL, "judge: its nine");
+    check(judged(more, table_writes, 7) == YASLAUREL_RIGHT_ADDED, "judge: a right that the table lacks");
+    check(yaslaurel_matrix_judge(table_reads, 5, table_writes, 5, 7, stays, 5, none, 5, 7, six, 5, table_writes, 5, 7) ==
+              YASLAUREL_RIGHT_LOST,
+          "judge: a right that must stay");
+    check(judged(six, table_writes, 8) == 8, "judge: an object more");
+    check(judged(six, table_writes, 6) == 8, "judge: a bit beyond the objects");
+    check(yaslaurel_matrix_judge(table_reads, 5, table_writes, 5, 7, none, 4, none, 4, 7, six, 5, table_writes, 5, 7) == 8,
+          "judge: a subject less");
+}
+
 static void random_bytes(void)
 {
     static const uint8_t codes[] = {0, 1, 2, 3, 4, 5, 6, 7, 8, 9, 200, 255};
@@ -431,6 +468,10 @@ static void random_bytes(void)
         answer = yaslaurel_matrix_verdict(rows, subjects, rows + 5, subjects, 4 * (draw(&seed) % 9), &count, &source,
                                           &target);
         good = good && (answer <= 1 || answer == 8);
+        uint32_t objects = 4 * (draw(&seed) % 9);
+        answer = yaslaurel_matrix_judge(rows, subjects, rows + 5, subjects, objects, rows + 1, subjects % 5, rows + 4,
+                                        subjects % 5, objects, rows + 2, subjects, rows + 3, subjects, objects);
+        good = good && (answer <= 4 || answer == 8);
         answer = yaslaurel_profiles_policy(image, length, out, OUTPUT);
         good = good && answer == (length == 0 ? 26u : 16u);
     }
@@ -445,6 +486,7 @@ int main(void)
     leaving_example();
     behalf_example();
     profile_example();
+    withdrawals();
     random_bytes();
     printf("%u passed, %u failed\n", passed, failed);
     return failed != 0;

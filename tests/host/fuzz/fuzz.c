@@ -78,6 +78,7 @@ struct region {
 };
 
 static struct region image_at, out_at, session_at, record_at, reads_at, writes_at, numbers_at, taken_at, text_at;
+static struct region rights_at[6]; /* read rows, then write rows, of three matrices */
 
 static void reserve(struct region *region, size_t bytes)
 {
@@ -118,7 +119,7 @@ static int stayed(const struct region *region, size_t written)
 
 /* How often each function gave each answer. */
 static unsigned long checks[ANSWERS], normals[ANSWERS], starts[ANSWERS], steps[ANSWERS], runs[ANSWERS],
-    verdicts[ANSWERS], policies[ANSWERS], profiles[ANSWERS];
+    verdicts[ANSWERS], policies[ANSWERS], profiles[ANSWERS], proposals[ANSWERS];
 
 /* Writes a number of so many bytes; gives the place behind it. */
 static uint8_t *put(uint8_t *at, uint64_t value, size_t bytes)
@@ -487,6 +488,49 @@ static void try_matrix(void)
     require(length < HEADER || yaslaurel_image_check(out_at.slice, length) == 0, "the derived policy is accepted");
 }
 
+/* A proposal: an old matrix, some of its rights that must stay, and some that are left; now and then other bits too. */
+static void try_proposal(void)
+{
+    uint32_t rows[6][12], subjects = (uint32_t)(percent(95) ? 1 + below(8) : below(12));
+    uint32_t objects = (uint32_t)(percent(95) ? 1 + below(percent(50) ? 4 : 32) : below(40)), counts[3];
+    uint64_t mask = objects <= 32 ? ((uint64_t)1 << objects) - 1 : UINT32_MAX;
+    size_t lengths[6];
+    int dense = percent(50), kept = percent(30);
+
+    for (size_t i = 0; i < 12; i++) {
+        for (size_t access = 0; access < 2; access++) {
+            uint32_t old = (uint32_t)(draw() & (dense ? UINT64_MAX : draw() & draw()) & mask);
+            uint32_t left = kept ? old : (uint32_t)(old & (draw() | draw()));
+            rows[access][i] = old;
+            rows[4 + access][i] = percent(1) ? (uint32_t)draw() : left;
+            rows[2 + access][i] = percent(1) ? (uint32_t)draw() : (uint32_t)(left & draw() & draw());
+        }
+    }
+    for (size_t i = 0; i < 6; i++) {
+        lengths[i] = percent(99) ? subjects : below(12);
+        lend(&rights_at[i], rows[i], 4 * lengths[i]);
+        read_only(&rights_at[i], 1);
+    }
+    for (size_t i = 0; i < 3; i++) {
+        counts[i] = percent(99) ? objects : (uint32_t)below(40);
+    }
+#define ROWS(i) (const uint32_t *)(const void *)rights_at[i].slice, lengths[i]
+    uint32_t answer = yaslaurel_matrix_judge(ROWS(0), ROWS(1), counts[0], ROWS(2), ROWS(3), counts[1], ROWS(4), ROWS(5),
+                                             counts[2]);
+#undef ROWS
+    int same = counts[0] == counts[1] && counts[1] == counts[2], stay = 1;
+    for (size_t i = 0; i < 6; i++) {
+        read_only(&rights_at[i], 0);
+        stay = stay && stayed(&rights_at[i], 0);
+        same = same && lengths[i] == lengths[0];
+    }
+
+    proposals[answer < ANSWERS ? answer : 0]++;
+    require(answer <= 4 || answer == 8, "the judgement gives 0 to 4 or 8");
+    require(same || answer == 8, "differing counts give 8");
+    require(stay, "the rows of three matrices stay");
+}
+
 static uint8_t text[YASLAUREL_TEXT_LIMIT + 300];
 
 /* A text of profiles that is of the grammar, of few paths or many. Its length. */
@@ -589,6 +633,7 @@ static int all_reached(int print)
     all &= REACHED(print, verdicts, 0, 1, 8);
     all &= REACHED(print, policies, LENGTH, 8, 9);
     all &= REACHED(print, profiles, LENGTH, 9, 16, 17);
+    all &= REACHED(print, proposals, 0, 1, 2, 3, 4, 8);
     return all;
 }
 
@@ -610,6 +655,9 @@ int main(int argc, char **argv)
     reserve(&numbers_at, 64);
     reserve(&taken_at, 64);
     reserve(&text_at, sizeof text);
+    for (size_t i = 0; i < 6; i++) {
+        reserve(&rights_at[i], 64);
+    }
 
     /* On a busy machine up to three times as long, until every answer was reached. */
     while (counted ? rounds < limit
@@ -635,6 +683,7 @@ int main(int argc, char **argv)
             }
         }
         try_matrix();
+        try_proposal();
         try_profiles();
         /* The next start finds anything at all. */
         session[below(SESSION)] = draw();

@@ -8,7 +8,10 @@ use Rattle.operations.proofs.replace.Tie as tie
 
 judge-requires : tie.Need-judge-requires
 unfolding newWords boundedWords
-judge-requires c κs = new-judged processKind (c .before .before .before .before .before .before .args .tag) (c .before .before .before .before .before .before .args .permit) (c .before .before .before .before .before .before .args .run) (c .before .before .before .before .before .before .args .behalf) (search needs) _ (c .before .before .before .put-row .ensures) (search needs) (c .before .before .before .before .before .before .pre .1)
+judge-requires c κs =
+    let start = c .before .before .before .before .before .before in
+    new-judged processKind (start .args .tag) (start .args .permit) (start .args .run) (start .args .behalf) (search needs) _
+    (c .before .before .before .put-row .ensures) (search needs) (start .pre .1)
 
 returns : tie.Need-returns
 unfolding newWords boundedWords

@@ -4,11 +4,12 @@ use std::collections::HashSet;
 use std::fmt::Write as _;
 
 use judge::session::Record;
+use judge::withdrawals::{self, rights};
 use judge::{chains, image, matrix, normal, profiles, session};
 use yaslaurel::layout::image::HEADER;
 use yaslaurel::layout::record;
 use yaslaurel::layout::session::{container, user, BEHALF, CONTAINER_ROW, NOBODY, USER_ROW};
-use yaslaurel::{MatrixVerdict, Refusal, Session, Verdict, SESSION_LENGTH};
+use yaslaurel::{Matrix, MatrixVerdict, Refusal, Session, Verdict, SESSION_LENGTH};
 
 use crate::counters::Counters;
 use crate::lent::{self, Guarded};
@@ -70,6 +71,8 @@ pub enum Case {
         objects: u32,
         out_length: usize,
     },
+    /// A proposal to withdraw rights: the old matrix, the rights that must stay, and the proposed matrix.
+    Proposal([withdrawals::Rows; 3]),
     /// A text of profiles, and what kind of text it is.
     Profiles {
         kind: &'static str,
@@ -110,6 +113,8 @@ pub struct Bench {
     record: Guarded<u8>,
     reads: Guarded<u32>,
     writes: Guarded<u32>,
+    /// Read rows and write rows of three matrices.
+    matrices: [(Guarded<u32>, Guarded<u32>); 3],
     judge_out: Vec<u8>,
     judge_session: Vec<u64>,
     /// Of the last batch: what was not quiet, by the record's place.
@@ -125,6 +130,7 @@ impl Bench {
             record: Guarded::new(&[]),
             reads: Guarded::new(&[]),
             writes: Guarded::new(&[]),
+            matrices: std::array::from_fn(|_| (Guarded::new(&[]), Guarded::new(&[]))),
             judge_out: Vec::new(),
             judge_session: Vec::new(),
             loud: Vec::new(),
@@ -147,6 +153,7 @@ impl Bench {
             Case::Matrix { reads, writes, objects, out_length } => {
                 self.matrix_case(reads, writes, *objects, *out_length, counters)
             }
+            Case::Proposal(matrices) => self.proposal_case(matrices, counters),
             Case::Profiles { kind, text, out_length } => self.profiles_case(kind, text, *out_length, counters),
         }
     }
@@ -157,7 +164,8 @@ impl Bench {
             && self.session.guards_stand()
             && self.record.guards_stand()
             && self.reads.guards_stand()
-            && self.writes.guards_stand();
+            && self.writes.guards_stand()
+            && self.matrices.iter().all(|(reads, writes)| reads.guards_stand() && writes.guards_stand());
         (!stand).then(|| "memory beside a lent slice was written".to_string())
     }
 
@@ -449,6 +457,39 @@ impl Bench {
             .or_else(|| self.guards())
     }
 
+    fn proposal_case(&mut self, matrices: &[withdrawals::Rows; 3], c: &mut Counters) -> Difference {
+        c.proposals += 1;
+        for ((reads, writes), rows) in self.matrices.iter_mut().zip(matrices) {
+            reads.fill(&rows.reads);
+            writes.fill(&rows.writes);
+        }
+        let [old, required, proposed] = matrices;
+        let library = lent::matrix_judge(&self.matrices, matrices.each_ref().map(|rows| rows.objects));
+        let expected = withdrawals::judge(old, required, proposed);
+        c.judged[expected as usize] += 1;
+        if expected == 0 {
+            *if rights(old) == rights(proposed) { &mut c.accepted_whole } else { &mut c.accepted_withdrawing } += 1;
+        }
+        let well_formed = |rows: &withdrawals::Rows| matrix::well_formed(&rows.reads, &rows.writes, rows.objects);
+        if expected == 8 && matrices.iter().all(well_formed) {
+            c.counts_differ += 1;
+        }
+        let [old, required, proposed] =
+            matrices.each_ref().map(|rows| Matrix { reads: &rows.reads, writes: &rows.writes, objects: rows.objects });
+        let safe = match yaslaurel::judge_withdrawal(old, required, proposed) {
+            Ok(judgement) => judgement.number(),
+            Err(refusal) => refusal.number(),
+        };
+        let rows_stay = self.matrices.iter().zip(matrices).find_map(|((reads, writes), rows)| {
+            differ_at("the read rows", reads.content(), &rows.reads)
+                .or_else(|| differ_at("the write rows", writes.content(), &rows.writes))
+        });
+        differ("judgement", library, expected)
+            .or_else(|| differ("judgement of the Rust interface", safe, expected))
+            .or(rows_stay)
+            .or_else(|| self.guards())
+    }
+
     fn profiles_case(&mut self, kind: &'static str, text: &[u8], out_length: usize, c: &mut Counters) -> Difference {
         self.image.fill(text);
         self.judge_out.clear();
@@ -600,6 +641,12 @@ pub fn show(case: &Case) -> String {
         Case::Matrix { reads, writes, objects, out_length } => {
             writeln!(text, "read rows {reads:x?}, write rows {writes:x?}, {objects} objects").unwrap();
             writeln!(text, "output of {out_length} bytes").unwrap();
+        }
+        Case::Proposal(matrices) => {
+            for (name, rows) in ["old", "must stay", "proposed"].into_iter().zip(matrices) {
+                let withdrawals::Rows { reads, writes, objects } = rows;
+                writeln!(text, "{name}: read rows {reads:x?}, write rows {writes:x?}, {objects} objects").unwrap();
+            }
         }
         Case::Profiles { kind, text: profiles, out_length } => {
             writeln!(text, "text of {} bytes ({kind}), output of {out_length} bytes:", profiles.len()).unwrap();

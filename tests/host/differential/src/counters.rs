@@ -53,6 +53,13 @@ pub struct Counters {
     /// Refusals of verdict and of derived policy; 0 counts what was accepted.
     pub verdicts_refused: u64,
     pub derived: [u64; 16],
+    pub proposals: u64,
+    /// Judgements of proposals by their number, and accepted ones that withdraw something, and that do not.
+    pub judged: [u64; 16],
+    pub accepted_withdrawing: u64,
+    pub accepted_whole: u64,
+    /// Refused though each matrix is well formed: their counts differ.
+    pub counts_differ: u64,
     pub chain_traces: u64,
     pub chain_steps: u64,
     pub chain_alerts: u64,
@@ -185,6 +192,12 @@ impl Counters {
         for number in [0, 8, 9] {
             need(self.derived[number], format!("derived policy answers {number} (0: a length)"));
         }
+        for number in [0, 1, 2, 3, 4, 8] {
+            need(self.judged[number], format!("judgement of a proposal answers {number}"));
+        }
+        need(self.accepted_withdrawing, "a proposal that withdraws rights is accepted".into());
+        need(self.accepted_whole, "a proposal that withdraws nothing is accepted".into());
+        need(self.counts_differ, "a proposal whose counts differ".into());
         for number in [0, 9, 16, 17] {
             need(self.profiles[number], format!("policy of profiles answers {number} (0: a length)"));
         }
@@ -234,6 +247,10 @@ impl Counters {
         let verdicts = (self.consistent, self.inconsistent, self.verdicts_refused);
         line("consistent, not, refused", format!("{}, {}, {}", verdicts.0, verdicts.1, verdicts.2));
         line("derived policy, by refusal", by_number(&self.derived));
+        line("proposals", self.proposals.to_string());
+        line("judgements, by number", by_number(&self.judged));
+        let accepted = (self.accepted_withdrawing, self.accepted_whole, self.counts_differ);
+        line("accepted, whole, counts differ", format!("{}, {}, {}", accepted.0, accepted.1, accepted.2));
         line("texts of profiles", self.texts.to_string());
         line("policy of profiles, by refusal", by_number(&self.profiles));
         for (limit, count) in &self.text_limits {

@@ -142,6 +142,31 @@ pub fn matrix_verdict(reads: &Guarded<u32>, writes: &Guarded<u32>, objects: u32)
     (number, count, source, target)
 }
 
+/// Three matrices, each with its read rows, its write rows and its objects.
+pub fn matrix_judge(rows: &[(Guarded<u32>, Guarded<u32>); 3], objects: [u32; 3]) -> u32 {
+    let [(old_reads, old_writes), (required_reads, required_writes), (proposed_reads, proposed_writes)] = rows;
+    // SAFETY: above.
+    unsafe {
+        ffi::yaslaurel_matrix_judge(
+            old_reads.pointer(),
+            old_reads.length,
+            old_writes.pointer(),
+            old_writes.length,
+            objects[0],
+            required_reads.pointer(),
+            required_reads.length,
+            required_writes.pointer(),
+            required_writes.length,
+            objects[1],
+            proposed_reads.pointer(),
+            proposed_reads.length,
+            proposed_writes.pointer(),
+            proposed_writes.length,
+            objects[2],
+        )
+    }
+}
+
 pub fn matrix_policy(reads: &Guarded<u32>, writes: &Guarded<u32>, objects: u32, out: &mut Guarded<u8>) -> u32 {
     // SAFETY: above.
     unsafe {

@@ -1,7 +1,7 @@
 //! `differential [SEED] [FACTOR] [PART]` compares the library with the judge.
 //!
 //! The seed is a number (without one it is taken from the clock), the factor multiplies the size of the run: with 1 it
-//! has over 200,000 images, 2,000,000 operations, 200,000 matrices and 80,000 texts of profiles. PART, the beginning of a part's name, runs that
+//! has over 200,000 images, 2,000,000 operations, 200,000 matrices, 80,000 texts of profiles and 60,000 proposals. PART, the beginning of a part's name, runs that
 //! part alone. A disagreement is made small and printed, with the
 //! seed that finds it again. The last line is `N passed, M failed`.
 //!
@@ -12,6 +12,7 @@ mod case;
 mod counters;
 mod generate;
 mod lent;
+mod proposals;
 mod random;
 mod shrink;
 mod spec;
@@ -36,7 +37,7 @@ struct Part {
     make: fn(&mut Random) -> Case,
 }
 
-const PARTS: [Part; 9] = [
+const PARTS: [Part; 10] = [
     Part { name: "images: check, normaliser, start", cases: 210_000, make: image },
     Part { name: "pairs: equal normal images exactly with equal sessions", cases: 40_000, make: pair },
     Part { name: "single operations on whole and damaged sessions", cases: 900_000, make: step },
@@ -46,6 +47,7 @@ const PARTS: [Part; 9] = [
     Part { name: "batches of records, by runs", cases: 100_000, make: batches },
     Part { name: "matrices: verdict, derived policy", cases: 210_000, make: matrix },
     Part { name: "profiles: policy", cases: 80_000, make: profiles },
+    Part { name: "withdrawals: proposals judged", cases: 60_000, make: proposal },
 ];
 
 fn image(r: &mut Random) -> Case {
@@ -163,6 +165,10 @@ fn matrix(r: &mut Random) -> Case {
 fn profiles(r: &mut Random) -> Case {
     let (kind, text) = texts::text(r);
     Case::Profiles { kind, text, out_length: generate::length(r, OUTPUT_LENGTH, true) }
+}
+
+fn proposal(r: &mut Random) -> Case {
+    Case::Proposal(proposals::proposal(r))
 }
 
 /// The counts of the last line.

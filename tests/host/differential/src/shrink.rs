@@ -2,6 +2,7 @@
 
 use std::time::{Duration, Instant};
 
+use judge::withdrawals;
 use yaslaurel::layout::image::{HEADER, SECTIONS};
 use yaslaurel::layout::record;
 use yaslaurel::layout::session::{rule, PERMIT, RULE, RULE_MIXTURES, RUN, TAG};
@@ -72,6 +73,7 @@ fn simpler(case: &Case) -> Vec<Case> {
             .map(|(image, damage, length, batches)| Case::Batches { image, damage, length, batches })
             .collect(),
         Case::Matrix { reads, writes, objects, out_length } => matrices(reads, writes, *objects, *out_length),
+        Case::Proposal(matrices) => proposals(matrices),
         Case::Profiles { kind, text, out_length } => texts(text)
             .into_iter()
             .map(|text| (text, *out_length))
@@ -249,6 +251,51 @@ fn steps(step: &StepCase) -> Vec<StepCase> {
         for (at, &word) in row.iter().enumerate() {
             let lowest = word & word.wrapping_neg();
             add(&|s| s.rows.users[i].1[at] &= !lowest);
+        }
+    }
+    found
+}
+
+/// A subject or an object less in all three matrices, then a right less in one of them.
+fn proposals(matrices: &[withdrawals::Rows; 3]) -> Vec<Case> {
+    let mut found = Vec::new();
+    let mut add = |change: &dyn Fn(&mut [withdrawals::Rows; 3])| {
+        let mut simpler = matrices.clone();
+        change(&mut simpler);
+        if simpler != *matrices {
+            found.push(Case::Proposal(simpler));
+        }
+    };
+    let each = |matrices: &mut [withdrawals::Rows; 3], change: &dyn Fn(&mut withdrawals::Rows)| {
+        matrices.iter_mut().for_each(change)
+    };
+    for at in 0..matrices.iter().map(|rows| rows.reads.len()).max().unwrap_or(0) {
+        let without = |rows: &mut Vec<u32>| {
+            if at < rows.len() {
+                rows.remove(at);
+            }
+        };
+        add(&|m| {
+            each(m, &|rows| {
+                without(&mut rows.reads);
+                without(&mut rows.writes);
+            })
+        });
+    }
+    add(&|m| {
+        each(m, &|rows| {
+            rows.objects = rows.objects.saturating_sub(1);
+            let bits = |row: &mut u32| *row &= ((1u64 << rows.objects.min(32)) - 1) as u32;
+            rows.reads.iter_mut().for_each(bits);
+            rows.writes.iter_mut().for_each(bits);
+        })
+    });
+    for one in 0..3 {
+        for (at, bit) in (0..matrices[one].reads.len()).flat_map(|at| (0..32).map(move |bit| (at, bit))) {
+            add(&|m| m[one].reads[at] &= !(1 << bit));
+        }
+        for (at, bit) in (0..matrices[one].writes.len()).flat_map(|at| (0..32).map(move |bit| (at, bit))) {
+            add(&|m| m[one].writes[at] &= !(1 << bit));
         }
     }
     found

@@ -17,3 +17,4 @@ pub mod numbers;
 pub mod profiles;
 pub mod rules;
 pub mod session;
+pub mod withdrawals;

@@ -24,6 +24,11 @@ fn read<'a>(reads: &'a [u32], writes: &'a [u32], objects: u32) -> Result<Matrix<
     Ok(Matrix { reads, writes, objects: objects as usize })
 }
 
+/// Whether rows pass refusal 8.
+pub fn well_formed(reads: &[u32], writes: &[u32], objects: u32) -> bool {
+    read(reads, writes, objects).is_ok()
+}
+
 fn has(row: u32, object: usize) -> bool {
     row >> object & 1 == 1
 }

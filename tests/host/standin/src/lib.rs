@@ -3,6 +3,7 @@
 //! they must fail.
 
 mod profiles;
+mod withdrawals;
 
 use std::env;
 use std::slice::{from_raw_parts, from_raw_parts_mut};
@@ -13,10 +14,11 @@ use judge::numbers::{
     ROW_RUN, ROW_TAG, ROW_USER, RULES, RULE_MIXTURES, SESSION, UNRESTRICTED, USERS,
 };
 use judge::rules::{covers, holds, meet, running_atoms};
+use judge::withdrawals::Rows;
 use judge::{image, matrix, normal, session};
 
 /// The planted faults, each a mistake that a reviewer would try.
-pub const FAULTS: [&str; 64] = [
+pub const FAULTS: [&str; 74] = [
     "1 a monitor that is always quiet",
     "2 a running atom passes by read",
     "3 covering is tested atom by atom",
@@ -81,6 +83,16 @@ pub const FAULTS: [&str; 64] = [
     "62 a process that runs on nobody's behalf is refused with 18",
     "63 an exec for another user is refused with 18",
     "64 the users are read behind 256 rows of 20",
+    "65 a proposal is compared by its rights to read alone",
+    "66 withdrawn rights are put back together",
+    "67 a right that the old matrix lacked is put back",
+    "68 the old matrix has to be consistent, not the proposed one",
+    "69 condition 4 goes before condition 3",
+    "70 the last condition that fails is given",
+    "71 differing counts are answered 1",
+    "72 a right that must stay and that the old matrix lacks is answered 8",
+    "73 a proposal that withdraws nothing is answered 4",
+    "74 only rights to read are put back",
 ];
 
 /// The number of the planted fault, 0 for none.
@@ -471,6 +483,38 @@ fn smallest_target(reads: &[u32], writes: &[u32], objects: usize) -> (u32, u32) 
         }
     }
     (0, 0)
+}
+
+/// # Safety
+/// As `include/yaslaurel.h` says.
+#[no_mangle]
+pub unsafe extern "C" fn yaslaurel_matrix_judge(
+    old_reads: *const u32,
+    old_reads_length: usize,
+    old_writes: *const u32,
+    old_writes_length: usize,
+    old_objects: u32,
+    required_reads: *const u32,
+    required_reads_length: usize,
+    required_writes: *const u32,
+    required_writes_length: usize,
+    required_objects: u32,
+    proposed_reads: *const u32,
+    proposed_reads_length: usize,
+    proposed_writes: *const u32,
+    proposed_writes_length: usize,
+    proposed_objects: u32,
+) -> u32 {
+    let rows = |reads, reads_length, writes, writes_length, objects| Rows {
+        reads: from_raw_parts(reads, reads_length).to_vec(),
+        writes: from_raw_parts(writes, writes_length).to_vec(),
+        objects,
+    };
+    withdrawals::answer(
+        &rows(old_reads, old_reads_length, old_writes, old_writes_length, old_objects),
+        &rows(required_reads, required_reads_length, required_writes, required_writes_length, required_objects),
+        &rows(proposed_reads, proposed_reads_length, proposed_writes, proposed_writes_length, proposed_objects),
+    )
 }
 
 /// # Safety
