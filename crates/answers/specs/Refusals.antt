@@ -1,4 +1,4 @@
--- The refusal numbers (the paper, "Refused because of the input" and "Refused because of the session"; change request No. 1),
+-- The refusal numbers (the paper, "Refused because of the input" and "Refused because of the session"; change requests No. 1 and 6),
 -- each named once.
 use Prim.Native.Nat.{ℕ}
 
@@ -69,3 +69,7 @@ profileText = 16
 -- "17 when it has over 32 paths or a rule over 8 mixtures in normal form"
 abbrev pub profileLimit : ℕ
 profileLimit = 17
+
+-- change request No. 6: "19 when a trace has over 1,000,000 records"
+abbrev pub traceLength : ℕ
+traceLength = 19

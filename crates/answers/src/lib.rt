@@ -57,6 +57,9 @@ pub const PROFILE_TEXT: u32 = 16;
 // Profiles with over 32 paths, or with a rule of over 8 mixtures.
 pub const PROFILE_LIMIT: u32 = 17;
 
+// A trace of over 1,000,000 records.
+pub const TRACE_LENGTH: u32 = 19;
+
 // The number of an alert, apart from every refusal. That of a quiet answer is 0.
 pub const ALERT_NUMBER: u32 = 256;
 
