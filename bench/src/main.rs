@@ -7,13 +7,14 @@
 //!
 //! The library is called by its C functions, as every host calls it.
 //!
-//! `bench PROGRAM` also measures that watch program, `bench watch PROGRAM` measures it alone; `bench operations` measures
-//! single operations alone, `bench batches` runs of records, `bench profiles` texts of profiles, `bench cover` the cover test
-//! of a rule of eight, `bench proposals` proposals to withdraw rights.
-//! `bench listing` is the watch program in natural Rust (`BufWriter`, `writeln!`), for the comparison of whole programs;
-//! `bench trace COUNT` writes the policy and trace that both read.
+//! `bench WATCH MONTH` also measures these programs, `bench watch PROGRAM` and `bench month PROGRAM` measure one alone; `bench
+//! operations` measures single operations alone, `bench batches` runs of records, `bench profiles` texts of profiles, `bench
+//! cover` the cover test of a rule of eight, `bench proposals` proposals to withdraw rights.
+//! `bench listing` is the watch program in natural Rust (`BufWriter`, `writeln!`), `bench figures` the month program, for the
+//! comparison of whole programs; `bench trace COUNT` writes the policy and trace that both watch programs read.
 
 mod cover;
+mod month;
 mod plain;
 mod profiles;
 mod race;
@@ -545,9 +546,10 @@ fn listing() -> io::Result<()> {
     writeln!(out, "total {step} alerts {alerts} refused {refusals}")
 }
 
-/// The watch program against `bench listing`, on a million records in a folder of their own.
-fn watch(program: &str) -> io::Result<()> {
-    println!("\n## The watch program, 1,000,000 records\n");
+/// A program against this one with an argument, which is the same program in natural Rust, in a folder with these files of so many
+/// records in all.
+fn whole_program(title: &str, program: &str, argument: &str, files: &[(String, Vec<u8>)], records: usize) -> io::Result<()> {
+    println!("\n## {title}\n");
     if !fs::exists(program)? {
         println!("not measured: there is no {program}");
         return Ok(());
@@ -555,29 +557,44 @@ fn watch(program: &str) -> io::Result<()> {
     let program = fs::canonicalize(program)?;
     let folder = env::temp_dir().join(format!("yaslaurel-bench-{}", std::process::id()));
     fs::create_dir_all(&folder)?;
-    fs::write(folder.join("policy.bin"), work::policy(1, 6))?;
-    fs::write(folder.join("trace.bin"), whole_trace(1_000_000))?;
+    for (name, bytes) in files {
+        fs::write(folder.join(name), bytes)?;
+    }
     let own = env::current_exe()?;
     let output = |program: &std::path::Path, argument: Option<&str>| {
         Command::new(program).args(argument).current_dir(&folder).output().map(|output| output.stdout)
     };
-    assert!(output(&program, None)? == output(&own, Some("listing"))?, "both print the same listing");
+    assert!(output(&program, None)? == output(&own, Some(argument))?, "both print the same");
     let time = |program: &std::path::Path, argument: Option<&str>| -> io::Result<f64> {
         let begun = Instant::now();
         Command::new(program).args(argument).current_dir(&folder).stdout(Stdio::null()).status()?;
-        Ok(begun.elapsed().as_nanos() as f64 / 1e6)
+        Ok(begun.elapsed().as_nanos() as f64 / records as f64)
     };
     let (mut library, mut ratios) = (Vec::new(), Vec::new());
     for _ in 0..9 {
         let ours = time(&program, None)?;
-        let rust = time(&own, Some("listing"))?;
+        let rust = time(&own, Some(argument))?;
         library.push(ours);
         ratios.push(ours / rust);
     }
-    println!("| ns a record | records a second | to natural Rust with `writeln!` |\n|---|---|---|");
+    println!("| ns a record | records a second | to natural Rust |\n|---|---|---|");
     let each = median(library);
     println!("| {each:.1} | {:.1} million | {:.2} |", 1e3 / each, median(ratios));
     fs::remove_dir_all(&folder)
+}
+
+/// The watch program against `bench listing`, on a million records.
+fn watch(program: &str) -> io::Result<()> {
+    let files = [("policy.bin".into(), work::policy(1, 6)), ("trace.bin".into(), whole_trace(1_000_000))];
+    whole_program("The watch program, 1,000,000 records", program, "listing", &files, 1_000_000)
+}
+
+/// The month program against `bench figures`, on eight traces of a million records.
+fn figures(program: &str) -> io::Result<()> {
+    let trace = whole_trace(1_000_000);
+    let mut files: Vec<(String, Vec<u8>)> = (0..8).map(|number| (format!("{number:02}.bin"), trace.clone())).collect();
+    files.push(("policy.bin".into(), work::policy(1, 6)));
+    whole_program("The month program, eight traces of 1,000,000 records", program, "figures", &files, 8_000_000)
 }
 
 fn main() -> io::Result<()> {
@@ -585,6 +602,8 @@ fn main() -> io::Result<()> {
     let words: Vec<&str> = args.iter().map(String::as_str).collect();
     match words[..] {
         ["listing"] => return listing(),
+        ["figures"] => return month::month(),
+        ["month", program] => return figures(program),
         ["watch", program] => return watch(program),
         ["operations"] => {
             operations();
@@ -629,5 +648,6 @@ fn main() -> io::Result<()> {
     proposals();
     texts();
     growth();
-    watch(words.first().unwrap_or(&"target/bin/watch"))
+    watch(words.first().unwrap_or(&"target/bin/watch"))?;
+    figures(words.get(1).unwrap_or(&"target/bin/month"))
 }

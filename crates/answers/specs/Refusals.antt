@@ -1,4 +1,4 @@
--- The refusal numbers (the paper, "Refused because of the input" and "Refused because of the session"; change request No. 1),
+-- The refusal numbers (the paper, "Refused because of the input" and "Refused because of the session"; change requests No. 1 and 6),
 -- each named once.
 use Prim.Native.Nat.{ℕ}
 
@@ -73,3 +73,7 @@ profileLimit = 17
 -- change request No. 5: "18 when code 6 names a user other than p's own recorded one"
 abbrev pub otherUser : ℕ
 otherUser = 18
+
+-- change request No. 6: "19 when a trace has over 1,000,000 records"
+abbrev pub traceLength : ℕ
+traceLength = 19

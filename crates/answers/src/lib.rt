@@ -60,6 +60,9 @@ pub const PROFILE_LIMIT: u32 = 17;
 // A new file for another user than the one on whose behalf the process runs.
 pub const OTHER_USER: u32 = 18;
 
+// A trace of over 1,000,000 records.
+pub const TRACE_LENGTH: u32 = 19;
+
 // The number of an alert, apart from every refusal. That of a quiet answer is 0.
 pub const ALERT_NUMBER: u32 = 256;
 

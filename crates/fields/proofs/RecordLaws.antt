@@ -55,7 +55,7 @@ cut-at w (suc n) (suc k) s h =
     let e : suc k * w ≡ w + k * w = omega (arith, suc-mul k w) in
     cut-at w n k (drop w s) (omega arith) ∙ rw (drop-drop, e)
 
-cut-count : (w n : ℕ) (s : List ℕ) → length (cut w n s) ≡ n
+pub cut-count : (w n : ℕ) (s : List ℕ) → length (cut w n s) ≡ n
 unfolding cut
 cut-count w zero s = refl
 cut-count w (suc n) s = ap suc (cut-count w n (drop w s))

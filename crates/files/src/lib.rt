@@ -74,6 +74,14 @@ pub fn write_whole(bytes: &[u8]) -> bool {
     false
 }
 
+// The first bytes of a buffer, all of it where `end` lies behind it: true, or the failure was told.
+pub fn write_front(out: &[u8], end: usize) -> bool {
+    if end < out.len() {
+        return write_whole(&out[..end]);
+    }
+    write_whole(out)
+}
+
 // ---- files
 
 // A file that was asked for by name.

@@ -20,6 +20,10 @@ use Rattle.listing.proofs.BufferLaws as buffer
 
 -- ---- numbers
 
+-- the digits are the bytes from 48 on
+pub digit-code : (d : ℕ) → d < 10 → digit d ≡ 48 + d
+digit-code = text.digit-low
+
 -- a number below 10 is one digit; any other is a tenth of it and its last digit
 pub decimal-below : (n : ℕ) → n < 10 → decimal n ≡ digit n ∷ []
 decimal-below = text.decimal-below
@@ -39,6 +43,10 @@ decimal-leads = text.first-decimal
 -- the numbers of 64 bits are among those
 pub decimal-serves : (n : ℕ) → n < 2 ^ 64 → n < 10 ^ decimalLimit
 decimal-serves n h = omega arith
+
+-- no number has more digits than the functions ask room for
+pub decimal-fits : (n : ℕ) → length (decimal n) ≤ decimalLimit
+decimal-fits = text.decimal-length
 
 pub hexadecimal-length : (tag : ℕ) → length (hexadecimal tag) ≡ tagDigits
 hexadecimal-length = text.hexadecimal-length

@@ -22,15 +22,15 @@ const ZERO: u8 = 48;
 // What a letter's code has beside its value and the code of the digit 0: 10 gives the code of `a`.
 const LETTERS: u64 = 39;
 
-const SPACE: u8 = 32;
+pub const SPACE: u8 = 32;
 
-const NEWLINE: u8 = 10;
+pub const NEWLINE: u8 = 10;
 
 // The bytes of a verdict's word with the space behind it.
 const VERDICT_LENGTH: usize = 6;
 
 // A text as it is given.
-fn put_text(out: &mut [u8], at: usize, text: &[u8]) -> usize
+pub fn put_text(out: &mut [u8], at: usize, text: &[u8]) -> usize
     requires { ⌜ at + length (now text) ≤ length (now out) ⌝ }
     ensures { λ r. ⌜ Wrote (now (text .entry)) (now (out .entry)) (now (out .exit)) at r ⌝ }
 {
@@ -56,7 +56,7 @@ fn decimal_places(n: u64) -> usize
 }
 
 // A number of any length in decimal, from the last digit to the first.
-fn put_long(out: &mut [u8], at: usize, n: u64) -> usize
+pub fn put_long(out: &mut [u8], at: usize, n: u64) -> usize
     requires { ⌜ at + decimalLimit ≤ length (now out) ⌝ }
     ensures { λ r. ⌜ Wrote (decimal n) (now (out .entry)) (now (out .exit)) at r ⌝ }
 {

@@ -6,3 +6,4 @@ pub mod Same
 pub mod Every
 pub mod Places
 pub mod Joined
+pub mod Counting

@@ -1,58 +1,27 @@
 -- Counting, and the least number that passes a test.
-use Prim.Native.Nat.{ℕ, zero, suc, _+_, _-_, _/_, _%_, _^_, _≤_, _<_}
+use Prim.Native.Nat.{ℕ, zero, suc, _+_, _-_, _/_, _%_, _^_, _<_}
 use mathlib.Core.Path.{_≡_, refl, sym, ap, ap₂, _∙_}
 use mathlib.Core.Bool.{Bool, true, false, cond, _||_}
 use mathlib.Core.Logic.{_⊎_, inl, inr}
 use native.Mathlib.Decide.{ℕ-discrete}
-use native.Mathlib.Nat.{zero-add}
 use native.Mathlib.Omega.{arith}
 use lib.Count.{ones, ones-step}
 use lib.Dec.{eqb}
 use borrow.Author.Tests.{eq-eqb, ne-eqb}
+use Rattle.lists.specs.Counting.{countBelow}
+use Rattle.lists.proofs.Counting.{count-same}
 use Rattle.lists.proofs.Bools.{decide, clash, or-0, or-1}
 use Rattle.matrix.specs.Flows.{has}
-use Rattle.matrix.specs.Verdicts.{countBelow, sumBelow, someBelow, leastBelow}
+use Rattle.matrix.specs.Verdicts.{someBelow, leastBelow}
 use Rattle.matrix.proofs.BitLaws.{has-first, has-next}
 
--- ---- tests and sums that agree below n
-
-pub count-same : (f g : ℕ → Bool) (n : ℕ) → ((k : ℕ) → k < n → f k ≡ g k) → countBelow f n ≡ countBelow g n
-unfolding countBelow
-count-same f g zero e = refl
-count-same f g (suc n) e =
-    let h : f 0 ≡ g 0 = e 0 (omega arith) in
-    ap₂ (λ (b : Bool) (x : ℕ). cond b 1 0 + x) h (count-same (λ k. f (suc k)) (λ k. g (suc k)) n (λ k l. e (suc k) (omega arith)))
+-- ---- tests that agree below n
 
 pub some-same : (f g : ℕ → Bool) (n : ℕ) → ((k : ℕ) → k < n → f k ≡ g k) → someBelow f n ≡ someBelow g n
 unfolding someBelow
 some-same f g zero e = refl
 some-same f g (suc n) e =
     ap₂ (λ (b x : Bool). b || x) (e 0 (omega arith)) (some-same (λ k. f (suc k)) (λ k. g (suc k)) n (λ k l. e (suc k) (omega arith)))
-
--- ---- one number more
-
-pub sum-next : (f : ℕ → ℕ) (n : ℕ) → sumBelow f (suc n) ≡ sumBelow f n + f n
-unfolding sumBelow
-sum-next f zero = omega arith
-sum-next f (suc n) =
-    let ih : sumBelow (λ k. f (suc k)) (suc n) ≡ sumBelow (λ k. f (suc k)) n + f (suc n) = sum-next (λ k. f (suc k)) n in
-    ap (λ (x : ℕ). f 0 + x) ih ∙ omega arith
-
--- ---- a test that fails from n on counts no more
-
-pub count-none : (f : ℕ → Bool) (n : ℕ) → ((k : ℕ) → k < n → f k ≡ false) → countBelow f n ≡ 0
-unfolding countBelow
-count-none f zero e = refl
-count-none f (suc n) e =
-    let h : f 0 ≡ false = e 0 (omega arith) in
-    rw (h, zero-add) (count-none (λ k. f (suc k)) n (λ k l. e (suc k) (omega arith)))
-
-pub count-front : (f : ℕ → Bool) (n m : ℕ) → ((k : ℕ) → n ≤ k → f k ≡ false) → countBelow f (n + m) ≡ countBelow f n
-unfolding countBelow
-count-front f zero m e = ap (countBelow f) (zero-add m) ∙ count-none f m (λ k l. e k (omega arith))
-count-front f (suc n) m e =
-    let q : suc n + m ≡ suc (n + m) = omega arith in
-    rw q (ap (λ (x : ℕ). cond (f 0) 1 0 + x) (count-front (λ k. f (suc k)) n m (λ k l. e (suc k) (omega arith))))
 
 -- ---- the set bits of a number
 
@@ -121,29 +90,3 @@ least-some f (suc n) h = by (f 0) refl (λ g. least-some (λ k. f (suc k)) n g)
         early : f 0 ≡ false → Least (λ k. f (suc k)) n (leastBelow (λ k. f (suc k)) n) → (j : ℕ) → j < suc (leastBelow (λ k. f (suc k)) n) → f j ≡ false
         early e x zero l = e
         early e x (suc j) l = x .before j (omega arith)
-
--- ---- sums
-
-pub sum-same : (f g : ℕ → ℕ) (n : ℕ) → ((k : ℕ) → k < n → f k ≡ g k) → sumBelow f n ≡ sumBelow g n
-unfolding sumBelow
-sum-same f g zero e = refl
-sum-same f g (suc n) e =
-    ap₂ (λ (x y : ℕ). x + y) (e 0 (omega arith)) (sum-same (λ k. f (suc k)) (λ k. g (suc k)) n (λ k l. e (suc k) (omega arith)))
-
-pub sum-none : (f : ℕ → ℕ) (n : ℕ) → ((k : ℕ) → k < n → f k ≡ 0) → sumBelow f n ≡ 0
-unfolding sumBelow
-sum-none f zero e = refl
-sum-none f (suc n) e = omega (arith, e 0 (omega arith), sum-none (λ k. f (suc k)) n (λ k l. e (suc k) (omega arith)))
-
--- a sum is at least each of its parts
-pub sum-some : (f : ℕ → ℕ) (n k : ℕ) → k < n → f k ≤ sumBelow f n
-unfolding sumBelow
-sum-some f zero k l = absurd (omega arith)
-sum-some f (suc n) zero l = omega arith
-sum-some f (suc n) (suc k) l = omega (arith, sum-some (λ k. f (suc k)) n k (omega arith))
-
-pub count-some : (f : ℕ → Bool) (n k : ℕ) → k < n → f k ≡ true → 1 ≤ countBelow f n
-unfolding countBelow
-count-some f zero k l h = absurd (omega arith)
-count-some f (suc n) zero l h = rw h (omega arith)
-count-some f (suc n) (suc k) l h = omega (arith, count-some (λ k. f (suc k)) n k (omega arith) h)

@@ -12,7 +12,8 @@ use Rattle.lists.proofs.Conditions.{given-exactly, given-none}
 use Rattle.answers.specs.Refusals.{matrix}
 use Rattle.matrix.specs.Limits.{subjectLimit, objectLimit}
 use Rattle.matrix.specs.Flows.{has, granted, Composed, composed, matrixGood}
-use Rattle.matrix.specs.Verdicts.{countBelow, sumBelow, flowCount, firstSource, firstTarget, consistent, matrixConditions, matrixVerdict}
+use Rattle.lists.specs.Counting.{countBelow, sumBelow}
+use Rattle.matrix.specs.Verdicts.{flowCount, firstSource, firstTarget, consistent, matrixConditions, matrixVerdict}
 use Rattle.matrix.specs.Rows.{Closed}
 use Rattle.matrix.proofs.FlowLaws as flows
 use Rattle.matrix.proofs.VerdictLaws as verdicts

@@ -21,13 +21,15 @@ use Rattle.answers.specs.Refusals.{matrix}
 use Rattle.matrix.specs.declared.Consistency.{Consistency}
 use Rattle.matrix.specs.declared.Consistency.the-variants.{Refused, Consistent, Inconsistent}
 use Rattle.matrix.specs.Flows.{has, subjectCarries, granted, within, composed, rowsWithin, matrixGood}
-use Rattle.matrix.specs.Verdicts.{countBelow, sumBelow, leastBelow, ungranted, ungrantedFrom, flowCount, firstSource, firstTarget, consistent, judgedBy, ConsistencyValues, consistencyValues, matrixConditions, unlessRefused, matrixVerdict}
+use Rattle.lists.specs.Counting.{countBelow, sumBelow}
+use Rattle.matrix.specs.Verdicts.{leastBelow, ungranted, ungrantedFrom, flowCount, firstSource, firstTarget, consistent, judgedBy, ConsistencyValues, consistencyValues, matrixConditions, unlessRefused, matrixVerdict}
 use Rattle.matrix.specs.Limits.{objectLimit}
 use Rattle.matrix.specs.Rows.{bitAt, spelling, Closed}
 use Rattle.matrix.proofs.BitLaws.{has-is, has-not, has-above, has-without}
 use Rattle.matrix.proofs.PathLaws.{within-same, within-none}
 use Rattle.matrix.proofs.RowLaws.{spelling-fits, spelling-bits, spelling-above}
-use Rattle.matrix.proofs.CountLaws.{count-same, count-front, ones-count, sum-next, some-at, some-none, least-is}
+use Rattle.lists.proofs.Counting.{count-same, count-front, sum-next}
+use Rattle.matrix.proofs.CountLaws.{ones-count, some-at, some-none, least-is}
 
 -- ---- no flow goes beyond the objects
 

@@ -1,7 +1,8 @@
 -- The verdict on a matrix (the paper, "Matrix": "The verdict is consistent, or ..").
-use Prim.Native.Nat.{ℕ, zero, suc, _+_}
+use Prim.Native.Nat.{ℕ, zero, suc}
 use mathlib.Core.Bool.{Bool, false, not, cond, _&&_, _||_}
 use mathlib.Core.List.{List, [], _∷_}
+use Rattle.lists.specs.Counting.{countBelow, sumBelow}
 use Rattle.lists.specs.Conditions.{Condition, _orRefuse_, firstFailed}
 use Rattle.answers.specs.Refusals.{matrix}
 use Rattle.matrix.specs.Flows.{matrixGood, granted, composed}
@@ -9,16 +10,6 @@ use Rattle.matrix.specs.declared.Consistency.{Consistency}
 use Rattle.matrix.specs.declared.Consistency.the-variants.{Refused, Consistent, Inconsistent}
 
 -- ---- numbers below n that pass a test
-
--- how many
-unfoldable pub countBelow : (ℕ → Bool) → ℕ → ℕ
-countBelow f zero = 0
-countBelow f (suc n) = cond (f 0) 1 0 + countBelow (λ k. f (suc k)) n
-
--- the sum of f 0 to f (n - 1)
-unfoldable pub sumBelow : (ℕ → ℕ) → ℕ → ℕ
-sumBelow f zero = 0
-sumBelow f (suc n) = f 0 + sumBelow (λ k. f (suc k)) n
 
 -- whether there is one
 unfoldable pub someBelow : (ℕ → Bool) → ℕ → Bool

@@ -33,10 +33,10 @@ traceBytes =
     ∷ 1 ∷ 0 ∷ 6 ∷ 0 ∷ 9 ∷ 0 ∷ 255 ∷ 255
     ∷ []
 
-abbrev given : List Answer
+abbrev pub given : List Answer
 given = quiet 4 4 ∷ quiet 0 5 ∷ quiet 5 5 ∷ alert 1 7 ∷ quiet 1 0 ∷ refused 12 ∷ []
 
-answered : runAnswers (startOf (policyIn image)) (traceRecords traceBytes) ≡ given
+pub answered : runAnswers (startOf (policyIn image)) (traceRecords traceBytes) ≡ given
 unfolding traceRecords cut
 answered = ap (λ p. runAnswers (startOf p) trace) (read-image .spelled) ∙ checked-runs .listing
 

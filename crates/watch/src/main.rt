@@ -2,28 +2,18 @@
 // (the paper, "Checked examples"). Both files are in the working folder. The listing is `listingOf` of the two files: its text is
 // that of `trace_listing`, and the loop here reads, lists and writes. What fails outside is told on standard error, and the
 // listing then has no total line.
-ghost use Prim.Native.Nat.{_≤_};
-ghost use Rattle.trace_listing.specs.Parts.{bufferSize};
 use answers::Tally;
 use session::SESSION_LENGTH;
 use trace_listing::BUFFER_SIZE;
 use trace_listing::PART_LIMIT;
 
 // One byte more than a policy may have: a longer file is refused for its length and not read further.
-const POLICY_ROOM: usize = 20481;
+const POLICY_ROOM: usize = image::IMAGE_LIMIT + 1;
 
 // The tally of the records so far, and whether all went well.
 pub struct Progress {
     pub good: bool,
     pub tally: Tally,
-}
-
-// Writes the front of the buffer: true, or the failure is told.
-fn write_front(out: &[u8; BUFFER_SIZE], end: usize) -> bool
-    requires { ⌜ end ≤ bufferSize ⌝ }
-{
-    let text: &[u8] = out;
-    files::write_whole(&text[..end])
 }
 
 // The trace in parts of whole records: only the last may end short. Nothing says that a file ends, so the turns are counted
@@ -37,7 +27,7 @@ fn list_file(fd: i32, name: &[u8], session: &mut [u64], out: &mut [u8; BUFFER_SI
         let got = files::read_part(fd, name, &mut part);
         let listed = trace_listing::list_part(&part, got.size, session, out, tally);
         tally = listed.tally;
-        if !write_front(out, listed.end) {
+        if !files::write_front(out, listed.end) {
             return Progress {
                 good: false,
                 tally: tally,
@@ -79,7 +69,7 @@ fn list_trace(name: &[u8], session: &mut [u64], out: &mut [u8; BUFFER_SIZE]) -> 
 // The heading, the steps and the total line, as far as all goes well.
 fn watch(session: &mut [u64], out: &mut [u8; BUFFER_SIZE]) {
     let heading = trace_listing::list_heading(out);
-    if !write_front(out, heading) {
+    if !files::write_front(out, heading) {
         return;
     }
     let run = list_trace(b"trace.bin", session, out);
@@ -87,7 +77,13 @@ fn watch(session: &mut [u64], out: &mut [u8; BUFFER_SIZE]) {
         return;
     }
     let total = trace_listing::list_total(out, run.tally);
-    write_front(out, total);
+    files::write_front(out, total);
+}
+
+// The one line of a refused policy.
+fn refuse(refusal: u32, out: &mut [u8; BUFFER_SIZE]) {
+    let end = trace_listing::list_refused(out, refusal);
+    files::write_front(out, end);
 }
 
 fn main() {
@@ -102,8 +98,7 @@ fn main() {
     let n = loaded.size;
     let refusal = session::start(&policy[..n], &mut session);
     if refusal != 0 {
-        let end = trace_listing::list_refused(&mut out, refusal);
-        write_front(&out, end);
+        refuse(refusal, &mut out);
         return;
     }
     watch(&mut session, &mut out);

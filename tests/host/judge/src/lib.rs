@@ -12,6 +12,7 @@ pub mod chains;
 pub mod image;
 pub mod listing;
 pub mod matrix;
+pub mod month;
 pub mod normal;
 pub mod numbers;
 pub mod profiles;

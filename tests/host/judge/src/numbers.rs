@@ -120,3 +120,9 @@ mod tests {
         assert_eq!(RULE_WORDS, 1 + RULE_MIXTURES);
     }
 }
+
+/// Change request No. 6: "up to 64 traces named `00.bin` upward".
+pub const MONTH_TRACES: usize = 64;
+
+/// "19 when a trace has over 1,000,000 records".
+pub const TRACE_RECORDS: usize = 1_000_000;

@@ -1,0 +1,9 @@
+-- Theorems is the file to read: what is proved of the month's figures. Examples has lines and a month, computed. The others prove it.
+pub mod Theorems
+pub mod Examples
+pub mod FigureLaws
+pub mod CounterLaws
+pub mod LineLaws
+pub mod PartLaws
+pub mod MonthLaws
+pub mod AlertLaws

@@ -1,0 +1,151 @@
+-- THE MONTH'S FIGURES: what is proved of them (change request No. 6). `monthText` (specs/Months.antt) is every byte that the program
+-- prints. It is stated over `runAnswers`, the answers of which demand 3 speaks (crates/monitor/proofs/Theorems.antt). What the program
+-- hands on are the texts of `put_trace` and `put_total` for what `add_part` and `add_total` have counted.
+use Prim.Native.Nat.{ℕ, _+_, _-_, _*_, _/_, _%_, _^_, _≤_, _<_}
+use native.Mathlib.Omega.{arith}
+use mathlib.Core.Path.{_≡_, refl, sym, ap, _∙_}
+use mathlib.Core.Logic.{_↔_, _≢_}
+use mathlib.Core.Bool.{Bool, true, false}
+use mathlib.Core.List.{List, [], _∷_, _++_, map}
+use lib.ListN.{length, take, length-map}
+use lib.Seq.{take-all, take-take}
+use borrow.Author.Tests.{eq-eqb, ne-eqb}
+use Rattle.lists.specs.Counting.{countBelow, sumBelow}
+use Rattle.fields.specs.Bytes.{Bytes}
+use Rattle.answers.specs.Answers.{isAlert}
+use Rattle.image.specs.Limits.{containerLimit}
+use Rattle.image.specs.Image.{checkOf, policyIn}
+use Rattle.session.specs.Session.{startOf}
+use Rattle.chains.specs.History.{size, start}
+use Rattle.records.specs.Records.{recordLength}
+use Rattle.records.specs.Traces.{traceRecords}
+use Rattle.monitor.specs.Runs.{runAnswers, historyIn}
+use Rattle.monitor.proofs.Theorems.{demand3}
+use Rattle.listing.specs.Text.{decimal}
+use Rattle.listing.specs.Lines.{policyLine}
+use Rattle.trace_listing.specs.Listings.{partSession}
+use Rattle.trace_listing.specs.Parts.{together}
+use Rattle.trace_listing.proofs.CutLaws.{answers-length}
+use Rattle.figures.specs.Figures.{Figures, alertAt, figuresOf, noFigures, sumOf, tooMany}
+use Rattle.figures.specs.Lines.{rateFields, traceLine}
+use Rattle.figures.specs.Months.{traceFigures, counting, totalFigures, traceLimit, monthText}
+use Rattle.figures.specs.Counters.{figuresIn, noCounters, partCounters, textByParts, InParts}
+use Rattle.figures.specs.Positions.{ForbiddenAt, ForbiddenInto}
+use Rattle.figures.proofs.MonthLaws as months
+use Rattle.figures.proofs.MonthLaws.{text-parts, records-length}
+use Rattle.figures.proofs.AlertLaws.{history-size, answers-split, alerts-summed, count-exactly, alert-at, alert-into}
+
+-- ---- the figures of a run: of any session and any records
+
+module _ (s : List ℕ) (rs : List (List ℕ)) where
+  -- the accepted steps are those of the history
+  pub accepted-history : figuresOf (runAnswers s rs) .accepted ≡ size (historyIn rs (runAnswers s rs))
+  unfolding figuresOf historyIn
+  accepted-history = sym (history-size start s rs ∙ omega arith)
+
+  -- each record is accepted or refused
+  pub records-told : figuresOf (runAnswers s rs) .records ≡ length rs
+  unfolding figuresOf
+  records-told = answers-length s rs
+
+  pub accepted-refused : figuresOf (runAnswers s rs) .accepted + figuresOf (runAnswers s rs) .refused ≡ length rs
+  unfolding figuresOf
+  accepted-refused = answers-split (runAnswers s rs) ∙ answers-length s rs
+
+  -- each alert is one container's
+  pub alerts-places : figuresOf (runAnswers s rs) .alerts ≡ sumBelow (figuresOf (runAnswers s rs) .alertsAt) containerLimit
+  unfolding figuresOf
+  alerts-places = alerts-summed s rs
+
+-- a trace has a record for each 8 bytes, and one for what is left
+pub records-counted : (s t : List ℕ) → traceFigures s t .records ≡ (length t + (recordLength - 1)) / recordLength
+unfolding traceFigures
+records-counted s t = records-told s (traceRecords t) ∙ records-length t
+
+-- ---- demand 3 in the figures
+
+module _ (image : List ℕ) (bytes : Bytes image) (ok : checkOf image ≡ 0) (rs : List (List ℕ)) where
+  -- The alerts are the accepted and judged steps whose receiver is forbidden what it holds: what counting gives by any test of
+  -- positions that passes exactly for them.
+  pub alerts-exact : (t : ℕ → Bool)
+      → ((n : ℕ) → n < length rs → (t n ≡ true) ↔ ForbiddenAt (startOf (policyIn image)) (policyIn image) rs n)
+      → figuresOf (runAnswers (startOf (policyIn image)) rs) .alerts ≡ countBelow t (length rs)
+  unfolding figuresOf
+  alerts-exact t h =
+      count-exactly isAlert (ForbiddenAt (startOf (policyIn image)) (policyIn image) rs) (runAnswers (startOf (policyIn image)) rs)
+      (λ n a g. alert-at (startOf (policyIn image)) (policyIn image) (demand3 image bytes ok) rs n a g) t
+      (λ n b. h n (omega (arith, answers-length (startOf (policyIn image)) rs)))
+      ∙ ap (countBelow t) (answers-length (startOf (policyIn image)) rs)
+
+  -- and those of a container are those that it receives
+  pub alerts-exact-at : (c : ℕ) (t : ℕ → Bool)
+      → ((n : ℕ) → n < length rs → (t n ≡ true) ↔ ForbiddenInto (startOf (policyIn image)) (policyIn image) rs c n)
+      → figuresOf (runAnswers (startOf (policyIn image)) rs) .alertsAt c ≡ countBelow t (length rs)
+  unfolding figuresOf
+  alerts-exact-at c t h =
+      count-exactly (alertAt c) (ForbiddenInto (startOf (policyIn image)) (policyIn image) rs c) (runAnswers (startOf (policyIn image)) rs)
+      (λ n a g. alert-into (startOf (policyIn image)) (policyIn image) (demand3 image bytes ok) rs n a g c) t
+      (λ n b. h n (omega (arith, answers-length (startOf (policyIn image)) rs)))
+      ∙ ap (countBelow t) (answers-length (startOf (policyIn image)) rs)
+
+-- ---- a trace in parts
+
+-- The figures of a trace cut between records are the sums of its parts', the second run on the session that the first leaves.
+pub figures-cut : (s x y : List ℕ) → length x % recordLength ≡ 0 → traceFigures s (x ++ y) ≡ sumOf (traceFigures s x) (traceFigures (partSession s x) y)
+figures-cut = months.figures-cut
+
+-- ---- the total
+
+-- A trace that is not too long adds its history and its other figures, one that is too long adds nothing.
+pub total-next : (s t : List ℕ) (ts : List (List ℕ)) → tooMany (traceFigures s t .records) ≡ false
+    → totalFigures s (t ∷ ts) ≡ sumOf (traceFigures s t) (totalFigures s ts)
+unfolding totalFigures counting
+total-next s t ts h = rw h
+
+pub total-without : (s t : List ℕ) (ts : List (List ℕ)) → tooMany (traceFigures s t .records) ≡ true → totalFigures s (t ∷ ts) ≡ totalFigures s ts
+total-without = months.total-without
+
+-- so that the accepted steps in total are the sizes of the histories that count, one after the other
+pub total-accepted : (s t : List ℕ) (ts : List (List ℕ)) → tooMany (traceFigures s t .records) ≡ false
+    → totalFigures s (t ∷ ts) .accepted ≡ size (historyIn (traceRecords t) (runAnswers s (traceRecords t))) + totalFigures s ts .accepted
+total-accepted s t ts h =
+    ap (λ (f : Figures). f .accepted) (total-next s t ts h)
+    ∙ unfold sumOf traceFigures in (ap (λ (n : ℕ). n + totalFigures s ts .accepted) (accepted-history s (traceRecords t)))
+
+pub total-alerts : (s t : List ℕ) (ts : List (List ℕ)) → tooMany (traceFigures s t .records) ≡ false
+    → totalFigures s (t ∷ ts) .alerts ≡ traceFigures s t .alerts + totalFigures s ts .alerts
+total-alerts s t ts h = ap (λ (f : Figures). f .alerts) (total-next s t ts h) ∙ unfold sumOf in refl
+
+-- ---- the rate
+
+-- without an accepted step `none`, else the two fields; they are whole quotient and remainder
+pub rate-shown : (alerts accepted : ℕ) → accepted ≢ 0 → rateFields alerts accepted ≡ decimal (1000 * alerts / accepted) ∷ decimal (1000 * alerts % accepted) ∷ []
+unfolding rateFields
+rate-shown alerts accepted h = rw (ne-eqb accepted 0 h)
+
+-- ---- the text of a month
+
+-- However each trace is cut into parts of whole records, of which the last may end short: the lines of what was counted and the line
+-- of the total, one behind the other, are the text of the month. No count of at most 64 traces leaves its bits.
+pub month-by-parts : (image : List ℕ) (traces : List (List (List ℕ))) → InParts traces → length traces ≤ traceLimit → checkOf image ≡ 0
+    → textByParts (startOf (policyIn image)) traces ≡ monthText image (map together traces)
+unfolding monthText
+month-by-parts image traces w l ok =
+    rw (eq-eqb (checkOf image) 0 ok, take-all traceLimit (map together traces) (omega (arith, length-map traces together)))
+    (text-parts (startOf (policyIn image)) traces w l)
+
+-- A trace need not be read further once it is too long: its line is the one of the whole, and it adds nothing.
+pub front-too-long : (n : ℕ) (s x y : List ℕ) → length x % recordLength ≡ 0 → length (x ++ y) < 2 ^ 64 → tooMany (partCounters noCounters s x .counts .records) ≡ true
+    → (traceLine n (figuresIn (partCounters noCounters s x)) ≡ traceLine n (traceFigures s (x ++ y))) × (counting (traceFigures s (x ++ y)) ≡ noFigures)
+front-too-long = months.front-too-long
+
+-- A refused policy has its one line, whatever the traces; a trace behind the 64th is never shown.
+pub month-refused : (image : List ℕ) (traces : List (List ℕ)) → checkOf image ≢ 0 → monthText image traces ≡ policyLine (checkOf image)
+unfolding monthText
+month-refused image traces h = rw (ne-eqb (checkOf image) 0 h)
+
+pub month-limit : (image : List ℕ) (traces : List (List ℕ)) → monthText image (take traceLimit traces) ≡ monthText image traces
+unfolding monthText
+month-limit image traces =
+    let e : take traceLimit (take traceLimit traces) ≡ take traceLimit traces = take-take traceLimit traceLimit traces (omega arith) in
+    rw e

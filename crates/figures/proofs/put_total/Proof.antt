@@ -1,0 +1,19 @@
+-- `figures::put_total`. A text and the figures, one behind the other (`total-listed`).
+use Rattle.fields.specs.Ascii.{ascii}
+use Rattle.figures.proofs.LineLaws.{total-listed}
+use borrow.Author.Needs.{needs}
+use Rattle.figures.proofs.put_total.Statement.{statement}
+use Rattle.figures.proofs.put_total.Tie as tie
+
+returns : tie.Need-returns
+unfolding ascii
+returns c = total-listed _ (c .before .before .put-text .ensures) (c .put-figures .ensures)
+
+pub put-total-spec : {M : Type 1} → statement M
+put-total-spec =
+    tie.close
+    (tie.spec
+    (λ c. search needs)
+    (λ c κs. search needs)
+    (λ c κs. search needs)
+    returns)

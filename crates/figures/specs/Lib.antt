@@ -1,0 +1,9 @@
+-- What a reader must believe of this crate (change request No. 6), in the order of the request: the figures of a list of answers, the
+-- lines that show them, the text of a month; then the numbers that the code keeps figures in, the
+-- room that a line needs, and the records at which an alert is due.
+pub mod Figures
+pub mod Lines
+pub mod Months
+pub mod Counters
+pub mod Buffer
+pub mod Positions

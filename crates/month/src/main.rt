@@ -1,0 +1,153 @@
+// The month program: the figures of up to 64 traces, `00.bin` upward, each in a new session started from `policy.bin`, and of all of
+// them in total (change request No. 6). The files are in the working folder. The text is `monthText` of them: its lines are those of
+// `figures`, and the loops here read, count and write. What fails outside is told on standard error, and there is then no total line.
+use figures::Counts;
+use figures::TRACE_LIMIT;
+use image::CONTAINER_LIMIT;
+use session::SESSION_LENGTH;
+use trace_listing::BUFFER_SIZE;
+
+// One byte more than a policy may have: a longer file is refused for its length and not read further.
+const POLICY_ROOM: usize = image::IMAGE_LIMIT + 1;
+
+// The bytes of a part of a trace: 8,192 whole records.
+const PART_SIZE: usize = 65536;
+
+// The counts so far, and whether all went well.
+pub struct Progress {
+    pub good: bool,
+    pub counts: Counts,
+}
+
+// A trace in parts of whole records, only the last of which may end short, counted to its end or until it is too long. Nothing says
+// that a file ends, so the turns are counted down, from more than any file has.
+fn add_file(fd: i32, name: &[u8], session: &mut [u64], places: &mut [u32]) -> Progress {
+    let mut part = [0u8; PART_SIZE];
+    let mut counts = figures::no_counts();
+    let mut turns = u64::MAX;
+    while turns > 0 {
+        turns -= 1;
+        let got = files::read_part(fd, name, &mut part);
+        let n = got.size;
+        counts = figures::add_part(&part[..n], session, places, counts);
+        if got.last {
+            return Progress {
+                good: got.good,
+                counts: counts,
+            };
+        }
+        if figures::too_long(counts) {
+            return Progress {
+                good: true,
+                counts: counts,
+            };
+        }
+    }
+    Progress {
+        good: false,
+        counts: counts,
+    }
+}
+
+// Trace number n, which is there: counted in a new session, shown, and added to the total.
+fn show_trace(
+    n: usize,
+    fd: i32,
+    name: &[u8],
+    policy: &[u8],
+    session: &mut [u64],
+    sums: &mut [u32; CONTAINER_LIMIT],
+    total: Counts,
+    out: &mut [u8; BUFFER_SIZE],
+) -> Progress {
+    let mut places = [0u32; CONTAINER_LIMIT];
+    session::start(policy, session);
+    let run = add_file(fd, name, session, &mut places);
+    if !run.good {
+        return run;
+    }
+    let counts = run.counts;
+    let end = figures::put_trace(out, n, counts, &places);
+    let written = files::write_front(out, end);
+    let summed = figures::add_total(sums, total, &places, counts);
+    Progress {
+        good: written,
+        counts: summed,
+    }
+}
+
+// The lines of the traces up to the first missing name, and the counts in total.
+fn show_traces(
+    policy: &[u8],
+    session: &mut [u64],
+    sums: &mut [u32; CONTAINER_LIMIT],
+    out: &mut [u8; BUFFER_SIZE],
+) -> Progress {
+    let mut total = figures::no_counts();
+    let mut n: usize = 0;
+    while n < TRACE_LIMIT {
+        let name = figures::trace_name(n);
+        match files::open(&name) {
+            files::Opened::File(fd) => {
+                let shown = show_trace(n, fd, &name, policy, session, sums, total, out);
+                libc::close(fd);
+                total = shown.counts;
+                if !shown.good {
+                    return shown;
+                }
+            }
+            files::Opened::Missing => {
+                return Progress {
+                    good: true,
+                    counts: total,
+                };
+            }
+            files::Opened::Failed => {
+                return Progress {
+                    good: false,
+                    counts: total,
+                };
+            }
+        }
+        n += 1;
+    }
+    Progress {
+        good: true,
+        counts: total,
+    }
+}
+
+// The lines of the traces and the total line, as far as all goes well.
+fn show_month(policy: &[u8], session: &mut [u64], out: &mut [u8; BUFFER_SIZE]) {
+    let mut sums = [0u32; CONTAINER_LIMIT];
+    let run = show_traces(policy, session, &mut sums, out);
+    if !run.good {
+        return;
+    }
+    let end = figures::put_total(out, run.counts, &sums);
+    files::write_front(out, end);
+}
+
+// The one line of a refused policy.
+fn refuse(refusal: u32, out: &mut [u8; BUFFER_SIZE]) {
+    let end = trace_listing::list_refused(out, refusal);
+    files::write_front(out, end);
+}
+
+fn main() {
+    let mut out = [0u8; BUFFER_SIZE];
+    // The session's buffer, which each start fills.
+    let mut session = [0u64; SESSION_LENGTH];
+    let mut policy = [0u8; POLICY_ROOM];
+    let loaded = files::load(b"policy.bin", &mut policy);
+    if !loaded.good {
+        return;
+    }
+    let n = loaded.size;
+    let refusal = image::check(&policy[..n]);
+    if refusal != 0 {
+        refuse(refusal, &mut out);
+        return;
+    }
+    show_month(&policy[..n], &mut session, &mut out);
+}
