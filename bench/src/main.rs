@@ -548,7 +548,13 @@ fn listing() -> io::Result<()> {
 
 /// A program against this one with an argument, which is the same program in natural Rust, in a folder with these files of so many
 /// records in all.
-fn whole_program(title: &str, program: &str, argument: &str, files: &[(String, Vec<u8>)], records: usize) -> io::Result<()> {
+fn whole_program(
+    title: &str,
+    program: &str,
+    argument: &str,
+    files: &[(String, Vec<u8>)],
+    records: usize,
+) -> io::Result<()> {
     println!("\n## {title}\n");
     if !fs::exists(program)? {
         println!("not measured: there is no {program}");

@@ -43,13 +43,11 @@ fn figures(policy: &[u8], trace: &[u8]) -> Figures {
 /// number that alerted, rising", "spaced and ended as in the listing".
 fn line(name: &str, found: &Figures) -> String {
     let mut text = format!("{name} {} {} {}", found.accepted, found.alerts, found.refused);
-    if found.accepted == 0 {
+    match found.accepted {
         // "With no accepted step it prints `none` for the rate."
-        text.push_str(" none");
-    } else {
+        0 => text.push_str(" none"),
         // "1,000 times the alerts by the accepted steps, whole quotient and remainder as two fields"
-        let thousandfold = 1_000 * found.alerts;
-        write!(text, " {} {}", thousandfold / found.accepted, thousandfold % found.accepted).unwrap();
+        steps => write!(text, " {} {}", 1_000 * found.alerts / steps, 1_000 * found.alerts % steps).unwrap(),
     }
     for (container, alerts) in &found.containers {
         write!(text, " {container} {alerts}").unwrap();
@@ -101,7 +99,10 @@ mod tests {
 
     #[test]
     fn lines() {
-        assert_eq!(line("07.bin", &some(301, 2, &[(255, 1), (0, 3), (7, 12)])), "07.bin 301 16 2 53 47 0 3 7 12 255 1\n");
+        assert_eq!(
+            line("07.bin", &some(301, 2, &[(255, 1), (0, 3), (7, 12)])),
+            "07.bin 301 16 2 53 47 0 3 7 12 255 1\n"
+        );
         assert_eq!(line("total", &some(0, 0, &[])), "total 0 0 0 none\n");
         assert_eq!(line("00.bin", &some(3, 0, &[])), "00.bin 3 0 0 0 0\n");
     }

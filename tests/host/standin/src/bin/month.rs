@@ -94,13 +94,18 @@ impl Month {
         let silent = if self.faulty(10) { 256 } else { 0 };
         let mut containers: BTreeMap<u64, u64> = (0..silent).map(|container| (container, 0)).collect();
         containers.extend(found.containers.iter().copied());
-        let shown: Containers = if self.faulty(9) { found.containers.clone() } else { containers.into_iter().collect() };
+        let shown: Containers =
+            if self.faulty(9) { found.containers.clone() } else { containers.into_iter().collect() };
         fields.extend(shown.iter().flat_map(|&(container, alerts)| [container.to_string(), alerts.to_string()]));
         fields.join(" ") + "\n"
     }
 
     fn records(&self, trace: &[u8]) -> usize {
-        if self.faulty(15) { trace.len() / RECORD } else { trace.len().div_ceil(RECORD) }
+        if self.faulty(15) {
+            trace.len() / RECORD
+        } else {
+            trace.len().div_ceil(RECORD)
+        }
     }
 
     /// The traces by their numbers, up to the first missing name.
