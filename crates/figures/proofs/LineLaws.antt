@@ -20,7 +20,7 @@ use Rattle.trace_listing.specs.Parts.{ListedText}
 use Rattle.figures.specs.Figures.{Figures, tooMany}
 use Rattle.figures.specs.Lines.{nameOf, rateFields, containerFields, alertFields, figureFields, figuresLine, traceLine, totalLine}
 use Rattle.figures.specs.Counters.{Counters, figuresIn}
-use Rattle.figures.specs.Buffer.{leading, placesText, figuresText, nameLength, fieldLimit, placesLimit, figuresLimit}
+use Rattle.figures.specs.Buffer.{leading, placesText, figuresText, fieldLimit, placesLimit, figuresLimit}
 
 -- ---- fields with the space in front of each
 
@@ -155,6 +155,10 @@ figures-text k =
     (append-assoc (leading counts) (leading rate) (leading alerts)
     ∙ ap (λ (t : List ℕ). leading counts ++ t) (sym (leading-append rate alerts))
     ∙ sym (leading-append counts (rate ++ alerts)))
+
+-- the bytes of a name at most
+abbrev nameLength : ℕ
+nameLength = 6
 
 -- a name, and what stands behind it, at the front of the buffer
 pub line-listed : {name text b w a : List ℕ} {next end : ℕ} → length name ≤ nameLength → length text ≤ figuresLimit → Wrote name b w 0 next → Wrote text w a next end

@@ -1,8 +1,9 @@
 -- THE MONTH'S FIGURES: what is proved of them (change request No. 6). `monthText` (specs/Months.antt) is every byte that the program
 -- prints. It is stated over `runAnswers`, the answers of which demand 3 speaks (crates/monitor/proofs/Theorems.antt). What the program
 -- hands on are the texts of `put_trace` and `put_total` for what `add_part` and `add_total` have counted.
-use Prim.Native.Nat.{ℕ, _+_, _-_, _*_, _/_, _%_, _^_, _≤_, _<_}
+use Prim.Native.Nat.{ℕ, zero, suc, _+_, _-_, _*_, _/_, _%_, _^_, _≤_, _<_}
 use native.Mathlib.Omega.{arith}
+use native.Mathlib.Nat.{mod-lt, div-add-mod}
 use mathlib.Core.Path.{_≡_, refl, sym, ap, _∙_}
 use mathlib.Core.Logic.{_↔_, _≢_}
 use mathlib.Core.Bool.{Bool, true, false}
@@ -11,6 +12,7 @@ use lib.ListN.{length, take, length-map}
 use lib.Seq.{take-all, take-take}
 use borrow.Author.Tests.{eq-eqb, ne-eqb}
 use Rattle.lists.specs.Counting.{countBelow, sumBelow}
+use Rattle.fields.specs.Ascii.{ascii}
 use Rattle.fields.specs.Bytes.{Bytes}
 use Rattle.answers.specs.Answers.{isAlert}
 use Rattle.image.specs.Limits.{containerLimit}
@@ -27,7 +29,7 @@ use Rattle.trace_listing.specs.Listings.{partSession}
 use Rattle.trace_listing.specs.Parts.{together}
 use Rattle.trace_listing.proofs.CutLaws.{answers-length}
 use Rattle.figures.specs.Figures.{Figures, alertAt, figuresOf, noFigures, sumOf, tooMany}
-use Rattle.figures.specs.Lines.{rateFields, traceLine}
+use Rattle.figures.specs.Lines.{rateFields, alertFields, figureFields, traceLine}
 use Rattle.figures.specs.Months.{traceFigures, counting, totalFigures, traceLimit, monthText}
 use Rattle.figures.specs.Counters.{figuresIn, noCounters, partCounters, textByParts, InParts}
 use Rattle.figures.specs.Positions.{ForbiddenAt, ForbiddenInto}
@@ -118,7 +120,26 @@ total-alerts s t ts h = ap (λ (f : Figures). f .alerts) (total-next s t ts h) �
 
 -- ---- the rate
 
--- without an accepted step `none`, else the two fields; they are whole quotient and remainder
+-- the line of any figures shows the rate of their own counts: that of the total those of the total
+pub fields-shown : (f : Figures)
+    → figureFields f
+    ≡ decimal (f .accepted) ∷ decimal (f .alerts) ∷ decimal (f .refused) ∷ (rateFields (f .alerts) (f .accepted) ++ alertFields (f .alertsAt) 0 containerLimit)
+unfolding figureFields
+fields-shown f = refl
+
+-- without an accepted step it is `none`, else two fields, which are whole quotient and remainder
+pub rate-none : (alerts : ℕ) → rateFields alerts 0 ≡ ascii "none" ∷ []
+unfolding rateFields
+rate-none alerts = refl
+
+pub rate-exact : (alerts accepted : ℕ) → accepted ≢ 0
+    → (accepted * (1000 * alerts / accepted) + 1000 * alerts % accepted ≡ 1000 * alerts) × (1000 * alerts % accepted < accepted)
+rate-exact alerts accepted h = (div-add-mod (1000 * alerts) accepted, mod-lt (1000 * alerts) (some accepted h))
+  where
+    some : (n : ℕ) → n ≢ 0 → 0 < n
+    some zero e = absurd (e refl)
+    some (suc n) e = omega arith
+
 pub rate-shown : (alerts accepted : ℕ) → accepted ≢ 0 → rateFields alerts accepted ≡ decimal (1000 * alerts / accepted) ∷ decimal (1000 * alerts % accepted) ∷ []
 unfolding rateFields
 rate-shown alerts accepted h = rw (ne-eqb accepted 0 h)

@@ -21,10 +21,6 @@ placesText places = leading (alertFields (λ c. getD places c 0) 0 containerLimi
 unfoldable pub figuresText : Figures → List ℕ
 figuresText f = leading (figureFields f) ++ (newline ∷ [])
 
--- the bytes of a trace's name
-abbrev pub nameLength : ℕ
-nameLength = 6
-
 -- the most bytes of a number with the space in front
 abbrev pub fieldLimit : ℕ
 fieldLimit = decimalLimit + 1
