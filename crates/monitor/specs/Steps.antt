@@ -16,7 +16,7 @@ use Rattle.operations.specs.Effects.{sessionConditions, acceptedAnswer, accepte
 unfoldable pub stepAsked : List ℕ → Step
 stepAsked r = stepIn (requestIn r)
 
--- 9, then 7, then those because of the session, 10 to 15
+-- 9, then 7, then those because of the session: 10 to 14, 18, 15
 unfoldable pub stepConditions : List ℕ → List ℕ → List Condition
 stepConditions s r =
     (sessionLengthGood s orRefuse lentLength) ∷ (recordGood r orRefuse operationRecord) ∷ sessionConditions s (stepAsked r)

@@ -1,4 +1,4 @@
--- A request: refused by 10 to 14, or ready for its operation, whose answer and effect are those of the whole.
+-- A request: refused by 10 to 14 or 18, or ready for its operation, whose answer and effect are those of the whole.
 use Prim.Native.Nat.{ℕ, _<_}
 use mathlib.Core.Path.{_≡_, refl, sym, subst, ap, _∙_}
 use mathlib.Core.Logic.{_⊎_, inl, inr, _≢_}
@@ -30,7 +30,7 @@ use Rattle.operations.proofs.EffectLaws.{Done, left-done}
 abbrev pub Performed : List ℕ → Step → Answer → List ℕ → Type 0
 Performed s t a s₁ = (a ≡ performAnswer s t) × (s₁ ≡ performEffect s t)
 
--- 15 comes behind 10 to 14
+-- 15 comes behind 10 to 14 and 18
 session-split : (s : List ℕ) (t : Step) → sessionConditions s t ≡ firstConditions s t ++ ((meetGood (view s) t orRefuse overLimit) ∷ [])
 unfolding sessionConditions firstConditions tableConditions
 session-split s t = refl

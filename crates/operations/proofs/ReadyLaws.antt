@@ -1,4 +1,4 @@
--- What a step that is not refused by 10 to 14 finds: the rows of p, o and u.
+-- What a step that is not refused by 10 to 14 or 18 finds: the rows of p, o and u.
 use Prim.Native.Nat.{ℕ}
 use mathlib.Core.Path.{_≡_, refl, sym, ap, _∙_}
 use mathlib.Core.Bool.{Bool, true, false, not, cond, _&&_, _||_}

@@ -436,7 +436,7 @@ fn release(s: &mut [u64], c: usize) -> Answer
 
 // ---- by code
 
-// What a request that is not refused by 10 to 14 does: 15, or the effect and the answer.
+// What a request that is not refused by 10 to 14 or 18 does: 15, or the effect and the answer.
 fn by_code(s: &mut [u64], q: Request) -> Answer
     requires { ⌜ (Named (now s) q) × (Ready (now s) (stepIn q)) ⌝ }
     ensures { λ r. ⌜ (r ≡ lateAnswer (now (s .entry)) (stepIn q)) × (now (s .exit) ≡ lateEffect (now (s .entry)) (stepIn q)) ⌝ }

@@ -1,4 +1,4 @@
--- `operations::perform`. 10 to 14 refuse, or the step is ready for its operation.
+-- `operations::perform`. 10 to 14 and 18 refuse, or the step is ready for its operation.
 use Rattle.operations.proofs.PerformLaws.{perform-refused, perform-done, ready}
 use Rattle.records.specs.Records.{stepIn}
 use mathlib.Core.Path.{sym, _∙_}
