@@ -22,10 +22,12 @@ use Rattle.chains.specs.History.{Step, receiver}
 use Rattle.chains.specs.Table.{State, entry, meetGood, earlyConditions, tableConditions, verdict, operate, Faithful}
 use Rattle.chains.proofs.TableLaws.{operate-done}
 use Rattle.chains.proofs.VerdictLaws.{verdict-accepted}
+use Rattle.records.specs.declared.Code.{Code}
 use Rattle.records.specs.declared.Request.{Request}
-use Rattle.records.specs.Records.{requestIn, stepIn, recordGood, stepOf}
+use Rattle.records.specs.Codes.{codeAt}
+use Rattle.records.specs.Records.{requestIn, stepIn, recordGood, needIn, stepOf}
 use Rattle.records.proofs.CodeLaws.{receiver-bound}
-use Rattle.records.proofs.RecordLaws.{asked, record-step}
+use Rattle.records.proofs.RecordLaws.{asked, record-step, record-missing, record-there, record-needs}
 use Rattle.operations.specs.View.{view}
 use Rattle.operations.specs.Effects.{Named, sessionConditions, sessionRefusal, acceptedAnswer, acceptedEffect, performAnswer, performEffect}
 use Rattle.operations.specs.Parts.{firstConditions, Ready}
@@ -48,6 +50,14 @@ pub step-7 : (s r : List ℕ) → length s ≡ sessionLength → recordGood r �
 unfolding stepAnswer stepEffect refusalOf stepConditions sessionLengthGood firstFailed
 step-7 s r l h = (simp (eq-eqb (length s) sessionLength l, h), simp (eq-eqb (length s) sessionLength l, h))
 
+-- by what the code needs
+module _ (r : List ℕ) (k : Code) (e : k ≡ needIn r) where
+  pub none-spelled : k .object ≡ 0 → recordGood r ≡ false
+  none-spelled z = record-missing r (sym (ap (λ (x : Code). x .object) e) ∙ z)
+
+  pub one-spelled : (k .object ≡ 0 → ⊥) → recordGood r ≡ true
+  one-spelled n = record-there r (λ z. n (ap (λ (x : Code). x .object) e ∙ z))
+
 -- the refusals because of the session, and the effect
 module _ (s r : List ℕ) (l : length s ≡ sessionLength) (h : recordGood r ≡ true) where
   rest : refusalOf s r ≡ sessionRefusal s (stepAsked r)
@@ -56,6 +66,9 @@ module _ (s r : List ℕ) (l : length s ≡ sessionLength) (h : recordGood r ≡
 
   pub named : (q : Request) → q ≡ requestIn r → Named s q
   named q e = rw e (record { long = l; asked = asked r h })
+
+  pub called : (q : Request) → q ≡ requestIn r → (k : Code) → k ≡ needIn r → (Named s q) × (k ≡ codeAt (q .code))
+  called q e k n = (named q e, n ∙ record-needs r h ∙ ap (λ (x : Request). codeAt (x .code)) (sym e))
 
   pub step-performed : (q : Request) → q ≡ requestIn r → (a : Answer) (s₁ : List ℕ) → Performed s (stepIn q) a s₁ → (a ≡ stepAnswer s r) × (s₁ ≡ stepEffect s r)
   unfolding stepAnswer stepEffect performAnswer performEffect stepAsked

@@ -14,10 +14,11 @@ pub fn step(session: &mut [u64], bytes: &[u8]) -> Answer
     if session.len() != SESSION_LENGTH {
         return Answer::Refused(answers::LENT_LENGTH);
     }
-    if !records::record_good(bytes) {
+    let need = records::need_of(bytes);
+    if need.object == records::NO_NEED {
         return Answer::Refused(answers::OPERATION_RECORD);
     }
-    operations::perform(session, records::request_of(bytes))
+    operations::perform(session, records::request_of(bytes), need)
 }
 
 // ---- a run

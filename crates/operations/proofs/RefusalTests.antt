@@ -1,5 +1,5 @@
 -- The refusals 10 to 14 and 18 tested one by one: what each test found decides `rowsGood` and the first condition that fails.
-use Prim.Native.Nat.{ℕ, _+_, _-_, _*_, _<_}
+use Prim.Native.Nat.{ℕ, _+_, _-_, _*_, _≤_, _<_}
 use native.Mathlib.Omega.{arith}
 use mathlib.Core.Path.{_≡_, refl, sym, ap, ap₂, _∙_}
 use mathlib.Core.Logic.{_↔_}
@@ -11,12 +11,13 @@ use lib.ListN.{getD, take, drop}
 use lib.Seq.{getD-drop, getD-take}
 use borrow.Author.Tests.{eq-eqb, ne-eqb, not-true, not-false}
 use Rattle.lists.specs.Conditions.{firstFailed}
-use Rattle.lists.proofs.Bools.{or-1, passes-test, fails-test, clash, refuted}
+use Rattle.lists.proofs.Bools.{and-0, and-1, or-1, passes-test, fails-test, clash, refuted}
 use Rattle.answers.specs.Refusals.{row, noProcess, wrongKind, notFree, notDeclared, otherUser}
-use Rattle.image.specs.Limits.{isProcess, containerLimit, userLimit}
+use Rattle.image.specs.Limits.{isProcess, processKind, containerLimit, userLimit}
 use Rattle.session.specs.Limits.{rowWidth, userWidth, usersAt, kindAt, declaredAt, declared, nobody}
 use Rattle.session.specs.Rows.{Row, containerRow, userRow, rowOf, isDeclared, userRuleOf, containerRowGood, userRowGood}
 use Rattle.session.proofs.PutLaws.{row-lent, user-lent}
+use Rattle.session.proofs.RowLaws.{good-kind}
 use Rattle.chains.specs.Table.{Need, store, file, free, process, needsFree, fitsNeed, entry, isSome, processGood, objectGood, kindGood, freeGood, userGood, behalfFits, earlyConditions}
 use Rattle.records.specs.declared.Code.{Code}
 use Rattle.records.specs.declared.Request.{Request}
@@ -201,6 +202,12 @@ module _ (s : List ℕ) (q : Request) (a : Asked q) where
             early-18 c b eb x ex =
                 ex ∙ ap (λ (m : ℕ). cond (eqb m nobody || eqb m (q .u)) 0 otherUser) eb
                 ∙ sym (by-behalf user-passes _ (behalf-file (view s) q c))
+
+-- the kind of the object is one of the four where both rows are as the session says
+pub object-kind : (s : List ℕ) (q : Request) → Asked q → (b : Bool) → b ≡ rowsGood s (stepIn q) → not b ≡ false → getD s (q .o * rowWidth + kindAt) 0 ≤ processKind
+unfolding rowOf
+object-kind s q a b r h =
+    rw (kind-read s (q .o)) (good-kind (containerRow s (q .o)) (and-0 (containerRowGood (containerRow s (q .o))) _ (and-1 (containerRowGood (containerRow s (q .p))) (sym (opened s q a) ∙ passes-test r h))))
 
 -- a request names a user below 16 if its code names one
 pub user-low : (s : List ℕ) (q : Request) (k : Code) → Named s q → k ≡ codeAt (q .code) → not (k .user) ≡ false → q .u < userLimit

@@ -45,23 +45,12 @@ use session::USERS_AT;
 
 // ---- the refusals that come before a meet
 
-// A container of the kind serves as the object.
+// A container of the kind serves as the object: the kind is in the set.
 fn object_fits(need: u8, kind: u64) -> bool
+    requires { ⌜ kind ≤ processKind ⌝ }
     ensures { λ r. ⌜ r ≡ objectFits need kind ⌝ }
 {
-    if need == records::NEEDS_STORE {
-        return image::is_store(kind);
-    }
-    if need == records::NEEDS_FILE {
-        return image::is_file(kind);
-    }
-    if need == records::NEEDS_FREE {
-        return kind == image::FREE_KIND;
-    }
-    if need == records::NEEDS_PROCESS {
-        return image::is_process(kind);
-    }
-    false
+    (need >> kind) % 2 == 1
 }
 
 // The rows that the request names are as the session says: the refusal 10 where they are not.
@@ -98,11 +87,10 @@ fn behalf_refusal(behalf: u64, u: usize) -> u32
 }
 
 // The refusals 10 to 14 and 18 in their order, 0 where there is none.
-fn early_refusal(s: &[u64], q: Request) -> u32
-    requires { ⌜ Named (now s) q ⌝ }
+fn early_refusal(s: &[u64], q: Request, need: Code) -> u32
+    requires { ⌜ (Named (now s) q) × (need ≡ codeAt (q .code)) ⌝ }
     ensures { λ r. ⌜ r ≡ firstFailed (firstConditions (now (s .entry)) (stepIn q)) ⌝ }
 {
-    let need = records::code_at(q.code);
     if !rows_good(s, q, need) {
         return answers::ROW;
     }
@@ -469,12 +457,12 @@ fn by_code(s: &mut [u64], q: Request) -> Answer
     release(s, o)
 }
 
-// A request on the session: the refusal, or the effect and the answer.
-pub fn perform(s: &mut [u64], q: Request) -> Answer
-    requires { ⌜ Named (now s) q ⌝ }
+// A request on the session, with what its code needs: the refusal, or the effect and the answer.
+pub fn perform(s: &mut [u64], q: Request, need: Code) -> Answer
+    requires { ⌜ (Named (now s) q) × (need ≡ codeAt (q .code)) ⌝ }
     ensures { λ r. ⌜ (r ≡ performAnswer (now (s .entry)) (stepIn q)) × (now (s .exit) ≡ performEffect (now (s .entry)) (stepIn q)) ⌝ }
 {
-    let n = early_refusal(s, q);
+    let n = early_refusal(s, q, need);
     if n != 0 {
         return Answer::Refused(n);
     }

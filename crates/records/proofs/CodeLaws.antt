@@ -2,15 +2,20 @@
 use Prim.Native.Nat.{ℕ, zero, suc, _≤_, _<_}
 use native.Mathlib.Omega.{arith}
 use native.Mathlib.Decide.{ℕ-discrete}
-use mathlib.Core.Path.{_≡_, refl, sym, ap}
+use native.Mathlib.Nat.{lt-of-lt-of-le}
+use mathlib.Core.Path.{_≡_, refl, sym, ap, _∙_}
 use mathlib.Core.Logic.{_⊎_, inl, inr}
 use mathlib.Core.Bool.{true, false, cond, _||_}
 use mathlib.Core.List.{List, [], _∷_}
 use mathlib.Core.Option.{none, some}
 use lib.Dec.{eqb}
 use lib.ListN.{getD}
+use lib.Pow.{pow-mono}
+use borrow.Author.Tests.{ne-eqb}
 use Rattle.lists.proofs.Bools.{clash}
-use Rattle.image.specs.Limits.{containerLimit}
+use Rattle.rules.specs.Sets.{atom}
+use Rattle.rules.proofs.SetLaws.{atom-above}
+use Rattle.image.specs.Limits.{freeKind, fileKind, volatileKind, processKind, isFree, isFile, isVolatile, isProcess, isStore, containerLimit}
 use Rattle.session.specs.Limits.{nobody}
 use Rattle.chains.specs.History.{read, write, append, exec, fork, newFile, newVolatile, end, delete, receiver}
 use Rattle.chains.specs.Table.{State, Need, store, file, free, process, fitsNeed, entry, behalfFits}
@@ -68,12 +73,37 @@ entered σ q a =
     (λ p o u own. record { process = refl; object = refl; user = refl; need = refl })
     q (a .codeLow) (a .codeHigh) (a .own)
 
+-- kind by kind
+module _ (P : ℕ → Type 0) (frees : P freeKind) (files : P fileKind) (volatiles : P volatileKind) (processes : P processKind)
+    (others : (k : ℕ) → processKind < k → P k) where
+  by-kind : (k : ℕ) → P k
+  by-kind zero = frees
+  by-kind (suc zero) = files
+  by-kind (suc (suc zero)) = volatiles
+  by-kind (suc (suc (suc zero))) = processes
+  by-kind (suc (suc (suc (suc k)))) = others (suc (suc (suc (suc k)))) (omega arith)
+
+-- no need names another kind
+other-kind : (m k : ℕ) → m < 16 → processKind < k → eqb (atom m k) 1 ≡ false
+other-kind m k l h = ap (λ (x : ℕ). eqb x 1) (atom-above m k (lt-of-lt-of-le l (pow-mono h)))
+
 pub need-fits : (n : Need) (k : ℕ) → objectFits (needNumber n) k ≡ fitsNeed n k
-unfolding objectFits fitsNeed
-need-fits store k = refl
-need-fits file k = refl
-need-fits free k = refl
-need-fits process k = refl
+unfolding objectFits fitsNeed atom isStore isFile isVolatile isFree isProcess
+need-fits store = by-kind (λ k. eqb (atom needsStore k) 1 ≡ isStore k) refl refl refl refl (λ k h. other-kind needsStore k (omega arith) h ∙ sym (simp (ne-eqb k fileKind (λ e. omega (arith, h, e)), ne-eqb k volatileKind (λ e. omega (arith, h, e)))))
+need-fits file = by-kind (λ k. eqb (atom needsFile k) 1 ≡ isFile k) refl refl refl refl (λ k h. other-kind needsFile k (omega arith) h ∙ sym (ne-eqb k fileKind (λ e. omega (arith, h, e))))
+need-fits free = by-kind (λ k. eqb (atom needsFree k) 1 ≡ isFree k) refl refl refl refl (λ k h. other-kind needsFree k (omega arith) h ∙ sym (ne-eqb k freeKind (λ e. omega (arith, h, e))))
+need-fits process = by-kind (λ k. eqb (atom needsProcess k) 1 ≡ isProcess k) refl refl refl refl (λ k h. other-kind needsProcess k (omega arith) h ∙ sym (ne-eqb k processKind (λ e. omega (arith, h, e))))
+
+-- every code needs something
+pub needed : (n : ℕ) → codeAt n .object ≡ 0 → ⊥
+unfolding codeAt
+needed n = by (entry noRows (stepWith n 0 0 0) .need)
+  where
+    by : (x : Need) → needNumber x ≡ 0 → ⊥
+    by store e = omega (arith, e)
+    by file e = omega (arith, e)
+    by free e = omega (arith, e)
+    by process e = omega (arith, e)
 
 -- what 18 asks: nothing unless the code is that of a new file
 pub behalf-other : (σ : State) (q : Request) → Asked q → (q .code ≡ newFileCode → ⊥) → behalfFits σ (stepIn q) ≡ true

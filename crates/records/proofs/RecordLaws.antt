@@ -5,7 +5,7 @@ use native.Mathlib.Decide.{ℕ-discrete}
 use native.Mathlib.Nat.{le-of-suc-le-suc}
 use mathlib.Core.Path.{_≡_, refl}
 use mathlib.Core.Logic.{_⊎_, inl, inr, ⊎-elim, _↔_, _≢_}
-use mathlib.Core.Bool.{true, cond, _&&_}
+use mathlib.Core.Bool.{Bool, true, false, cond, _&&_}
 use mathlib.Core.List.{List, [], _∷_}
 use mathlib.Core.Option.{some}
 use lib.Dec.{eqb, ltb}
@@ -16,9 +16,9 @@ use Rattle.image.specs.Limits.{containerLimit, userLimit}
 use Rattle.fields.specs.Bytes.{numberIn, field}
 use Rattle.records.specs.declared.Request.{Request}
 use Rattle.chains.specs.Table.{entry}
-use Rattle.records.specs.Codes.{readCode, writeCode, appendCode, execCode, forkCode, newFileCode, newVolatileCode, endCode, deleteCode, codeCount, stepWith, noRows, codeAt, isCode}
-use Rattle.records.specs.Records.{recordLength, zeroPlace, codeSize, noUser, requestIn, stepIn, userFits, ownObject, recordGood, stepOf, Asked}
-use Rattle.records.proofs.CodeLaws.{request, by-code}
+use Rattle.records.specs.Codes.{readCode, writeCode, appendCode, execCode, forkCode, newFileCode, newVolatileCode, endCode, deleteCode, codeCount, stepWith, noRows, codeAt, noCode, isCode}
+use Rattle.records.specs.Records.{recordLength, zeroPlace, codeSize, noUser, requestIn, stepIn, userFits, ownObject, numbersGood, recordGood, needIn, stepOf, Asked}
+use Rattle.records.proofs.CodeLaws.{request, by-code, needed}
 
 -- "Code 8 .., with o equal to p"
 own-set : (q : Request) → (ownObject q ≡ true) ↔ (q .code ≡ endCode → q .o ≡ q .p)
@@ -30,7 +30,7 @@ own-set q = by (ℕ-discrete (q .code) endCode)
     by (no n) = rw (ne-eqb (q .code) endCode n) (λ h z. absurd (n z), λ k. refl)
 
 module _ (r : List ℕ) (h : recordGood r ≡ true) where
-  behind-length : (isCode (requestIn r .code) && (eqb (field r zeroPlace codeSize) 0 && (userFits (requestIn r) && (ltb (requestIn r .p) containerLimit && (ltb (requestIn r .o) containerLimit && ownObject (requestIn r)))))) ≡ true
+  behind-length : (isCode (requestIn r .code) && (eqb (field r zeroPlace codeSize) 0 && numbersGood (requestIn r))) ≡ true
   unfolding recordGood
   behind-length = and-1 (eqb (length r) recordLength) h
 
@@ -38,6 +38,7 @@ module _ (r : List ℕ) (h : recordGood r ≡ true) where
   record-code = and-0 (isCode (requestIn r .code)) _ behind-length
 
   behind-zero : (userFits (requestIn r) && (ltb (requestIn r .p) containerLimit && (ltb (requestIn r .o) containerLimit && ownObject (requestIn r)))) ≡ true
+  unfolding numbersGood
   behind-zero = and-1 (eqb (field r zeroPlace codeSize) 0) (and-1 (isCode (requestIn r .code)) behind-length)
 
   behind-user : (ltb (requestIn r .p) containerLimit && (ltb (requestIn r .o) containerLimit && ownObject (requestIn r))) ≡ true
@@ -67,6 +68,29 @@ module _ (r : List ℕ) (h : recordGood r ≡ true) where
   pub record-step : stepOf r ≡ some (stepIn (requestIn r))
   unfolding stepOf
   record-step = rw h
+
+-- ---- what the code needs tells whether it is a record
+
+module _ (r : List ℕ) where
+  pub record-missing : needIn r .object ≡ 0 → recordGood r ≡ false
+  unfolding needIn noCode
+  record-missing = by (recordGood r)
+    where
+      by : (b : Bool) → cond b (codeAt (requestIn r .code)) noCode .object ≡ 0 → b ≡ false
+      by true z = absurd (needed (requestIn r .code) z)
+      by false z = refl
+
+  pub record-there : (needIn r .object ≡ 0 → ⊥) → recordGood r ≡ true
+  unfolding needIn noCode
+  record-there = by (recordGood r)
+    where
+      by : (b : Bool) → (cond b (codeAt (requestIn r .code)) noCode .object ≡ 0 → ⊥) → b ≡ true
+      by true n = refl
+      by false n = absurd (n refl)
+
+  pub record-needs : recordGood r ≡ true → needIn r ≡ codeAt (requestIn r .code)
+  unfolding needIn
+  record-needs h = rw h
 
 -- ---- refusal 7 in the paper's words
 
@@ -100,7 +124,7 @@ record Spells (r : List ℕ) : Type 0 where
   pub own : requestIn r .code ≡ endCode → requestIn r .o ≡ requestIn r .p
 
 record-spells : (r : List ℕ) → (recordGood r ≡ true) ↔ Spells r
-unfolding recordGood isCode
+unfolding recordGood isCode numbersGood
 record-spells r = (to, back)
   where
     to : recordGood r ≡ true → Spells r

@@ -1,18 +1,20 @@
--- A record read field by field and tested condition by condition: what each test found decides `recordGood`.
+-- A record read field by field and tested condition by condition: what each test found decides `needIn`.
 use Prim.Native.Nat.{ℕ, _≤_, _<_}
 use native.Mathlib.Omega.{arith}
 use mathlib.Core.Path.{_≡_, sym, ap, _∙_}
-use mathlib.Core.Bool.{true, false, _&&_}
+use mathlib.Core.Bool.{Bool, true, false, _&&_, and-assoc}
 use mathlib.Core.List.{List}
+use lib.Bits.{bitOr, and-le-l, and-le-r, or-lt, or-add-and}
 use lib.Dec.{eqb, ltb}
 use lib.ListN.{length}
-use borrow.Author.Tests.{eq-eqb, ne-eqb, lt-ltb, le-ltb}
+use borrow.Author.Tests.{eq-eqb, ne-eqb, lt-ltb, le-ltb, ltb-true}
+use Rattle.lists.proofs.Bools.{and-in, and-0, and-1, same-test}
 use Rattle.image.specs.Limits.{containerLimit, userLimit}
 use Rattle.fields.specs.Bytes.{field}
 use Rattle.records.specs.declared.Code.{Code}
 use Rattle.records.specs.declared.Request.{Request}
-use Rattle.records.specs.Codes.{codeCount, isCode, codeAt}
-use Rattle.records.specs.Records.{recordLength, codePlace, zeroPlace, processPlace, objectPlace, userPlace, codeSize, numberSize, noUser, requestIn, userFits, ownObject, recordGood}
+use Rattle.records.specs.Codes.{codeCount, isCode, codeAt, noCode}
+use Rattle.records.specs.Records.{recordLength, codePlace, zeroPlace, processPlace, objectPlace, userPlace, codeSize, numberSize, noUser, requestIn, userFits, ownObject, numbersGood, recordGood, needIn}
 
 -- ---- the four fields
 
@@ -31,45 +33,72 @@ pub user-unnamed : (q : Request) (k : Code) → k ≡ codeAt (q .code) → k .us
 unfolding userFits
 user-unnamed q k e h = simp (sym (ap (λ (x : Code). x .user) e) ∙ h)
 
+-- ---- the numbers behind the code
+
+-- two containers are in their limit exactly if the union of their bits is
+or-low : (a b : ℕ) → ltb (bitOr a b) containerLimit ≡ (ltb a containerLimit && ltb b containerLimit)
+or-low a b =
+    same-test (ltb (bitOr a b) containerLimit) (ltb a containerLimit && ltb b containerLimit)
+    (λ h.
+    let l : bitOr a b < containerLimit = ltb-true (bitOr a b) containerLimit h in
+    and-in (lt-ltb a containerLimit (omega (arith, l, or-add-and a b, and-le-r a b))) (lt-ltb b containerLimit (omega (arith, l, or-add-and a b, and-le-l a b))))
+    (λ h. lt-ltb (bitOr a b) containerLimit (or-lt 8 a b (ltb-true a containerLimit (and-0 (ltb a containerLimit) (ltb b containerLimit) h)) (ltb-true b containerLimit (and-1 (ltb a containerLimit) h))))
+
+module _ (q : Request) where
+  told : numbersGood q ≡ (userFits q && (ltb (bitOr (q .p) (q .o)) containerLimit && ownObject q))
+  unfolding numbersGood
+  told = ap (λ (b : Bool). userFits q && b) (sym (and-assoc (ltb (q .p) containerLimit) (ltb (q .o) containerLimit) (ownObject q)) ∙ ap (λ (b : Bool). b && ownObject q) (sym (or-low (q .p) (q .o))))
+
+  pub user-wrong : userFits q ≡ false → false ≡ numbersGood q
+  user-wrong h = sym (told ∙ simp h)
+
+  pub container-over : userFits q ≡ true → containerLimit ≤ bitOr (q .p) (q .o) → false ≡ numbersGood q
+  container-over h o = sym (told ∙ simp (h, le-ltb (bitOr (q .p) (q .o)) containerLimit o))
+
+  pub by-own : userFits q ≡ true → bitOr (q .p) (q .o) < containerLimit → ownObject q ≡ numbersGood q
+  by-own h l = sym (told ∙ simp (h, lt-ltb (bitOr (q .p) (q .o)) containerLimit l))
+
 -- ---- the conditions in their order
 
-pub not-eight : (r : List ℕ) → (length r ≡ recordLength → ⊥) → false ≡ recordGood r
+none-needed : (r : List ℕ) → recordGood r ≡ false → noCode ≡ needIn r
+unfolding needIn
+none-needed r h = rw h
+
+pub not-eight : (r : List ℕ) → (length r ≡ recordLength → ⊥) → noCode ≡ needIn r
 unfolding recordGood
-not-eight r h = simp (ne-eqb (length r) recordLength h)
+not-eight r h = none-needed r (simp (ne-eqb (length r) recordLength h))
 
 module _ (r : List ℕ) (q : Request) (e : q ≡ requestIn r) (eight : length r ≡ recordLength) where
-  opened : recordGood r ≡ (isCode (q .code) && (eqb (field r zeroPlace codeSize) 0 && (userFits q && (ltb (q .p) containerLimit && (ltb (q .o) containerLimit && ownObject q)))))
+  opened : recordGood r ≡ (isCode (q .code) && (eqb (field r zeroPlace codeSize) 0 && numbersGood q))
   unfolding recordGood
   opened = rw e (simp (eq-eqb (length r) recordLength eight))
 
-  pub code-none : q .code ≡ 0 → false ≡ recordGood r
+  pub code-none : q .code ≡ 0 → noCode ≡ needIn r
   unfolding isCode
-  code-none z = sym (opened ∙ simp z)
+  code-none z = none-needed r (opened ∙ simp z)
 
   code-some : (q .code ≡ 0 → ⊥) → ltb 0 (q .code) ≡ true
   code-some h = let l : 0 < q .code = omega (arith, h) in lt-ltb 0 (q .code) l
 
-  pub code-over : (q .code ≡ 0 → ⊥) → codeCount ≤ q .code → false ≡ recordGood r
+  pub code-over : (q .code ≡ 0 → ⊥) → codeCount ≤ q .code → noCode ≡ needIn r
   unfolding isCode
-  code-over h o = sym (opened ∙ simp (code-some h, le-ltb (q .code) codeCount o))
+  code-over h o = none-needed r (opened ∙ simp (code-some h, le-ltb (q .code) codeCount o))
 
   module _ (low : q .code ≡ 0 → ⊥) (high : q .code < codeCount) where
     code-good : isCode (q .code) ≡ true
     unfolding isCode
     code-good = simp (code-some low, lt-ltb (q .code) codeCount high)
 
-    pub byte-set : (field r zeroPlace codeSize ≡ 0 → ⊥) → false ≡ recordGood r
-    byte-set h = sym (opened ∙ simp (code-good, ne-eqb (field r zeroPlace codeSize) 0 h))
+    pub byte-set : (field r zeroPlace codeSize ≡ 0 → ⊥) → noCode ≡ needIn r
+    byte-set h = none-needed r (opened ∙ simp (code-good, ne-eqb (field r zeroPlace codeSize) 0 h))
 
     module _ (z : field r zeroPlace codeSize ≡ 0) where
-      pub user-wrong : userFits q ≡ false → false ≡ recordGood r
-      user-wrong h = sym (opened ∙ simp (code-good, eq-eqb (field r zeroPlace codeSize) 0 z, h))
+      by-numbers : recordGood r ≡ numbersGood q
+      by-numbers = opened ∙ simp (code-good, eq-eqb (field r zeroPlace codeSize) 0 z)
 
-      pub process-over : userFits q ≡ true → containerLimit ≤ q .p → false ≡ recordGood r
-      process-over h o = sym (opened ∙ simp (code-good, eq-eqb (field r zeroPlace codeSize) 0 z, h, le-ltb (q .p) containerLimit o))
+      pub numbers-wrong : numbersGood q ≡ false → noCode ≡ needIn r
+      numbers-wrong h = none-needed r (by-numbers ∙ h)
 
-      pub object-over : userFits q ≡ true → q .p < containerLimit → containerLimit ≤ q .o → false ≡ recordGood r
-      object-over h l o = sym (opened ∙ simp (code-good, eq-eqb (field r zeroPlace codeSize) 0 z, h, lt-ltb (q .p) containerLimit l, le-ltb (q .o) containerLimit o))
-
-      pub by-own : userFits q ≡ true → q .p < containerLimit → q .o < containerLimit → ownObject q ≡ recordGood r
-      by-own h l o = sym (opened ∙ simp (code-good, eq-eqb (field r zeroPlace codeSize) 0 z, h, lt-ltb (q .p) containerLimit l, lt-ltb (q .o) containerLimit o))
+      pub all-right : numbersGood q ≡ true → (k : Code) → k ≡ codeAt (q .code) → k ≡ needIn r
+      unfolding needIn
+      all-right h k c = c ∙ rw (by-numbers ∙ h) (ap (λ (x : Request). codeAt (x .code)) e)

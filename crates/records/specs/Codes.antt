@@ -4,7 +4,7 @@ use Prim.Native.Nat.{ℕ}
 use mathlib.Core.Bool.{Bool, false, cond, _&&_}
 use mathlib.Core.Option.{none}
 use lib.Dec.{eqb, ltb}
-use Rattle.image.specs.Limits.{isFree, isFile, isProcess, isStore}
+use Rattle.rules.specs.Sets.{atom}
 use Rattle.chains.specs.History.{Step, read, write, append, exec, fork, newFile, newVolatile, end, delete}
 use Rattle.chains.specs.Table.{State, freeRow, Need, store, file, free, process, entry, isSome}
 use Rattle.records.specs.declared.Code.{Code}
@@ -58,23 +58,23 @@ stepWith code p o u =
     (cond (eqb code endCode) (end p)
     (delete p o))))))))
 
--- ---- what a code needs of its object, as a number
+-- ---- what a code needs of its object, as the set of the kinds that serve, kind k being worth 2 to the k
 
--- "file, volatile"
-abbrev pub needsStore : ℕ
-needsStore = 1
+-- "free"
+abbrev pub needsFree : ℕ
+needsFree = 1
 
 -- "file"
 abbrev pub needsFile : ℕ
 needsFile = 2
 
--- "free"
-abbrev pub needsFree : ℕ
-needsFree = 3
+-- "file, volatile"
+abbrev pub needsStore : ℕ
+needsStore = 6
 
 -- a process
 abbrev pub needsProcess : ℕ
-needsProcess = 4
+needsProcess = 8
 
 abbrev pub needNumber : Need → ℕ
 needNumber store = needsStore
@@ -84,11 +84,7 @@ needNumber process = needsProcess
 
 -- the need is met by the object's kind
 unfoldable pub objectFits : ℕ → ℕ → Bool
-objectFits need kind =
-    cond (eqb need needsStore) (isStore kind)
-    (cond (eqb need needsFile) (isFile kind)
-    (cond (eqb need needsFree) (isFree kind)
-    (cond (eqb need needsProcess) (isProcess kind) false)))
+objectFits need kind = eqb (atom need kind) 1
 
 -- ---- the table by codes: what each needs of its object, and whether it names a user ("u is 65535 except for codes 4 and 6")
 
@@ -102,3 +98,7 @@ codeAt n =
       object = needNumber (entry noRows (stepWith n 0 0 0) .need);
       user = isSome (entry noRows (stepWith n 0 0 0) .user);
     }
+
+-- place 0 of the table: no kind serves, and no user is named
+unfoldable pub noCode : Code
+noCode = record { object = 0; user = false }

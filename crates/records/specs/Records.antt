@@ -9,8 +9,9 @@ use lib.ListN.{length}
 use Rattle.image.specs.Limits.{containerLimit, userLimit}
 use Rattle.fields.specs.Bytes.{field}
 use Rattle.chains.specs.History.{Step}
+use Rattle.records.specs.declared.Code.{Code}
 use Rattle.records.specs.declared.Request.{Request}
-use Rattle.records.specs.Codes.{endCode, isCode, codeCount, codeAt, stepWith}
+use Rattle.records.specs.Codes.{endCode, isCode, codeCount, codeAt, noCode, stepWith}
 
 -- ---- the layout of a record, in bytes
 
@@ -66,14 +67,17 @@ userFits q = cond (codeAt (q .code) .user) (ltb (q .u) userLimit) (eqb (q .u) no
 unfoldable pub ownObject : Request → Bool
 ownObject q = cond (eqb (q .code) endCode) (eqb (q .o) (q .p)) true
 
--- "7 operation record (not 8 bytes, code, zero byte, u set wrongly, container over 255, user over 15)"; "7 also covers code 8
--- with another o"
+-- "u set wrongly, container over 255, user over 15"; "7 also covers code 8 with another o"
+unfoldable pub numbersGood : Request → Bool
+numbersGood q = userFits q && (ltb (q .p) containerLimit && (ltb (q .o) containerLimit && ownObject q))
+
+-- "7 operation record (not 8 bytes, code, zero byte, u set wrongly, container over 255, user over 15)"
 unfoldable pub recordGood : List ℕ → Bool
-recordGood r =
-    eqb (length r) recordLength
-    && (isCode (requestIn r .code)
-    && (eqb (field r zeroPlace codeSize) 0
-    && (userFits (requestIn r) && (ltb (requestIn r .p) containerLimit && (ltb (requestIn r .o) containerLimit && ownObject (requestIn r))))))
+recordGood r = eqb (length r) recordLength && (isCode (requestIn r .code) && (eqb (field r zeroPlace codeSize) 0 && numbersGood (requestIn r)))
+
+-- what the code of a record needs, and what no code needs if it is no record
+unfoldable pub needIn : List ℕ → Code
+needIn r = cond (recordGood r) (codeAt (requestIn r .code)) noCode
 
 -- the step that a record spells, if it is a record
 unfoldable pub stepOf : List ℕ → Option Step

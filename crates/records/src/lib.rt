@@ -2,8 +2,8 @@
 ghost use mathlib.Core.Path.{_≡_};
 ghost use Prim.Native.Nat.{_≤_, _<_};
 ghost use lib.ListN.{length, take, drop};
-ghost use Rattle.records.specs.Codes.{codeCount, codeAt};
-ghost use Rattle.records.specs.Records.{recordLength, requestIn, userFits, ownObject, recordGood};
+ghost use Rattle.records.specs.Codes.{codeCount, codeAt, noCode};
+ghost use Rattle.records.specs.Records.{recordLength, requestIn, userFits, ownObject, numbersGood, needIn};
 use image::CONTAINER_LIMIT;
 use image::USER_LIMIT;
 
@@ -28,21 +28,22 @@ const END_CODE: usize = 8;
 // The places of the table: one for each code, the last being delete, and place 0, which is no code.
 pub const CODE_COUNT: usize = 10;
 
-// What a code needs of its object, and whether it names a user.
+// What a code needs of its object, as the set of the kinds that serve, and whether it names a user.
 pub struct Code {
     pub object: u8,
     pub user: bool,
 }
 
-const NO_NEED: u8 = 0;
+// No kind serves: what no code needs.
+pub const NO_NEED: u8 = 0;
 
-pub const NEEDS_STORE: u8 = 1;
+pub const NEEDS_FREE: u8 = 1;
 
-pub const NEEDS_FILE: u8 = 2;
+const NEEDS_FILE: u8 = 2;
 
-pub const NEEDS_FREE: u8 = 3;
+const NEEDS_STORE: u8 = 6;
 
-pub const NEEDS_PROCESS: u8 = 4;
+const NEEDS_PROCESS: u8 = 8;
 
 // The table of codes: 0 no code, 1 read, 2 write, 3 append, 4 exec, 5 fork, 6 new file, 7 new volatile, 8 end, 9 delete.
 const CODES: [Code; CODE_COUNT] = [
@@ -89,11 +90,18 @@ const CODES: [Code; CODE_COUNT] = [
 ];
 
 // The table's row of a code.
-pub fn code_at(code: usize) -> Code
+fn code_at(code: usize) -> Code
     requires { ⌜ (1 ≤ code) × (code < codeCount) ⌝ }
     ensures { λ r. ⌜ r ≡ codeAt code ⌝ }
 {
     CODES[code]
+}
+
+// Its row for no code.
+fn no_code() -> Code
+    ensures { λ r. ⌜ r ≡ noCode ⌝ }
+{
+    CODES[0]
 }
 
 // ---- the record
@@ -136,11 +144,10 @@ pub fn request_of(bytes: &[u8]) -> Request
 }
 
 // The user field is set exactly where the code names a user.
-fn user_fits(q: Request) -> bool
-    requires { ⌜ (1 ≤ q .code) × (q .code < codeCount) ⌝ }
+fn user_fits(q: Request, need: Code) -> bool
+    requires { ⌜ need ≡ codeAt (q .code) ⌝ }
     ensures { λ r. ⌜ r ≡ userFits q ⌝ }
 {
-    let need = code_at(q.code);
     if need.user {
         return q.u < USER_LIMIT;
     }
@@ -157,33 +164,42 @@ fn own_object(q: Request) -> bool
     true
 }
 
-// The bytes are an operation record: the refusal 7 where they are not.
-pub fn record_good(bytes: &[u8]) -> bool
-    ensures { λ r. ⌜ r ≡ recordGood (now (bytes .entry)) ⌝ }
+// The numbers behind the code are those of a record.
+fn numbers_good(q: Request, need: Code) -> bool
+    requires { ⌜ need ≡ codeAt (q .code) ⌝ }
+    ensures { λ r. ⌜ r ≡ numbersGood q ⌝ }
 {
-    if bytes.len() != RECORD_LENGTH {
+    if !user_fits(q, need) {
         return false;
     }
-    let q = request_of(bytes);
-    if q.code == 0 {
-        return false;
-    }
-    if CODE_COUNT <= q.code {
-        return false;
-    }
-    if bytes[ZERO_PLACE] != 0 {
-        return false;
-    }
-    if !user_fits(q) {
-        return false;
-    }
-    if CONTAINER_LIMIT <= q.p {
-        return false;
-    }
-    if CONTAINER_LIMIT <= q.o {
+    if CONTAINER_LIMIT <= (q.p | q.o) {
         return false;
     }
     own_object(q)
+}
+
+// What the code of a record needs. Where the bytes are no operation record, it is what no code needs: the refusal 7.
+pub fn need_of(bytes: &[u8]) -> Code
+    ensures { λ r. ⌜ r ≡ needIn (now (bytes .entry)) ⌝ }
+{
+    if bytes.len() != RECORD_LENGTH {
+        return no_code();
+    }
+    let q = request_of(bytes);
+    if q.code == 0 {
+        return no_code();
+    }
+    if CODE_COUNT <= q.code {
+        return no_code();
+    }
+    if bytes[ZERO_PLACE] != 0 {
+        return no_code();
+    }
+    let need = code_at(q.code);
+    if !numbers_good(q, need) {
+        return no_code();
+    }
+    need
 }
 
 // ---- a trace

@@ -152,6 +152,15 @@ module _ (ws : List ℕ) (g : containerRowGood ws ≡ true) where
           behalfKept = and-1 (keptWell (runWords ws)) good-last;
         }
 
+  -- it has one of the four kinds
+  pub good-kind : getD ws kindAt 0 ≤ processKind
+  unfolding isFree
+  good-kind = by (isFree (getD ws kindAt 0)) refl
+    where
+      by : (b : Bool) → isFree (getD ws kindAt 0) ≡ b → getD ws kindAt 0 ≤ processKind
+      by true e = omega (arith, eqb-true (getD ws kindAt 0) 0 e)
+      by false e = used-kind (getD ws kindAt 0) (and-0 (usedKind (getD ws kindAt 0)) _ (good-tests e)) .1
+
 module _ (ws : List ℕ) (l : length ws ≡ rowWidth) (g : containerRowGood ws ≡ true) (f : isFree (getD ws kindAt 0) ≡ false) where
   permit-is : permitWords ws ≡ wordsOf (ruleOf (permitWords ws))
   permit-is = kept-words (permitWords ws) (unfold permitWords in (omega (arith, length-take ruleWidth (drop permitAt ws), length-drop permitAt ws))) (good-permit ws g f)

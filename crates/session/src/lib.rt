@@ -64,14 +64,15 @@ fn behalf_good(kind: u64, behalf: u64) -> bool
     behalf < image::USER_LIMIT as u64
 }
 
-// The container row is as the session keeps it.
+// The container row is as the session keeps it. The test that a free row is 0 names the length, which is then a constant in the
+// loop, and the call needs no length.
 pub fn container_row_good(row: &[u64]) -> bool
     requires { ⌜ length (now row) ≡ rowWidth ⌝ }
     ensures { λ r. ⌜ r ≡ containerRowGood (now (row .entry)) ⌝ }
 {
     let kind = row[KIND_AT];
     if image::is_free(kind) {
-        return rule_words::all_zero(row);
+        return rule_words::all_zero(&row[0..ROW_WIDTH]);
     }
     if !image::used_kind(kind) {
         return false;

@@ -1,7 +1,6 @@
 -- `monitor::step`: 9, then 7; what is left is what `operations::perform` ensures of the request that the bytes spell.
-use Rattle.lists.proofs.Bools.{passes-test, fails-test}
 use Rattle.records.proofs.RecordLaws.{record-long}
-use Rattle.monitor.proofs.StepLaws.{step-9, step-7, named, step-performed}
+use Rattle.monitor.proofs.StepLaws.{step-9, step-7, none-spelled, one-spelled, called, step-performed}
 use borrow.Author.Needs.{needs}
 use Rattle.monitor.proofs.step.Statement.{statement}
 use Rattle.monitor.proofs.step.Tie as tie
@@ -10,16 +9,21 @@ returns : tie.Need-returns
 returns c = step-9 _ _ (c .if1 .taken)
 
 returns-2 : tie.Need-returns-2
-returns-2 c = step-7 _ _ (c .before .before .if1 .left) (fails-test (c .before .record-good .ensures) (c .if2 .taken))
+returns-2 c = step-7 _ _ (c .before .before .before .if1 .left) (none-spelled _ _ (c .before .before .need-of .ensures) (c .if2 .taken))
 
 request-of-requires : tie.Need-request-of-requires
-request-of-requires c κs = record-long _ (passes-test (c .before .before .record-good .ensures) (c .before .if2 .left))
+request-of-requires c κs = record-long _ (one-spelled _ _ (c .before .before .before .need-of .ensures) (c .before .if2 .left))
 
 perform-requires : tie.Need-perform-requires
-perform-requires c κs = named _ _ (c .before .before .before .before .if1 .left) (passes-test (c .before .before .before .record-good .ensures) (c .before .before .if2 .left)) _ (c .request-of .ensures)
+perform-requires c κs =
+    let asked = c .before .before .before .before in
+    called _ _ (asked .before .if1 .left) (one-spelled _ _ (asked .need-of .ensures) (c .before .before .if2 .left)) _ (c .request-of .ensures) _ (asked .need-of .ensures)
 
 returns-3 : tie.Need-returns-3
-returns-3 c = step-performed _ _ (c .before .before .before .before .before .before .before .if1 .left) (passes-test (c .before .before .before .before .before .before .record-good .ensures) (c .before .before .before .before .before .if2 .left)) _ (c .before .before .before .request-of .ensures) _ _ (c .before .before .perform .ensures)
+returns-3 c =
+    let done = c .before .before in
+    let asked = done .before .before .before .before .before in
+    step-performed _ _ (asked .before .if1 .left) (one-spelled _ _ (asked .need-of .ensures) (done .before .before .before .if2 .left)) _ (done .before .request-of .ensures) _ _ (done .perform .ensures)
 
 pub step-spec : {M : Type 1} → statement M
 step-spec =

@@ -1,6 +1,10 @@
 -- The tests of a container row, one after the other, are those of `containerRowGood`.
+use mathlib.Core.Path.{sym, ap, _∙_}
+use native.Mathlib.Nat.{le-of-eq}
+use lib.Seq.{take-all}
+use Rattle.rule_words.specs.Words.{allZero}
+use Rattle.session.specs.Limits.{rowWidth}
 use Rattle.session.specs.Rows.{permitWords, runWords}
-use mathlib.Core.Path.{sym, _∙_}
 use Rattle.lists.proofs.Bools.{passes-test, fails-test}
 use Rattle.session.proofs.RowTests.{free-row, other-kind, bad-permit, bad-run, by-behalf}
 use borrow.Author.Needs.{needs}
@@ -8,7 +12,10 @@ use Rattle.session.proofs.container_row_good.Statement.{statement}
 use Rattle.session.proofs.container_row_good.Tie as tie
 
 returns : tie.Need-returns
-returns c = c .all-zero .ensures ∙ free-row _ (sym (c .before .before .is-free .ensures) ∙ c .before .if1 .taken)
+returns c =
+    c .all-zero .ensures
+    ∙ ap allZero (take-all rowWidth _ (le-of-eq (c .before .before .before .before .before .before .pre)))
+    ∙ free-row _ (sym (c .before .before .before .is-free .ensures) ∙ c .before .before .if1 .taken)
 
 returns-2 : tie.Need-returns-2
 returns-2 c = other-kind _ (sym (c .before .before .before .is-free .ensures) ∙ c .before .before .if1 .left) (fails-test (c .before .used-kind .ensures) (c .if2 .taken))
@@ -44,6 +51,9 @@ container-row-good-spec =
     (tie.spec
     (λ c. search needs)
     (λ c κs. search needs)
+    (λ c. search needs)
+    (λ c. search needs)
+    (λ c. search needs)
     (λ c κs. search needs)
     returns
     (λ c κs. search needs)
