@@ -93,19 +93,6 @@ minimal old proposed = allBelow (subjectNeeded old proposed) (length (proposed .
 
 -- ---- the judgement: "Otherwise it gives the first condition that fails, 1 to 4"
 
-unfoldable pub judgementConditions : Matrix → Matrix → Matrix → List Condition
-judgementConditions old required proposed =
-    (comparable old required proposed orRefuse matrix)
-    ∷ (noneAdded old proposed orRefuse 1)
-    ∷ (allKept required proposed orRefuse 2)
-    ∷ (staysConsistent proposed orRefuse 3)
-    ∷ (minimal old proposed orRefuse 4)
-    ∷ []
-
--- 0 accepted, the condition, or 8
-unfoldable pub judgementOf : Matrix → Matrix → Matrix → ℕ
-judgementOf old required proposed = firstFailed (judgementConditions old required proposed)
-
 -- the number of each case of the answer
 abbrev pub judgementNumber : Judgement → ℕ
 judgementNumber Accepted = 0
@@ -114,3 +101,16 @@ judgementNumber RightLost = 2
 judgementNumber Inconsistent = 3
 judgementNumber NotMinimal = 4
 judgementNumber Refused = matrix
+
+unfoldable pub judgementConditions : Matrix → Matrix → Matrix → List Condition
+judgementConditions old required proposed =
+    (comparable old required proposed orRefuse judgementNumber Refused)
+    ∷ (noneAdded old proposed orRefuse judgementNumber RightAdded)
+    ∷ (allKept required proposed orRefuse judgementNumber RightLost)
+    ∷ (staysConsistent proposed orRefuse judgementNumber Inconsistent)
+    ∷ (minimal old proposed orRefuse judgementNumber NotMinimal)
+    ∷ []
+
+-- 0 accepted, the condition, or 8
+unfoldable pub judgementOf : Matrix → Matrix → Matrix → ℕ
+judgementOf old required proposed = firstFailed (judgementConditions old required proposed)
