@@ -1,60 +1,98 @@
 /*
  * Yaslaurel: a proved information-flow monitor for hosts in C and C++.
  *
- * Link with libyaslaurel.a. The library holds no state of its own, allocates nothing, takes no locks and calls nothing
- * but the C library's functions on memory (memset, memcpy and the like): it reads and writes only its own stack and the
- * memory that a call lends it. Formats and refusals: docs/FORMATS.md.
+ * A host reports what the processes of a system do, one record for each operation. For each container (a file, a volatile
+ * such as a pipe, a process) the library keeps the set of sources that its content came from, and answers alert when a
+ * mixture lands where the policy forbids it. The access is the host's: an alert does not undo it.
  *
- * Every function returns one number.
+ * USE
+ *
+ * Link with libyaslaurel.a: pkg-config --cflags --libs yaslaurel. The host reads or makes a policy image, lends
+ * YASLAUREL_SESSION_LENGTH numbers for a session, starts it, and reports each operation:
+ *
+ *     answer = yaslaurel_session_start(image, image_len, session, YASLAUREL_SESSION_LENGTH);
+ *     ...
+ *     yaslaurel_record(YASLAUREL_READ, process, file, YASLAUREL_NO_USER, record);
+ *     answer = yaslaurel_step(session, YASLAUREL_SESSION_LENGTH, record, sizeof record, &receiver, &tag);
+ *
+ * An image comes from a file, from an access matrix (yaslaurel_matrix_policy) or from a text of profiles
+ * (yaslaurel_profiles_policy). FORMATS.md, installed beside, has each format in full and a remedy for each refusal.
+ *
+ * The library holds no state of its own, allocates nothing, takes no locks and calls nothing but the C library's
+ * functions on memory (memset, memcpy and the like): it reads and writes only its own stack and the memory that a call
+ * lends it. So there is nothing to set up, to close or to free.
+ *
+ * ANSWERS
+ *
+ * Every function that judges or writes returns one number.
  *
  *   0          accepted; for yaslaurel_step and yaslaurel_run: quiet; for yaslaurel_matrix_verdict: consistent
  *   1          yaslaurel_matrix_verdict alone: not consistent
  *   1 to 4     yaslaurel_matrix_judge alone: the first condition that fails
  *   a length   YASLAUREL_HEADER_LENGTH or more: of the image written, from the three functions that write one
  *   256        yaslaurel_step and yaslaurel_run alone: alert
- *   1 to 18    otherwise: refused, with the number of the first condition that fails, in this order; 18 is a refusal
+ *   1 to 18    otherwise: refused, with the number of the first condition that fails, in the order below; 18 is a refusal
  *              from yaslaurel_step and yaslaurel_run alone, which give no length
  *
- *        9  the session is not YASLAUREL_SESSION_LENGTH numbers, or the output is under YASLAUREL_OUTPUT_LENGTH bytes
- *        1  the image is under YASLAUREL_HEADER_LENGTH or over YASLAUREL_IMAGE_LIMIT bytes
- *        2  the image's leading number, or the offsets and lengths of its four sections
- *        3  a section's length is no multiple of its record, or it has too many records
- *        4  a rule record of the image
- *        5  a container record of the image
- *        6  a user's rule number in the image
- *        7  the operation record: length, code, zero byte, user set wrongly, container over 255, user over 15, an end
- *           (code 8) of another object than the process itself
- *        8  a matrix: row counts differ, 0 or over 8 subjects, 0 or over 32 objects, a bit beyond the objects; of three
- *           matrices also: other counts than the first
- *       10  a session row that the record names is not well formed
- *       11  p is no process
- *       12  o is of the wrong kind (read, write, append, exec, delete)
- *       13  o is not free (fork, new file, new volatile); a number is free again when its holder has left
- *       14  the user is not declared
- *       18  a new file for another user than the one on whose behalf p runs; a process that runs on nobody's behalf may
- *           name any declared user
- *       15  a meet of two rules has over 8 mixtures
- *       16  the profiles: text over YASLAUREL_TEXT_LIMIT bytes, not of the grammar, a path profiled twice
- *       17  the profiles: over YASLAUREL_PATHS paths, or a rule of over 8 mixtures in normal form
+ * yaslaurel_meaning has a text for each refusal, yaslaurel_verdict_meaning and yaslaurel_judgement_meaning for the
+ * answers of these two functions, whose 1 to 4 are no refusals.
+ *
+ * REFUSALS
+ *
+ *   9   the session is not YASLAUREL_SESSION_LENGTH numbers, or the output is under YASLAUREL_OUTPUT_LENGTH bytes
+ *   1   the image is under YASLAUREL_HEADER_LENGTH or over YASLAUREL_IMAGE_LIMIT bytes
+ *   2   the image's leading number, or the offsets and lengths of its four sections
+ *   3   a section's length is no multiple of its record, or it has too many records
+ *   4   a rule record of the image
+ *   5   a container record of the image
+ *   6   a user's rule number in the image
+ *   7   the operation record: length, code, zero byte, user set wrongly, container over 255, user over 15, an end (code
+ *       8) of another object than the process itself
+ *   8   a matrix: row counts differ, 0 or over 8 subjects, 0 or over 32 objects, a bit beyond the objects; of three
+ *       matrices also: other counts than the first
+ *   10  a session row that the record names is not well formed
+ *   11  p is no process
+ *   12  o is of the wrong kind (read, write, append, exec, delete)
+ *   13  o is not free (fork, new file, new volatile); a number is free again when its holder has left
+ *   14  the user is not declared
+ *   18  a new file for another user than the one on whose behalf p runs; a process that runs on nobody's behalf may name
+ *       any declared user
+ *   15  a meet of two rules has over 8 mixtures
+ *   16  the profiles: text over YASLAUREL_TEXT_LIMIT bytes, not of the grammar, a path profiled twice
+ *   17  the profiles: over YASLAUREL_PATHS paths, or a rule of over 8 mixtures in normal form
  *
  * A refused call changes no lent memory: neither a slice nor a number behind a pointer. The one exception is
  * yaslaurel_run: a refusal other than 9 is its last record's alone, so the records before it stay done.
  *
- * What the host owes in each call. Given this, the contracts hold for ALL contents and ALL lengths: no content of an
- * image, a session, a record, a row or a text makes a call misbehave.
+ * WHAT THE HOST OWES
  *
- *   - A pointer with its length names that many elements (not bytes) of valid memory: readable, and writable where
- *     the pointer is not const. A pointer without a length names one element.
- *   - Every pointer is aligned for its type: 8 for uint64_t, 4 for uint32_t. Bytes need no alignment, so a record may
- *     be passed where it lies in a trace.
- *   - No pointer is null, not even with length 0. With length 0 nothing is read or written through it, so the address
- *     of any object of its type will do: yaslaurel_bytes, yaslaurel_output, yaslaurel_words and yaslaurel_rows below
- *     turn a null into one.
- *   - What a call may write overlaps nothing else that the call is lent.
- *   - Nobody else writes the lent memory during the call, and nobody else reads what the call may write. Calls on
- *     different sessions may run at the same time.
- *   - Between calls, the session is the host's memory. The promise about chains is for a session that only
- *     yaslaurel_session_start, yaslaurel_step and yaslaurel_run write.
+ * Given this, the contracts hold for ALL contents and ALL lengths: no content of an image, a session, a record, a row or
+ * a text makes a call misbehave.
+ *
+ *   -  A pointer with its length names that many elements (not bytes) of valid memory: readable, and writable where the
+ *      pointer is not const. A pointer without a length names one element.
+ *   -  Every pointer is aligned for its type: 8 for uint64_t, 4 for uint32_t. Bytes need no alignment, so a record may be
+ *      passed where it lies in a trace.
+ *   -  No pointer is null, not even with length 0. With length 0 nothing is read or written through it, so the address of
+ *      any object of its type will do: yaslaurel_bytes, yaslaurel_output, yaslaurel_words and yaslaurel_rows turn a null
+ *      into one.
+ *   -  What a call may write overlaps nothing else that the call is lent. So an image is not normalised in place: `out` is
+ *      other memory than `image`.
+ *   -  Nobody else writes the lent memory during the call, and nobody else reads what the call may write.
+ *   -  Between calls, the session is the host's memory. The promise about chains is for a session that only
+ *      yaslaurel_session_start, yaslaurel_step and yaslaurel_run write.
+ *   -  The stack has room for the call: see the numbers whose names end in _STACK.
+ *
+ * THREADS AND SIGNAL HANDLERS
+ *
+ * Every function is reentrant. Calls on different sessions may run at the same time, in any number of threads; calls on
+ * one session take turns, which the host sees to. A signal handler may call any function, on memory that no call which it
+ * may have interrupted is lent, and on a stack with room for it. A call that a handler leaves by longjmp leaves what it
+ * may write in no particular state.
+ *
+ * PLATFORM
+ *
+ * x86-64 Linux, C11 or later and C++11 or later, gcc or clang. Stored numbers are little-endian.
  */
 #ifndef YASLAUREL_H
 #define YASLAUREL_H
@@ -62,13 +100,37 @@
 #include <stddef.h>
 #include <stdint.h>
 
-#ifdef __cplusplus
-extern "C" {
+/* Marks a function whose result must not be ignored: gcc and clang warn where it is. */
+#if defined(__GNUC__)
+#define YASLAUREL_MUST_USE __attribute__((warn_unused_result))
+#else
+#define YASLAUREL_MUST_USE
 #endif
+
+/* The version of this header, in one number to compare with. yaslaurel_version gives the library's. */
+#define YASLAUREL_VERSION_MAJOR 0u
+#define YASLAUREL_VERSION_MINOR 1u
+#define YASLAUREL_VERSION_PATCH 0u
+#define YASLAUREL_VERSION                                                                                              \
+    (YASLAUREL_VERSION_MAJOR * 65536u + YASLAUREL_VERSION_MINOR * 256u + YASLAUREL_VERSION_PATCH)
+
+/*
+ * Atoms. A tag, what a container holds, is a set of 64 atoms in one number: atom k is worth 2 to the k, so it is bit k.
+ * Bits 0 to 31 are the data atoms, the sources that a policy tells apart. Bit k + 32 is the running atom of data atom k:
+ * the same content, executed. A process has it while it runs a program that came from source k, and hands it on to what
+ * it writes; a read passes no running atom on. A mixture, what a rule permits together, is such a set too, and a rule
+ * covers a tag if one of its mixtures holds all of the tag.
+ */
+#define YASLAUREL_ATOMS 32u   /* data atoms */
+#define YASLAUREL_RUNNING 32u /* how far the running atom of a data atom is behind it */
 
 /* The sizes of the formats and the places in them. Names that end in _AT are places, counted from 0. */
 
-/* A policy image, in bytes: the header, then the sections, counted from 0. */
+/*
+ * A policy image, in bytes: a header, then four sections, whose records follow. The header has the leading number, then
+ * offset and length of each section, 16 bits each: 0 containers, 1 users, 2 rules, 3 mixtures. A section starts at or
+ * after the end of the one before. The number of a container, a user, a rule or a mixture is its place, from 0.
+ */
 #define YASLAUREL_LEADING 4u         /* the number that an image begins with */
 #define YASLAUREL_HEADER_LENGTH 18u  /* also of the smallest image */
 #define YASLAUREL_IMAGE_LIMIT 20480u /* of the longest image */
@@ -76,21 +138,31 @@ extern "C" {
 #define YASLAUREL_OFFSET_AT(section) (2u + 4u * (section)) /* of a section, in the header */
 #define YASLAUREL_LENGTH_AT(section) (4u + 4u * (section))
 
-/* A record of each section, and how many there are at most. */
-#define YASLAUREL_CONTAINER_LENGTH 6u /* kind, atom, permit rule, run rule */
-#define YASLAUREL_USER_LENGTH 2u      /* rule */
-#define YASLAUREL_RULE_LENGTH 4u      /* first mixture, count */
-#define YASLAUREL_MIXTURE_LENGTH 8u
+/*
+ * A record of each section in bytes, and how many there are at most. The permit rule of a file says which tags it may
+ * hold, its run rule which tags a process may hold that runs it, a user's rule which tags a process may hold that runs on
+ * the user's behalf, and a file made for the user. Volatiles and processes have no atom and unrestricted rules.
+ */
+#define YASLAUREL_CONTAINER_LENGTH 6u /* kind (8 bits), atom (8), permit rule (16), run rule (16) */
+#define YASLAUREL_USER_LENGTH 2u      /* rule (16) */
+#define YASLAUREL_RULE_LENGTH 4u      /* first mixture (16), count (16); the firsts never fall */
+#define YASLAUREL_MIXTURE_LENGTH 8u   /* atoms (64) */
 #define YASLAUREL_CONTAINERS 256u
 #define YASLAUREL_USERS 16u
 #define YASLAUREL_RULES 256u
 #define YASLAUREL_MIXTURES 2048u
 #define YASLAUREL_RULE_MIXTURES 8u /* mixtures of one rule at most */
 
-/* What stands for none: no atom of a container, the unrestricted rule, no user of an operation or of a container. */
-#define YASLAUREL_NO_ATOM 255u
-#define YASLAUREL_UNRESTRICTED 65535u
-#define YASLAUREL_NO_USER 65535u
+/* Kinds of a container; a number of which nobody is the holder is free. */
+#define YASLAUREL_FREE 0u /* in a session alone */
+#define YASLAUREL_FILE 1u
+#define YASLAUREL_VOLATILE 2u
+#define YASLAUREL_PROCESS 3u
+
+/* What stands for none. */
+#define YASLAUREL_NO_ATOM 255u        /* no atom of a container */
+#define YASLAUREL_UNRESTRICTED 65535u /* no rule: every tag is covered */
+#define YASLAUREL_NO_USER 65535u      /* no user of an operation, or of a container */
 
 /* Bytes that an output for an image must hold. */
 #define YASLAUREL_OUTPUT_LENGTH                                                                                        \
@@ -103,22 +175,44 @@ extern "C" {
 #define YASLAUREL_PATH_LIMIT 64u
 #define YASLAUREL_PATHS 32u
 
-/* An operation record, in bytes. */
+/* An operation record, in bytes; yaslaurel_record makes one. */
 #define YASLAUREL_RECORD_LENGTH 8u
-#define YASLAUREL_CODE_AT 0u
-#define YASLAUREL_ZERO_AT 1u
-#define YASLAUREL_PROCESS_AT 2u
-#define YASLAUREL_OBJECT_AT 4u
-#define YASLAUREL_USER_AT 6u
+#define YASLAUREL_CODE_AT 0u    /* 8 bits: the code */
+#define YASLAUREL_ZERO_AT 1u    /* 8 bits: 0 */
+#define YASLAUREL_PROCESS_AT 2u /* 16 bits: the process p, 0 to 255 */
+#define YASLAUREL_OBJECT_AT 4u  /* 16 bits: the object o, 0 to 255 */
+#define YASLAUREL_USER_AT 6u    /* 16 bits: the user u, 0 to 15, for exec and new file; else YASLAUREL_NO_USER */
 
-/* A session, in numbers of 64 bits: a row for each container, then one for each user. */
+/*
+ * Codes of operations: process p does it to object o. The receiver is p for read, exec and end, else o. The first five
+ * may answer alert, the others never do. A number whose holder has ended or was deleted may be taken again.
+ */
+#define YASLAUREL_READ 1u         /* p reads file or volatile o: it gains the data atoms of o */
+#define YASLAUREL_WRITE 2u        /* p overwrites file or volatile o: it holds what p holds, and nothing else */
+#define YASLAUREL_APPEND 3u       /* p adds to file or volatile o: it gains what p holds */
+#define YASLAUREL_EXEC 4u         /* p starts the program in file o on behalf of user u */
+#define YASLAUREL_FORK 5u         /* p makes process o, a copy of itself */
+#define YASLAUREL_NEW_FILE 6u     /* p makes file o for user u */
+#define YASLAUREL_NEW_VOLATILE 7u /* p makes volatile o */
+#define YASLAUREL_END 8u          /* p ends; o is p */
+#define YASLAUREL_DELETE 9u       /* p deletes file or volatile o */
+
+/*
+ * A session, in numbers of 64 bits: a row for each container, then one for each user. A rule in a row is its count, 0 to
+ * 8, then eight mixtures, zeros behind the last. A row of a free number or an undeclared user is all 0.
+ */
 #define YASLAUREL_CONTAINER_ROW 21u
 #define YASLAUREL_USER_ROW 10u
 #define YASLAUREL_USERS_AT (YASLAUREL_CONTAINERS * YASLAUREL_CONTAINER_ROW) /* the first user's row */
 #define YASLAUREL_SESSION_LENGTH (YASLAUREL_USERS_AT + YASLAUREL_USERS * YASLAUREL_USER_ROW)
-#define YASLAUREL_KIND_AT 0u /* in a container's row */
-#define YASLAUREL_TAG_AT 1u
-#define YASLAUREL_BEHALF_AT 20u /* the user on whose behalf a process runs, else YASLAUREL_NO_USER */
+#define YASLAUREL_KIND_AT 0u      /* in a container's row */
+#define YASLAUREL_TAG_AT 1u       /* in a container's row */
+#define YASLAUREL_PERMIT_AT 2u    /* in a container's row: the permit rule */
+#define YASLAUREL_RUN_AT 11u      /* in a container's row: the run rule */
+#define YASLAUREL_BEHALF_AT 20u   /* in a container's row: the user on whose behalf a process runs, YASLAUREL_NO_USER for
+                                     nobody and in the rows of files and volatiles */
+#define YASLAUREL_DECLARED_AT 0u  /* in a user's row: 1 if declared */
+#define YASLAUREL_USER_RULE_AT 1u /* in a user's row: the user's rule */
 
 /* Answers that are no refusals. */
 #define YASLAUREL_ACCEPTED 0u
@@ -127,7 +221,7 @@ extern "C" {
 #define YASLAUREL_CONSISTENT 0u
 #define YASLAUREL_NOT_CONSISTENT 1u
 
-/* Conditions of a proposal to withdraw rights. */
+/* Answers of yaslaurel_matrix_judge that are neither 0 nor a refusal: the first condition that fails. */
 #define YASLAUREL_RIGHT_ADDED 1u
 #define YASLAUREL_RIGHT_LOST 2u
 #define YASLAUREL_PROPOSAL_NOT_CONSISTENT 3u
@@ -154,63 +248,110 @@ extern "C" {
 #define YASLAUREL_REFUSED_OTHER_USER 18u
 
 /*
- * Checks a policy image. 0 if it is accepted, else 1 to 6.
+ * Bytes of stack that a call needs at most, with all that it calls. What the C library's memory functions need comes on
+ * top, a few hundred bytes, or a few thousand at the first call where the dynamic linker finds them as they are called.
  */
+#define YASLAUREL_VERSION_STACK 64u
+#define YASLAUREL_IMAGE_CHECK_STACK 128u
+#define YASLAUREL_IMAGE_NORMALISE_STACK 36864u
+#define YASLAUREL_SESSION_START_STACK 512u
+#define YASLAUREL_STEP_STACK 1536u
+#define YASLAUREL_RUN_STACK 1536u
+#define YASLAUREL_MATRIX_VERDICT_STACK 512u
+#define YASLAUREL_MATRIX_JUDGE_STACK 512u
+#define YASLAUREL_MATRIX_POLICY_STACK 12288u
+#define YASLAUREL_PROFILES_POLICY_STACK 36864u
+
+#ifdef __cplusplus
+extern "C" {
+#endif
+
+/*
+ * Gives the version of the library.
+ *
+ * Returns major times 65536 plus minor times 256 plus patch. A host may compare it with YASLAUREL_VERSION, the version of
+ * the header that it was compiled with.
+ */
+uint32_t yaslaurel_version(void);
+
+/*
+ * Checks a policy image.
+ *
+ * Returns 0 if it is accepted, else 1 to 6.
+ */
+YASLAUREL_MUST_USE
 uint32_t yaslaurel_image_check(const uint8_t *image, size_t image_len);
 
 /*
- * Writes the normal image of a policy image to the front of `out`; the bytes behind it stay. Two accepted images have
- * the same normal image exactly when they start equal sessions.
- * The length of the normal image (YASLAUREL_HEADER_LENGTH to YASLAUREL_OUTPUT_LENGTH), else 9, then 1 to 6. The two
- * ranges do not meet.
+ * Writes the normal image of a policy image. It comes to the front of `out`; the bytes behind it stay. Two accepted images
+ * have the same normal image exactly when they start equal sessions. `out` is other memory than `image`.
+ *
+ * Returns the length of the normal image (YASLAUREL_HEADER_LENGTH to YASLAUREL_OUTPUT_LENGTH), else 9, then 1 to 6. The
+ * two ranges do not meet.
  */
+YASLAUREL_MUST_USE
 uint32_t yaslaurel_image_normalise(const uint8_t *image, size_t image_len, uint8_t *out, size_t out_len);
 
 /*
- * Starts a session: fills all its numbers from the policy image, whatever stood there.
- * 0 if the image is accepted, else 9, then 1 to 6.
+ * Starts a session. All its numbers are filled from the policy image, whatever stood there.
+ *
+ * Returns 0 if the image is accepted, else 9, then 1 to 6.
  */
+YASLAUREL_MUST_USE
 uint32_t yaslaurel_session_start(const uint8_t *image, size_t image_len, uint64_t *session, size_t session_len);
 
 /*
- * Judges one operation record and brings the session up to date. An alert does not undo the access.
- * 0 quiet or 256 alert: `receiver` is then the number of the container that received, `tag` the set of its atoms, atom
- * k worth 2 to the k; for an end or a delete, the number of the container that leaves, and 0. Else 9, then 7, then 10 to
- * 14, 18 or 15, and `receiver` and `tag` keep what they held.
+ * Judges one operation record. The session is brought up to date. An alert does not undo the access.
+ *
+ * Returns 0 quiet or 256 alert: `receiver` is then the number of the container that received, `tag` the set of its atoms,
+ * atom k worth 2 to the k; for an end or a delete, the number of the container that leaves, and 0. Else 9, then 7, then 10
+ * to 14, 18 or 15, and `receiver` and `tag` keep what they held.
  */
+YASLAUREL_MUST_USE
 uint32_t yaslaurel_step(uint64_t *session, size_t session_len, const uint8_t *record, size_t record_len,
                         uint64_t *receiver, uint64_t *tag);
 
 /*
- * Judges the records that lie one behind the other in `records`, each as yaslaurel_step does (the last may be short,
- * and is then refused with 7), up to and with the first that is not answered quiet, or to the end.
- * 0 if each was quiet, also if there is none; 256 alert, with `receiver` and `tag` as from yaslaurel_step; else that
- * record's refusal, 7, 10 to 15 or 18, which changes nothing of its own, while the records before it stay done.
+ * Judges records up to the first that is not quiet. They lie one behind the other in `records`; each is judged as
+ * yaslaurel_step does (the last may be short, and is then refused with 7), up to and with the first that is not answered
+ * quiet, or to the end.
+ *
+ * To go on, call again with the records behind: YASLAUREL_RECORD_LENGTH times `taken` bytes further, none left if that is
+ * `records_len` or more. The answers are those of yaslaurel_step on each record in turn.
+ *
+ * Returns 0 if each was quiet, also if there is none; 256 alert, with `receiver` and `tag` as from yaslaurel_step; else
+ * that record's refusal, 7, 10 to 15 or 18, which changes nothing of its own, while the records before it stay done.
  * `taken` is then how many were judged, the last included; `receiver` and `tag` are written in an alert alone. 9 comes
  * first, also without records, and nothing changes, `taken` neither.
- * To go on, call again with the records behind: YASLAUREL_RECORD_LENGTH times `taken` bytes further, none left if that
- * is `records_len` or more. The answers are those of yaslaurel_step on each record in turn.
  */
+YASLAUREL_MUST_USE
 uint32_t yaslaurel_run(uint64_t *session, size_t session_len, const uint8_t *records, size_t records_len,
                        size_t *taken, uint64_t *receiver, uint64_t *tag);
 
 /*
- * The verdict on an access matrix: `reads` and `writes` have one row for each subject, bit k for object k.
- * 0 consistent, with 0 in all three numbers. 1 not consistent: `count` composed flows are not granted, the first of
- * them (smallest source, then smallest target) from object `source` to object `target`. Else 8, and the three numbers
+ * Gives the verdict on an access matrix. `reads` and `writes` have one row for each of 1 to 8 subjects, bit k for object k
+ * of 1 to 32. A flow from a to b is granted if a is b or one subject reads a and writes b; a composed flow is a chain of
+ * granted ones.
+ *
+ * Returns 0 consistent, with 0 in all three numbers. 1 not consistent: `count` composed flows are not granted, the first
+ * of them (smallest source, then smallest target) from object `source` to object `target`. Else 8, and the three numbers
  * keep what they held.
  */
+YASLAUREL_MUST_USE
 uint32_t yaslaurel_matrix_verdict(const uint32_t *reads, size_t reads_len, const uint32_t *writes, size_t writes_len,
                                   uint32_t objects, uint32_t *count, uint32_t *source, uint32_t *target);
 
 /*
- * Judges a proposal to withdraw rights of an access matrix: the old matrix, the rights that must stay as a second one,
- * and the proposed matrix, each as for yaslaurel_matrix_verdict.
- * 0 accepted. Else the first condition that fails: 1 the proposal has no right that the old matrix lacks; 2 it keeps
- * all that must stay; 3 it is consistent; 4 it becomes inconsistent if any single right that was withdrawn is put back
- * alone. Else 8, for one of the matrices or where their counts of subjects or of objects differ. A right that must stay
- * and that the old matrix lacks is no fault of form: 1 or 2 fails then.
+ * Judges a proposal to withdraw rights of an access matrix. It is lent the old matrix, the rights that must stay as a
+ * second one, and the proposed matrix, each as for yaslaurel_matrix_verdict. The conditions: 1 the proposal has no right
+ * that the old matrix lacks; 2 it keeps all that must stay; 3 it is consistent; 4 it becomes inconsistent if any single
+ * right that was withdrawn is put back alone.
+ *
+ * Returns 0 accepted, else the first condition that fails, 1 to 4. Else 8, for one of the matrices or where their counts
+ * of subjects or of objects differ. A right that must stay and that the old matrix lacks is no fault of form: 1 or 2 fails
+ * then.
  */
+YASLAUREL_MUST_USE
 uint32_t yaslaurel_matrix_judge(const uint32_t *old_reads, size_t old_reads_len, const uint32_t *old_writes,
                                 size_t old_writes_len, uint32_t old_objects, const uint32_t *required_reads,
                                 size_t required_reads_len, const uint32_t *required_writes, size_t required_writes_len,
@@ -218,18 +359,24 @@ uint32_t yaslaurel_matrix_judge(const uint32_t *old_reads, size_t old_reads_len,
                                 const uint32_t *proposed_writes, size_t proposed_writes_len, uint32_t proposed_objects);
 
 /*
- * Writes the policy image that an access matrix stands for to the front of `out`; the bytes behind it stay.
- * The length of the image (YASLAUREL_HEADER_LENGTH or more), else 9, then 8.
+ * Writes the policy image that an access matrix stands for. It comes to the front of `out`; the bytes behind it stay. The
+ * objects become files 0 and up, each with its own atom, then come the subjects as processes, and one unrestricted user.
+ * An object may hold, for each subject that writes it, itself and what that subject reads.
+ *
+ * Returns the length of the image (YASLAUREL_HEADER_LENGTH or more), else 9, then 8.
  */
+YASLAUREL_MUST_USE
 uint32_t yaslaurel_matrix_policy(const uint32_t *reads, size_t reads_len, const uint32_t *writes, size_t writes_len,
                                  uint32_t objects, uint8_t *out, size_t out_len);
 
 /*
- * Writes the policy image that a text of profiles stands for to the front of `out`; the bytes behind it stay. Each path
- * becomes a file, in order of first appearance, with its place as number and atom; behind the files come one process,
- * and one unrestricted user. The image is its own normal image.
- * The length of the image (26 or more), else 9, then 16, then 17. 16 is judged for the whole text before 17.
+ * Writes the policy image that a text of profiles stands for. It comes to the front of `out`; the bytes behind it stay.
+ * Each path becomes a file, in order of first appearance, with its place as number and atom; behind the files come one
+ * process, and one unrestricted user. The image is its own normal image. FORMATS.md has the grammar.
+ *
+ * Returns the length of the image (26 or more), else 9, then 16, then 17. 16 is judged for the whole text before 17.
  */
+YASLAUREL_MUST_USE
 uint32_t yaslaurel_profiles_policy(const uint8_t *text, size_t text_len, uint8_t *out, size_t out_len);
 
 #ifdef __cplusplus
@@ -237,8 +384,106 @@ uint32_t yaslaurel_profiles_policy(const uint8_t *text, size_t text_len, uint8_t
 #endif
 
 /*
- * For hosts whose empty slices may be null: the pointer itself, or for a null the address of one element that nobody
- * uses. Meant for slices of length 0; a null with another length breaks what the host owes all the same.
+ * Makes an operation record. A number that does not fit its field, such as a process number over 65535, makes a record
+ * that is refused with 7: it never names another container or user.
+ *
+ * Returns nothing. All 8 bytes of `out` are written.
+ */
+static inline void yaslaurel_record(uint32_t code, uint32_t p, uint32_t o, uint32_t u,
+                                    uint8_t out[YASLAUREL_RECORD_LENGTH])
+{
+    const uint32_t numbers[3] = {p, o, u};
+    out[YASLAUREL_CODE_AT] = (uint8_t)(code <= 255u ? code : 0u);
+    out[YASLAUREL_ZERO_AT] = 0;
+    for (size_t i = 0; i < 3; i++) {
+        /* 65534 is no container and no user, and does not stand for none. */
+        const uint32_t number = numbers[i] <= 65535u ? numbers[i] : 65534u;
+        out[YASLAUREL_PROCESS_AT + 2 * i] = (uint8_t)(number & 255u);
+        out[YASLAUREL_PROCESS_AT + 2 * i + 1] = (uint8_t)(number >> 8);
+    }
+}
+
+/*
+ * Tells what a refusal means. Not for the answers of yaslaurel_matrix_verdict and yaslaurel_matrix_judge, whose 1 to 4 are
+ * no refusals, and not for a length.
+ *
+ * Returns a constant text of a few words, "no refusal" for 0 and every number over 18.
+ */
+static inline const char *yaslaurel_meaning(uint32_t refusal)
+{
+    static const char *const meanings[] = {
+        "no refusal",
+        "the image is too short or too long",
+        "the image's leading number or the offsets and lengths of its sections are wrong",
+        "a section's length is no multiple of its record, or it has too many records",
+        "a rule record of the image is wrong",
+        "a container record of the image is wrong",
+        "a user's rule number in the image is wrong",
+        "the operation record is malformed",
+        "a matrix is malformed",
+        "the session has a wrong length or the output is too short",
+        "a session row that the record names is not well formed",
+        "p is no process",
+        "o is of the wrong kind",
+        "o is not free",
+        "the user is not declared",
+        "a meet of two rules has over 8 mixtures",
+        "the text of profiles is too long, breaks the grammar or profiles a path twice",
+        "the profiles have over 32 paths, or a rule of over 8 mixtures",
+        "a new file for another user than the process's own",
+    };
+    return meanings[refusal < sizeof meanings / sizeof meanings[0] ? refusal : 0];
+}
+
+/*
+ * Tells what an answer of yaslaurel_matrix_verdict means.
+ *
+ * Returns a constant text of a few words, that of the refusal for 8.
+ */
+static inline const char *yaslaurel_verdict_meaning(uint32_t answer)
+{
+    switch (answer) {
+    case YASLAUREL_CONSISTENT:
+        return "consistent";
+    case YASLAUREL_NOT_CONSISTENT:
+        return "not consistent";
+    case YASLAUREL_REFUSED_MATRIX:
+        return yaslaurel_meaning(answer);
+    default:
+        return "no answer of yaslaurel_matrix_verdict";
+    }
+}
+
+/*
+ * Tells what an answer of yaslaurel_matrix_judge means.
+ *
+ * Returns a constant text of a few words, that of the refusal for 8.
+ */
+static inline const char *yaslaurel_judgement_meaning(uint32_t answer)
+{
+    switch (answer) {
+    case YASLAUREL_ACCEPTED:
+        return "accepted";
+    case YASLAUREL_RIGHT_ADDED:
+        return "the proposal has a right that the old matrix lacks";
+    case YASLAUREL_RIGHT_LOST:
+        return "a right that must stay is withdrawn";
+    case YASLAUREL_PROPOSAL_NOT_CONSISTENT:
+        return "the proposal is not consistent";
+    case YASLAUREL_NOT_MINIMAL:
+        return "a right that was withdrawn may be put back";
+    case YASLAUREL_REFUSED_MATRIX:
+        return yaslaurel_meaning(answer);
+    default:
+        return "no answer of yaslaurel_matrix_judge";
+    }
+}
+
+/*
+ * Turn a null into an address that a call may be lent with length 0. Meant for hosts whose empty slices may be null, and
+ * for slices of length 0 alone; a null with another length breaks what the host owes all the same.
+ *
+ * Returns the pointer itself, or for a null the address of one element that nobody uses.
  */
 static inline const uint8_t *yaslaurel_bytes(const uint8_t *bytes)
 {

@@ -1,7 +1,7 @@
 /*
  * A small host in C: loads a policy, reads a trace in chunks, and prints each alert with the names of the sources that met.
  *
- *     gcc -std=c11 -Iinclude -o host examples/c/host.c target/lib/libyaslaurel.a
+ *     gcc -std=c11 -o host host.c $(pkg-config --cflags --libs yaslaurel)
  *     host POLICY TRACE [NAMES]
  *
  * NAMES is a text of one name for each data atom, one on a line; without it an atom is named by its number.
@@ -20,7 +20,7 @@
 
 #include "yaslaurel.h"
 
-enum { ATOMS = 32, NAME_LENGTH = 64 };
+enum { ATOMS = YASLAUREL_ATOMS, NAME_LENGTH = 64 };
 
 enum status { QUIET = 0, ALERTS = 1, REFUSALS = 2, POLICY_REFUSED = 4, FAILED = 5 };
 
@@ -68,8 +68,8 @@ static long load_names(const char *path, char names[ATOMS][NAME_LENGTH])
 /* Prints the sources of a tag; a source that was executed is marked. */
 static void print_sources(uint64_t tag, char names[ATOMS][NAME_LENGTH], size_t count)
 {
-    for (unsigned atom = 0; atom < 2 * ATOMS; atom++) {
-        unsigned source = atom % ATOMS;
+    for (unsigned atom = 0; atom < YASLAUREL_RUNNING + ATOMS; atom++) {
+        unsigned source = atom % YASLAUREL_RUNNING;
         if ((tag >> atom & 1) == 0) {
             continue;
         }
@@ -78,34 +78,9 @@ static void print_sources(uint64_t tag, char names[ATOMS][NAME_LENGTH], size_t c
         } else {
             printf(" atom-%u", source);
         }
-        if (atom >= ATOMS) {
+        if (atom >= YASLAUREL_RUNNING) {
             printf("(running)");
         }
-    }
-}
-
-/* What a refusal means, for the operator. */
-static const char *meaning(uint32_t refusal)
-{
-    switch (refusal) {
-    case YASLAUREL_REFUSED_RECORD:
-        return "the record is malformed";
-    case YASLAUREL_REFUSED_ROW:
-        return "the session was damaged";
-    case YASLAUREL_REFUSED_NO_PROCESS:
-        return "p is no process";
-    case YASLAUREL_REFUSED_KIND:
-        return "o is of the wrong kind";
-    case YASLAUREL_REFUSED_NOT_FREE:
-        return "o is not free";
-    case YASLAUREL_REFUSED_UNDECLARED:
-        return "the user is not declared";
-    case YASLAUREL_REFUSED_OTHER_USER:
-        return "the file is for another user than the process's own";
-    case YASLAUREL_REFUSED_MEET:
-        return "two rules meet in over 8 mixtures";
-    default:
-        return "see docs/FORMATS.md";
     }
 }
 
@@ -131,7 +106,8 @@ static void judge(uint64_t *session, const uint8_t *records, size_t length, stru
             printf("\n");
         } else if (answer != YASLAUREL_QUIET) {
             totals->refusals++;
-            printf("step %" PRIu64 ": refused %" PRIu32 ", %s\n", totals->steps, answer, meaning(answer));
+            printf("step %" PRIu64 ": refused %" PRIu32 ", %s\n", totals->steps, answer,
+                   yaslaurel_meaning(answer));
         }
         /* The last record of a trace may be short. */
         size_t bytes = taken * YASLAUREL_RECORD_LENGTH;

@@ -11,12 +11,24 @@ ghost use Rattle.withdrawals.specs.Judgements.{matrixOf, judgementOf};
 ghost use Rattle.derivation.specs.Derived.{derivedAnswer, derivedEffect};
 ghost use Rattle.confinement.specs.Images.{profileAnswer, profileEffect};
 ghost use Rattle.capi.specs.Hosts.{receiverAfter, tagAfter, takenAfter, alertReceiver, alertTag, valueAfter};
+ghost use Rattle.capi.specs.Versions.{version};
 use answers::Answer;
 use answers::Verdict;
 use matrix::Consistency;
 
 // The number of a matrix that is not consistent.
 const INCONSISTENT: u32 = 1;
+
+// 0.1.0: major times 65536, minor times 256, patch.
+const VERSION: u32 = 256;
+
+// The version of the library.
+#[no_mangle]
+pub extern "C" fn yaslaurel_version() -> u32
+    ensures { λ r. ⌜ r ≡ version ⌝ }
+{
+    VERSION
+}
 
 // 0 if the image is accepted, else its refusal, 1 to 6.
 #[no_mangle]

@@ -6,6 +6,7 @@ pub const QUIET: u32 = 0;
 pub const ALERT: u32 = 256;
 
 extern "C" {
+    pub fn yaslaurel_version() -> u32;
     pub fn yaslaurel_image_check(image: *const u8, image_len: usize) -> u32;
     pub fn yaslaurel_image_normalise(image: *const u8, image_len: usize, out: *mut u8, out_len: usize) -> u32;
     pub fn yaslaurel_session_start(image: *const u8, image_len: usize, session: *mut u64, session_len: usize) -> u32;

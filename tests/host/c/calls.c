@@ -478,8 +478,93 @@ static void random_bytes(void)
     check(good, "random bytes: every answer is one that the function can give");
 }
 
+/* The record of an operation, byte by byte, and numbers that do not fit: none of them becomes another number. */
+static void records(void)
+{
+    static const struct {
+        uint32_t code, p, o, u;
+        uint8_t bytes[RECORD];
+    } good[] = {
+        {YASLAUREL_READ, 4, 2, YASLAUREL_NO_USER, {1, 0, 4, 0, 2, 0, 255, 255}},
+        {YASLAUREL_WRITE, 255, 0, YASLAUREL_NO_USER, {2, 0, 255, 0, 0, 0, 255, 255}},
+        {YASLAUREL_APPEND, 0, 255, YASLAUREL_NO_USER, {3, 0, 0, 0, 255, 0, 255, 255}},
+        {YASLAUREL_EXEC, 5, 1, 15, {4, 0, 5, 0, 1, 0, 15, 0}},
+        {YASLAUREL_FORK, 5, 6, YASLAUREL_NO_USER, {5, 0, 5, 0, 6, 0, 255, 255}},
+        {YASLAUREL_NEW_FILE, 5, 7, 0, {6, 0, 5, 0, 7, 0, 0, 0}},
+        {YASLAUREL_NEW_VOLATILE, 5, 8, YASLAUREL_NO_USER, {7, 0, 5, 0, 8, 0, 255, 255}},
+        {YASLAUREL_END, 5, 5, YASLAUREL_NO_USER, {8, 0, 5, 0, 5, 0, 255, 255}},
+        {YASLAUREL_DELETE, 4, 8, YASLAUREL_NO_USER, {9, 0, 4, 0, 8, 0, 255, 255}},
+        {0, 256, 65535, 258, {0, 0, 0, 1, 255, 255, 2, 1}},
+    };
+    /* Each with one number that would be good without its upper bits. */
+    static const uint32_t too_large[][4] = {
+        {256 + YASLAUREL_READ, 4, 2, YASLAUREL_NO_USER},
+        {YASLAUREL_READ, 65536 + 4, 2, YASLAUREL_NO_USER},
+        {YASLAUREL_READ, 4, 65536 + 2, YASLAUREL_NO_USER},
+        {YASLAUREL_READ, 4, 2, 65536 + YASLAUREL_NO_USER},
+        {YASLAUREL_READ, 4, 2, UINT32_MAX},
+        {YASLAUREL_EXEC, 4, 2, 65536},
+    };
+    uint8_t record[RECORD];
+    uint64_t receiver, tag;
+
+    for (size_t i = 0; i < sizeof good / sizeof good[0]; i++) {
+        memset(record, MARK, RECORD);
+        yaslaurel_record(good[i].code, good[i].p, good[i].o, good[i].u, record);
+        check(memcmp(record, good[i].bytes, RECORD) == 0, "record: the bytes of an operation");
+    }
+    check(yaslaurel_matrix_policy(reads, 3, writes, 3, 4, out, OUTPUT) == 110 &&
+              yaslaurel_session_start(out, 110, session, SESSION) == 0,
+          "record: the session starts");
+    for (size_t i = 0; i < sizeof too_large / sizeof too_large[0]; i++) {
+        yaslaurel_record(too_large[i][0], too_large[i][1], too_large[i][2], too_large[i][3], record);
+        check(yaslaurel_step(session, SESSION, record, RECORD, &receiver, &tag) == 7, "record: a number that does not fit");
+    }
+}
+
+/* Each refusal has a text of its own; the verdict's 1 and the judgement's 1 to 4 have others. */
+static void meanings(void)
+{
+    static const char *const verdicts[] = {"consistent", "not consistent"};
+    static const char *const judgements[] = {"accepted", "the proposal has a right that the old matrix lacks",
+                                             "a right that must stay is withdrawn", "the proposal is not consistent",
+                                             "a right that was withdrawn may be put back"};
+    const char *none = yaslaurel_meaning(0);
+
+    check(strcmp(none, "no refusal") == 0, "meaning: of 0");
+    for (uint32_t i = 1; i <= 18; i++) {
+        int own = strlen(yaslaurel_meaning(i)) > 0;
+        for (uint32_t j = 0; j < i; j++) {
+            own = own && strcmp(yaslaurel_meaning(i), yaslaurel_meaning(j)) != 0;
+        }
+        check(own, "meaning: a refusal has a text of its own");
+    }
+    check(yaslaurel_meaning(19) == none && yaslaurel_meaning(YASLAUREL_ALERT) == none &&
+              yaslaurel_meaning(UINT32_MAX) == none,
+          "meaning: of numbers that are no refusals");
+    check(strcmp(yaslaurel_meaning(YASLAUREL_REFUSED_NO_PROCESS), "p is no process") == 0 &&
+              strcmp(yaslaurel_meaning(YASLAUREL_REFUSED_KIND), "o is of the wrong kind") == 0 &&
+              strcmp(yaslaurel_meaning(YASLAUREL_REFUSED_OTHER_USER),
+                     "a new file for another user than the process's own") == 0,
+          "meaning: the texts stand under their numbers");
+    for (uint32_t i = 0; i < 2; i++) {
+        check(strcmp(yaslaurel_verdict_meaning(i), verdicts[i]) == 0, "meaning: of a verdict");
+    }
+    for (uint32_t i = 0; i < 5; i++) {
+        check(strcmp(yaslaurel_judgement_meaning(i), judgements[i]) == 0, "meaning: of a judgement");
+    }
+    check(yaslaurel_verdict_meaning(8) == yaslaurel_meaning(8) && yaslaurel_judgement_meaning(8) == yaslaurel_meaning(8),
+          "meaning: a refused matrix is a refusal in all three");
+    check(strcmp(yaslaurel_verdict_meaning(2), "no answer of yaslaurel_matrix_verdict") == 0 &&
+              strcmp(yaslaurel_judgement_meaning(5), "no answer of yaslaurel_matrix_judge") == 0,
+          "meaning: of numbers that are no answers");
+}
+
 int main(void)
 {
+    check(yaslaurel_version() == YASLAUREL_VERSION, "the library has the header's version");
+    records();
+    meanings();
     lengths();
     nulls();
     example();

@@ -109,6 +109,13 @@ fn fault(number: u32) -> bool {
     planted() == number
 }
 
+/// The version of this package, as the library gives its own.
+#[no_mangle]
+pub extern "C" fn yaslaurel_version() -> u32 {
+    let parts = env!("CARGO_PKG_VERSION").split('.').map(|part| part.parse::<u32>().expect("cargo has numbers here"));
+    parts.fold(0, |number, part| number * 256 + part)
+}
+
 /// # Safety
 /// As `include/yaslaurel.h` says.
 #[no_mangle]
