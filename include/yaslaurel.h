@@ -248,17 +248,18 @@
 #define YASLAUREL_REFUSED_OTHER_USER 18u
 
 /*
- * Bytes of stack that a call needs at most, with all that it calls. What the C library's memory functions need comes on
- * top, a few hundred bytes, or a few thousand at the first call where the dynamic linker finds them as they are called.
+ * Bytes of stack that a call needs at most, with its arguments and all that it calls. What the C library's memory
+ * functions need comes on top: next to nothing, but some kilobytes at the first call in a program whose dynamic linker
+ * looks a function up when it is called.
  */
-#define YASLAUREL_VERSION_STACK 64u
+#define YASLAUREL_VERSION_STACK 16u
 #define YASLAUREL_IMAGE_CHECK_STACK 128u
-#define YASLAUREL_IMAGE_NORMALISE_STACK 36864u
-#define YASLAUREL_SESSION_START_STACK 512u
+#define YASLAUREL_IMAGE_NORMALISE_STACK 32768u
+#define YASLAUREL_SESSION_START_STACK 1536u
 #define YASLAUREL_STEP_STACK 1536u
 #define YASLAUREL_RUN_STACK 1536u
-#define YASLAUREL_MATRIX_VERDICT_STACK 512u
-#define YASLAUREL_MATRIX_JUDGE_STACK 512u
+#define YASLAUREL_MATRIX_VERDICT_STACK 256u
+#define YASLAUREL_MATRIX_JUDGE_STACK 384u
 #define YASLAUREL_MATRIX_POLICY_STACK 12288u
 #define YASLAUREL_PROFILES_POLICY_STACK 36864u
 

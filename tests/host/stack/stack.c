@@ -1,0 +1,305 @@
+/*
+ * Measures the stack of each function of the library. A call runs on a stack of its own that was painted before; what is
+ * no longer paint was used. Inputs are the largest and the worst that we can make, and many random ones. Prints a line
+ * for each function and `N passed, M failed`: a function fails if it used more than the header says, or if the header
+ * says over twice what was found.
+ */
+#define _GNU_SOURCE
+#include <stdio.h>
+#include <stdlib.h>
+#include <string.h>
+#include <sys/mman.h>
+#include <ucontext.h>
+
+#include "yaslaurel.h"
+
+enum {
+    STACK = 1 << 18,
+    SESSION = YASLAUREL_SESSION_LENGTH,
+    FILES = 200, /* of the containers; the others are processes, and some numbers are free */
+    PROCESSES = 40,
+    SUBJECTS = 8,
+    OBJECTS = 32,
+    ROUNDS = 300,
+    STEPS = 200
+};
+
+static const uint64_t paint = 0xa5c3966969963c5au;
+
+static uint64_t *stack;
+static uintptr_t at_call; /* the stack pointer of the caller */
+static ucontext_t here;
+
+/* What the calls are lent. */
+static uint8_t image[YASLAUREL_IMAGE_LIMIT];
+static size_t image_length;
+static uint8_t out[YASLAUREL_OUTPUT_LENGTH];
+static uint64_t session[SESSION];
+static uint8_t record[YASLAUREL_RECORD_LENGTH];
+static uint32_t rows[6][SUBJECTS];
+static char text[YASLAUREL_TEXT_LIMIT + 1];
+static uint32_t answer;
+static uint64_t receiver, tag;
+static uint32_t count, source, target;
+static size_t taken;
+
+/* Each caller notes its stack pointer, then calls. */
+#define NOTE() __asm__ volatile("mov %%rsp, %0" : "=m"(at_call))
+
+static void call_version(void)
+{
+    NOTE();
+    answer = yaslaurel_version();
+}
+
+static void call_check(void)
+{
+    NOTE();
+    answer = yaslaurel_image_check(image, image_length);
+}
+
+static void call_normalise(void)
+{
+    NOTE();
+    answer = yaslaurel_image_normalise(image, image_length, out, sizeof out);
+}
+
+static void call_start(void)
+{
+    NOTE();
+    answer = yaslaurel_session_start(image, image_length, session, SESSION);
+}
+
+static void call_step(void)
+{
+    NOTE();
+    answer = yaslaurel_step(session, SESSION, record, sizeof record, &receiver, &tag);
+}
+
+static void call_run(void)
+{
+    NOTE();
+    answer = yaslaurel_run(session, SESSION, record, sizeof record, &taken, &receiver, &tag);
+}
+
+static void call_verdict(void)
+{
+    NOTE();
+    answer = yaslaurel_matrix_verdict(rows[0], SUBJECTS, rows[1], SUBJECTS, OBJECTS, &count, &source, &target);
+}
+
+static void call_judge(void)
+{
+    NOTE();
+    answer = yaslaurel_matrix_judge(rows[0], SUBJECTS, rows[1], SUBJECTS, OBJECTS, rows[2], SUBJECTS, rows[3], SUBJECTS,
+                                    OBJECTS, rows[4], SUBJECTS, rows[5], SUBJECTS, OBJECTS);
+}
+
+static void call_policy(void)
+{
+    NOTE();
+    answer = yaslaurel_matrix_policy(rows[0], SUBJECTS, rows[1], SUBJECTS, OBJECTS, out, sizeof out);
+}
+
+static void call_profiles(void)
+{
+    NOTE();
+    answer = yaslaurel_profiles_policy((const uint8_t *)text, strlen(text), out, sizeof out);
+}
+
+static struct function {
+    const char *name;
+    void (*call)(void);
+    size_t said, found;
+} functions[] = {
+    {"yaslaurel_version", call_version, YASLAUREL_VERSION_STACK, 0},
+    {"yaslaurel_image_check", call_check, YASLAUREL_IMAGE_CHECK_STACK, 0},
+    {"yaslaurel_image_normalise", call_normalise, YASLAUREL_IMAGE_NORMALISE_STACK, 0},
+    {"yaslaurel_session_start", call_start, YASLAUREL_SESSION_START_STACK, 0},
+    {"yaslaurel_step", call_step, YASLAUREL_STEP_STACK, 0},
+    {"yaslaurel_run", call_run, YASLAUREL_RUN_STACK, 0},
+    {"yaslaurel_matrix_verdict", call_verdict, YASLAUREL_MATRIX_VERDICT_STACK, 0},
+    {"yaslaurel_matrix_judge", call_judge, YASLAUREL_MATRIX_JUDGE_STACK, 0},
+    {"yaslaurel_matrix_policy", call_policy, YASLAUREL_MATRIX_POLICY_STACK, 0},
+    {"yaslaurel_profiles_policy", call_profiles, YASLAUREL_PROFILES_POLICY_STACK, 0},
+};
+
+enum { VERSION, CHECK, NORMALISE, START, STEP, RUN, VERDICT, JUDGE, POLICY, PROFILES };
+
+/* Runs a call on the painted stack and keeps the most that was found. */
+static void measure(int which)
+{
+    struct function *function = &functions[which];
+    ucontext_t there;
+    size_t untouched = 0;
+
+    for (size_t i = 0; i < STACK / sizeof *stack; i++) {
+        stack[i] = paint;
+    }
+    if (getcontext(&there) != 0) {
+        exit(2);
+    }
+    there.uc_stack.ss_sp = stack;
+    there.uc_stack.ss_size = STACK;
+    there.uc_link = &here;
+    makecontext(&there, function->call, 0);
+    if (swapcontext(&here, &there) != 0) {
+        exit(2);
+    }
+    while (stack[untouched] == paint) {
+        untouched++;
+    }
+    size_t used = (size_t)(at_call - (uintptr_t)&stack[untouched]);
+    function->found = used > function->found ? used : function->found;
+}
+
+/* A small generator of random numbers. */
+static uint64_t draw(void)
+{
+    static uint64_t state = 1;
+    state = state * 6364136223846793005u + 1442695040888963407u;
+    return state >> 32 ^ state << 32;
+}
+
+static uint8_t *put(uint8_t *at, uint64_t value, size_t bytes)
+{
+    for (size_t i = 0; i < bytes; i++) {
+        at[i] = (uint8_t)(value >> 8 * i);
+    }
+    return at + bytes;
+}
+
+/*
+ * The largest image: 240 containers, 16 users, 256 rules of 8 mixtures. With `sparse` a mixture has a quarter of the
+ * atoms, so that the meet of two rules has few enough mixtures.
+ */
+static void make_image(int sparse)
+{
+    const size_t lengths[YASLAUREL_SECTIONS] = {(FILES + PROCESSES) * YASLAUREL_CONTAINER_LENGTH,
+                                                YASLAUREL_USERS * YASLAUREL_USER_LENGTH,
+                                                YASLAUREL_RULES * YASLAUREL_RULE_LENGTH,
+                                                YASLAUREL_MIXTURES * YASLAUREL_MIXTURE_LENGTH};
+    size_t offset = YASLAUREL_HEADER_LENGTH;
+    uint8_t *at = put(image, YASLAUREL_LEADING, 2);
+
+    for (size_t i = 0; i < YASLAUREL_SECTIONS; i++) {
+        at = put(put(at, offset, 2), lengths[i], 2);
+        offset += lengths[i];
+    }
+    for (size_t i = 0; i < FILES; i++) {
+        at = put(put(at, YASLAUREL_FILE, 1), draw() % YASLAUREL_ATOMS, 1);
+        at = put(put(at, draw() % YASLAUREL_RULES, 2), draw() % YASLAUREL_RULES, 2);
+    }
+    for (size_t i = 0; i < PROCESSES; i++) {
+        at = put(put(at, YASLAUREL_PROCESS, 1), YASLAUREL_NO_ATOM, 1);
+        at = put(put(at, YASLAUREL_UNRESTRICTED, 2), YASLAUREL_UNRESTRICTED, 2);
+    }
+    for (size_t i = 0; i < YASLAUREL_USERS; i++) {
+        at = put(at, draw() % YASLAUREL_RULES, 2);
+    }
+    for (size_t i = 0; i < YASLAUREL_RULES; i++) {
+        at = put(put(at, i * YASLAUREL_RULE_MIXTURES, 2), YASLAUREL_RULE_MIXTURES, 2);
+    }
+    for (size_t i = 0; i < YASLAUREL_MIXTURES; i++) {
+        at = put(at, sparse ? (uint64_t)1 << draw() % 6 | (uint64_t)1 << draw() % 6 : draw(), YASLAUREL_MIXTURE_LENGTH);
+    }
+    image_length = (size_t)(at - image);
+}
+
+/* Random operations on the session, most of them good. */
+static void steps(void)
+{
+    for (int i = 0; i < STEPS; i++) {
+        uint32_t code = (uint32_t)(1 + draw() % YASLAUREL_DELETE);
+        uint32_t p = (uint32_t)(FILES + draw() % PROCESSES);
+        uint32_t o = (uint32_t)(draw() % YASLAUREL_CONTAINERS);
+        uint32_t u = code == YASLAUREL_EXEC || code == YASLAUREL_NEW_FILE ? (uint32_t)(draw() % YASLAUREL_USERS)
+                                                                         : YASLAUREL_NO_USER;
+        yaslaurel_record(code, p, code == YASLAUREL_END ? p : o, u, record);
+        measure(i % 2 == 0 ? STEP : RUN);
+    }
+}
+
+/* Random rights; in the proposal some of those of the old matrix, and some of these must stay. */
+static void make_rows(void)
+{
+    for (size_t i = 0; i < SUBJECTS; i++) {
+        for (size_t j = 0; j < 2; j++) {
+            rows[j][i] = (uint32_t)(draw() & draw());
+            rows[4 + j][i] = rows[j][i] & (uint32_t)(draw() | draw());
+            rows[2 + j][i] = rows[4 + j][i] & (uint32_t)draw();
+        }
+    }
+}
+
+/* Programs that read, write and execute random ones of 31 paths, each by many modes. */
+static void make_text(void)
+{
+    static const char *const modes[] = {"r", "w", "rw", "ix", "px", "ux", "rwalmixpxPxuxUx"};
+    char *at = text;
+
+    for (unsigned i = 0; i < YASLAUREL_PATHS - 1; i++) {
+        at += sprintf(at, "profile /%u {\n", i);
+        for (unsigned j = 0; j < 8; j++) {
+            at += sprintf(at, "/%u %s,\n", (unsigned)(draw() % YASLAUREL_PATHS), modes[draw() % 7]);
+        }
+        at += sprintf(at, "}\n");
+    }
+}
+
+/* One program for each of 8 files that it alone may write, and 32 paths in all: a policy that is accepted. */
+static void make_good_text(void)
+{
+    char *at = text;
+
+    for (unsigned i = 0; i < YASLAUREL_PATHS / 2; i++) {
+        at += sprintf(at, "profile /p%u {\n/f%u rwix,\n/f%u r,\n}\n", i, i, (unsigned)(draw() % (i + 1)));
+    }
+}
+
+static void measure_all(int round)
+{
+    make_image(round % 2);
+    measure(VERSION);
+    measure(CHECK);
+    measure(NORMALISE);
+    measure(START);
+    steps();
+    make_rows();
+    measure(VERDICT);
+    measure(JUDGE);
+    /* Nothing withdrawn but what no flow needs: each right that is put back is looked at. */
+    memcpy(rows[4], rows[0], sizeof rows[0]);
+    memset(rows[5], 0, sizeof rows[5]);
+    memset(rows[2], 0, 2 * sizeof rows[2]);
+    measure(JUDGE);
+    measure(POLICY);
+    make_text();
+    measure(PROFILES);
+    make_good_text();
+    measure(PROFILES);
+    image_length = draw() % sizeof image;
+    measure(CHECK);
+}
+
+int main(void)
+{
+    unsigned passed = 0, failed = 0;
+
+    stack = mmap(NULL, STACK, PROT_READ | PROT_WRITE, MAP_PRIVATE | MAP_ANONYMOUS, -1, 0);
+    if (stack == MAP_FAILED) {
+        return 2;
+    }
+    for (int round = 0; round < ROUNDS; round++) {
+        measure_all(round);
+    }
+    for (size_t i = 0; i < sizeof functions / sizeof functions[0]; i++) {
+        struct function *function = &functions[i];
+        int good = function->found <= function->said && function->said <= 2 * function->found;
+        printf("%s %s: %zu bytes of stack, the header says %zu\n", good ? "ok" : "FAILED", function->name, function->found,
+               function->said);
+        good ? passed++ : failed++;
+    }
+    printf("%u passed, %u failed\n", passed, failed);
+    return failed != 0;
+}
