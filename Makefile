@@ -2,10 +2,28 @@
 # make profiles-demo   turns the profiles in demo/profiles into a policy, and names the alerts of a session from it
 # make month           runs the month program on the five days in crates/month/data, and draws their alerts
 # make test            everything that can fail, as the gate runs it
-# make lib             target/lib: libyaslaurel.a, yaslaurel.h and yaslaurel.pc, for hosts in C and Rust
+# make lib             target/lib: libyaslaurel.a, yaslaurel.h, yaslaurel.pc, FORMATS.md and manual pages, for hosts in C and Rust
+# make install         these where a distribution has them, with the Rust crate and the example host: PREFIX=/usr/local,
+#                      LIBDIR=PREFIX/lib, staged under DESTDIR
+# make uninstall       removes them, under the same names
 # make covering        target/staticlib/libcovering.a, the cover test alone, which the bench and a host test measure
 # make bench           ratios against Rust, in one run
-.PHONY: demo profiles-demo month test lib covering bench
+.PHONY: demo profiles-demo month test lib install uninstall covering bench
+
+PREFIX = /usr/local
+LIBDIR = $(PREFIX)/lib
+INCLUDEDIR = $(PREFIX)/include
+MANDIR = $(PREFIX)/share/man
+DOCDIR = $(PREFIX)/share/doc/yaslaurel
+# The Rust crate, for hosts that name it by its path.
+CRATEDIR = $(PREFIX)/share/yaslaurel/rust
+INSTALL = install
+
+# The version stands in the header.
+VERSION = $(shell sed -nE 's/^.define YASLAUREL_VERSION_(MAJOR|MINOR|PATCH) ([0-9]+)u$$/\2/p' include/yaslaurel.h | paste -sd.)
+# The pkg-config file for a prefix, an include folder and a library folder.
+pkgconfig = sed -e 's|@PREFIX@|$(1)|' -e 's|@INCLUDEDIR@|$(2)|' -e 's|@LIBDIR@|$(3)|' -e 's|@VERSION@|$(VERSION)|' \
+	include/yaslaurel.pc.in
 
 demo:
 	@demo/run
@@ -23,7 +41,28 @@ lib:
 	rt staticlib capi
 	mkdir -p target/lib
 	cp target/staticlib/libcapi.a target/lib/libyaslaurel.a
-	cp include/yaslaurel.h include/yaslaurel.pc target/lib/
+	cp include/yaslaurel.h docs/FORMATS.md target/lib/
+	$(call pkgconfig,$${pcfiledir},$${prefix},$${prefix}) > target/lib/yaslaurel.pc
+	rm -rf target/lib/man
+	hosts/python/pages.py include/yaslaurel.h target/lib/man/man3
+
+install: lib
+	$(INSTALL) -d $(DESTDIR)$(INCLUDEDIR) $(DESTDIR)$(LIBDIR)/pkgconfig $(DESTDIR)$(MANDIR)/man3 $(DESTDIR)$(DOCDIR)/examples
+	$(INSTALL) -d $(DESTDIR)$(CRATEDIR)/src
+	$(INSTALL) -m 644 include/yaslaurel.h $(DESTDIR)$(INCLUDEDIR)/
+	$(INSTALL) -m 644 target/lib/libyaslaurel.a $(DESTDIR)$(LIBDIR)/
+	$(call pkgconfig,$(PREFIX),$(INCLUDEDIR),$(LIBDIR)) > $(DESTDIR)$(LIBDIR)/pkgconfig/yaslaurel.pc
+	chmod 644 $(DESTDIR)$(LIBDIR)/pkgconfig/yaslaurel.pc
+	$(INSTALL) -m 644 target/lib/man/man3/*.3 $(DESTDIR)$(MANDIR)/man3/
+	$(INSTALL) -m 644 docs/FORMATS.md $(DESTDIR)$(DOCDIR)/
+	$(INSTALL) -m 644 examples/c/host.c $(DESTDIR)$(DOCDIR)/examples/
+	$(INSTALL) -m 644 hosts/rust/Cargo.toml hosts/rust/build.rs $(DESTDIR)$(CRATEDIR)/
+	$(INSTALL) -m 644 hosts/rust/src/*.rs $(DESTDIR)$(CRATEDIR)/src/
+
+uninstall:
+	rm -f $(DESTDIR)$(INCLUDEDIR)/yaslaurel.h $(DESTDIR)$(LIBDIR)/libyaslaurel.a $(DESTDIR)$(LIBDIR)/pkgconfig/yaslaurel.pc
+	rm -f $(DESTDIR)$(MANDIR)/man3/yaslaurel.3 $(DESTDIR)$(MANDIR)/man3/yaslaurel_*.3
+	rm -rf $(DESTDIR)$(DOCDIR) $(DESTDIR)$(PREFIX)/share/yaslaurel
 
 covering:
 	rt staticlib covering

@@ -10,17 +10,19 @@
  * Link with libyaslaurel.a: pkg-config --cflags --libs yaslaurel. The host reads or makes a policy image, lends
  * YASLAUREL_SESSION_LENGTH numbers for a session, starts it, and reports each operation:
  *
- *     answer = yaslaurel_session_start(image, image_len, session, YASLAUREL_SESSION_LENGTH);
+ *     const size_t length = YASLAUREL_SESSION_LENGTH;
+ *     answer = yaslaurel_session_start(image, image_len, session, length);
  *     ...
- *     yaslaurel_record(YASLAUREL_READ, process, file, YASLAUREL_NO_USER, record);
- *     answer = yaslaurel_step(session, YASLAUREL_SESSION_LENGTH, record, sizeof record, &receiver, &tag);
+ *     yaslaurel_record(YASLAUREL_READ, p, o, YASLAUREL_NO_USER, record);
+ *     answer = yaslaurel_step(session, length, record, sizeof record,
+ *                             &receiver, &tag);
  *
  * An image comes from a file, from an access matrix (yaslaurel_matrix_policy) or from a text of profiles
  * (yaslaurel_profiles_policy). FORMATS.md, installed beside, has each format in full and a remedy for each refusal.
  *
- * The library holds no state of its own, allocates nothing, takes no locks and calls nothing but the C library's
- * functions on memory (memset, memcpy and the like): it reads and writes only its own stack and the memory that a call
- * lends it. So there is nothing to set up, to close or to free.
+ * The library holds no state of its own, allocates nothing, takes no locks, leaves errno alone and calls nothing but the C
+ * library's functions on memory (memset, memcpy and the like): it reads and writes only its own stack and the memory that
+ * a call lends it. So there is nothing to set up, to close or to free.
  *
  * ANSWERS
  *
@@ -209,8 +211,7 @@
 #define YASLAUREL_TAG_AT 1u       /* in a container's row */
 #define YASLAUREL_PERMIT_AT 2u    /* in a container's row: the permit rule */
 #define YASLAUREL_RUN_AT 11u      /* in a container's row: the run rule */
-#define YASLAUREL_BEHALF_AT 20u   /* in a container's row: the user on whose behalf a process runs, YASLAUREL_NO_USER for
-                                     nobody and in the rows of files and volatiles */
+#define YASLAUREL_BEHALF_AT 20u   /* in a container's row: the user on whose behalf a process runs, or YASLAUREL_NO_USER */
 #define YASLAUREL_DECLARED_AT 0u  /* in a user's row: 1 if declared */
 #define YASLAUREL_USER_RULE_AT 1u /* in a user's row: the user's rule */
 
