@@ -18,7 +18,7 @@
  *                             &receiver, &tag);
  *
  * An image comes from a file, from an access matrix (yaslaurel_matrix_policy) or from a text of profiles
- * (yaslaurel_profiles_policy). FORMATS.md, installed beside, has each format in full and a remedy for each refusal.
+ * (yaslaurel_profiles_policy). FORMATS.md, which comes with it, has each format in full and a remedy for each refusal.
  *
  * The library holds no state of its own, allocates nothing, takes no locks, leaves errno alone and calls nothing but the C
  * library's functions on memory (memset, memcpy and the like): it reads and writes only its own stack and the memory that
