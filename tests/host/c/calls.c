@@ -6,6 +6,7 @@
 #include <stdio.h>
 #include <string.h>
 
+#include "../inputs.h"
 #include "yaslaurel.h"
 
 static unsigned passed, failed;
@@ -377,14 +378,9 @@ static void profile_example(void)
     check(yaslaurel_profiles_policy(bytes, YASLAUREL_TEXT_LIMIT + 1, out, OUTPUT) == 16, "profiles: one byte longer");
 }
 
-/* A small generator of random numbers. */
-static uint32_t draw(uint64_t *state)
-{
-    *state = *state * 6364136223846793005u + 1442695040888963407u;
-    return (uint32_t)(*state >> 33);
-}
+/* The next random number of 31 bits. */
+static uint32_t draw(uint64_t *state) { return (uint32_t)(next(state) >> 33); }
 
-/* Random bytes and numbers everywhere: every answer is one that the function can give. */
 /* Document 004's Table 1: the judgement on a proposal, with nothing that must stay. */
 static uint32_t judged(const uint32_t *proposed_reads, const uint32_t *proposed_writes, uint32_t objects)
 {
@@ -415,6 +411,7 @@ static void withdrawals(void)
           "judge: a subject less");
 }
 
+/* Random bytes and numbers everywhere: every answer is one that the function can give. */
 static void random_bytes(void)
 {
     static const uint8_t codes[] = {0, 1, 2, 3, 4, 5, 6, 7, 8, 9, 200, 255};
@@ -476,6 +473,62 @@ static void random_bytes(void)
         good = good && answer == (length == 0 ? 26u : 16u);
     }
     check(good, "random bytes: every answer is one that the function can give");
+}
+
+/* A policy spelled by the header's names: a file, a volatile, a process; a user; two rules; three mixtures. */
+static size_t named_image(uint8_t *image)
+{
+    const uint64_t lengths[YASLAUREL_SECTIONS] = {3 * YASLAUREL_CONTAINER_LENGTH, YASLAUREL_USER_LENGTH,
+                                                  2 * YASLAUREL_RULE_LENGTH, 3 * YASLAUREL_MIXTURE_LENGTH};
+    const uint64_t containers[3][4] = {
+        {YASLAUREL_FILE, 5, 0, YASLAUREL_UNRESTRICTED},
+        {YASLAUREL_VOLATILE, YASLAUREL_NO_ATOM, YASLAUREL_UNRESTRICTED, YASLAUREL_UNRESTRICTED},
+        {YASLAUREL_PROCESS, YASLAUREL_NO_ATOM, YASLAUREL_UNRESTRICTED, YASLAUREL_UNRESTRICTED},
+    };
+    uint64_t offset = HEADER;
+    uint8_t *at = image + HEADER;
+
+    put(image, YASLAUREL_LEADING, 2);
+    for (unsigned i = 0; i < YASLAUREL_SECTIONS; i++) {
+        put(image + YASLAUREL_OFFSET_AT(i), offset, 2);
+        put(image + YASLAUREL_LENGTH_AT(i), lengths[i], 2);
+        offset += lengths[i];
+    }
+    for (unsigned i = 0; i < 3; i++) {
+        at = put(put(put(put(at, containers[i][0], 1), containers[i][1], 1), containers[i][2], 2), containers[i][3], 2);
+    }
+    at = put(at, 1, 2);
+    at = put(put(put(put(at, 0, 2), 1, 2), 1, 2), 2, 2);
+    at = put(put(at, 1u << 5, 8), (uint64_t)1 << YASLAUREL_RUNNING | 1, 8);
+    return (size_t)(put(at, 1u << (YASLAUREL_ATOMS - 1), 8) - image);
+}
+
+/* The header's names against numbers that are written out: the image byte by byte, and what a session has of it. */
+static void names(void)
+{
+    static const uint8_t bytes[] = {4, 0, 18, 0, 18, 0, 36, 0, 2, 0, 38, 0, 8, 0, 46, 0, 24, 0,     /* header */
+                                    1, 5, 0, 0, 255, 255, 2, 255, 255, 255, 255, 255, 3, 255, 255, 255, 255, 255,
+                                    1, 0, 0, 0, 1, 0, 1, 0, 2, 0,                                   /* user, rules */
+                                    32, 0, 0, 0, 0, 0, 0, 0, 1, 0, 0, 0, 1, 0, 0, 0, 0, 0, 0, 128, 0, 0, 0, 0};
+    const uint64_t *file = session, *volatile_row = file + YASLAUREL_CONTAINER_ROW;
+    const uint64_t *process = volatile_row + YASLAUREL_CONTAINER_ROW, *none = process + YASLAUREL_CONTAINER_ROW;
+    const uint64_t *user = session + YASLAUREL_USERS_AT;
+    uint8_t image[sizeof bytes + 8];
+
+    memset(image, MARK, sizeof image);
+    check(named_image(image) == sizeof bytes && memcmp(image, bytes, sizeof bytes) == 0, "names: the bytes of an image");
+    check(yaslaurel_session_start(image, sizeof bytes, session, SESSION) == 0, "names: the session starts");
+    check(file[YASLAUREL_KIND_AT] == 1 && file[YASLAUREL_TAG_AT] == 32, "names: kind and tag of a file");
+    check(file[YASLAUREL_PERMIT_AT] == 1 && file[YASLAUREL_PERMIT_AT + 1] == 32, "names: the permit rule of a file");
+    check(file[YASLAUREL_RUN_AT] == 1 && file[YASLAUREL_RUN_AT + 1] == UINT64_MAX, "names: the run rule of a file");
+    check(volatile_row[YASLAUREL_KIND_AT] == YASLAUREL_VOLATILE && process[YASLAUREL_KIND_AT] == YASLAUREL_PROCESS &&
+              none[YASLAUREL_KIND_AT] == YASLAUREL_FREE,
+          "names: the kinds");
+    check(process[YASLAUREL_BEHALF_AT] == 65535, "names: a process that runs on nobody's behalf");
+    check(user[YASLAUREL_DECLARED_AT] == 1, "names: a user that is declared");
+    check(user[YASLAUREL_USER_RULE_AT] == 2 && user[YASLAUREL_USER_RULE_AT + 1] == 0x80000000u &&
+              user[YASLAUREL_USER_RULE_AT + 2] == 0x100000001u,
+          "names: the user's rule, ascending");
 }
 
 /* The record of an operation, byte by byte, and numbers that do not fit: none of them becomes another number. */
@@ -563,6 +616,7 @@ static void meanings(void)
 int main(void)
 {
     check(yaslaurel_version() == YASLAUREL_VERSION, "the library has the header's version");
+    names();
     records();
     meanings();
     lengths();

@@ -17,6 +17,7 @@
 #include <time.h>
 #include <unistd.h>
 
+#include "../inputs.h"
 #include "yaslaurel.h"
 
 enum {
@@ -43,13 +44,7 @@ static uint64_t state;
 static uint64_t seed;
 static unsigned long rounds;
 
-static uint64_t draw(void)
-{
-    uint64_t z = (state += 0x9e3779b97f4a7c15u);
-    z = (z ^ (z >> 30)) * 0xbf58476d1ce4e5b9u;
-    z = (z ^ (z >> 27)) * 0x94d049bb133111ebu;
-    return z ^ (z >> 31);
-}
+static uint64_t draw(void) { return next(&state); }
 
 static size_t below(size_t bound) { return bound == 0 ? 0 : (size_t)(draw() % bound); }
 
@@ -120,15 +115,6 @@ static int stayed(const struct region *region, size_t written)
 /* How often each function gave each answer. */
 static unsigned long checks[ANSWERS], normals[ANSWERS], starts[ANSWERS], steps[ANSWERS], runs[ANSWERS],
     verdicts[ANSWERS], policies[ANSWERS], profiles[ANSWERS], proposals[ANSWERS];
-
-/* Writes a number of so many bytes; gives the place behind it. */
-static uint8_t *put(uint8_t *at, uint64_t value, size_t bytes)
-{
-    for (size_t i = 0; i < bytes; i++) {
-        at[i] = (uint8_t)(value >> 8 * i);
-    }
-    return at + bytes;
-}
 
 static uint8_t *put16(uint8_t *at, size_t value) { return put(at, value, 2); }
 

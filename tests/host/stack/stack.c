@@ -11,6 +11,7 @@
 #include <sys/mman.h>
 #include <ucontext.h>
 
+#include "../inputs.h"
 #include "yaslaurel.h"
 
 enum {
@@ -153,20 +154,10 @@ static void measure(int which)
     function->found = used > function->found ? used : function->found;
 }
 
-/* A small generator of random numbers. */
 static uint64_t draw(void)
 {
     static uint64_t state = 1;
-    state = state * 6364136223846793005u + 1442695040888963407u;
-    return state >> 32 ^ state << 32;
-}
-
-static uint8_t *put(uint8_t *at, uint64_t value, size_t bytes)
-{
-    for (size_t i = 0; i < bytes; i++) {
-        at[i] = (uint8_t)(value >> 8 * i);
-    }
-    return at + bytes;
+    return next(&state);
 }
 
 /*
