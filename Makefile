@@ -17,6 +17,7 @@ MANDIR = $(PREFIX)/share/man
 DOCDIR = $(PREFIX)/share/doc/yaslaurel
 # The Rust crate, for hosts that name it by its path.
 CRATEDIR = $(PREFIX)/share/yaslaurel/rust
+CRATE_SOURCES = $(patsubst hosts/rust/%,%,$(wildcard hosts/rust/src/*.rs))
 INSTALL = install
 
 # The version stands in the header.
@@ -57,12 +58,14 @@ install: lib
 	$(INSTALL) -m 644 docs/FORMATS.md $(DESTDIR)$(DOCDIR)/
 	$(INSTALL) -m 644 examples/c/host.c $(DESTDIR)$(DOCDIR)/examples/
 	$(INSTALL) -m 644 hosts/rust/Cargo.toml hosts/rust/build.rs $(DESTDIR)$(CRATEDIR)/
-	$(INSTALL) -m 644 hosts/rust/src/*.rs $(DESTDIR)$(CRATEDIR)/src/
+	$(INSTALL) -m 644 $(addprefix hosts/rust/,$(CRATE_SOURCES)) $(DESTDIR)$(CRATEDIR)/src/
 
 uninstall:
 	rm -f $(DESTDIR)$(INCLUDEDIR)/yaslaurel.h $(DESTDIR)$(LIBDIR)/libyaslaurel.a $(DESTDIR)$(LIBDIR)/pkgconfig/yaslaurel.pc
 	rm -f $(DESTDIR)$(MANDIR)/man3/yaslaurel.3 $(DESTDIR)$(MANDIR)/man3/yaslaurel_*.3
-	rm -rf $(DESTDIR)$(DOCDIR) $(DESTDIR)$(PREFIX)/share/yaslaurel
+	rm -f $(DESTDIR)$(DOCDIR)/FORMATS.md $(DESTDIR)$(DOCDIR)/examples/host.c
+	rm -f $(addprefix $(DESTDIR)$(CRATEDIR)/,Cargo.toml build.rs $(CRATE_SOURCES))
+	-rmdir --ignore-fail-on-non-empty $(addprefix $(DESTDIR),$(DOCDIR)/examples $(DOCDIR) $(CRATEDIR)/src $(CRATEDIR) $(dir $(CRATEDIR)))
 
 covering:
 	rt staticlib covering

@@ -129,9 +129,9 @@
 /* The sizes of the formats and the places in them. Names that end in _AT are places, counted from 0. */
 
 /*
- * A policy image, in bytes: a header, then four sections, whose records follow. The header has the leading number, then
- * offset and length of each section, 16 bits each: 0 containers, 1 users, 2 rules, 3 mixtures. A section starts at or
- * after the end of the one before. The number of a container, a user, a rule or a mixture is its place, from 0.
+ * A policy image, in bytes: a header, then four sections of records. The header has the leading number, then offset and
+ * length of each section, 16 bits each: 0 containers, 1 users, 2 rules, 3 mixtures. A section starts at or after the end
+ * of the one before. The number of a container, a user, a rule or a mixture is its place in its section, from 0.
  */
 #define YASLAUREL_LEADING 4u         /* the number that an image begins with */
 #define YASLAUREL_HEADER_LENGTH 18u  /* also of the smallest image */
@@ -155,7 +155,7 @@
 #define YASLAUREL_MIXTURES 2048u
 #define YASLAUREL_RULE_MIXTURES 8u /* mixtures of one rule at most */
 
-/* Kinds of a container; a number of which nobody is the holder is free. */
+/* Kinds of a container. A number without a holder is free. */
 #define YASLAUREL_FREE 0u /* in a session alone */
 #define YASLAUREL_FILE 1u
 #define YASLAUREL_VOLATILE 2u
@@ -192,7 +192,7 @@
 #define YASLAUREL_READ 1u         /* p reads file or volatile o: it gains the data atoms of o */
 #define YASLAUREL_WRITE 2u        /* p overwrites file or volatile o: it holds what p holds, and nothing else */
 #define YASLAUREL_APPEND 3u       /* p adds to file or volatile o: it gains what p holds */
-#define YASLAUREL_EXEC 4u         /* p starts the program in file o on behalf of user u */
+#define YASLAUREL_EXEC 4u         /* p starts the program in file o for user u: it keeps its data, and runs that of o */
 #define YASLAUREL_FORK 5u         /* p makes process o, a copy of itself */
 #define YASLAUREL_NEW_FILE 6u     /* p makes file o for user u */
 #define YASLAUREL_NEW_VOLATILE 7u /* p makes volatile o */
@@ -374,7 +374,16 @@ uint32_t yaslaurel_matrix_policy(const uint32_t *reads, size_t reads_len, const 
 /*
  * Writes the policy image that a text of profiles stands for. It comes to the front of `out`; the bytes behind it stay.
  * Each path becomes a file, in order of first appearance, with its place as number and atom; behind the files come one
- * process, and one unrestricted user. The image is its own normal image. FORMATS.md has the grammar.
+ * process, and one unrestricted user. The image is its own normal image.
+ *
+ * A text is any number of profiles. Its lines end with byte 10, and spaces stand where they are shown, one each:
+ *
+ *     profile PATH {
+ *     PATH MODES,
+ *     }
+ *
+ * There may be any number of middle lines. A path is / and 1 to 63 letters, digits, dots or slashes; modes are one or more
+ * of r w a l m ix px Px ux Ux, run together. FORMATS.md says what each mode permits.
  *
  * Returns the length of the image (26 or more), else 9, then 16, then 17. 16 is judged for the whole text before 17.
  */

@@ -49,7 +49,7 @@ def paragraph(lines):
 
 def head(name, names, summary, version):
     return [
-        f'.TH {name.upper()} 3 "" "Yaslaurel {version}" "Library Functions Manual"',
+        f'.TH {name.upper()} 3 "" "Yaslaurel {version}" "Yaslaurel"',
         ".nr HY 0",
         ".nh",
         ".SH NAME",

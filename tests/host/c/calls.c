@@ -531,7 +531,7 @@ static void names(void)
           "names: the user's rule, ascending");
 }
 
-/* The record of an operation, byte by byte, and numbers that do not fit: none of them becomes another number. */
+/* The record of an operation, byte by byte. */
 static void records(void)
 {
     static const struct {
@@ -549,8 +549,19 @@ static void records(void)
         {YASLAUREL_DELETE, 4, 8, YASLAUREL_NO_USER, {9, 0, 4, 0, 8, 0, 255, 255}},
         {0, 256, 65535, 258, {0, 0, 0, 1, 255, 255, 2, 1}},
     };
-    /* Each with one number that would be good without its upper bits. */
-    static const uint32_t too_large[][4] = {
+    uint8_t record[RECORD];
+
+    for (size_t i = 0; i < sizeof good / sizeof good[0]; i++) {
+        memset(record, MARK, RECORD);
+        yaslaurel_record(good[i].code, good[i].p, good[i].o, good[i].u, record);
+        check(memcmp(record, good[i].bytes, RECORD) == 0, "record: the bytes of an operation");
+    }
+}
+
+/* Records of a number that does not fit, and would be good without its upper bits: each is refused with 7. */
+static void large_numbers(void)
+{
+    static const uint32_t large[][4] = {
         {256 + YASLAUREL_READ, 4, 2, YASLAUREL_NO_USER},
         {YASLAUREL_READ, 65536 + 4, 2, YASLAUREL_NO_USER},
         {YASLAUREL_READ, 4, 65536 + 2, YASLAUREL_NO_USER},
@@ -561,27 +572,18 @@ static void records(void)
     uint8_t record[RECORD];
     uint64_t receiver, tag;
 
-    for (size_t i = 0; i < sizeof good / sizeof good[0]; i++) {
-        memset(record, MARK, RECORD);
-        yaslaurel_record(good[i].code, good[i].p, good[i].o, good[i].u, record);
-        check(memcmp(record, good[i].bytes, RECORD) == 0, "record: the bytes of an operation");
-    }
     check(yaslaurel_matrix_policy(reads, 3, writes, 3, 4, out, OUTPUT) == 110 &&
               yaslaurel_session_start(out, 110, session, SESSION) == 0,
           "record: the session starts");
-    for (size_t i = 0; i < sizeof too_large / sizeof too_large[0]; i++) {
-        yaslaurel_record(too_large[i][0], too_large[i][1], too_large[i][2], too_large[i][3], record);
+    for (size_t i = 0; i < sizeof large / sizeof large[0]; i++) {
+        yaslaurel_record(large[i][0], large[i][1], large[i][2], large[i][3], record);
         check(yaslaurel_step(session, SESSION, record, RECORD, &receiver, &tag) == 7, "record: a number that does not fit");
     }
 }
 
-/* Each refusal has a text of its own; the verdict's 1 and the judgement's 1 to 4 have others. */
-static void meanings(void)
+/* Each refusal has a text of its own, under its number. */
+static void refusal_meanings(void)
 {
-    static const char *const verdicts[] = {"consistent", "not consistent"};
-    static const char *const judgements[] = {"accepted", "the proposal has a right that the old matrix lacks",
-                                             "a right that must stay is withdrawn", "the proposal is not consistent",
-                                             "a right that was withdrawn may be put back"};
     const char *none = yaslaurel_meaning(0);
 
     check(strcmp(none, "no refusal") == 0, "meaning: of 0");
@@ -600,13 +602,24 @@ static void meanings(void)
               strcmp(yaslaurel_meaning(YASLAUREL_REFUSED_OTHER_USER),
                      "a new file for another user than the process's own") == 0,
           "meaning: the texts stand under their numbers");
+}
+
+/* The verdict's 1 and the judgement's 1 to 4 have texts other than the refusals'. */
+static void answer_meanings(void)
+{
+    static const char *const verdicts[] = {"consistent", "not consistent"};
+    static const char *const judgements[] = {"accepted", "the proposal has a right that the old matrix lacks",
+                                             "a right that must stay is withdrawn", "the proposal is not consistent",
+                                             "a right that was withdrawn may be put back"};
+
     for (uint32_t i = 0; i < 2; i++) {
         check(strcmp(yaslaurel_verdict_meaning(i), verdicts[i]) == 0, "meaning: of a verdict");
     }
     for (uint32_t i = 0; i < 5; i++) {
         check(strcmp(yaslaurel_judgement_meaning(i), judgements[i]) == 0, "meaning: of a judgement");
     }
-    check(yaslaurel_verdict_meaning(8) == yaslaurel_meaning(8) && yaslaurel_judgement_meaning(8) == yaslaurel_meaning(8),
+    check(strcmp(yaslaurel_verdict_meaning(8), yaslaurel_meaning(8)) == 0 &&
+              strcmp(yaslaurel_judgement_meaning(8), yaslaurel_meaning(8)) == 0,
           "meaning: a refused matrix is a refusal in all three");
     check(strcmp(yaslaurel_verdict_meaning(2), "no answer of yaslaurel_matrix_verdict") == 0 &&
               strcmp(yaslaurel_judgement_meaning(5), "no answer of yaslaurel_matrix_judge") == 0,
@@ -618,7 +631,9 @@ int main(void)
     check(yaslaurel_version() == YASLAUREL_VERSION, "the library has the header's version");
     names();
     records();
-    meanings();
+    large_numbers();
+    refusal_meanings();
+    answer_meanings();
     lengths();
     nulls();
     example();
