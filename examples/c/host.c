@@ -4,7 +4,8 @@
  *     gcc -std=c11 -o host host.c $(pkg-config --cflags --libs yaslaurel)
  *     host POLICY TRACE [NAMES]
  *
- * NAMES is a text of one name for each data atom, one on a line; without it an atom is named by its number.
+ * NAMES is a text of one name for each data atom, one on a line; without it an atom is named by its number. A long name is
+ * cut.
  *
  * Exit status:
  *   0  every record was quiet
@@ -20,7 +21,7 @@
 
 #include "yaslaurel.h"
 
-enum { ATOMS = YASLAUREL_ATOMS, NAME_LENGTH = 64 };
+enum { ATOMS = YASLAUREL_ATOMS, NAME_LENGTH = 256 };
 
 enum status { QUIET = 0, ALERTS = 1, REFUSALS = 2, POLICY_REFUSED = 4, FAILED = 5 };
 
@@ -44,37 +45,55 @@ static long load(const char *path, uint8_t *into, size_t limit)
     return good ? (long)length : -1;
 }
 
-/* Reads the names of the sources. How many there were, or -1 with a message. */
-static long load_names(const char *path, char names[ATOMS][NAME_LENGTH])
+/* The names of the sources, by atom. */
+struct names {
+    char text[ATOMS][NAME_LENGTH];
+    size_t count;
+};
+
+/* Reads on behind the end of a line. */
+static void skip_line(FILE *file)
+{
+    int byte = fgetc(file);
+    while (byte != '\n' && byte != EOF) {
+        byte = fgetc(file);
+    }
+}
+
+/* Reads the names of the sources. Whether it could, with a message if not. */
+static int load_names(const char *path, struct names *names)
 {
     FILE *file = fopen(path, "r");
-    long count = 0;
     if (file == NULL) {
         perror(path);
-        return -1;
+        return 0;
     }
-    while (count < ATOMS && fgets(names[count], NAME_LENGTH, file) != NULL) {
-        names[count][strcspn(names[count], "\n")] = '\0';
-        count++;
+    while (names->count < ATOMS && fgets(names->text[names->count], NAME_LENGTH, file) != NULL) {
+        char *end = strchr(names->text[names->count++], '\n');
+        if (end != NULL) {
+            *end = '\0';
+        } else {
+            skip_line(file);
+        }
     }
     int good = !ferror(file);
     if (!good) {
         perror(path);
     }
     fclose(file);
-    return good ? count : -1;
+    return good;
 }
 
 /* Prints the sources of a tag; a source that was executed is marked. */
-static void print_sources(uint64_t tag, char names[ATOMS][NAME_LENGTH], size_t count)
+static void print_sources(uint64_t tag, const struct names *names)
 {
     for (unsigned atom = 0; atom < YASLAUREL_RUNNING + ATOMS; atom++) {
         unsigned source = atom % YASLAUREL_RUNNING;
         if ((tag >> atom & 1) == 0) {
             continue;
         }
-        if (source < count) {
-            printf(" %s", names[source]);
+        if (source < names->count) {
+            printf(" %s", names->text[source]);
         } else {
             printf(" atom-%u", source);
         }
@@ -91,7 +110,7 @@ struct totals {
 
 /* Judges the records of a chunk and prints what is not quiet. */
 static void judge(uint64_t *session, const uint8_t *records, size_t length, struct totals *totals,
-                  char names[ATOMS][NAME_LENGTH], size_t name_count)
+                  const struct names *names)
 {
     while (length > 0) {
         size_t taken = 0;
@@ -102,12 +121,11 @@ static void judge(uint64_t *session, const uint8_t *records, size_t length, stru
         if (answer == YASLAUREL_ALERT) {
             totals->alerts++;
             printf("step %" PRIu64 ": container %" PRIu64 " now holds", totals->steps, receiver);
-            print_sources(tag, names, name_count);
+            print_sources(tag, names);
             printf("\n");
         } else if (answer != YASLAUREL_QUIET) {
             totals->refusals++;
-            printf("step %" PRIu64 ": refused %" PRIu32 ", %s\n", totals->steps, answer,
-                   yaslaurel_meaning(answer));
+            printf("step %" PRIu64 ": refused %" PRIu32 ", %s\n", totals->steps, answer, yaslaurel_meaning(answer));
         }
         /* The last record of a trace may be short. */
         size_t bytes = taken * YASLAUREL_RECORD_LENGTH;
@@ -117,51 +135,53 @@ static void judge(uint64_t *session, const uint8_t *records, size_t length, stru
     }
 }
 
+/* Judges a trace to its end, and prints the totals. The exit status. */
+static int judge_trace(uint64_t *session, const char *path, FILE *trace, const struct names *names)
+{
+    static uint8_t chunk[CHUNK];
+    struct totals totals = {0, 0, 0};
+    /* A chunk is short at the end of the trace alone, so no record is cut. */
+    size_t length = sizeof chunk;
+
+    while (length == sizeof chunk) {
+        length = fread(chunk, 1, sizeof chunk, trace);
+        if (ferror(trace)) {
+            perror(path);
+            return FAILED;
+        }
+        judge(session, chunk, length, &totals, names);
+    }
+    printf("%" PRIu64 " steps, %" PRIu64 " alerts, %" PRIu64 " refused\n", totals.steps, totals.alerts, totals.refusals);
+    return (totals.alerts > 0 ? ALERTS : QUIET) | (totals.refusals > 0 ? REFUSALS : QUIET);
+}
+
 int main(int argc, char **argv)
 {
     static uint64_t session[YASLAUREL_SESSION_LENGTH];
     /* One byte more than the limit: a policy that is too long is refused, not cut. */
     static uint8_t policy[YASLAUREL_IMAGE_LIMIT + 1];
-    static uint8_t chunk[CHUNK];
-    static char names[ATOMS][NAME_LENGTH];
-    struct totals totals = {0, 0, 0};
+    static struct names names;
 
     if (argc < 3 || argc > 4) {
         fprintf(stderr, "host POLICY TRACE [NAMES]\n");
         return FAILED;
     }
     long policy_length = load(argv[1], policy, sizeof policy);
-    long name_count = argc == 4 ? load_names(argv[3], names) : 0;
+    int named = argc < 4 || load_names(argv[3], &names);
     FILE *trace = fopen(argv[2], "rb");
     if (trace == NULL) {
         perror(argv[2]);
     }
-    if (policy_length < 0 || name_count < 0 || trace == NULL) {
+    if (policy_length < 0 || !named || trace == NULL) {
         return FAILED;
     }
 
-    int status = QUIET;
+    int status = POLICY_REFUSED;
     uint32_t refused = yaslaurel_session_start(policy, (size_t)policy_length, session, YASLAUREL_SESSION_LENGTH);
     if (refused != YASLAUREL_ACCEPTED) {
         printf("policy refused %" PRIu32 "\n", refused);
-        status = POLICY_REFUSED;
     } else {
-        /* A chunk is short at the end of the trace alone, so no record is cut. */
-        size_t length;
-        do {
-            length = fread(chunk, 1, sizeof chunk, trace);
-            if (!ferror(trace)) {
-                judge(session, chunk, length, &totals, names, (size_t)name_count);
-            }
-        } while (length == sizeof chunk);
-        if (ferror(trace)) {
-            perror(argv[2]);
-            status = FAILED;
-        } else {
-            printf("%" PRIu64 " steps, %" PRIu64 " alerts, %" PRIu64 " refused\n", totals.steps, totals.alerts,
-                   totals.refusals);
-            status = (totals.alerts > 0 ? ALERTS : QUIET) | (totals.refusals > 0 ? REFUSALS : QUIET);
-        }
+        status = judge_trace(session, argv[2], trace, &names);
     }
     fclose(trace);
     if (fflush(stdout) != 0 || ferror(stdout)) {
