@@ -84,7 +84,7 @@ static const uint32_t table_writes[5] = {28, 28, 96, 96, 0};
 static const uint32_t reads[3] = {5, 3, 2};
 static const uint32_t writes[3] = {1, 2, 10};
 
-static void lengths(void)
+static void session_lengths(void)
 {
     uint64_t receiver = 11, tag = 22;
     size_t taken = 33;
@@ -114,7 +114,10 @@ static void lengths(void)
           "run: rows not well formed");
     check(session_stayed(), "refused calls leave the session");
     check(receiver == 11 && tag == 22, "refused calls leave receiver and tag, and so does a run without records");
+}
 
+static void output_lengths(void)
+{
     mark_out();
     check(yaslaurel_image_normalise(empty, HEADER, out, OUTPUT - 1) == 9, "normalise: output one short");
     check(yaslaurel_image_normalise(empty, HEADER, out, 0) == 9, "normalise: output of length 0");
@@ -162,18 +165,10 @@ static void nulls(void)
           "refused calls leave the numbers");
 }
 
-static void example(void)
+/* The paper's example: the verdict on its matrix, and the policy that is derived from it. */
+static void matrix_example(void)
 {
     uint32_t count = 9, source = 9, target = 9;
-    static const uint8_t steps[6][RECORD] = {
-        {1, 0, 4, 0, 2, 0, 255, 255}, {3, 0, 4, 0, 0, 0, 255, 255}, {1, 0, 5, 0, 0, 0, 255, 255},
-        {3, 0, 5, 0, 1, 0, 255, 255}, {2, 0, 6, 0, 1, 0, 255, 255}, {1, 0, 6, 0, 9, 0, 255, 255},
-    };
-    static const uint32_t answers[6] = {0, 0, 0, YASLAUREL_ALERT, 0, 12};
-    static const uint64_t receivers[5] = {4, 0, 5, 1, 1};
-    static const uint64_t tags[5] = {4, 5, 5, 7, 0};
-    uint8_t trace[1 + sizeof steps];
-    int good = 1;
 
     check(yaslaurel_matrix_verdict(reads, 3, writes, 3, 4, &count, &source, &target) == 1, "verdict: not consistent");
     check(count == 3 && source == 0 && target == 3, "verdict: 3 flows, the first from 0 to 3");
@@ -186,24 +181,37 @@ static void example(void)
     mark_session();
     check(yaslaurel_session_start(out, 110, session, SESSION) == 0, "the derived policy starts a session");
     check(session[SESSION] == before[SESSION], "the start leaves the number behind the session");
+}
 
-    /* The records lie at odd addresses. */
-    memcpy(trace + 1, steps, sizeof steps);
+/* The paper's trace, behind one byte: the records lie at odd addresses. */
+static const uint8_t trace[1 + 6 * RECORD] = {
+    0,                                                      /* no part of it */
+    1, 0, 4, 0, 2, 0, 255, 255, 3, 0, 4, 0, 0, 0, 255, 255, /* read, append */
+    1, 0, 5, 0, 0, 0, 255, 255, 3, 0, 5, 0, 1, 0, 255, 255, /* read, append */
+    2, 0, 6, 0, 1, 0, 255, 255, 1, 0, 6, 0, 9, 0, 255, 255, /* write, read */
+};
+
+/* The trace, step by step, on the session of the policy before. */
+static void step_example(void)
+{
+    static const uint32_t answers[6] = {0, 0, 0, YASLAUREL_ALERT, 0, 12};
+    static const uint64_t receivers[6] = {4, 0, 5, 1, 1, 77}, tags[6] = {4, 5, 5, 7, 0, 88};
+    int good = 1;
+
     for (int i = 0; i < 6; i++) {
         uint64_t receiver = 77, tag = 88;
         uint32_t answer = yaslaurel_step(session, SESSION, trace + 1 + RECORD * i, RECORD, &receiver, &tag);
-        good = good && answer == answers[i];
-        if (i < 5) {
-            good = good && receiver == receivers[i] && tag == tags[i];
-        } else {
-            good = good && receiver == 77 && tag == 88;
-        }
+        good = good && answer == answers[i] && receiver == receivers[i] && tag == tags[i];
     }
     check(good, "the paper's trace, from odd addresses");
+}
 
-    /* The same as batches, on a new session: the alert stops the first, the refusal the second, and the rest is none. */
+/* The same as batches, on a new session: the alert stops the first, the refusal the second, and the rest is none. */
+static void batch_example(void)
+{
     size_t taken = 66;
     uint64_t receiver = 77, tag = 88;
+
     memcpy(before, session, sizeof session);
     check(yaslaurel_session_start(out, 110, session, SESSION) == 0, "the derived policy starts a session again");
     check(yaslaurel_run(session, SESSION, trace + 1, 3 * RECORD, &taken, &receiver, &tag) == 0 && taken == 3 &&
@@ -274,15 +282,6 @@ static void behalf_example(void)
         {6, 3, 5, 0, 0, 5, 0},                                 /* for whom the process then makes files */
         {2, 1, 0, YASLAUREL_NO_USER, 0, 0, (uint64_t)1 << 32}, /* a write gives a file no user */
     };
-    static const uint64_t users[] = {YASLAUREL_NO_USER, 1, YASLAUREL_NO_USER, 0, YASLAUREL_NO_USER,
-                                     YASLAUREL_NO_USER, 0};
-    static const struct {
-        uint64_t container, user;
-        uint8_t code, o;
-        uint32_t answer;
-    } damages[] = {
-        {1, 15, 1, 0, 0}, {1, 16, 1, 0, 10}, {0, 0, 1, 0, 10}, {2, 1, 1, 2, 10}, {6, YASLAUREL_NO_USER, 7, 6, 10},
-    };
     uint8_t image[34];
     uint64_t receiver, tag;
 
@@ -301,6 +300,22 @@ static void behalf_example(void)
         check(answer == steps[i].answer && receiver == steps[i].receiver && tag == steps[i].tag,
               "behalf: a step of processes that make files for users");
     }
+}
+
+/* The users that this leaves in the rows, and rows that have a user whom they may not have. */
+static void behalf_rows(void)
+{
+    static const uint64_t users[] = {YASLAUREL_NO_USER, 1, YASLAUREL_NO_USER, 0, YASLAUREL_NO_USER,
+                                     YASLAUREL_NO_USER, 0};
+    static const struct {
+        uint64_t container, user;
+        uint8_t code, o;
+        uint32_t answer;
+    } damages[] = {
+        {1, 15, 1, 0, 0}, {1, 16, 1, 0, 10}, {0, 0, 1, 0, 10}, {2, 1, 1, 2, 10}, {6, YASLAUREL_NO_USER, 7, 6, 10},
+    };
+    uint64_t receiver, tag;
+
     for (size_t i = 0; i < sizeof users / sizeof users[0]; i++) {
         check(session[YASLAUREL_CONTAINER_ROW * i + YASLAUREL_BEHALF_AT] == users[i], "behalf: the user of a container");
     }
@@ -327,7 +342,6 @@ static size_t programs(char *text, int first, int count, const char *modes)
 /* Paths in order of first appearance: files 0 mailer, 1 hosts, 2 mail, 3 admin, 4 keys, then process 5. */
 static void profile_example(void)
 {
-    static char text[YASLAUREL_TEXT_LIMIT + 2];
     static const uint8_t exec_admin[RECORD] = {4, 0, 5, 0, 3, 0, 0, 0}, read_mail[RECORD] = {1, 0, 5, 0, 2, 0, 255, 255},
                          write_keys[RECORD] = {2, 0, 5, 0, 4, 0, 255, 255},
                          read_hosts[RECORD] = {1, 0, 5, 0, 1, 0, 255, 255};
@@ -352,7 +366,12 @@ static void profile_example(void)
     check(yaslaurel_step(session, SESSION, write_keys, RECORD, &receiver, &tag) == 0, "profiles: it writes what it may");
     check(yaslaurel_step(session, SESSION, read_hosts, RECORD, &receiver, &tag) == YASLAUREL_ALERT && receiver == 5,
           "profiles: it reads what it may not");
+}
 
+/* Texts at the limits of paths, mixtures and bytes, and one beyond each. */
+static void profile_limits(void)
+{
+    static char text[YASLAUREL_TEXT_LIMIT + 2];
     const uint8_t *bytes = (const uint8_t *)text;
     size_t end = programs(text, 0, 31, "l");
     check(yaslaurel_profiles_policy(bytes, end, out, OUTPUT) >= HEADER, "profiles: 32 paths");
@@ -411,66 +430,82 @@ static void withdrawals(void)
           "judge: a subject less");
 }
 
+/* Random bytes, which may begin as an image does. Their number. */
+static size_t random_image(uint64_t *seed, int round, uint8_t *image, size_t limit)
+{
+    size_t length = (size_t)draw(seed) % limit;
+
+    if (round % 4 != 0) {
+        length %= 64;
+    }
+    for (size_t i = 0; i < length; i++) {
+        image[i] = (uint8_t)(draw(seed));
+    }
+    if (round % 3 == 0 && length >= 2) {
+        image[0] = YASLAUREL_LEADING;
+        image[1] = 0;
+    }
+    return length;
+}
+
+/* Whether an answer is one that a step can give, of a record that names no user. */
+static int step_answer(uint32_t answer)
+{
+    return answer == YASLAUREL_QUIET || answer == YASLAUREL_ALERT || answer == 7 || (answer >= 10 && answer <= 15);
+}
+
+/* A step and a run on random numbers, or on the session of a random image. */
+static int random_steps(uint64_t *seed, const uint8_t *image, size_t length)
+{
+    static const uint8_t codes[] = {0, 1, 2, 3, 4, 5, 6, 7, 8, 9, 200, 255};
+    uint64_t receiver = 0, tag = 0;
+    size_t taken = 99;
+    uint8_t record[RECORD];
+
+    yaslaurel_record(codes[draw(seed) % sizeof codes], draw(seed) % 256, draw(seed) % 256, YASLAUREL_NO_USER, record);
+    uint32_t answer = yaslaurel_step(session, SESSION, record, RECORD, &receiver, &tag);
+    int good = step_answer(answer) && receiver < YASLAUREL_CONTAINERS;
+    good = good && (answer == YASLAUREL_QUIET || answer == YASLAUREL_ALERT || (receiver == 0 && tag == 0));
+    answer = yaslaurel_run(session, SESSION, image, length, &taken, &receiver, &tag);
+    good = good && (step_answer(answer) || answer == 18);
+    return good && taken <= (length + RECORD - 1) / RECORD && (answer != 0 || taken * RECORD >= length);
+}
+
+/* The verdict on a random matrix, and the judgement on a random proposal. */
+static int random_matrices(uint64_t *seed, int round)
+{
+    uint32_t rows[10], count, source, target;
+
+    for (int i = 0; i < 10; i++) {
+        rows[i] = draw(seed) & draw(seed) & (round % 2 ? 0xffu : 0xffffffffu);
+    }
+    size_t subjects = draw(seed) % 6;
+    uint32_t objects = 4 * (draw(seed) % 9);
+    uint32_t answer = yaslaurel_matrix_verdict(rows, subjects, rows + 5, subjects, objects, &count, &source, &target);
+    int good = answer <= 1 || answer == 8;
+    answer = yaslaurel_matrix_judge(rows, subjects, rows + 5, subjects, objects, rows + 1, subjects % 5, rows + 4,
+                                    subjects % 5, objects, rows + 2, subjects, rows + 3, subjects, objects);
+    return good && (answer <= 4 || answer == 8);
+}
+
 /* Random bytes and numbers everywhere: every answer is one that the function can give. */
 static void random_bytes(void)
 {
-    static const uint8_t codes[] = {0, 1, 2, 3, 4, 5, 6, 7, 8, 9, 200, 255};
     static uint8_t image[YASLAUREL_IMAGE_LIMIT + 100];
-    uint32_t rows[10];
     int good = 1;
     uint64_t seed = 20261115;
 
     for (int round = 0; round < 3000; round++) {
-        size_t length = (size_t)draw(&seed) % sizeof image;
-        uint64_t receiver = 0, tag = 0;
-        uint32_t answer, count, source, target;
-        uint8_t record[RECORD];
-        if (round % 4 != 0) {
-            length %= 64;
+        size_t length = random_image(&seed, round, image, sizeof image);
+        for (size_t i = 0; round % 8 == 0 && i < SESSION; i++) {
+            session[i] = (uint64_t)draw(&seed) % 4;
         }
-        for (size_t i = 0; i < length; i++) {
-            image[i] = (uint8_t)(draw(&seed));
-        }
-        if (round % 3 == 0 && length >= 2) {
-            image[0] = YASLAUREL_LEADING;
-            image[1] = 0;
-        }
-        memset(record, 0, sizeof record);
-        record[YASLAUREL_CODE_AT] = codes[draw(&seed) % sizeof codes];
-        record[YASLAUREL_PROCESS_AT] = (uint8_t)draw(&seed);
-        record[YASLAUREL_OBJECT_AT] = (uint8_t)draw(&seed);
-        memset(record + YASLAUREL_USER_AT, 255, 2);
-        if (round % 8 == 0) {
-            for (size_t i = 0; i < SESSION; i++) {
-                session[i] = (uint64_t)draw(&seed) % 4;
-            }
-        }
-        answer = yaslaurel_image_check(image, length);
-        good = good && answer <= 6;
-        good = good && yaslaurel_session_start(image, length, session, SESSION) == answer;
-        count = yaslaurel_image_normalise(image, length, out, OUTPUT);
-        good = good && (answer == 0 ? count >= HEADER && count <= OUTPUT : count == answer);
-        answer = yaslaurel_step(session, SESSION, record, RECORD, &receiver, &tag);
-        good = good && (answer == 0 || answer == 256 || answer == 7 || (answer >= 10 && answer <= 15));
-        good = good && (answer == 0 || answer == 256 || (receiver == 0 && tag == 0));
-        good = good && receiver < YASLAUREL_CONTAINERS;
-        size_t taken = 99;
-        answer = yaslaurel_run(session, SESSION, image, length, &taken, &receiver, &tag);
-        good = good && (answer == 0 || answer == 256 || answer == 7 || (answer >= 10 && answer <= 15));
-        good = good && taken <= (length + RECORD - 1) / RECORD && (answer != 0 || taken * RECORD >= length);
-        for (int i = 0; i < 10; i++) {
-            rows[i] = draw(&seed) & draw(&seed) & (round % 2 ? 0xffu : 0xffffffffu);
-        }
-        size_t subjects = draw(&seed) % 6;
-        answer = yaslaurel_matrix_verdict(rows, subjects, rows + 5, subjects, 4 * (draw(&seed) % 9), &count, &source,
-                                          &target);
-        good = good && (answer <= 1 || answer == 8);
-        uint32_t objects = 4 * (draw(&seed) % 9);
-        answer = yaslaurel_matrix_judge(rows, subjects, rows + 5, subjects, objects, rows + 1, subjects % 5, rows + 4,
-                                        subjects % 5, objects, rows + 2, subjects, rows + 3, subjects, objects);
-        good = good && (answer <= 4 || answer == 8);
-        answer = yaslaurel_profiles_policy(image, length, out, OUTPUT);
-        good = good && answer == (length == 0 ? 26u : 16u);
+        uint32_t answer = yaslaurel_image_check(image, length);
+        good = good && answer <= 6 && yaslaurel_session_start(image, length, session, SESSION) == answer;
+        uint32_t normal = yaslaurel_image_normalise(image, length, out, OUTPUT);
+        good = good && (answer == 0 ? normal >= HEADER && normal <= OUTPUT : normal == answer);
+        good = good && random_steps(&seed, image, length) && random_matrices(&seed, round);
+        good = good && yaslaurel_profiles_policy(image, length, out, OUTPUT) == (length == 0 ? 26u : 16u);
     }
     check(good, "random bytes: every answer is one that the function can give");
 }
@@ -634,12 +669,17 @@ int main(void)
     large_numbers();
     refusal_meanings();
     answer_meanings();
-    lengths();
+    session_lengths();
+    output_lengths();
     nulls();
-    example();
+    matrix_example();
+    step_example();
+    batch_example();
     leaving_example();
     behalf_example();
+    behalf_rows();
     profile_example();
+    profile_limits();
     withdrawals();
     random_bytes();
     printf("%u passed, %u failed\n", passed, failed);
