@@ -1,13 +1,42 @@
+use std::fmt;
+
 use crate::layout::image::USERS;
 use crate::layout::session::{BEHALF, KIND, NOBODY, TAG};
 
 /// The kind of a container.
 #[derive(Clone, Copy, Debug, PartialEq, Eq, Hash)]
 #[non_exhaustive]
+#[repr(u8)]
 pub enum Kind {
-    File,
-    Volatile,
-    Process,
+    /// A file: what it holds stays.
+    File = 1,
+    /// A pipe, a socket or shared memory.
+    Volatile = 2,
+    /// A process.
+    Process = 3,
+}
+
+impl Kind {
+    /// The kind of a number from 1 to 3.
+    pub fn of_number(number: u8) -> Option<Kind> {
+        [Kind::File, Kind::Volatile, Kind::Process].into_iter().find(|kind| kind.number() == number)
+    }
+
+    /// The number that stands for it in an image and in a session.
+    pub fn number(self) -> u8 {
+        self as u8
+    }
+}
+
+/// `file`, `volatile` or `process`.
+impl fmt::Display for Kind {
+    fn fmt(&self, f: &mut fmt::Formatter<'_>) -> fmt::Result {
+        f.write_str(match self {
+            Kind::File => "file",
+            Kind::Volatile => "volatile",
+            Kind::Process => "process",
+        })
+    }
 }
 
 /// A container as a session has it.
@@ -26,12 +55,7 @@ pub struct Container {
 impl Container {
     /// What a row says; nothing for a free one, or for a kind or a user that no session has.
     pub(crate) fn read(row: &[u64]) -> Option<Container> {
-        let kind = match row[KIND] {
-            1 => Kind::File,
-            2 => Kind::Volatile,
-            3 => Kind::Process,
-            _ => return None,
-        };
+        let kind = Kind::of_number(row[KIND].try_into().ok()?)?;
         let user = match row[BEHALF] {
             NOBODY => None,
             user if kind == Kind::Process && user < USERS.most as u64 => Some(user as u8),

@@ -1,6 +1,12 @@
 //! The sizes of the formats and the places in them, for hosts that make images or look into a session. The formats
 //! themselves are in `docs/FORMATS.md`.
 
+/// Atoms.
+pub mod atom {
+    /// How many data atoms there are, and so how far the running atom of a data atom is behind it.
+    pub const RUNNING: u32 = 32;
+}
+
 /// A policy image, in bytes.
 pub mod image {
     /// The number that an image begins with.

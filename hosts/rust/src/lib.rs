@@ -29,7 +29,9 @@ mod container;
 pub mod ffi;
 pub mod layout;
 mod operation;
+mod policy;
 mod refusal;
+mod rule;
 mod run;
 mod withdrawal;
 
@@ -37,7 +39,9 @@ use std::fmt;
 
 pub use container::{Container, Kind};
 pub use operation::Operation;
+pub use policy::{Policy, PolicyContainer, PolicyError};
 pub use refusal::Refusal;
+pub use rule::{Mixture, Rule, Source};
 pub use run::{run_in, Run};
 pub use withdrawal::{judge_withdrawal, Judgement, Matrix};
 
@@ -77,8 +81,13 @@ impl Answer {
     /// assert_eq!(answer.atoms().collect::<Vec<_>>(), [0, 2]);
     /// ```
     pub fn atoms(self) -> impl Iterator<Item = u32> {
-        (0..64).filter(move |atom| self.tag >> atom & 1 == 1)
+        atoms(self.tag)
     }
+}
+
+/// The atoms of a set, rising.
+fn atoms(set: u64) -> impl Iterator<Item = u32> {
+    (0..u64::BITS).filter(move |atom| set >> atom & 1 == 1)
 }
 
 /// The verdict on an access matrix.
@@ -221,6 +230,25 @@ impl Session {
     #[inline]
     pub fn step(&mut self, record: &[u8]) -> Result<Answer, Refusal> {
         step_in(&mut self.words[..], record)
+    }
+
+    /// Judges one operation, as [`step`](Session::step) judges its record.
+    ///
+    /// ```
+    /// use yaslaurel::{matrix_policy, Operation, Refusal, Session};
+    /// let mut session = Session::start(&matrix_policy(&[1], &[1], 1)?)?;
+    /// let answer = session.perform(Operation::Read { process: 1, object: 0 })?;
+    /// assert_eq!((answer.receiver, answer.tag), (1, 0b1));
+    /// assert_eq!(session.perform(Operation::Read { process: 0, object: 1 }), Err(Refusal::NoProcess));
+    /// # Ok::<(), Refusal>(())
+    /// ```
+    ///
+    /// # Errors
+    ///
+    /// As [`step`](Session::step), but never [`Refusal::OperationRecord`] but for a user over 15.
+    #[inline]
+    pub fn perform(&mut self, operation: Operation) -> Result<Answer, Refusal> {
+        self.step(&operation.record())
     }
 
     /// Judges the records that lie one behind the other in a slice, each as [`step`](Session::step) does; the last may be

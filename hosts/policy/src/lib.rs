@@ -1,0 +1,34 @@
+//! Policies as text: stories become policies and steps. The formats are in `docs/FORMATS.md`.
+
+#![warn(missing_docs)]
+
+mod folder;
+mod statement;
+mod steps;
+mod story;
+mod token;
+
+pub use folder::write_folder;
+pub use steps::{Holder, Step, Steps};
+pub use story::Story;
+pub use token::quoted;
+
+use std::error::Error;
+use std::fmt;
+
+/// What is wrong in a text, and in which line. Its text is `LINE: MESSAGE`, so that `FILE:` in front of it gives the place.
+#[derive(Clone, Debug, PartialEq, Eq)]
+pub struct LineError {
+    /// Counted from 1.
+    pub line: usize,
+    /// What is wrong, and what was expected.
+    pub message: String,
+}
+
+impl fmt::Display for LineError {
+    fn fmt(&self, f: &mut fmt::Formatter<'_>) -> fmt::Result {
+        write!(f, "{}: {}", self.line, self.message)
+    }
+}
+
+impl Error for LineError {}

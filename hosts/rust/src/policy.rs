@@ -1,0 +1,479 @@
+//! A policy with names: written by its methods or read from an image.
+
+use std::error::Error;
+use std::fmt;
+use std::ops::Range;
+
+use crate::layout::{atom, image};
+use crate::{check, Kind, Mixture, Refusal, Rule, Source};
+
+/// A policy in the making, with a name for each source, container and user. It gives the image that starts a session, and
+/// the names for messages.
+///
+/// ```
+/// use yaslaurel::{Mixture, Operation, Policy, Rule, Session, Verdict};
+/// let mut policy = Policy::new();
+/// let north = policy.source("north")?;
+/// let south = policy.source("south")?;
+/// let positions = policy.file("north.positions")?;
+/// policy.set_source(positions, north)?;
+/// let statement = policy.file("south.statement")?;
+/// policy.set_permit_rule(statement, Mixture::of([south]))?;
+/// let job = policy.process("job")?;
+/// policy.user("clearing", Rule::unrestricted())?;
+///
+/// let mut session = Session::start(&policy.image())?;
+/// let quiet = session.perform(Operation::Read { process: job, object: positions })?;
+/// assert_eq!(quiet.verdict, Verdict::Quiet);
+/// let alert = session.perform(Operation::Write { process: job, object: statement })?;
+/// assert_eq!(alert.verdict, Verdict::Alert);
+/// assert_eq!(policy.container_name(alert.receiver), "south.statement");
+/// assert_eq!(policy.sources_in(alert.tag), "north");
+/// # Ok::<(), Box<dyn std::error::Error>>(())
+/// ```
+#[derive(Clone, Debug, Default, PartialEq, Eq)]
+pub struct Policy {
+    sources: Names,
+    container_names: Names,
+    containers: Vec<PolicyContainer>,
+    user_names: Names,
+    users: Vec<Option<u16>>,
+    /// The different rules that were named, but for the unrestricted one.
+    rules: Vec<Rule>,
+}
+
+/// A container as a policy declares it. A rule is its place in [`Policy::rules`], or nothing for the unrestricted one.
+#[derive(Clone, Copy, Debug, PartialEq, Eq)]
+#[non_exhaustive]
+pub struct PolicyContainer {
+    /// Its kind.
+    pub kind: Kind,
+    /// The source that a file carries at the start.
+    pub source: Option<Source>,
+    /// What a file may hold.
+    pub permit: Option<u16>,
+    /// What a process may hold that runs the file.
+    pub run: Option<u16>,
+}
+
+/// Why a policy does not take something up. The policy stays as it was.
+#[derive(Clone, Debug, PartialEq, Eq)]
+#[non_exhaustive]
+pub enum PolicyError {
+    /// A source, container or user of this name is there already.
+    NameTaken(String),
+    /// Over 32 sources.
+    Sources,
+    /// Over 256 containers.
+    Containers,
+    /// Over 16 users.
+    Users,
+    /// Over 256 different rules.
+    Rules,
+    /// A rule of over 8 different mixtures.
+    RuleMixtures,
+    /// The container of this number has neither a source nor rules: it is no file.
+    NotAFile(u8),
+    /// There is nothing of this number.
+    NotThere(u8),
+}
+
+impl fmt::Display for PolicyError {
+    fn fmt(&self, f: &mut fmt::Formatter<'_>) -> fmt::Result {
+        match self {
+            PolicyError::NameTaken(name) => write!(f, "{name} is there already"),
+            PolicyError::Sources => write!(f, "a policy has at most {} sources", atom::RUNNING),
+            PolicyError::Containers => write!(f, "a policy has at most {} containers", image::CONTAINERS.most),
+            PolicyError::Users => write!(f, "a policy has at most {} users", image::USERS.most),
+            PolicyError::Rules => write!(f, "a policy has at most {} different rules", image::RULES.most),
+            PolicyError::RuleMixtures => {
+                write!(f, "a rule has at most {} mixtures", crate::layout::session::RULE_MIXTURES)
+            }
+            PolicyError::NotAFile(number) => write!(f, "container {number} is no file"),
+            PolicyError::NotThere(number) => write!(f, "the policy has no number {number}"),
+        }
+    }
+}
+
+impl Error for PolicyError {}
+
+/// Names of which no two are equal.
+#[derive(Clone, Debug, Default, PartialEq, Eq)]
+struct Names(Vec<String>);
+
+impl Names {
+    /// Puts a name behind the others and gives its place.
+    fn add(&mut self, name: &str, most: usize, over: PolicyError) -> Result<u8, PolicyError> {
+        if self.place(name).is_some() {
+            return Err(PolicyError::NameTaken(name.into()));
+        }
+        if self.0.len() >= most {
+            return Err(over);
+        }
+        self.0.push(name.into());
+        Ok((self.0.len() - 1) as u8)
+    }
+
+    fn rename(&mut self, place: u8, name: &str) -> Result<(), PolicyError> {
+        if self.place(name).is_some_and(|other| other != place) {
+            return Err(PolicyError::NameTaken(name.into()));
+        }
+        *self.0.get_mut(usize::from(place)).ok_or(PolicyError::NotThere(place))? = name.into();
+        Ok(())
+    }
+
+    fn place(&self, name: &str) -> Option<u8> {
+        self.0.iter().position(|other| other == name).map(|place| place as u8)
+    }
+
+    /// The name at a place, or a word with the place.
+    fn at(&self, place: u8, word: &str) -> String {
+        self.0.get(usize::from(place)).cloned().unwrap_or_else(|| format!("{word} {place}"))
+    }
+
+    fn iter(&self) -> impl ExactSizeIterator<Item = &str> {
+        self.0.iter().map(String::as_str)
+    }
+}
+
+impl Policy {
+    /// A policy without anything.
+    #[must_use]
+    pub fn new() -> Policy {
+        Policy::default()
+    }
+
+    /// Adds a source. The first has data atom 0, the next one 1 and so on.
+    ///
+    /// # Errors
+    ///
+    /// [`PolicyError::NameTaken`] by another source, or [`PolicyError::Sources`].
+    pub fn source(&mut self, name: &str) -> Result<Source, PolicyError> {
+        let place = self.sources.add(name, atom::RUNNING as usize, PolicyError::Sources)?;
+        Ok(Source::of_atom(u32::from(place)).expect("there are no more than 32"))
+    }
+
+    /// Adds a file that carries no source and is unrestricted, and gives its number. Containers are numbered from 0.
+    ///
+    /// # Errors
+    ///
+    /// [`PolicyError::NameTaken`] by another container, or [`PolicyError::Containers`].
+    pub fn file(&mut self, name: &str) -> Result<u8, PolicyError> {
+        self.add_container(name, Kind::File)
+    }
+
+    /// Adds a volatile, and gives its number.
+    ///
+    /// # Errors
+    ///
+    /// As [`file`](Policy::file).
+    pub fn volatile(&mut self, name: &str) -> Result<u8, PolicyError> {
+        self.add_container(name, Kind::Volatile)
+    }
+
+    /// Adds a process, and gives its number.
+    ///
+    /// # Errors
+    ///
+    /// As [`file`](Policy::file).
+    pub fn process(&mut self, name: &str) -> Result<u8, PolicyError> {
+        self.add_container(name, Kind::Process)
+    }
+
+    fn add_container(&mut self, name: &str, kind: Kind) -> Result<u8, PolicyError> {
+        let number = self.container_names.add(name, image::CONTAINERS.most, PolicyError::Containers)?;
+        self.containers.push(PolicyContainer { kind, source: None, permit: None, run: None });
+        Ok(number)
+    }
+
+    /// Adds a user with the rule that programs started for the user keep, and gives the user's number. Users are numbered
+    /// from 0.
+    ///
+    /// # Errors
+    ///
+    /// [`PolicyError::NameTaken`] by another user, [`PolicyError::Users`], or [`PolicyError::Rules`].
+    pub fn user(&mut self, name: &str, rule: impl Into<Rule>) -> Result<u8, PolicyError> {
+        let number = self.user_names.add(name, image::USERS.most, PolicyError::Users)?;
+        match self.rule_number(rule.into()) {
+            Ok(rule) => self.users.push(rule),
+            Err(error) => {
+                self.user_names.0.pop();
+                return Err(error);
+            }
+        }
+        Ok(number)
+    }
+
+    /// Lets a file carry a source at the start. Two files may carry one.
+    ///
+    /// # Errors
+    ///
+    /// [`PolicyError::NotAFile`], or [`PolicyError::NotThere`].
+    pub fn set_source(&mut self, file: u8, source: Source) -> Result<(), PolicyError> {
+        self.file_mut(file)?.source = Some(source);
+        Ok(())
+    }
+
+    /// Says what a file may hold without an alert.
+    ///
+    /// # Errors
+    ///
+    /// [`PolicyError::NotAFile`], [`PolicyError::NotThere`], or [`PolicyError::Rules`].
+    pub fn set_permit_rule(&mut self, file: u8, rule: impl Into<Rule>) -> Result<(), PolicyError> {
+        self.file_mut(file)?;
+        self.file_mut(file)?.permit = self.rule_number(rule.into())?;
+        Ok(())
+    }
+
+    /// Says what a process may hold without an alert that runs a file.
+    ///
+    /// # Errors
+    ///
+    /// [`PolicyError::NotAFile`], [`PolicyError::NotThere`], or [`PolicyError::Rules`].
+    pub fn set_run_rule(&mut self, file: u8, rule: impl Into<Rule>) -> Result<(), PolicyError> {
+        self.file_mut(file)?;
+        self.file_mut(file)?.run = self.rule_number(rule.into())?;
+        Ok(())
+    }
+
+    /// Gives a source another name.
+    ///
+    /// # Errors
+    ///
+    /// [`PolicyError::NameTaken`] by another source, or [`PolicyError::NotThere`].
+    pub fn rename_source(&mut self, source: Source, name: &str) -> Result<(), PolicyError> {
+        self.sources.rename(source.atom() as u8, name)
+    }
+
+    /// Gives a container another name.
+    ///
+    /// # Errors
+    ///
+    /// [`PolicyError::NameTaken`] by another container, or [`PolicyError::NotThere`].
+    pub fn rename_container(&mut self, number: u8, name: &str) -> Result<(), PolicyError> {
+        self.container_names.rename(number, name)
+    }
+
+    /// Gives a user another name.
+    ///
+    /// # Errors
+    ///
+    /// [`PolicyError::NameTaken`] by another user, or [`PolicyError::NotThere`].
+    pub fn rename_user(&mut self, number: u8, name: &str) -> Result<(), PolicyError> {
+        self.user_names.rename(number, name)
+    }
+
+    fn file_mut(&mut self, number: u8) -> Result<&mut PolicyContainer, PolicyError> {
+        let container = self.containers.get_mut(usize::from(number)).ok_or(PolicyError::NotThere(number))?;
+        if container.kind == Kind::File {
+            Ok(container)
+        } else {
+            Err(PolicyError::NotAFile(number))
+        }
+    }
+
+    /// The place of a rule, which equal rules share.
+    fn rule_number(&mut self, rule: Rule) -> Result<Option<u16>, PolicyError> {
+        if rule.is_unrestricted() {
+            return Ok(None);
+        }
+        let place = self.rules.iter().position(|other| *other == rule).unwrap_or(self.rules.len());
+        if place == image::RULES.most {
+            return Err(PolicyError::Rules);
+        }
+        if place == self.rules.len() {
+            self.rules.push(rule);
+        }
+        Ok(Some(place as u16))
+    }
+}
+
+/// What a policy has, by number and by name.
+impl Policy {
+    /// The names of the sources, in the order of their atoms.
+    pub fn source_names(&self) -> impl ExactSizeIterator<Item = &str> {
+        self.sources.iter()
+    }
+
+    /// The containers with their names, in the order of their numbers.
+    pub fn containers(&self) -> impl ExactSizeIterator<Item = (&str, PolicyContainer)> {
+        self.container_names.iter().zip(self.containers.iter().copied())
+    }
+
+    /// The users by name, in the order of their numbers, each with the place of its rule in [`rules`](Policy::rules), or
+    /// nothing for the unrestricted one.
+    pub fn users(&self) -> impl ExactSizeIterator<Item = (&str, Option<u16>)> {
+        self.user_names.iter().zip(self.users.iter().copied())
+    }
+
+    /// The different rules that containers and users were given, but for the unrestricted one.
+    pub fn rules(&self) -> &[Rule] {
+        &self.rules
+    }
+
+    /// The source of a name.
+    pub fn source_named(&self, name: &str) -> Option<Source> {
+        self.sources.place(name).and_then(|place| Source::of_atom(place.into()))
+    }
+
+    /// The number of the container of a name.
+    pub fn container_named(&self, name: &str) -> Option<u8> {
+        self.container_names.place(name)
+    }
+
+    /// The number of the user of a name.
+    pub fn user_named(&self, name: &str) -> Option<u8> {
+        self.user_names.place(name)
+    }
+
+    /// The name of a source, or a word with its number if the policy has none.
+    pub fn source_name(&self, source: Source) -> String {
+        self.sources.at(source.atom() as u8, "source")
+    }
+
+    /// The name of the container that the policy has at a number, or a word with the number if it has none there: a fork or
+    /// a creation took it. The session may have given the number to others since.
+    pub fn container_name(&self, number: u8) -> String {
+        self.container_names.at(number, "container")
+    }
+
+    /// The name of a user, or a word with the number if the policy has none there.
+    pub fn user_name(&self, number: u8) -> String {
+        self.user_names.at(number, "user")
+    }
+
+    /// The sources of a tag by name, in the order of their atoms, with a comma between two. What was executed is marked.
+    ///
+    /// ```
+    /// use yaslaurel::Policy;
+    /// let mut policy = Policy::new();
+    /// policy.source("north")?;
+    /// policy.source("desk")?;
+    /// assert_eq!(policy.sources_in(0x2_0000_0001), "north, desk (running)");
+    /// assert_eq!(policy.sources_in(0), "nothing");
+    /// assert_eq!(policy.sources_in(4), "source 2");
+    /// # Ok::<(), yaslaurel::PolicyError>(())
+    /// ```
+    pub fn sources_in(&self, tag: u64) -> String {
+        let named = crate::atoms(tag).filter_map(|atom| {
+            let name = self.source_name(Source::of_atom(atom)?);
+            Some(if atom < atom::RUNNING { name } else { format!("{name} (running)") })
+        });
+        let named: Vec<String> = named.collect();
+        if named.is_empty() {
+            "nothing".into()
+        } else {
+            named.join(", ")
+        }
+    }
+}
+
+/// The policy as an image, and an image as a policy.
+impl Policy {
+    /// The image of the policy, its sections without gaps. No image of a policy is refused.
+    pub fn image(&self) -> Vec<u8> {
+        let number = |rule: Option<u16>| rule.unwrap_or(image::UNRESTRICTED).to_le_bytes();
+        let mut sections: [Vec<u8>; 4] = Default::default();
+        for container in &self.containers {
+            let source = container.source.map_or(image::NO_ATOM, |source| source.atom() as u8);
+            sections[0].extend([container.kind.number(), source]);
+            sections[0].extend([number(container.permit), number(container.run)].concat());
+        }
+        sections[1].extend(self.users.iter().flat_map(|rule| number(*rule)));
+        let mut first = 0_u16;
+        for rule in &self.rules {
+            let count = rule.mixtures().len() as u16;
+            sections[2].extend([first.to_le_bytes(), count.to_le_bytes()].concat());
+            sections[3].extend(rule.mixtures().iter().flat_map(|mixture| mixture.bits().to_le_bytes()));
+            first += count;
+        }
+        let mut bytes = image::LEADING.to_le_bytes().to_vec();
+        let mut offset = image::HEADER;
+        for section in &sections {
+            bytes.extend([(offset as u16).to_le_bytes(), (section.len() as u16).to_le_bytes()].concat());
+            offset += section.len();
+        }
+        bytes.extend(sections.concat());
+        bytes
+    }
+
+    /// The policy that an image stands for. An image has no names: sources are called `source-0` and so on, containers
+    /// `file-0`, `volatile-1` or `process-2` by kind and number, users `user-0`. It has the sources up to the largest that
+    /// a file or a rule names.
+    ///
+    /// ```
+    /// use yaslaurel::{matrix_policy, normalise, Policy};
+    /// let image = matrix_policy(&[5, 3, 2], &[1, 2, 10], 4)?;
+    /// let policy = Policy::from_image(&image)?;
+    /// assert_eq!(policy.container_name(4), "process-4");
+    /// assert_eq!(normalise(&policy.image())?, image);
+    /// # Ok::<(), yaslaurel::Refusal>(())
+    /// ```
+    ///
+    /// # Errors
+    ///
+    /// A refusal of [`check`].
+    pub fn from_image(bytes: &[u8]) -> Result<Policy, Refusal> {
+        check(bytes)?;
+        Ok(Reader { bytes }.policy())
+    }
+}
+
+/// Reads an image that was accepted.
+struct Reader<'a> {
+    bytes: &'a [u8],
+}
+
+impl Reader<'_> {
+    fn number(&self, place: usize) -> u16 {
+        u16::from_le_bytes([self.bytes[place], self.bytes[place + 1]])
+    }
+
+    /// The places of the records of a section.
+    fn records(&self, section: image::Section) -> impl Iterator<Item = usize> {
+        let offset = usize::from(self.number(section.offset_at()));
+        let length = usize::from(self.number(section.length_at()));
+        (offset..offset + length).step_by(section.record)
+    }
+
+    /// The rules by number, and the mixtures of each.
+    fn rules(&self) -> Vec<Rule> {
+        let mixtures = self.records(image::MIXTURES).map(|place| {
+            let bytes = self.bytes[place..place + image::MIXTURES.record].try_into().expect("eight bytes");
+            Mixture::from_bits(u64::from_le_bytes(bytes))
+        });
+        let mixtures: Vec<Mixture> = mixtures.collect();
+        let rules = self.records(image::RULES).map(|place| {
+            let first = usize::from(self.number(place + image::FIRST));
+            let range: Range<usize> = first..first + usize::from(self.number(place + image::COUNT));
+            Rule::new(mixtures[range].iter().copied()).expect("an accepted rule has at most 8")
+        });
+        rules.collect()
+    }
+
+    fn policy(&self) -> Policy {
+        let rules = self.rules();
+        let rule = |place: usize| match self.number(place) {
+            image::UNRESTRICTED => Rule::unrestricted(),
+            number => rules[usize::from(number)].clone(),
+        };
+        let mut policy = Policy::new();
+        for (number, place) in self.records(image::CONTAINERS).enumerate() {
+            let kind = Kind::of_number(self.bytes[place + image::KIND]).expect("an accepted kind");
+            let source = Source::of_atom(u32::from(self.bytes[place + image::ATOM]));
+            let [permit, run] = [image::PERMIT, image::RUN].map(|field| rule(place + field));
+            let [permit, run] = [permit, run].map(|rule| policy.rule_number(rule).expect("no more than the image's"));
+            policy.add_container(&format!("{kind}-{number}"), kind).expect("no more than the image's");
+            policy.containers[number] = PolicyContainer { kind, source, permit, run };
+        }
+        for (number, place) in self.records(image::USERS).enumerate() {
+            policy.user(&format!("user-{number}"), rule(place)).expect("no more than the image's");
+        }
+        let named = policy.containers.iter().filter_map(|container| container.source);
+        let carried = Mixture::of(named).bits();
+        let all = policy.rules.iter().flat_map(Rule::mixtures).fold(carried, |bits, mixture| bits | mixture.bits());
+        let count = crate::atoms(all).filter_map(Source::of_atom).max().map_or(0, |source| source.atom() + 1);
+        policy.sources = Names((0..count).map(|number| format!("source-{number}")).collect());
+        policy
+    }
+}
