@@ -29,6 +29,13 @@ pub struct Holder {
     pub name: String,
 }
 
+impl Holder {
+    /// The container of a number and a name.
+    pub fn new(number: u8, name: impl Into<String>) -> Holder {
+        Holder { number, name: name.into() }
+    }
+}
+
 /// Who holds which number while the steps of a text are read. A container that a step makes takes the smallest free number;
 /// after an end or a delete the name is gone and the number free. Each step counts as accepted.
 #[derive(Clone, Debug)]
@@ -74,7 +81,7 @@ impl Steps {
             self.holding.push(None);
         }
         self.holding[free] = Some(name.into());
-        self.holders.push(Holder { number: free as u8, name: name.into() });
+        self.holders.push(Holder::new(free as u8, name));
         Ok(free as u8)
     }
 

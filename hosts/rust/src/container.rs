@@ -18,11 +18,13 @@ pub enum Kind {
 
 impl Kind {
     /// The kind of a number from 1 to 3.
+    #[must_use]
     pub fn of_number(number: u8) -> Option<Kind> {
         [Kind::File, Kind::Volatile, Kind::Process].into_iter().find(|kind| kind.number() == number)
     }
 
     /// The number that stands for it in an image and in a session.
+    #[must_use]
     pub fn number(self) -> u8 {
         self as u8
     }
@@ -43,6 +45,7 @@ impl fmt::Display for Kind {
 #[derive(Clone, Copy, Debug, PartialEq, Eq, Hash)]
 #[non_exhaustive]
 pub struct Container {
+    /// What it is.
     pub kind: Kind,
     /// The set of atoms that it holds, as in an [`Answer`](crate::Answer).
     pub tag: u64,

@@ -1,8 +1,12 @@
 //! The functions of `include/yaslaurel.h` as they are. What a caller owes stands there; a Rust slice, even an empty
 //! one, always keeps it.
 
-/// Answers of [`yaslaurel_step`] and [`yaslaurel_run`] that are no refusals.
+// The header describes the functions.
+#![allow(missing_docs)]
+
+/// The answer quiet of [`yaslaurel_step`] and [`yaslaurel_run`].
 pub const QUIET: u32 = 0;
+/// The answer alert.
 pub const ALERT: u32 = 256;
 
 extern "C" {

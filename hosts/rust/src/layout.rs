@@ -38,11 +38,13 @@ pub mod image {
         }
 
         /// Where the header has the offset of the section.
+        #[must_use]
         pub const fn offset_at(self) -> usize {
             2 + 4 * self.place
         }
 
         /// Where the header has the length of the section.
+        #[must_use]
         pub const fn length_at(self) -> usize {
             self.offset_at() + 2
         }
@@ -60,14 +62,18 @@ pub mod image {
     /// The sections in their order.
     pub const SECTIONS: [Section; 4] = [CONTAINERS, USERS, RULES, MIXTURES];
 
-    /// Places in the record of a container.
+    /// Where a container's record has the kind.
     pub const KIND: usize = 0;
+    /// Where a container's record has the atom.
     pub const ATOM: usize = 1;
+    /// Where a container's record has the permit rule.
     pub const PERMIT: usize = 2;
+    /// Where a container's record has the run rule.
     pub const RUN: usize = 4;
 
-    /// Places in the record of a rule.
+    /// Where a rule's record has its first mixture.
     pub const FIRST: usize = 0;
+    /// Where a rule's record has the count of its mixtures.
     pub const COUNT: usize = 2;
 
     /// The atom of a container that has none.
@@ -94,11 +100,15 @@ pub mod record {
     /// Bytes of a record.
     pub const LENGTH: usize = 8;
 
-    /// Places in a record.
+    /// Where the code is.
     pub const CODE: usize = 0;
+    /// Where a 0 is.
     pub const ZERO: usize = 1;
+    /// Where the number of the process is.
     pub const PROCESS: usize = 2;
+    /// Where the number of the object is.
     pub const OBJECT: usize = 4;
+    /// Where the number of the user is.
     pub const USER: usize = 6;
 
     /// The user of an operation that names none.
@@ -120,12 +130,15 @@ pub mod session {
     /// Numbers of a container's row.
     pub const CONTAINER_ROW: usize = 21;
 
-    /// Places in a container's row.
+    /// Where a container's row has the kind.
     pub const KIND: usize = 0;
+    /// Where a container's row has the tag.
     pub const TAG: usize = 1;
+    /// Where the permit rule begins in a container's row.
     pub const PERMIT: usize = 2;
+    /// Where the run rule begins in a container's row.
     pub const RUN: usize = PERMIT + RULE;
-    /// The user on whose behalf a process runs.
+    /// Where a container's row has the user on whose behalf a process runs.
     pub const BEHALF: usize = RUN + RULE;
 
     /// What stands there for nobody: in the row of a process that has executed nothing and is no fork of one that has, of
@@ -135,8 +148,9 @@ pub mod session {
     /// Numbers of a user's row.
     pub const USER_ROW: usize = 10;
 
-    /// Places in a user's row.
+    /// Where a user's row has a 1 if the user is declared.
     pub const DECLARED: usize = 0;
+    /// Where the rule begins in a user's row.
     pub const USER_RULE: usize = 1;
 
     /// Where the users' rows begin, behind those of the containers.
@@ -147,18 +161,21 @@ pub mod session {
 
     /// The row of a container.
     #[inline]
+    #[must_use]
     pub const fn container(number: usize) -> Range<usize> {
         number * CONTAINER_ROW..(number + 1) * CONTAINER_ROW
     }
 
     /// The row of a user.
     #[inline]
+    #[must_use]
     pub const fn user(number: usize) -> Range<usize> {
         USERS_AT + number * USER_ROW..USERS_AT + (number + 1) * USER_ROW
     }
 
     /// The numbers of the rule that begins at a place.
     #[inline]
+    #[must_use]
     pub const fn rule(place: usize) -> Range<usize> {
         place..place + RULE
     }

@@ -11,19 +11,35 @@
 //! let image = matrix_policy(&[5, 3, 2], &[1, 2, 10], 4)?;
 //! let mut session = Session::start(&image)?;
 //!
-//! let quiet = session.step(&Operation::Read { process: 4, object: 2 }.record())?;
-//! assert_eq!((quiet.verdict, quiet.receiver, quiet.tag), (Verdict::Quiet, 4, 0b0100));
-//! session.step(&Operation::Append { process: 4, object: 0 }.record())?;
-//! session.step(&Operation::Read { process: 5, object: 0 }.record())?;
+//! let answer = session.perform(Operation::Read { process: 4, object: 2 })?;
+//! assert_eq!((answer.verdict, answer.receiver, answer.tag), (Verdict::Quiet, 4, 0b0100));
+//! let answer = session.perform(Operation::Append { process: 4, object: 0 })?;
+//! assert_eq!((answer.verdict, answer.receiver, answer.tag), (Verdict::Quiet, 0, 0b0101));
+//! let answer = session.perform(Operation::Read { process: 5, object: 0 })?;
+//! assert_eq!((answer.verdict, answer.receiver, answer.tag), (Verdict::Quiet, 5, 0b0101));
 //!
 //! // Object 1 may hold objects 0 and 1, and now receives what came from object 2.
-//! let alert = session.step(&Operation::Append { process: 5, object: 1 }.record())?;
-//! assert_eq!((alert.verdict, alert.receiver, alert.tag), (Verdict::Alert, 1, 0b0111));
+//! let answer = session.perform(Operation::Append { process: 5, object: 1 })?;
+//! assert_eq!((answer.verdict, answer.receiver, answer.tag), (Verdict::Alert, 1, 0b0111));
 //! # Ok::<(), yaslaurel::Refusal>(())
 //! ```
 //!
+//! An answer that nobody looks at is a warning, since it may be an alert:
+//!
+//! ```compile_fail
+//! # use yaslaurel::{matrix_policy, Operation, Session};
+//! # let mut session = Session::start(&matrix_policy(&[1], &[1], 1)?)?;
+//! session.perform(Operation::Read { process: 1, object: 0 })?; // an error here: in these examples warnings are errors
+//! # Ok::<(), yaslaurel::Refusal>(())
+//! ```
+//!
+//! [`Policy`] makes an image by names and gives the names for messages.
+//!
 //! The functions whose names end in `_into` or `_in` work on memory that the caller lends, of any length: a wrong length
 //! is a [`Refusal`]. The others bring their own.
+
+#![warn(missing_docs, clippy::missing_errors_doc, clippy::must_use_candidate)]
+#![doc(test(attr(deny(warnings))))]
 
 mod container;
 pub mod ffi;
@@ -53,6 +69,7 @@ pub const OUTPUT_LENGTH: usize = layout::image::LONGEST_NORMAL;
 
 /// What the monitor says of an accepted operation.
 #[derive(Clone, Copy, Debug, PartialEq, Eq, Hash)]
+#[must_use = "it may be an alert"]
 #[non_exhaustive]
 pub enum Verdict {
     /// The receiver's permit rule covers its tag, or the operation made a new file or volatile, or the receiver has left.
@@ -63,7 +80,10 @@ pub enum Verdict {
 
 /// The answer to an accepted operation.
 #[derive(Clone, Copy, Debug, PartialEq, Eq, Hash)]
+#[must_use = "it may be an alert"]
+#[non_exhaustive]
 pub struct Answer {
+    /// Whether it is an alert.
     pub verdict: Verdict,
     /// The number of the container that received, or that ended or was deleted.
     pub receiver: u8,
@@ -76,9 +96,13 @@ impl Answer {
     /// The atoms of the tag, rising.
     ///
     /// ```
-    /// use yaslaurel::{Answer, Verdict};
-    /// let answer = Answer { verdict: Verdict::Quiet, receiver: 4, tag: 0b101 };
-    /// assert_eq!(answer.atoms().collect::<Vec<_>>(), [0, 2]);
+    /// use yaslaurel::{profiles_policy, Operation, Session};
+    /// let mut session = Session::start(&profiles_policy(b"profile /bin/admin {\n/etc/keys r,\n}\n")?)?;
+    /// let answer = session.perform(Operation::Exec { process: 2, file: 0, user: 0 })?;
+    /// assert_eq!(answer.atoms().collect::<Vec<_>>(), [32]);
+    /// let answer = session.perform(Operation::Read { process: 2, object: 1 })?;
+    /// assert_eq!(answer.atoms().collect::<Vec<_>>(), [1, 32]);
+    /// # Ok::<(), yaslaurel::Refusal>(())
     /// ```
     pub fn atoms(self) -> impl Iterator<Item = u32> {
         atoms(self.tag)
@@ -90,14 +114,30 @@ fn atoms(set: u64) -> impl Iterator<Item = u32> {
     (0..u64::BITS).filter(move |atom| set >> atom & 1 == 1)
 }
 
-/// The verdict on an access matrix.
+/// The verdict on an access matrix. There is no third.
 #[derive(Clone, Copy, Debug, PartialEq, Eq, Hash)]
+#[must_use = "the matrix may be inconsistent"]
 pub enum MatrixVerdict {
     /// Every composed flow is granted.
     Consistent,
-    /// So many composed flows are not granted, the first from object `source` to object `target`.
-    Inconsistent { flows: u32, source: u32, target: u32 },
+    /// Some composed flow is not granted.
+    Inconsistent {
+        /// How many are not granted.
+        flows: u32,
+        /// The object where the first of them begins.
+        source: u32,
+        /// The object where it ends.
+        target: u32,
+    },
 }
+
+/// All types may go to another thread and be shared.
+const _: () = {
+    const fn crosses_threads<T: Send + Sync>() {}
+    crosses_threads::<(Session, Run<'_>, Answer, Verdict, Container, Kind)>();
+    crosses_threads::<(Operation, Refusal, Matrix<'_>, MatrixVerdict, Judgement)>();
+    crosses_threads::<(Policy, PolicyContainer, PolicyError, Source, Mixture, Rule)>();
+};
 
 /// The refusal of a number that the library returned.
 #[inline]
@@ -125,6 +165,10 @@ fn length(number: u32) -> Result<usize, Refusal> {
 /// assert_eq!(check(&[]), Err(Refusal::ImageLength));
 /// # Ok::<(), Refusal>(())
 /// ```
+///
+/// # Errors
+///
+/// Refusals 1 to 6: what is wrong with the image.
 #[inline]
 pub fn check(image: &[u8]) -> Result<(), Refusal> {
     // SAFETY: a slice is valid, aligned and not null for its length.
@@ -142,6 +186,10 @@ pub fn check(image: &[u8]) -> Result<(), Refusal> {
 /// assert_eq!(yaslaurel::normalise(&[&image[..], &[99]].concat())?, image);
 /// # Ok::<(), yaslaurel::Refusal>(())
 /// ```
+///
+/// # Errors
+///
+/// As [`check`].
 pub fn normalise(image: &[u8]) -> Result<Vec<u8>, Refusal> {
     let mut out = vec![0; OUTPUT_LENGTH];
     let length = normalise_into(image, &mut out)?;
@@ -159,6 +207,10 @@ pub fn normalise(image: &[u8]) -> Result<Vec<u8>, Refusal> {
 /// assert_eq!(normalise_into(&image, &mut vec![0; OUTPUT_LENGTH - 1]), Err(Refusal::LentLength));
 /// # Ok::<(), Refusal>(())
 /// ```
+///
+/// # Errors
+///
+/// [`Refusal::LentLength`] for a short output, else as [`check`].
 #[inline]
 pub fn normalise_into(image: &[u8], out: &mut [u8]) -> Result<usize, Refusal> {
     // SAFETY: both slices are valid for their lengths, and Rust keeps `out` apart from `image`.
@@ -166,6 +218,10 @@ pub fn normalise_into(image: &[u8], out: &mut [u8]) -> Result<usize, Refusal> {
 }
 
 /// Fills a lent session of exactly [`SESSION_LENGTH`] numbers from a policy image, whatever stood there.
+///
+/// # Errors
+///
+/// [`Refusal::LentLength`] for another length, else as [`check`]. A refusal changes nothing.
 #[inline]
 pub fn start_in(image: &[u8], session: &mut [u64]) -> Result<(), Refusal> {
     // SAFETY: both slices are valid and aligned for their lengths, and Rust keeps `session` apart from `image`.
@@ -176,6 +232,10 @@ pub fn start_in(image: &[u8], session: &mut [u64]) -> Result<(), Refusal> {
 }
 
 /// Judges one operation record on a lent session of exactly [`SESSION_LENGTH`] numbers.
+///
+/// # Errors
+///
+/// [`Refusal::LentLength`] for another length, else as [`Session::step`]. A refusal changes nothing.
 #[inline]
 pub fn step_in(session: &mut [u64], record: &[u8]) -> Result<Answer, Refusal> {
     let (mut receiver, mut tag) = (0, 0);
@@ -209,6 +269,10 @@ impl Session {
     /// assert_eq!(Session::start(&[]), Err(Refusal::ImageLength));
     /// # Ok::<(), Refusal>(())
     /// ```
+    ///
+    /// # Errors
+    ///
+    /// As [`check`].
     pub fn start(image: &[u8]) -> Result<Session, Refusal> {
         let mut session = Session { words: vec![0; SESSION_LENGTH].try_into().expect("the length is right") };
         start_in(image, &mut session.words[..])?;
@@ -227,6 +291,10 @@ impl Session {
     /// assert_eq!(session, before);
     /// # Ok::<(), Refusal>(())
     /// ```
+    ///
+    /// # Errors
+    ///
+    /// [`Refusal::OperationRecord`], 10 to 14, 18 or 15: the operation was not followed.
     #[inline]
     pub fn step(&mut self, record: &[u8]) -> Result<Answer, Refusal> {
         step_in(&mut self.words[..], record)
@@ -245,7 +313,7 @@ impl Session {
     ///
     /// # Errors
     ///
-    /// As [`step`](Session::step), but never [`Refusal::OperationRecord`] but for a user over 15.
+    /// As [`step`](Session::step); [`Refusal::OperationRecord`] only for a user over 15.
     #[inline]
     pub fn perform(&mut self, operation: Operation) -> Result<Answer, Refusal> {
         self.step(&operation.record())
@@ -289,18 +357,34 @@ impl Session {
     ///
     /// // An exec says on whose behalf a process runs, and a fork runs on the same user's.
     /// assert_eq!(session.container(2).and_then(|process| process.user), None);
-    /// session.step(&Operation::Exec { process: 2, file: 0, user: 0 }.record())?;
-    /// session.step(&Operation::Fork { process: 2, child: 3 }.record())?;
+    /// let exec = session.perform(Operation::Exec { process: 2, file: 0, user: 0 })?;
+    /// let fork = session.perform(Operation::Fork { process: 2, child: 3 })?;
+    /// assert_eq!((exec.tag, fork.tag), (1 << 32, 1 << 32));
     /// let child = session.container(3).expect("the fork took it");
     /// assert_eq!((child.kind, child.tag, child.user), (Kind::Process, 1 << 32, Some(0)));
     /// # Ok::<(), Refusal>(())
     /// ```
+    #[must_use]
     pub fn container(&self, number: u8) -> Option<Container> {
         Container::read(&self.words[layout::session::container(usize::from(number))])
     }
 
+    /// All containers that there are just now, with their numbers, rising.
+    ///
+    /// ```
+    /// use yaslaurel::{matrix_policy, Kind, Session};
+    /// let session = Session::start(&matrix_policy(&[0b11], &[0b10], 2)?)?;
+    /// let kinds: Vec<_> = session.containers().map(|(number, container)| (number, container.kind)).collect();
+    /// assert_eq!(kinds, [(0, Kind::File), (1, Kind::File), (2, Kind::Process)]);
+    /// # Ok::<(), yaslaurel::Refusal>(())
+    /// ```
+    pub fn containers(&self) -> impl Iterator<Item = (u8, Container)> + '_ {
+        (0..=u8::MAX).filter_map(|number| Some((number, self.container(number)?)))
+    }
+
     /// The numbers of the session: the rows of the containers, then those of the users, as [`layout::session`] has
     /// them.
+    #[must_use]
     pub fn words(&self) -> &[u64; SESSION_LENGTH] {
         &self.words
     }
@@ -316,6 +400,7 @@ impl Session {
     /// let record = Operation::Read { process: 0, object: 1 }.record();
     /// assert_eq!(session.step(&record), Err(Refusal::Row));
     /// ```
+    #[must_use]
     pub fn from_words(words: Box<[u64; SESSION_LENGTH]>) -> Session {
         Session { words }
     }
@@ -340,6 +425,10 @@ impl fmt::Debug for Session {
 /// assert_eq!(matrix_verdict(&[1], &[1], 1), Ok(MatrixVerdict::Consistent));
 /// assert_eq!(matrix_verdict(&[], &[], 4), Err(Refusal::Matrix));
 /// ```
+///
+/// # Errors
+///
+/// [`Refusal::Matrix`].
 pub fn matrix_verdict(reads: &[u32], writes: &[u32], objects: u32) -> Result<MatrixVerdict, Refusal> {
     let (mut flows, mut source, mut target) = (0, 0, 0);
     // SAFETY: the slices are valid and aligned for their lengths, and the three numbers are ours.
@@ -370,6 +459,10 @@ pub fn matrix_verdict(reads: &[u32], writes: &[u32], objects: u32) -> Result<Mat
 /// assert_eq!(yaslaurel::normalise(&image)?, image);
 /// # Ok::<(), yaslaurel::Refusal>(())
 /// ```
+///
+/// # Errors
+///
+/// [`Refusal::Matrix`].
 pub fn matrix_policy(reads: &[u32], writes: &[u32], objects: u32) -> Result<Vec<u8>, Refusal> {
     let mut out = vec![0; OUTPUT_LENGTH];
     let length = matrix_policy_into(reads, writes, objects, &mut out)?;
@@ -379,6 +472,10 @@ pub fn matrix_policy(reads: &[u32], writes: &[u32], objects: u32) -> Result<Vec<
 
 /// Writes the policy image that an access matrix stands for to the front of an output of [`OUTPUT_LENGTH`] bytes or
 /// more, and gives its length. The bytes behind it stay; a refusal changes none.
+///
+/// # Errors
+///
+/// [`Refusal::LentLength`] for a short output, else [`Refusal::Matrix`].
 pub fn matrix_policy_into(reads: &[u32], writes: &[u32], objects: u32, out: &mut [u8]) -> Result<usize, Refusal> {
     // SAFETY: the slices are valid and aligned for their lengths, and Rust keeps `out` apart from the rows.
     length(unsafe {
@@ -405,16 +502,20 @@ pub fn matrix_policy_into(reads: &[u32], writes: &[u32], objects: u32, out: &mut
 ///
 /// // Files 0 /bin/mailer, 1 /etc/hosts, 2 /var/mail, 3 /bin/admin, 4 /etc/keys; process 5.
 /// let mut session = Session::start(&image)?;
-/// session.step(&Operation::Exec { process: 5, file: 0, user: 0 }.record())?;
-/// let quiet = session.step(&Operation::Read { process: 5, object: 1 }.record())?;
-/// assert_eq!(quiet.verdict, Verdict::Quiet);
-/// let alert = session.step(&Operation::Read { process: 5, object: 4 }.record())?;
+/// let exec = session.perform(Operation::Exec { process: 5, file: 0, user: 0 })?;
+/// let read = session.perform(Operation::Read { process: 5, object: 1 })?;
+/// assert_eq!((exec.verdict, read.verdict), (Verdict::Quiet, Verdict::Quiet));
+/// let alert = session.perform(Operation::Read { process: 5, object: 4 })?;
 /// assert_eq!((alert.verdict, alert.atoms().collect::<Vec<_>>()), (Verdict::Alert, vec![1, 4, 32]));
 ///
 /// assert_eq!(profiles_policy(b"")?.len(), 26);
 /// assert_eq!(profiles_policy(b"profile /a {\n/b x,\n}\n"), Err(Refusal::ProfileText));
 /// # Ok::<(), Refusal>(())
 /// ```
+///
+/// # Errors
+///
+/// [`Refusal::ProfileText`], or else [`Refusal::ProfileLimit`].
 pub fn profiles_policy(text: &[u8]) -> Result<Vec<u8>, Refusal> {
     let mut out = vec![0; OUTPUT_LENGTH];
     let length = profiles_policy_into(text, &mut out)?;
@@ -430,6 +531,10 @@ pub fn profiles_policy(text: &[u8]) -> Result<Vec<u8>, Refusal> {
 /// assert_eq!(profiles_policy_into(b"", &mut vec![0; OUTPUT_LENGTH]), Ok(26));
 /// assert_eq!(profiles_policy_into(b"x", &mut vec![0; OUTPUT_LENGTH - 1]), Err(Refusal::LentLength));
 /// ```
+///
+/// # Errors
+///
+/// [`Refusal::LentLength`] for a short output, else as [`profiles_policy`].
 #[inline]
 pub fn profiles_policy_into(text: &[u8], out: &mut [u8]) -> Result<usize, Refusal> {
     // SAFETY: both slices are valid for their lengths, and Rust keeps `out` apart from `text`.

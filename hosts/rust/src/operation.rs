@@ -1,4 +1,5 @@
-use crate::layout::record;
+use crate::layout::{image, record};
+use crate::Refusal;
 
 /// One operation that a host reports, with the numbers of its containers and, where there is one, of its user.
 ///
@@ -18,22 +19,24 @@ use crate::layout::record;
 /// use yaslaurel::{matrix_policy, Operation, Refusal, Session, Verdict};
 /// // Files 0 and 1, processes 2 and 3. File 0 may hold itself alone, file 1 both.
 /// let mut session = Session::start(&matrix_policy(&[0b01, 0b11], &[0b01, 0b10], 2)?)?;
-/// session.step(&Operation::Read { process: 3, object: 1 }.record())?;
-/// let alert = session.step(&Operation::Append { process: 3, object: 0 }.record())?;
+/// let read = session.perform(Operation::Read { process: 3, object: 1 })?;
+/// assert_eq!((read.verdict, read.tag), (Verdict::Quiet, 0b10));
+/// let alert = session.perform(Operation::Append { process: 3, object: 0 })?;
 /// assert_eq!((alert.verdict, alert.receiver, alert.tag), (Verdict::Alert, 0, 0b11));
 ///
-/// let gone = session.step(&Operation::Delete { process: 2, object: 0 }.record())?;
+/// let gone = session.perform(Operation::Delete { process: 2, object: 0 })?;
 /// assert_eq!((gone.verdict, gone.receiver, gone.tag), (Verdict::Quiet, 0, 0));
-/// let read = session.step(&Operation::Read { process: 2, object: 0 }.record());
+/// let read = session.perform(Operation::Read { process: 2, object: 0 });
 /// assert_eq!(read, Err(Refusal::WrongKind), "nobody has the number 0");
-/// let made = session.step(&Operation::NewVolatile { process: 2, volatile: 0 }.record())?;
+/// let made = session.perform(Operation::NewVolatile { process: 2, volatile: 0 })?;
 /// assert_eq!((made.verdict, made.tag), (Verdict::Quiet, 0), "it holds nothing of the file");
-/// let quiet = session.step(&Operation::Append { process: 3, object: 0 }.record())?;
+/// let quiet = session.perform(Operation::Append { process: 3, object: 0 })?;
 /// assert_eq!((quiet.verdict, quiet.tag), (Verdict::Quiet, 0b10), "the rule of the file is gone too");
 ///
-/// session.step(&Operation::End { process: 3 }.record())?;
-/// assert_eq!(session.step(&Operation::End { process: 3 }.record()), Err(Refusal::NoProcess));
-/// let child = session.step(&Operation::Fork { process: 2, child: 3 }.record())?;
+/// let ended = session.perform(Operation::End { process: 3 })?;
+/// assert_eq!((ended.verdict, ended.receiver, ended.tag), (Verdict::Quiet, 3, 0));
+/// assert_eq!(session.perform(Operation::End { process: 3 }), Err(Refusal::NoProcess));
+/// let child = session.perform(Operation::Fork { process: 2, child: 3 })?;
 /// assert_eq!((child.receiver, child.tag), (3, 0));
 /// # Ok::<(), Refusal>(())
 /// ```
@@ -41,24 +44,71 @@ use crate::layout::record;
 #[non_exhaustive]
 pub enum Operation {
     /// Code 1: the process reads a file or volatile.
-    Read { process: u8, object: u8 },
+    Read {
+        /// Who reads, and receives.
+        process: u8,
+        /// What is read.
+        object: u8,
+    },
     /// Code 2: the process writes a file or volatile from its beginning.
-    Write { process: u8, object: u8 },
+    Write {
+        /// Who writes.
+        process: u8,
+        /// What is written, and receives.
+        object: u8,
+    },
     /// Code 3: the process appends to a file or volatile.
-    Append { process: u8, object: u8 },
+    Append {
+        /// Who appends.
+        process: u8,
+        /// What is appended to, and receives.
+        object: u8,
+    },
     /// Code 4: the process starts the program in a file for a user. It keeps the data that it holds, as what it passes to
     /// the program; what it ran before is gone.
-    Exec { process: u8, file: u8, user: u8 },
+    Exec {
+        /// Who starts the program, and receives.
+        process: u8,
+        /// The program.
+        file: u8,
+        /// On whose behalf the process runs from now on, 0 to 15.
+        user: u8,
+    },
     /// Code 5: the process forks; the child takes a free number.
-    Fork { process: u8, child: u8 },
+    Fork {
+        /// The parent.
+        process: u8,
+        /// The child, which receives.
+        child: u8,
+    },
     /// Code 6: the process makes a file for a user, at a free number.
-    NewFile { process: u8, file: u8, user: u8 },
+    NewFile {
+        /// Who makes it.
+        process: u8,
+        /// The new file.
+        file: u8,
+        /// The user whose rule the file has, 0 to 15.
+        user: u8,
+    },
     /// Code 7: the process makes a volatile, at a free number.
-    NewVolatile { process: u8, volatile: u8 },
+    NewVolatile {
+        /// Who makes it.
+        process: u8,
+        /// The new volatile.
+        volatile: u8,
+    },
     /// Code 8: the process ends, and its number is free. Its record names it twice.
-    End { process: u8 },
+    End {
+        /// Who ends.
+        process: u8,
+    },
     /// Code 9: the process deletes a file or volatile, whose number is free.
-    Delete { process: u8, object: u8 },
+    Delete {
+        /// Who deletes.
+        process: u8,
+        /// What is deleted.
+        object: u8,
+    },
 }
 
 impl Operation {
@@ -79,4 +129,48 @@ impl Operation {
         let [low, high] = user.map_or(record::NO_USER, u16::from).to_le_bytes();
         [code, 0, process, 0, object, 0, low, high]
     }
+}
+
+/// The operation of a record, from the bytes that [`Session::step`](crate::Session::step) takes: a record is malformed here
+/// exactly when a session refuses it with [`Refusal::OperationRecord`].
+///
+/// ```
+/// use yaslaurel::{Operation, Refusal};
+/// let exec = Operation::Exec { process: 3, file: 1, user: 0 };
+/// assert_eq!(Operation::try_from(&exec.record()[..]), Ok(exec));
+/// assert_eq!(Operation::try_from(&exec.record()[1..]), Err(Refusal::OperationRecord));
+/// ```
+impl TryFrom<&[u8]> for Operation {
+    type Error = Refusal;
+
+    fn try_from(bytes: &[u8]) -> Result<Operation, Refusal> {
+        operation(bytes).ok_or(Refusal::OperationRecord)
+    }
+}
+
+fn operation(bytes: &[u8]) -> Option<Operation> {
+    let bytes: &[u8; record::LENGTH] = bytes.try_into().ok()?;
+    let number = |place: usize| u16::from_le_bytes([bytes[place], bytes[place + 1]]);
+    let container = |place: usize| u8::try_from(number(place)).ok();
+    let (process, object) = (container(record::PROCESS)?, container(record::OBJECT)?);
+    let user = match number(record::USER) {
+        record::NO_USER => None,
+        user if usize::from(user) < image::USERS.most => Some(user as u8),
+        _ => return None,
+    };
+    if bytes[record::ZERO] != 0 {
+        return None;
+    }
+    Some(match (bytes[record::CODE], user) {
+        (1, None) => Operation::Read { process, object },
+        (2, None) => Operation::Write { process, object },
+        (3, None) => Operation::Append { process, object },
+        (4, Some(user)) => Operation::Exec { process, file: object, user },
+        (5, None) => Operation::Fork { process, child: object },
+        (6, Some(user)) => Operation::NewFile { process, file: object, user },
+        (7, None) => Operation::NewVolatile { process, volatile: object },
+        (8, None) if process == object => Operation::End { process },
+        (9, None) => Operation::Delete { process, object },
+        _ => return None,
+    })
 }

@@ -291,53 +291,63 @@ impl Policy {
 /// What a policy has, by number and by name.
 impl Policy {
     /// The names of the sources, in the order of their atoms.
+    #[must_use]
     pub fn source_names(&self) -> impl ExactSizeIterator<Item = &str> {
         self.sources.iter()
     }
 
     /// The containers with their names, in the order of their numbers.
+    #[must_use]
     pub fn containers(&self) -> impl ExactSizeIterator<Item = (&str, PolicyContainer)> {
         self.container_names.iter().zip(self.containers.iter().copied())
     }
 
     /// The users by name, in the order of their numbers, each with the place of its rule in [`rules`](Policy::rules), or
     /// nothing for the unrestricted one.
+    #[must_use]
     pub fn users(&self) -> impl ExactSizeIterator<Item = (&str, Option<u16>)> {
         self.user_names.iter().zip(self.users.iter().copied())
     }
 
     /// The different rules that containers and users were given, but for the unrestricted one.
+    #[must_use]
     pub fn rules(&self) -> &[Rule] {
         &self.rules
     }
 
     /// The source of a name.
+    #[must_use]
     pub fn source_named(&self, name: &str) -> Option<Source> {
         self.sources.place(name).and_then(|place| Source::of_atom(place.into()))
     }
 
     /// The number of the container of a name.
+    #[must_use]
     pub fn container_named(&self, name: &str) -> Option<u8> {
         self.container_names.place(name)
     }
 
     /// The number of the user of a name.
+    #[must_use]
     pub fn user_named(&self, name: &str) -> Option<u8> {
         self.user_names.place(name)
     }
 
     /// The name of a source, or a word with its number if the policy has none.
+    #[must_use]
     pub fn source_name(&self, source: Source) -> String {
         self.sources.at(source.atom() as u8, "source")
     }
 
     /// The name of the container that the policy has at a number, or a word with the number if it has none there: a fork or
     /// a creation took it. The session may have given the number to others since.
+    #[must_use]
     pub fn container_name(&self, number: u8) -> String {
         self.container_names.at(number, "container")
     }
 
     /// The name of a user, or a word with the number if the policy has none there.
+    #[must_use]
     pub fn user_name(&self, number: u8) -> String {
         self.user_names.at(number, "user")
     }
@@ -354,6 +364,7 @@ impl Policy {
     /// assert_eq!(policy.sources_in(4), "source 2");
     /// # Ok::<(), yaslaurel::PolicyError>(())
     /// ```
+    #[must_use]
     pub fn sources_in(&self, tag: u64) -> String {
         let named = crate::atoms(tag).filter_map(|atom| {
             let name = self.source_name(Source::of_atom(atom)?);
@@ -371,6 +382,7 @@ impl Policy {
 /// The policy as an image, and an image as a policy.
 impl Policy {
     /// The image of the policy, its sections without gaps. No image of a policy is refused.
+    #[must_use]
     pub fn image(&self) -> Vec<u8> {
         let number = |rule: Option<u16>| rule.unwrap_or(image::UNRESTRICTED).to_le_bytes();
         let mut sections: [Vec<u8>; 4] = Default::default();

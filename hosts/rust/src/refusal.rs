@@ -1,18 +1,20 @@
+use std::cmp::Ordering;
 use std::error::Error;
 use std::fmt;
 
 /// Why a call was refused. A refused call changes nothing that it was lent.
 ///
-/// The numbers are the paper's. Where several conditions fail, the first in this order counts: 9, 1 to 8, 10 to
-/// 14, 18, 15 to 17.
+/// The numbers are the paper's. Where several conditions fail, the least refusal counts: they are ordered 9, 1 to 8, 10 to
+/// 14, 18, 15 to 17, as published, and not by number.
 ///
 /// ```
 /// use yaslaurel::Refusal;
 /// assert_eq!(yaslaurel::check(&[]), Err(Refusal::ImageLength));
 /// assert_eq!(Refusal::ImageLength.number(), 1);
 /// assert_eq!(Refusal::ImageLength.to_string(), "refused 1: the image is too short or too long");
+/// assert!(Refusal::LentLength < Refusal::ImageLength && Refusal::OtherUser < Refusal::Meet);
 /// ```
-#[derive(Clone, Copy, Debug, PartialEq, Eq, Hash, PartialOrd, Ord)]
+#[derive(Clone, Copy, Debug, PartialEq, Eq, Hash)]
 #[non_exhaustive]
 #[repr(u32)]
 pub enum Refusal {
@@ -57,51 +59,71 @@ pub enum Refusal {
     OtherUser = 18,
 }
 
-impl Refusal {
-    /// All refusals, by rising number.
-    pub const ALL: [Refusal; 18] = [
-        Refusal::ImageLength,
-        Refusal::Sections,
-        Refusal::RecordCount,
-        Refusal::RuleRecord,
-        Refusal::ContainerRecord,
-        Refusal::UserRule,
-        Refusal::OperationRecord,
-        Refusal::Matrix,
-        Refusal::LentLength,
-        Refusal::Row,
-        Refusal::NoProcess,
-        Refusal::WrongKind,
-        Refusal::NotFree,
-        Refusal::Undeclared,
-        Refusal::Meet,
-        Refusal::ProfileText,
-        Refusal::ProfileLimit,
-        Refusal::OtherUser,
-    ];
+/// All refusals in the published order.
+const PUBLISHED: [Refusal; 18] = [
+    Refusal::LentLength,
+    Refusal::ImageLength,
+    Refusal::Sections,
+    Refusal::RecordCount,
+    Refusal::RuleRecord,
+    Refusal::ContainerRecord,
+    Refusal::UserRule,
+    Refusal::OperationRecord,
+    Refusal::Matrix,
+    Refusal::Row,
+    Refusal::NoProcess,
+    Refusal::WrongKind,
+    Refusal::NotFree,
+    Refusal::Undeclared,
+    Refusal::OtherUser,
+    Refusal::Meet,
+    Refusal::ProfileText,
+    Refusal::ProfileLimit,
+];
 
-    /// The refusal of a number from 1 to 18.
+impl Refusal {
+    /// All refusals of this edition, rising in the published order.
     ///
     /// ```
     /// use yaslaurel::Refusal;
-    /// for refusal in Refusal::ALL {
+    /// let numbers: Vec<u32> = Refusal::all().map(Refusal::number).collect();
+    /// assert_eq!(numbers, [9, 1, 2, 3, 4, 5, 6, 7, 8, 10, 11, 12, 13, 14, 18, 15, 16, 17]);
+    /// assert!(Refusal::all().zip(Refusal::all().skip(1)).all(|(one, next)| one < next));
+    /// ```
+    pub fn all() -> impl Iterator<Item = Refusal> {
+        PUBLISHED.into_iter()
+    }
+
+    /// The refusal of a number.
+    ///
+    /// ```
+    /// use yaslaurel::Refusal;
+    /// for refusal in Refusal::all() {
     ///     assert_eq!(Refusal::from_number(refusal.number()), Some(refusal));
     /// }
     /// assert_eq!(Refusal::from_number(0), None);
     /// assert_eq!(Refusal::from_number(19), None);
     /// ```
     #[inline]
+    #[must_use]
     pub fn from_number(number: u32) -> Option<Refusal> {
-        Refusal::ALL.into_iter().find(|refusal| refusal.number() == number)
+        PUBLISHED.into_iter().find(|refusal| refusal.number() == number)
+    }
+
+    /// Its place in the published order.
+    fn place(self) -> Option<usize> {
+        PUBLISHED.iter().position(|refusal| *refusal == self)
     }
 
     /// The paper's number.
     #[inline]
+    #[must_use]
     pub fn number(self) -> u32 {
         self as u32
     }
 
     /// What the number means, in a few words.
+    #[must_use]
     pub fn meaning(self) -> &'static str {
         match self {
             Refusal::ImageLength => "the image is too short or too long",
@@ -123,6 +145,19 @@ impl Refusal {
             Refusal::ProfileLimit => "the profiles have over 32 paths, or a rule of over 8 mixtures",
             Refusal::OtherUser => "a new file for another user than the process's own",
         }
+    }
+}
+
+/// The published order.
+impl Ord for Refusal {
+    fn cmp(&self, other: &Refusal) -> Ordering {
+        self.place().cmp(&other.place())
+    }
+}
+
+impl PartialOrd for Refusal {
+    fn partial_cmp(&self, other: &Refusal) -> Option<Ordering> {
+        Some(self.cmp(other))
     }
 }
 

@@ -11,16 +11,19 @@ pub struct Source(u8);
 
 impl Source {
     /// The source of an atom, data or running; nothing from 64 on.
+    #[must_use]
     pub fn of_atom(number: u32) -> Option<Source> {
         (number < 2 * atom::RUNNING).then_some(Source((number % atom::RUNNING) as u8))
     }
 
     /// Its data atom, 0 to 31.
+    #[must_use]
     pub fn atom(self) -> u32 {
         u32::from(self.0)
     }
 
     /// Its running atom, 32 to 63.
+    #[must_use]
     pub fn running_atom(self) -> u32 {
         self.atom() + atom::RUNNING
     }
@@ -53,11 +56,13 @@ impl Mixture {
     }
 
     /// The mixture of a number, in which atom k is worth 2 to the k.
+    #[must_use]
     pub const fn from_bits(bits: u64) -> Mixture {
         Mixture(bits)
     }
 
     /// Its number.
+    #[must_use]
     pub const fn bits(self) -> u64 {
         self.0
     }
@@ -100,11 +105,13 @@ impl Rule {
     }
 
     /// Whether the rule permits everything.
+    #[must_use]
     pub fn is_unrestricted(&self) -> bool {
         self.mixtures.contains(&Mixture::from_bits(u64::MAX))
     }
 
     /// Its mixtures, ascending as numbers.
+    #[must_use]
     pub fn mixtures(&self) -> &[Mixture] {
         &self.mixtures
     }

@@ -43,6 +43,7 @@ impl Run<'_> {
     /// # Ok::<(), Refusal>(())
     /// ```
     #[inline]
+    #[must_use]
     pub fn judged(&self) -> usize {
         self.judged
     }

@@ -5,14 +5,20 @@ use crate::{ffi, refusal, Refusal};
 /// An access matrix: row s of `reads` has bit k if subject s may read object k, and so `writes`.
 #[derive(Clone, Copy, Debug, PartialEq, Eq)]
 pub struct Matrix<'a> {
+    /// A row for each subject.
     pub reads: &'a [u32],
+    /// A row for each subject.
     pub writes: &'a [u32],
+    /// How many objects there are.
     pub objects: u32,
 }
 
 /// The judgement on a proposal: accepted, or the first condition that fails.
 #[derive(Clone, Copy, Debug, PartialEq, Eq, Hash)]
+#[must_use = "a proposal counts only if it is accepted"]
+#[non_exhaustive]
 pub enum Judgement {
+    /// 0: every condition holds.
     Accepted,
     /// 1: the proposal has a right that the old matrix lacks.
     RightAdded,
@@ -26,6 +32,7 @@ pub enum Judgement {
 
 impl Judgement {
     /// 0 accepted, 1 to 4 the condition.
+    #[must_use]
     pub fn number(self) -> u32 {
         self as u32
     }
@@ -52,6 +59,10 @@ impl Judgement {
 /// assert_eq!(judge_withdrawal(proposed, nothing, old), Ok(Judgement::RightAdded));
 /// assert_eq!(judge_withdrawal(old, nothing, Matrix { objects: 4, ..old }), Err(Refusal::Matrix));
 /// ```
+///
+/// # Errors
+///
+/// [`Refusal::Matrix`].
 #[inline]
 pub fn judge_withdrawal(old: Matrix<'_>, required: Matrix<'_>, proposed: Matrix<'_>) -> Result<Judgement, Refusal> {
     // SAFETY: the slices are valid and aligned for their lengths.
