@@ -1,14 +1,19 @@
-//! Policies as text: stories become policies and steps. The formats are in `docs/FORMATS.md`.
+//! Policies as text: stories become policies and steps, policies become readable text, and a text of profiles that is
+//! refused is told with its line. The formats are in `docs/FORMATS.md`.
 
-#![warn(missing_docs)]
+#![warn(missing_docs, clippy::missing_errors_doc)]
 
 mod folder;
+mod profiles;
+mod show;
 mod statement;
 mod steps;
 mod story;
 mod token;
 
-pub use folder::write_folder;
+pub use folder::{read_names, write_folder};
+pub use profiles::{profile_paths, ProfileFault};
+pub use show::show;
 pub use steps::{Holder, Step, Steps};
 pub use story::Story;
 pub use token::quoted;

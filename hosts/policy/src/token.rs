@@ -26,7 +26,7 @@ impl fmt::Display for Token<'_> {
     }
 }
 
-/// A name as a story spells it: in quotes where it must be.
+/// A name as a story spells it: in double quotes where it must be. A name with a double quote has no spelling.
 pub fn quoted(name: &str) -> String {
     let bare = !name.is_empty() && !name.starts_with('#') && !name.contains(|c: char| ends_word(c) || c == '"');
     if bare && name != "run" {

@@ -37,6 +37,7 @@ impl Source {
 /// let (north, desk) = (policy.source("north")?, policy.source("desk")?);
 /// let mixture = Mixture::of([north]).running([desk]);
 /// assert_eq!(mixture.bits(), 0x2_0000_0001);
+/// assert!(mixture.sources().eq([north]) && mixture.running_sources().eq([desk]));
 /// # Ok::<(), yaslaurel::PolicyError>(())
 /// ```
 #[derive(Clone, Copy, Debug, Default, PartialEq, Eq, Hash)]
@@ -53,6 +54,16 @@ impl Mixture {
     #[must_use]
     pub fn running(self, sources: impl IntoIterator<Item = Source>) -> Mixture {
         Mixture(sources.into_iter().fold(self.0, |bits, source| bits | 1 << source.running_atom()))
+    }
+
+    /// The sources that it has as data, rising.
+    pub fn sources(self) -> impl Iterator<Item = Source> {
+        crate::atoms(self.0).filter(|atom| *atom < atom::RUNNING).filter_map(Source::of_atom)
+    }
+
+    /// The sources that it has executed, rising.
+    pub fn running_sources(self) -> impl Iterator<Item = Source> {
+        crate::atoms(self.0).filter(|atom| *atom >= atom::RUNNING).filter_map(Source::of_atom)
     }
 
     /// The mixture of a number, in which atom k is worth 2 to the k.

@@ -1,0 +1,306 @@
+//! Texts of profiles: their paths, and where a text that is refused is at fault.
+//!
+//! The library alone says whether a text is refused, and by which number. What stands here is for the message.
+
+use std::error::Error;
+use std::fmt;
+
+use yaslaurel::layout::profiles::{PATHS, PATH_LIMIT, TEXT_LIMIT};
+use yaslaurel::layout::session::RULE_MIXTURES;
+use yaslaurel::{Mixture, Refusal, Source};
+
+use crate::LineError;
+
+/// Where a text of profiles is at fault.
+#[derive(Clone, Debug, PartialEq, Eq)]
+#[non_exhaustive]
+pub struct ProfileFault {
+    /// By what the library refuses the text: [`Refusal::ProfileText`] or [`Refusal::ProfileLimit`].
+    pub refusal: Refusal,
+    /// The line, and what was expected there.
+    pub error: LineError,
+}
+
+/// `LINE: MESSAGE (refused NUMBER)`.
+impl fmt::Display for ProfileFault {
+    fn fmt(&self, f: &mut fmt::Formatter<'_>) -> fmt::Result {
+        write!(f, "{} (refused {})", self.error, self.refusal.number())
+    }
+}
+
+impl Error for ProfileFault {}
+
+/// The paths of a text of profiles, in the order of the files of its policy.
+///
+/// ```
+/// use policy_text::profile_paths;
+/// assert_eq!(profile_paths(b"profile /bin/a {\n/etc/b r,\n}\n"), Ok(vec!["/bin/a".into(), "/etc/b".into()]));
+/// let fault = profile_paths(b"profile /bin/a {\n/etc/b x,\n}\n").unwrap_err();
+/// let expected = "2: column 8: found `x`, expected a mode (r w a l m ix px Px ux Ux) (refused 16)";
+/// assert_eq!(fault.to_string(), expected);
+/// ```
+///
+/// # Errors
+///
+/// The place where the text is at fault, and what was expected there. By 16: the first line with which nothing that follows
+/// could make a text of the grammar within its length; for a path that is profiled twice, the second profile. By 17: the line
+/// of the 33rd path; else the line that brings the ninth mixture of a rule.
+pub fn profile_paths(text: &[u8]) -> Result<Vec<String>, ProfileFault> {
+    let profiles = read(text).map_err(|error| ProfileFault { refusal: Refusal::ProfileText, error })?;
+    within_limits(&profiles).map_err(|error| ProfileFault { refusal: Refusal::ProfileLimit, error })
+}
+
+/// The paths, if they are not too many and no rule has too many mixtures.
+fn within_limits(profiles: &[Profile]) -> Result<Vec<String>, LineError> {
+    let mut paths: Vec<String> = Vec::new();
+    let named = profiles.iter().flat_map(Profile::named);
+    for (line, path) in named {
+        if !paths.contains(path) {
+            paths.push(path.clone());
+        }
+        if paths.len() > PATHS {
+            return at(line, format!("`{path}` is path {}, expected at most {PATHS} different paths", paths.len()));
+        }
+    }
+    for path in &paths {
+        for rule in rules(profiles, &paths, path) {
+            rule.check(path)?;
+        }
+    }
+    Ok(paths)
+}
+
+fn at<T>(line: usize, message: String) -> Result<T, LineError> {
+    Err(LineError { line, message })
+}
+
+/// A profile of the text.
+struct Profile {
+    line: usize,
+    path: String,
+    entries: Vec<Entry>,
+}
+
+/// A line of a profile.
+struct Entry {
+    line: usize,
+    path: String,
+    modes: Vec<&'static str>,
+}
+
+impl Entry {
+    fn has(&self, modes: &[&str]) -> bool {
+        self.modes.iter().any(|mode| modes.contains(mode))
+    }
+}
+
+impl Profile {
+    /// The paths that it names, with their lines.
+    fn named(&self) -> impl Iterator<Item = (usize, &String)> {
+        let entries = self.entries.iter().map(|entry| (entry.line, &entry.path));
+        std::iter::once((self.line, &self.path)).chain(entries)
+    }
+
+    /// Its run mixture: itself running, what it may read, and what it may execute.
+    fn run_mixture(&self, paths: &[String]) -> Mixture {
+        let source = |path: &String| {
+            let place = paths.iter().position(|other| other == path);
+            Source::of_atom(place.expect("every path is in the list") as u32).expect("there are at most 32")
+        };
+        let of = |modes: &'static [&str]| {
+            self.entries.iter().filter(|entry| entry.has(modes)).map(|entry| source(&entry.path))
+        };
+        Mixture::of(of(&["r", "m"])).running([source(&self.path)]).running(of(&["ix", "px", "Px", "ux", "Ux"]))
+    }
+}
+
+/// The mixtures of a rule of a path, each with the line that brings it and the program whose it is.
+struct NamedRule<'a> {
+    what: &'static str,
+    mixtures: Vec<(usize, &'a str, u64)>,
+}
+
+impl NamedRule<'_> {
+    /// At fault at the line of the ninth mixture that counts: one that no other holds, and of equal ones the first.
+    fn check(&self, path: &str) -> Result<(), LineError> {
+        let counts = |place: usize| {
+            let own = self.mixtures[place].2;
+            let held = |(other, mixture): (usize, u64)| own & !mixture == 0 && (own != mixture || other < place);
+            !self.mixtures.iter().enumerate().any(|(other, (_, _, mixture))| other != place && held((other, *mixture)))
+        };
+        let counted = (0..self.mixtures.len()).filter(|place| counts(*place)).map(|place| self.mixtures[place]);
+        let counted: Vec<(usize, &str, u64)> = counted.collect();
+        let Some((line, _, _)) = counted.get(RULE_MIXTURES) else { return Ok(()) };
+        let programs: Vec<&str> = counted.iter().map(|(_, program, _)| *program).collect();
+        let message = format!(
+            "the {} rule of `{path}` has mixture {} here, expected at most {RULE_MIXTURES}; its programs: {}",
+            self.what,
+            RULE_MIXTURES + 1,
+            programs.join(", ")
+        );
+        at(*line, message)
+    }
+}
+
+/// The rules of a path that may have many mixtures: its permit rule by those that write it, and without a profile of its own
+/// its run rule by those that execute it under their own profile.
+fn rules<'a>(profiles: &'a [Profile], paths: &[String], path: &str) -> Vec<NamedRule<'a>> {
+    let naming = |modes: &'static [&str]| {
+        let found = profiles.iter().filter_map(|profile| {
+            let entry = profile.entries.iter().find(|entry| entry.path == path && entry.has(modes))?;
+            Some((entry.line, profile.path.as_str(), profile.run_mixture(paths).bits()))
+        });
+        found.collect::<Vec<_>>()
+    };
+    // The file's own atom is in each mixture of its permit rule.
+    let own = paths.iter().position(|other| other == path).map_or(0, |place| 1_u64 << place);
+    let permit = naming(&["w", "a"]).into_iter().map(|(line, program, bits)| (line, program, bits | own)).collect();
+    let mut rules = vec![NamedRule { what: "permit", mixtures: permit }];
+    let free = profiles.iter().any(|profile| profile.path == path) || !naming(&["ux", "Ux"]).is_empty();
+    if !free {
+        rules.push(NamedRule { what: "run", mixtures: naming(&["ix"]) });
+    }
+    rules
+}
+
+/// The profiles of a text of the grammar, in which no path is profiled twice, and which is not too long.
+fn read(text: &[u8]) -> Result<Vec<Profile>, LineError> {
+    let mut profiles: Vec<Profile> = Vec::new();
+    let mut open = false;
+    let mut scanner = Scanner { text, place: 0, line: 1 };
+    while open || scanner.place < text.len() {
+        let line = scanner.line;
+        scanner.whole_line_fits(open)?;
+        if !open {
+            let path = scanner.heading()?;
+            if let Some(other) = profiles.iter().find(|profile| profile.path == path) {
+                let message =
+                    format!("`{path}` has a profile at line {} already, expected one profile for a path", other.line);
+                return at(line, message);
+            }
+            profiles.push(Profile { line, path, entries: Vec::new() });
+            open = true;
+        } else if scanner.peek() == Some(b'}') {
+            scanner.literal("}")?;
+            scanner.end_of_line()?;
+            open = false;
+        } else {
+            let (path, modes) = scanner.entry()?;
+            profiles.last_mut().expect("one is open").entries.push(Entry { line, path, modes });
+        }
+    }
+    Ok(profiles)
+}
+
+/// Where a text is read.
+struct Scanner<'a> {
+    text: &'a [u8],
+    place: usize,
+    line: usize,
+}
+
+impl Scanner<'_> {
+    fn peek(&self) -> Option<u8> {
+        self.text.get(self.place).copied()
+    }
+
+    /// What is wrong at the place that is read.
+    fn wrong<T>(&self, expected: &str) -> Result<T, LineError> {
+        let found = match self.peek() {
+            None => "the end of the text".into(),
+            Some(b'\n') => "the end of the line".into(),
+            Some(b' ') => "a space".into(),
+            Some(b'\t') => "a tab".into(),
+            Some(byte) if byte.is_ascii_graphic() => format!("`{}`", char::from(byte)),
+            Some(byte) => format!("byte {byte}"),
+        };
+        let begin = self.text[..self.place].iter().rposition(|byte| *byte == b'\n').map_or(0, |place| place + 1);
+        at(self.line, format!("column {}: found {found}, expected {expected}", self.place - begin + 1))
+    }
+
+    fn literal(&mut self, wanted: &str) -> Result<(), LineError> {
+        for byte in wanted.bytes() {
+            if self.peek() != Some(byte) {
+                return self.wrong(&format!("`{wanted}`"));
+            }
+            self.place += 1;
+        }
+        Ok(())
+    }
+
+    fn end_of_line(&mut self) -> Result<(), LineError> {
+        if self.peek() != Some(b'\n') {
+            return self.wrong("the end of the line (byte 10)");
+        }
+        self.place += 1;
+        self.line += 1;
+        Ok(())
+    }
+
+    /// `profile PATH {`
+    fn heading(&mut self) -> Result<String, LineError> {
+        if self.text[self.place..].starts_with(b"profile ") {
+            self.literal("profile ")?;
+        } else {
+            return self.wrong("`profile PATH {` or the end of the text");
+        }
+        let path = self.path("a path")?;
+        self.literal(" {")?;
+        self.end_of_line()?;
+        Ok(path)
+    }
+
+    /// `PATH MODES,`
+    fn entry(&mut self) -> Result<(String, Vec<&'static str>), LineError> {
+        let path = self.path("`PATH MODES,` or `}`")?;
+        if self.peek() != Some(b' ') {
+            return self.wrong("a space and modes behind the path");
+        }
+        self.place += 1;
+        let mut modes = vec![self.mode("")?];
+        while self.peek() != Some(b',') {
+            modes.push(self.mode(", or `,`")?);
+        }
+        self.literal(",")?;
+        self.end_of_line()?;
+        Ok((path, modes))
+    }
+
+    fn path(&mut self, expected: &str) -> Result<String, LineError> {
+        if self.peek() != Some(b'/') {
+            return self.wrong(expected);
+        }
+        let in_path = |byte: &u8| byte.is_ascii_alphanumeric() || *byte == b'.' || *byte == b'/';
+        let length = self.text[self.place..].iter().take_while(|byte| in_path(byte)).count();
+        let path = &self.text[self.place..self.place + length];
+        self.place += length.min(PATH_LIMIT);
+        if length < 2 {
+            return self.wrong("a letter, digit, dot or slash of a path");
+        }
+        if length > PATH_LIMIT {
+            return self.wrong(&format!("at most {PATH_LIMIT} bytes in a path"));
+        }
+        Ok(String::from_utf8_lossy(path).into_owned())
+    }
+
+    fn mode(&mut self, or: &str) -> Result<&'static str, LineError> {
+        const MODES: [&str; 10] = ["r", "w", "a", "l", "m", "ix", "px", "Px", "ux", "Ux"];
+        let rest = &self.text[self.place..];
+        let Some(mode) = MODES.into_iter().find(|mode| rest.starts_with(mode.as_bytes())) else {
+            return self.wrong(&format!("a mode (r w a l m ix px Px ux Ux){or}"));
+        };
+        self.place += mode.len();
+        Ok(mode)
+    }
+
+    /// At fault if the text, with what must follow this line, is over the limit.
+    fn whole_line_fits(&self, open: bool) -> Result<(), LineError> {
+        let rest = &self.text[self.place..];
+        let length = rest.iter().position(|byte| *byte == b'\n').map_or(rest.len(), |place| place + 1);
+        let closing = if open && rest.starts_with(b"}") { 0 } else { 2 };
+        if self.place + length + closing <= TEXT_LIMIT {
+            return Ok(());
+        }
+        at(self.line, format!("the text is over {TEXT_LIMIT} bytes here, expected at most as many"))
+    }
+}
