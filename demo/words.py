@@ -1,6 +1,6 @@
 #!/usr/bin/env python3
 """demo/words.py [FOLDER]: reads a listing and prints its alerts and refusals in words, containers and sources by the names
-that make.py wrote into FOLDER (the folder of this script by default)."""
+that `policy make` wrote into FOLDER (the folder of this script by default)."""
 
 import sys
 from pathlib import Path

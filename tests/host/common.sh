@@ -63,5 +63,11 @@ need_library() {
     fi
 }
 
+# need_policy: builds the program `policy` with the library, as $policy.
+need_policy() {
+    policy=$(YASLAUREL_LIB=$library hosts/build policy)
+    must $? "the program policy builds"
+}
+
 work=$(mktemp -d)
 trap 'rm -rf "$work"' EXIT

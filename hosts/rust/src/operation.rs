@@ -129,6 +129,39 @@ impl Operation {
         let [low, high] = user.map_or(record::NO_USER, u16::from).to_le_bytes();
         [code, 0, process, 0, object, 0, low, high]
     }
+
+    /// The number of its process.
+    #[must_use]
+    pub fn process(self) -> u8 {
+        match self {
+            Operation::Read { process, .. }
+            | Operation::Write { process, .. }
+            | Operation::Append { process, .. }
+            | Operation::Exec { process, .. }
+            | Operation::Fork { process, .. }
+            | Operation::NewFile { process, .. }
+            | Operation::NewVolatile { process, .. }
+            | Operation::End { process }
+            | Operation::Delete { process, .. } => process,
+        }
+    }
+
+    /// What its process does, in words for a message: `reads`, `appends to` and so on. The name of its object stands behind
+    /// it, but for an end.
+    #[must_use]
+    pub fn verb(self) -> &'static str {
+        match self {
+            Operation::Read { .. } => "reads",
+            Operation::Write { .. } => "writes",
+            Operation::Append { .. } => "appends to",
+            Operation::Exec { .. } => "executes",
+            Operation::Fork { .. } => "forks",
+            Operation::NewFile { .. } => "makes the file",
+            Operation::NewVolatile { .. } => "makes the volatile",
+            Operation::End { .. } => "ends",
+            Operation::Delete { .. } => "deletes",
+        }
+    }
 }
 
 /// The operation of a record, from the bytes that [`Session::step`](crate::Session::step) takes: a record is malformed here
