@@ -411,7 +411,8 @@ impl Policy {
 
     /// The policy that an image stands for. An image has no names: sources are called `source-0` and so on, containers
     /// `file-0`, `volatile-1` or `process-2` by kind and number, users `user-0`. It has the sources up to the largest that
-    /// a file or a rule names.
+    /// a file or a rule names, and the rules that are used, in the order of their first use: permit, then run rule of each
+    /// container, then the users'.
     ///
     /// ```
     /// use yaslaurel::{matrix_policy, normalise, Policy};

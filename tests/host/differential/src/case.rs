@@ -13,6 +13,7 @@ use yaslaurel::{Matrix, MatrixVerdict, Refusal, Session, Verdict, SESSION_LENGTH
 
 use crate::counters::Counters;
 use crate::lent::{self, Guarded};
+use crate::told::told_differs;
 
 /// Container rows and user rows that a session holds at these numbers.
 #[derive(Clone, Debug, Default, PartialEq, Eq)]
@@ -516,6 +517,7 @@ impl Bench {
                 let reading = profiles::reading(text)?;
                 (profiles::spelled(&reading) != text).then(|| "the judge's reading is spelled differently".into())
             })
+            .or_else(|| told_differs(text))
     }
 }
 

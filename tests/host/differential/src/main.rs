@@ -17,6 +17,7 @@ mod random;
 mod shrink;
 mod spec;
 mod texts;
+mod told;
 
 use std::path::Path;
 use std::process::ExitCode;
