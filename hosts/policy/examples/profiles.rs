@@ -25,7 +25,7 @@ fn named_policy(text: &[u8], image: &[u8]) -> Result<Policy, Box<dyn Error>> {
     let paths = profile_paths(text)?;
     for (number, path) in paths.iter().enumerate() {
         policy.rename_container(number as u8, path)?;
-        policy.rename_source(Source::of_atom(number as u32).ok_or("over 32 paths")?, path)?;
+        policy.rename_source(Source::from_atom(number as u32).ok_or("over 32 paths")?, path)?;
     }
     policy.rename_container(paths.len() as u8, "init")?;
     Ok(policy)

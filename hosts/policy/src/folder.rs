@@ -50,7 +50,7 @@ fn named(path: &Path, error: &str) -> io::Error {
 /// What the system says, or what is wrong in a file, with its name and line.
 pub fn read_names(folder: &Path, policy: &mut Policy) -> io::Result<()> {
     each_line(&folder.join(SOURCES), |place, name| {
-        let source = Source::of_atom(place as u32).ok_or("expected at most 32 sources")?;
+        let source = Source::from_atom(place as u32).ok_or("expected at most 32 sources")?;
         policy.rename_source(source, name).map_err(|error| error.to_string())
     })?;
     let mut seen = [false; 256];

@@ -105,7 +105,7 @@ impl Profile {
     fn run_mixture(&self, paths: &[String]) -> Mixture {
         let source = |path: &String| {
             let place = paths.iter().position(|other| other == path);
-            Source::of_atom(place.expect("every path is in the list") as u32).expect("there are at most 32")
+            Source::from_atom(place.expect("every path is in the list") as u32).expect("there are at most 32")
         };
         let of = |modes: &'static [&str]| {
             self.entries.iter().filter(|entry| entry.has(modes)).map(|entry| source(&entry.path))

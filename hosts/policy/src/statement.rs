@@ -91,9 +91,9 @@ impl Words<'_> {
     }
 
     fn statement(&mut self) -> Result<Statement, String> {
-        let Some(Token::Word(word)) = self.tokens.first() else { return self.wrong("a line of a story") };
-        let first = self.tokens;
-        self.tokens = &first[1..];
+        let wrong = self.wrong("source, rule, file, permit, volatile, process, user or step");
+        let [Token::Word(word), rest @ ..] = self.tokens else { return wrong };
+        self.tokens = rest;
         Ok(match *word {
             "source" => Statement::Source { name: self.name("the name of a source")? },
             "rule" => {
@@ -111,10 +111,7 @@ impl Words<'_> {
             "process" => Statement::Process { name: self.name("the name of a process")? },
             "user" => self.user()?,
             "step" => self.step()?,
-            _ => {
-                self.tokens = first;
-                return self.wrong("source, rule, file, permit, volatile, process, user or step");
-            }
+            _ => return wrong,
         })
     }
 

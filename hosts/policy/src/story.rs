@@ -119,25 +119,21 @@ impl Reader {
     }
 
     fn take(&mut self, statement: Statement) -> Result<(), String> {
-        if let Statement::Step { operation, process, object, user } = statement {
-            return self.step(&operation, process, object, user);
-        }
-        if let Some(step) = self.steps.first() {
-            return Err(format!("a step was at line {}, expected only steps behind it", step.line));
-        }
-        match statement {
-            Statement::Source { name } => self.source(&name),
-            Statement::Rule { name, mixtures } => self.rule(name, &mixtures),
-            Statement::File { name, source, permit, run } => self.file(&name, source, permit, run),
-            Statement::Permit { file, mixtures } => {
+        let first_step = self.steps.first().map(|step| step.line);
+        match (statement, first_step) {
+            (Statement::Step { operation, process, object, user }, _) => self.step(&operation, process, object, user),
+            (_, Some(line)) => Err(format!("a step was at line {line}, expected only steps behind it")),
+            (Statement::Source { name }, None) => self.source(&name),
+            (Statement::Rule { name, mixtures }, None) => self.rule(name, &mixtures),
+            (Statement::File { name, source, permit, run }, None) => self.file(&name, source, permit, run),
+            (Statement::Permit { file, mixtures }, None) => {
                 let rule = self.rule_of(&mixtures)?;
                 let number = self.file_number(&file)?;
                 self.permit(number, &file, rule)
             }
-            Statement::Volatile { name } => self.container(&name, Kind::Volatile),
-            Statement::Process { name } => self.container(&name, Kind::Process),
-            Statement::User { name, rule, uid } => self.user(&name, rule.as_deref(), uid),
-            Statement::Step { .. } => unreachable!("steps were taken above"),
+            (Statement::Volatile { name }, None) => self.container(&name, Kind::Volatile),
+            (Statement::Process { name }, None) => self.container(&name, Kind::Process),
+            (Statement::User { name, rule, uid }, None) => self.user(&name, rule.as_deref(), uid),
         }
     }
 

@@ -28,7 +28,7 @@ impl fmt::Display for Token<'_> {
 
 /// A name as a story spells it: in double quotes where it must be. A name with a double quote has no spelling.
 pub fn quoted(name: &str) -> String {
-    let bare = !name.is_empty() && !name.starts_with('#') && !name.contains(|c: char| ends_word(c) || c == '"');
+    let bare = !name.is_empty() && !name.starts_with('#') && !name.contains(ends_word);
     if bare && name != "run" {
         name.into()
     } else {
@@ -41,7 +41,7 @@ fn is_space(c: char) -> bool {
 }
 
 fn ends_word(c: char) -> bool {
-    is_space(c) || MARKS.contains(c)
+    is_space(c) || MARKS.contains(c) || c == '"'
 }
 
 /// The tokens of a line; a `#` at its beginning or behind a space begins a comment.

@@ -19,7 +19,7 @@ pub enum Kind {
 impl Kind {
     /// The kind of a number from 1 to 3.
     #[must_use]
-    pub fn of_number(number: u8) -> Option<Kind> {
+    pub fn from_number(number: u8) -> Option<Kind> {
         [Kind::File, Kind::Volatile, Kind::Process].into_iter().find(|kind| kind.number() == number)
     }
 
@@ -58,7 +58,7 @@ pub struct Container {
 impl Container {
     /// What a row says; nothing for a free one, or for a kind or a user that no session has.
     pub(crate) fn read(row: &[u64]) -> Option<Container> {
-        let kind = Kind::of_number(row[KIND].try_into().ok()?)?;
+        let kind = Kind::from_number(row[KIND].try_into().ok()?)?;
         let user = match row[BEHALF] {
             NOBODY => None,
             user if kind == Kind::Process && user < USERS.most as u64 => Some(user as u8),

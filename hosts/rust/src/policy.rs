@@ -63,15 +63,15 @@ pub enum PolicyError {
     /// A source, container or user of this name is there already.
     NameTaken(String),
     /// Over 32 sources.
-    Sources,
+    TooManySources,
     /// Over 256 containers.
-    Containers,
+    TooManyContainers,
     /// Over 16 users.
-    Users,
+    TooManyUsers,
     /// Over 256 different rules.
-    Rules,
+    TooManyRules,
     /// A rule of over 8 different mixtures.
-    RuleMixtures,
+    TooManyMixtures,
     /// The container of this number has neither a source nor rules: it is no file.
     NotAFile(u8),
     /// There is nothing of this number.
@@ -82,11 +82,11 @@ impl fmt::Display for PolicyError {
     fn fmt(&self, f: &mut fmt::Formatter<'_>) -> fmt::Result {
         match self {
             PolicyError::NameTaken(name) => write!(f, "{name} is there already"),
-            PolicyError::Sources => write!(f, "a policy has at most {} sources", atom::RUNNING),
-            PolicyError::Containers => write!(f, "a policy has at most {} containers", image::CONTAINERS.most),
-            PolicyError::Users => write!(f, "a policy has at most {} users", image::USERS.most),
-            PolicyError::Rules => write!(f, "a policy has at most {} different rules", image::RULES.most),
-            PolicyError::RuleMixtures => {
+            PolicyError::TooManySources => write!(f, "a policy has at most {} sources", atom::RUNNING),
+            PolicyError::TooManyContainers => write!(f, "a policy has at most {} containers", image::CONTAINERS.most),
+            PolicyError::TooManyUsers => write!(f, "a policy has at most {} users", image::USERS.most),
+            PolicyError::TooManyRules => write!(f, "a policy has at most {} different rules", image::RULES.most),
+            PolicyError::TooManyMixtures => {
                 write!(f, "a rule has at most {} mixtures", crate::layout::session::RULE_MIXTURES)
             }
             PolicyError::NotAFile(number) => write!(f, "container {number} is no file"),
@@ -147,17 +147,17 @@ impl Policy {
     ///
     /// # Errors
     ///
-    /// [`PolicyError::NameTaken`] by another source, or [`PolicyError::Sources`].
+    /// [`PolicyError::NameTaken`] by another source, or [`PolicyError::TooManySources`].
     pub fn source(&mut self, name: &str) -> Result<Source, PolicyError> {
-        let place = self.sources.add(name, atom::RUNNING as usize, PolicyError::Sources)?;
-        Ok(Source::of_atom(u32::from(place)).expect("there are no more than 32"))
+        let place = self.sources.add(name, atom::RUNNING as usize, PolicyError::TooManySources)?;
+        Ok(Source::from_atom(u32::from(place)).expect("there are no more than 32"))
     }
 
     /// Adds a file that carries no source and is unrestricted, and gives its number. Containers are numbered from 0.
     ///
     /// # Errors
     ///
-    /// [`PolicyError::NameTaken`] by another container, or [`PolicyError::Containers`].
+    /// [`PolicyError::NameTaken`] by another container, or [`PolicyError::TooManyContainers`].
     pub fn file(&mut self, name: &str) -> Result<u8, PolicyError> {
         self.add_container(name, Kind::File)
     }
@@ -181,7 +181,7 @@ impl Policy {
     }
 
     fn add_container(&mut self, name: &str, kind: Kind) -> Result<u8, PolicyError> {
-        let number = self.container_names.add(name, image::CONTAINERS.most, PolicyError::Containers)?;
+        let number = self.container_names.add(name, image::CONTAINERS.most, PolicyError::TooManyContainers)?;
         self.containers.push(PolicyContainer { kind, source: None, permit: None, run: None });
         Ok(number)
     }
@@ -191,9 +191,9 @@ impl Policy {
     ///
     /// # Errors
     ///
-    /// [`PolicyError::NameTaken`] by another user, [`PolicyError::Users`], or [`PolicyError::Rules`].
+    /// [`PolicyError::NameTaken`] by another user, [`PolicyError::TooManyUsers`], or [`PolicyError::TooManyRules`].
     pub fn user(&mut self, name: &str, rule: impl Into<Rule>) -> Result<u8, PolicyError> {
-        let number = self.user_names.add(name, image::USERS.most, PolicyError::Users)?;
+        let number = self.user_names.add(name, image::USERS.most, PolicyError::TooManyUsers)?;
         match self.rule_number(rule.into()) {
             Ok(rule) => self.users.push(rule),
             Err(error) => {
@@ -218,7 +218,7 @@ impl Policy {
     ///
     /// # Errors
     ///
-    /// [`PolicyError::NotAFile`], [`PolicyError::NotThere`], or [`PolicyError::Rules`].
+    /// [`PolicyError::NotAFile`], [`PolicyError::NotThere`], or [`PolicyError::TooManyRules`].
     pub fn set_permit_rule(&mut self, file: u8, rule: impl Into<Rule>) -> Result<(), PolicyError> {
         self.file_mut(file)?;
         self.file_mut(file)?.permit = self.rule_number(rule.into())?;
@@ -229,7 +229,7 @@ impl Policy {
     ///
     /// # Errors
     ///
-    /// [`PolicyError::NotAFile`], [`PolicyError::NotThere`], or [`PolicyError::Rules`].
+    /// [`PolicyError::NotAFile`], [`PolicyError::NotThere`], or [`PolicyError::TooManyRules`].
     pub fn set_run_rule(&mut self, file: u8, rule: impl Into<Rule>) -> Result<(), PolicyError> {
         self.file_mut(file)?;
         self.file_mut(file)?.run = self.rule_number(rule.into())?;
@@ -279,7 +279,7 @@ impl Policy {
         }
         let place = self.rules.iter().position(|other| *other == rule).unwrap_or(self.rules.len());
         if place == image::RULES.most {
-            return Err(PolicyError::Rules);
+            return Err(PolicyError::TooManyRules);
         }
         if place == self.rules.len() {
             self.rules.push(rule);
@@ -318,7 +318,7 @@ impl Policy {
     /// The source of a name.
     #[must_use]
     pub fn source_named(&self, name: &str) -> Option<Source> {
-        self.sources.place(name).and_then(|place| Source::of_atom(place.into()))
+        self.sources.place(name).and_then(|place| Source::from_atom(place.into()))
     }
 
     /// The number of the container of a name.
@@ -367,7 +367,7 @@ impl Policy {
     #[must_use]
     pub fn sources_in(&self, tag: u64) -> String {
         let named = crate::atoms(tag).filter_map(|atom| {
-            let name = self.source_name(Source::of_atom(atom)?);
+            let name = self.source_name(Source::from_atom(atom)?);
             Some(if atom < atom::RUNNING { name } else { format!("{name} (running)") })
         });
         let named: Vec<String> = named.collect();
@@ -472,8 +472,8 @@ impl Reader<'_> {
         };
         let mut policy = Policy::new();
         for (number, place) in self.records(image::CONTAINERS).enumerate() {
-            let kind = Kind::of_number(self.bytes[place + image::KIND]).expect("an accepted kind");
-            let source = Source::of_atom(u32::from(self.bytes[place + image::ATOM]));
+            let kind = Kind::from_number(self.bytes[place + image::KIND]).expect("an accepted kind");
+            let source = Source::from_atom(u32::from(self.bytes[place + image::ATOM]));
             let [permit, run] = [image::PERMIT, image::RUN].map(|field| rule(place + field));
             let [permit, run] = [permit, run].map(|rule| policy.rule_number(rule).expect("no more than the image's"));
             policy.add_container(&format!("{kind}-{number}"), kind).expect("no more than the image's");
@@ -485,7 +485,7 @@ impl Reader<'_> {
         let named = policy.containers.iter().filter_map(|container| container.source);
         let carried = Mixture::of(named).bits();
         let all = policy.rules.iter().flat_map(Rule::mixtures).fold(carried, |bits, mixture| bits | mixture.bits());
-        let count = crate::atoms(all).filter_map(Source::of_atom).max().map_or(0, |source| source.atom() + 1);
+        let count = crate::atoms(all).filter_map(Source::from_atom).max().map_or(0, |source| source.atom() + 1);
         policy.sources = Names((0..count).map(|number| format!("source-{number}")).collect());
         policy
     }

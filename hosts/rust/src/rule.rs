@@ -12,7 +12,7 @@ pub struct Source(u8);
 impl Source {
     /// The source of an atom, data or running; nothing from 64 on.
     #[must_use]
-    pub fn of_atom(number: u32) -> Option<Source> {
+    pub fn from_atom(number: u32) -> Option<Source> {
         (number < 2 * atom::RUNNING).then_some(Source((number % atom::RUNNING) as u8))
     }
 
@@ -58,12 +58,12 @@ impl Mixture {
 
     /// The sources that it has as data, rising.
     pub fn sources(self) -> impl Iterator<Item = Source> {
-        crate::atoms(self.0).filter(|atom| *atom < atom::RUNNING).filter_map(Source::of_atom)
+        crate::atoms(self.0).filter(|atom| *atom < atom::RUNNING).filter_map(Source::from_atom)
     }
 
     /// The sources that it has executed, rising.
     pub fn running_sources(self) -> impl Iterator<Item = Source> {
-        crate::atoms(self.0).filter(|atom| *atom >= atom::RUNNING).filter_map(Source::of_atom)
+        crate::atoms(self.0).filter(|atom| *atom >= atom::RUNNING).filter_map(Source::from_atom)
     }
 
     /// The mixture of a number, in which atom k is worth 2 to the k.
@@ -93,18 +93,18 @@ impl Rule {
     /// use yaslaurel::{Mixture, PolicyError, Rule};
     /// let mixtures = (0..9).map(Mixture::from_bits);
     /// assert!(Rule::new(mixtures.clone().take(8)).is_ok());
-    /// assert_eq!(Rule::new(mixtures), Err(PolicyError::RuleMixtures));
+    /// assert_eq!(Rule::new(mixtures), Err(PolicyError::TooManyMixtures));
     /// ```
     ///
     /// # Errors
     ///
-    /// [`PolicyError::RuleMixtures`] for over 8 different ones.
+    /// [`PolicyError::TooManyMixtures`] for over 8 different ones.
     pub fn new(mixtures: impl IntoIterator<Item = Mixture>) -> Result<Rule, PolicyError> {
         let mut mixtures: Vec<Mixture> = mixtures.into_iter().collect();
         mixtures.sort_by_key(|mixture| mixture.bits());
         mixtures.dedup();
         if mixtures.len() > RULE_MIXTURES {
-            return Err(PolicyError::RuleMixtures);
+            return Err(PolicyError::TooManyMixtures);
         }
         Ok(Rule { mixtures })
     }

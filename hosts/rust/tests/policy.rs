@@ -28,10 +28,10 @@ fn the_largest_policy_is_accepted_and_anything_more_is_not_taken_up() {
     let mut policy = largest();
     let image = policy.image();
     assert_eq!((check(&image), image.len()), (Ok(()), LONGEST_NORMAL));
-    assert_eq!(policy.source("s32"), Err(PolicyError::Sources));
-    assert_eq!(policy.process("p"), Err(PolicyError::Containers));
-    assert_eq!(policy.user("u16", Rule::unrestricted()), Err(PolicyError::Users));
-    assert_eq!(policy.set_run_rule(0, rule(256)), Err(PolicyError::Rules));
+    assert_eq!(policy.source("s32"), Err(PolicyError::TooManySources));
+    assert_eq!(policy.process("p"), Err(PolicyError::TooManyContainers));
+    assert_eq!(policy.user("u16", Rule::unrestricted()), Err(PolicyError::TooManyUsers));
+    assert_eq!(policy.set_run_rule(0, rule(256)), Err(PolicyError::TooManyRules));
     assert_eq!(policy, largest());
 }
 
@@ -42,7 +42,7 @@ fn a_user_whose_rule_is_one_too_many_is_not_there() {
         let file = policy.file(&format!("f{number}")).unwrap();
         policy.set_permit_rule(file, rule(number)).unwrap();
     }
-    assert_eq!(policy.user("u", rule(256)), Err(PolicyError::Rules));
+    assert_eq!(policy.user("u", rule(256)), Err(PolicyError::TooManyRules));
     assert_eq!((policy.user_named("u"), policy.users().len()), (None, 0));
     assert_eq!(policy.user("u", rule(255)), Ok(0));
 }
