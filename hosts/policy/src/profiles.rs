@@ -63,9 +63,7 @@ fn within_limits(profiles: &[Profile]) -> Result<Vec<String>, LineError> {
         }
     }
     for path in &paths {
-        for rule in rules(profiles, &paths, path) {
-            rule.check(path)?;
-        }
+        check_rules(profiles, &paths, path)?;
     }
     Ok(paths)
 }
@@ -114,53 +112,49 @@ impl Profile {
     }
 }
 
-/// The mixtures of a rule of a path, each with the line that brings it and the program whose it is.
-struct NamedRule<'a> {
-    what: &'static str,
-    mixtures: Vec<(usize, &'a str, u64)>,
+/// A mixture that a line brings to a rule, and the program whose it is.
+struct Brought<'a> {
+    line: usize,
+    program: &'a str,
+    mixture: Mixture,
 }
 
-impl NamedRule<'_> {
-    /// At fault at the line of the ninth mixture that counts: one that no other holds, and of equal ones the first.
-    fn check(&self, path: &str) -> Result<(), LineError> {
-        let counts = |place: usize| {
-            let own = self.mixtures[place].2;
-            let held = |(other, mixture): (usize, u64)| own & !mixture == 0 && (own != mixture || other < place);
-            !self.mixtures.iter().enumerate().any(|(other, (_, _, mixture))| other != place && held((other, *mixture)))
-        };
-        let counted = (0..self.mixtures.len()).filter(|place| counts(*place)).map(|place| self.mixtures[place]);
-        let counted: Vec<(usize, &str, u64)> = counted.collect();
-        let Some((line, _, _)) = counted.get(RULE_MIXTURES) else { return Ok(()) };
-        let programs: Vec<&str> = counted.iter().map(|(_, program, _)| *program).collect();
-        let message = format!(
-            "the {} rule of `{path}` has mixture {} here, expected at most {RULE_MIXTURES}; its programs: {}",
-            self.what,
-            RULE_MIXTURES + 1,
-            programs.join(", ")
-        );
-        at(*line, message)
-    }
+/// At fault at the line of the ninth mixture that counts: one that no other holds, and of equal ones the first.
+fn check_rule(name: &str, brought: &[Brought<'_>]) -> Result<(), LineError> {
+    let counts = |place: &usize| {
+        let own = brought[*place].mixture;
+        let held = |(other, by): (usize, Mixture)| by.holds(own) && (by != own || other < *place);
+        !brought.iter().map(|brought| brought.mixture).enumerate().any(held)
+    };
+    let counted: Vec<&Brought> = (0..brought.len()).filter(counts).map(|place| &brought[place]).collect();
+    let Some(over) = counted.get(RULE_MIXTURES) else { return Ok(()) };
+    let programs: Vec<&str> = counted.iter().map(|brought| brought.program).collect();
+    let number = RULE_MIXTURES + 1;
+    let programs = programs.join(", ");
+    at(
+        over.line,
+        format!("{name} has mixture {number} here, expected at most {RULE_MIXTURES}; its programs: {programs}"),
+    )
 }
 
-/// The rules of a path that may have many mixtures: its permit rule by those that write it, and without a profile of its own
-/// its run rule by those that execute it under their own profile.
-fn rules<'a>(profiles: &'a [Profile], paths: &[String], path: &str) -> Vec<NamedRule<'a>> {
-    let naming = |modes: &'static [&str]| {
-        let found = profiles.iter().filter_map(|profile| {
+/// Checks the rules of a path that may have many mixtures: its permit rule, by those that write it, and without a profile of
+/// its own its run rule, by those that execute it under their own profile.
+fn check_rules(profiles: &[Profile], paths: &[String], path: &str) -> Result<(), LineError> {
+    let naming = |modes: &'static [&str], more: u64| {
+        let found = profiles.iter().filter_map(move |profile| {
             let entry = profile.entries.iter().find(|entry| entry.path == path && entry.has(modes))?;
-            Some((entry.line, profile.path.as_str(), profile.run_mixture(paths).bits()))
+            let mixture = Mixture::from_bits(profile.run_mixture(paths).bits() | more);
+            Some(Brought { line: entry.line, program: &profile.path, mixture })
         });
         found.collect::<Vec<_>>()
     };
     // The file's own atom is in each mixture of its permit rule.
-    let own = paths.iter().position(|other| other == path).map_or(0, |place| 1_u64 << place);
-    let permit = naming(&["w", "a"]).into_iter().map(|(line, program, bits)| (line, program, bits | own)).collect();
-    let mut rules = vec![NamedRule { what: "permit", mixtures: permit }];
-    let free = profiles.iter().any(|profile| profile.path == path) || !naming(&["ux", "Ux"]).is_empty();
-    if !free {
-        rules.push(NamedRule { what: "run", mixtures: naming(&["ix"]) });
+    let own = paths.iter().position(|other| other == path).map_or(0, |place| 1 << place);
+    check_rule(&format!("the permit rule of `{path}`"), &naming(&["w", "a"], own))?;
+    if profiles.iter().any(|profile| profile.path == path) || !naming(&["ux", "Ux"], 0).is_empty() {
+        return Ok(());
     }
-    rules
+    check_rule(&format!("the run rule of `{path}`"), &naming(&["ix"], 0))
 }
 
 /// The profiles of a text of the grammar, in which no path is profiled twice, and which is not too long.

@@ -2,7 +2,6 @@
 
 use std::error::Error;
 use std::fmt;
-use std::ops::Range;
 
 use crate::layout::{atom, image};
 use crate::{check, Kind, Mixture, Refusal, Rule, Source};
@@ -458,8 +457,8 @@ impl Reader<'_> {
         let mixtures: Vec<Mixture> = mixtures.collect();
         let rules = self.records(image::RULES).map(|place| {
             let first = usize::from(self.number(place + image::FIRST));
-            let range: Range<usize> = first..first + usize::from(self.number(place + image::COUNT));
-            Rule::new(mixtures[range].iter().copied()).expect("an accepted rule has at most 8")
+            let count = usize::from(self.number(place + image::COUNT));
+            Rule::new(mixtures[first..first + count].iter().copied()).expect("an accepted rule has at most 8")
         });
         rules.collect()
     }
@@ -482,11 +481,15 @@ impl Reader<'_> {
         for (number, place) in self.records(image::USERS).enumerate() {
             policy.user(&format!("user-{number}"), rule(place)).expect("no more than the image's");
         }
-        let named = policy.containers.iter().filter_map(|container| container.source);
-        let carried = Mixture::of(named).bits();
-        let all = policy.rules.iter().flat_map(Rule::mixtures).fold(carried, |bits, mixture| bits | mixture.bits());
-        let count = crate::atoms(all).filter_map(Source::from_atom).max().map_or(0, |source| source.atom() + 1);
+        let count = named_sources(&policy).max().map_or(0, |source| source.atom() + 1);
         policy.sources = Names((0..count).map(|number| format!("source-{number}")).collect());
         policy
     }
+}
+
+/// The sources that files carry and rules name.
+fn named_sources(policy: &Policy) -> impl Iterator<Item = Source> + '_ {
+    let carried = policy.containers.iter().filter_map(|container| container.source);
+    let mixtures = policy.rules.iter().flat_map(Rule::mixtures);
+    carried.chain(mixtures.flat_map(|mixture| mixture.sources().chain(mixture.running_sources())))
 }

@@ -38,6 +38,7 @@ impl Source {
 /// let mixture = Mixture::of([north]).running([desk]);
 /// assert_eq!(mixture.bits(), 0x2_0000_0001);
 /// assert!(mixture.sources().eq([north]) && mixture.running_sources().eq([desk]));
+/// assert!(mixture.holds(Mixture::of([north])) && !mixture.holds(Mixture::of([desk])));
 /// # Ok::<(), yaslaurel::PolicyError>(())
 /// ```
 #[derive(Clone, Copy, Debug, Default, PartialEq, Eq, Hash)]
@@ -54,6 +55,12 @@ impl Mixture {
     #[must_use]
     pub fn running(self, sources: impl IntoIterator<Item = Source>) -> Mixture {
         Mixture(sources.into_iter().fold(self.0, |bits, source| bits | 1 << source.running_atom()))
+    }
+
+    /// Whether it has all that another mixture has.
+    #[must_use]
+    pub const fn holds(self, other: Mixture) -> bool {
+        other.0 & !self.0 == 0
     }
 
     /// The sources that it has as data, rising.
