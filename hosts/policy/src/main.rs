@@ -8,7 +8,7 @@ use std::path::{Path, PathBuf};
 use std::process::ExitCode;
 
 use policy_text::{profile_paths, read_names, show, write_folder, Story};
-use yaslaurel::{check, normalise, profiles_policy, Policy, Refusal};
+use yaslaurel::{normalise, profiles_policy, Policy, Refusal};
 
 const HELP: &str = "\
 policy check IMAGE                  says whether a policy image is accepted, and what it has
@@ -97,14 +97,13 @@ fn print(bytes: &[u8]) -> Result<(), Failure> {
     written.map_err(|error| Failed(format!("standard output: {error}")))
 }
 
-/// `one container`, `2 containers`.
+/// `1 container`, `2 containers`.
 fn count(number: usize, word: &str) -> String {
     format!("{number} {word}{}", if number == 1 { "" } else { "s" })
 }
 
-fn checked(arguments: &Arguments) -> Result<(), Failure> {
+fn check(arguments: &Arguments) -> Result<(), Failure> {
     let image = arguments.load()?;
-    check(&image).map_err(|refusal| arguments.refused(refusal))?;
     let policy = Policy::from_image(&image).map_err(|refusal| arguments.refused(refusal))?;
     let normal = normalise(&image).map_err(|refusal| arguments.refused(refusal))? == image;
     let has = [
@@ -122,7 +121,7 @@ fn normal(arguments: &Arguments) -> Result<(), Failure> {
     arguments.write_image(&image)
 }
 
-fn shown(arguments: &Arguments) -> Result<(), Failure> {
+fn show_image(arguments: &Arguments) -> Result<(), Failure> {
     let mut policy = Policy::from_image(&arguments.load()?).map_err(|refusal| arguments.refused(refusal))?;
     if let Some(folder) = &arguments.option {
         read_names(folder, &mut policy).map_err(|error| Failed(error.to_string()))?;
@@ -141,7 +140,7 @@ fn profiles(arguments: &Arguments) -> Result<(), Failure> {
     }
 }
 
-fn made(arguments: &Arguments) -> Result<(), Failure> {
+fn make(arguments: &Arguments) -> Result<(), Failure> {
     let file = arguments.file.display();
     let story = Story::read(&arguments.load()?).map_err(|error| Refused(format!("{file}:{error}")))?;
     let folder = arguments.option.as_deref().unwrap_or(Path::new("."));
@@ -154,11 +153,11 @@ fn run(arguments: &[OsString]) -> Result<(), Failure> {
     let word = &*word.to_string_lossy();
     let read = |option| Arguments::read(word, rest, option);
     match word {
-        "check" => checked(&read(None)?),
+        "check" => check(&read(None)?),
         "normal" => normal(&read(Some("-o"))?),
-        "show" => shown(&read(Some("-n"))?),
+        "show" => show_image(&read(Some("-n"))?),
         "profiles" => profiles(&read(Some("-o"))?),
-        "make" => made(&read(Some("-o"))?),
+        "make" => make(&read(Some("-o"))?),
         "help" | "--help" => print(HELP.as_bytes()),
         "--version" => print(concat!("policy ", env!("CARGO_PKG_VERSION"), "\n").as_bytes()),
         _ => Err(Failed(format!("policy has no {word}\n\n{HELP}"))),
