@@ -298,3 +298,25 @@ impl Scanner<'_> {
         at(self.line, format!("the text is over {TEXT_LIMIT} bytes here, expected at most as many"))
     }
 }
+
+#[cfg(test)]
+mod tests {
+    use super::*;
+    use yaslaurel::profiles_policy;
+
+    /// So many programs that write `/f`, of which the first two execute each other and so have equal mixtures.
+    fn writers(count: usize) -> String {
+        let other = |number: usize| if number < 2 { format!("/p{} px,\n", 1 - number) } else { String::new() };
+        (0..count).map(|number| format!("profile /p{number} {{\n{}/f w,\n}}\n", other(number))).collect()
+    }
+
+    #[test]
+    fn equal_mixtures_count_once() {
+        assert!(profiles_policy(writers(9).as_bytes()).is_ok());
+        assert_eq!(profile_paths(writers(9).as_bytes()).map(|paths| paths.len()), Ok(10));
+        assert_eq!(profiles_policy(writers(10).as_bytes()), Err(Refusal::ProfileLimit));
+        // Two profiles of four lines, then the tenth program's line is the second of the eighth profile of three.
+        let fault = profile_paths(writers(10).as_bytes()).unwrap_err();
+        assert_eq!((fault.refusal, fault.error.line), (Refusal::ProfileLimit, 2 * 4 + 7 * 3 + 2));
+    }
+}
