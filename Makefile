@@ -3,10 +3,29 @@
 # make month           runs the month program on the five days in crates/month/data, and draws their alerts
 # make test            everything that can fail, as the gate runs it
 # make policy          builds the program `policy` for operators, and prints where it is
-# make lib             target/lib: libyaslaurel.a, yaslaurel.h and yaslaurel.pc, for hosts in C and Rust
+# make lib             target/lib: libyaslaurel.a, yaslaurel.h, yaslaurel.pc, FORMATS.md and manual pages, for hosts in C and Rust
+# make install         these where a distribution has them, with the Rust crate and the example host: PREFIX=/usr/local,
+#                      LIBDIR=PREFIX/lib, staged under DESTDIR
+# make uninstall       removes them, under the same names
 # make covering        target/staticlib/libcovering.a, the cover test alone, which the bench and a host test measure
 # make bench           ratios against Rust, in one run
-.PHONY: demo profiles-demo month test policy lib covering bench
+.PHONY: demo profiles-demo month test policy lib install uninstall covering bench
+
+PREFIX = /usr/local
+LIBDIR = $(PREFIX)/lib
+INCLUDEDIR = $(PREFIX)/include
+MANDIR = $(PREFIX)/share/man
+DOCDIR = $(PREFIX)/share/doc/yaslaurel
+# The Rust crate, for hosts that name it by its path.
+CRATEDIR = $(PREFIX)/share/yaslaurel/rust
+CRATE_SOURCES = $(patsubst hosts/rust/%,%,$(wildcard hosts/rust/src/*.rs))
+INSTALL = install
+
+# The version stands in the header.
+VERSION = $(shell sed -nE 's/^.define YASLAUREL_VERSION_(MAJOR|MINOR|PATCH) ([0-9]+)u$$/\2/p' include/yaslaurel.h | paste -sd.)
+# The pkg-config file for a prefix, an include folder and a library folder.
+pkgconfig = sed -e 's|@PREFIX@|$(1)|' -e 's|@INCLUDEDIR@|$(2)|' -e 's|@LIBDIR@|$(3)|' -e 's|@VERSION@|$(VERSION)|' \
+	include/yaslaurel.pc.in
 
 demo:
 	@demo/run
