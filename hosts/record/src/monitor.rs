@@ -1,0 +1,106 @@
+//! The monitor's session, and the numbers of its containers: who has which, and which are free.
+
+use policy_text::Holder;
+use yaslaurel::layout::{image, session};
+use yaslaurel::{Answer, Operation, Policy, Refusal, Session};
+
+/// How many containers there are at a time.
+pub const NUMBERS: usize = image::CONTAINERS.most;
+
+/// What is kept of a whole run, to be written at its end.
+#[derive(Default)]
+pub struct Kept {
+    /// Each operation with the line of the log that gave it.
+    pub operations: Vec<(usize, Operation)>,
+    /// All holders of numbers, in the order in which they came.
+    pub holders: Vec<Holder>,
+}
+
+/// Who has a number.
+struct Present {
+    name: String,
+    /// Among all holders.
+    place: usize,
+}
+
+pub struct Monitor {
+    session: Session,
+    steps: u64,
+    /// How many holders of numbers there have been.
+    holders: usize,
+    present: Vec<Option<Present>>,
+    kept: Option<Kept>,
+}
+
+impl Monitor {
+    /// A monitor at the start of a run, which is kept if it shall be written.
+    pub fn start(policy: &Policy, keep: bool) -> Result<Monitor, Refusal> {
+        let session = Session::start(&policy.image())?;
+        let present = (0..NUMBERS).map(|_| None).collect();
+        let mut monitor = Monitor { session, steps: 0, holders: 0, present, kept: keep.then(Kept::default) };
+        for (number, (name, _)) in policy.containers().enumerate() {
+            monitor.hold(number as u8, name);
+        }
+        Ok(monitor)
+    }
+
+    /// Reports an operation, which a line of the log has given.
+    pub fn perform(&mut self, line: usize, operation: Operation) -> Result<Answer, Refusal> {
+        self.steps += 1;
+        if let Some(kept) = &mut self.kept {
+            kept.operations.push((line, operation));
+        }
+        self.session.perform(operation)
+    }
+
+    pub fn kept(&self) -> Option<&Kept> {
+        self.kept.as_ref()
+    }
+
+    pub fn steps(&self) -> u64 {
+        self.steps
+    }
+
+    pub fn holders(&self) -> usize {
+        self.holders
+    }
+
+    /// The smallest free number.
+    pub fn free(&self) -> Option<u8> {
+        self.present.iter().position(Option::is_none).map(|number| number as u8)
+    }
+
+    /// Notes that a number is taken.
+    pub fn hold(&mut self, number: u8, name: &str) {
+        self.present[usize::from(number)] = Some(Present { name: name.into(), place: self.holders });
+        self.holders += 1;
+        if let Some(kept) = &mut self.kept {
+            kept.holders.push(Holder::new(number, name));
+        }
+    }
+
+    /// Notes that a number is free.
+    pub fn leave(&mut self, number: u8) {
+        self.present[usize::from(number)] = None;
+    }
+
+    /// Another name for the holder of a number.
+    pub fn rename(&mut self, number: u8, name: &str) {
+        if let Some(present) = &mut self.present[usize::from(number)] {
+            present.name = name.into();
+            if let Some(kept) = &mut self.kept {
+                kept.holders[present.place] = Holder::new(number, name);
+            }
+        }
+    }
+
+    pub fn name(&self, number: u8) -> String {
+        self.present[usize::from(number)].as_ref().map_or_else(|| number.to_string(), |present| present.name.clone())
+    }
+
+    /// Whether a file with an unrestricted permit rule equals a new one: it holds nothing and is unrestricted to run.
+    pub fn equals_new(&self, number: u8) -> bool {
+        let row = &self.session.words()[session::container(usize::from(number))];
+        row[session::TAG] == 0 && row[session::RUN] == 1 && row[session::RUN + 1] == u64::MAX
+    }
+}

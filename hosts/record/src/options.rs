@@ -1,0 +1,83 @@
+//! The arguments of the program.
+
+use std::ffi::OsString;
+use std::path::PathBuf;
+
+pub const HELP: &str = "\
+record --log LOG --story STORY --out FOLDER     a log of `strace -f -y -o LOG` becomes policy.bin, trace.bin and names
+record --story STORY -- COMMAND ..              runs the command under strace and watches it
+record help, record --version
+
+  --out FOLDER     writes policy.bin, trace.bin, names.txt, containers.txt, users.txt and records.txt (also in a live run)
+  --folder FOLDER  where the story's relative names are (the folder in which the first process starts)
+  --uid N          the user id of the first process in a log
+  --keep LOG       keeps the log of a live run
+  --strict         stops at the first call that is not followed or refused, and ends the command
+
+Alerts, refusals and what is not followed are told at once, in a live run on standard error; the last line is the summary.
+
+Exit status: 0 quiet; 1 alerts; 2 something was refused or not followed; 3 both; 4 the story or its policy is refused;
+5 a failure: wrong arguments, a file that cannot be read or written, strace that cannot be run.
+";
+
+/// What the program shall do.
+#[derive(Debug, Default)]
+pub struct Options {
+    pub story: PathBuf,
+    pub log: Option<PathBuf>,
+    pub out: Option<PathBuf>,
+    pub folder: Option<PathBuf>,
+    pub uid: Option<u32>,
+    pub keep: Option<PathBuf>,
+    pub strict: bool,
+    pub command: Vec<OsString>,
+}
+
+impl Options {
+    /// Reads the arguments; an error says what is wrong with them.
+    pub fn read(arguments: impl Iterator<Item = OsString>) -> Result<Options, String> {
+        let mut options = Options::default();
+        let (mut rest, mut story) = (arguments, None);
+        while let Some(argument) = rest.next() {
+            let word = argument.to_string_lossy().into_owned();
+            if word == "--" {
+                options.command = rest.collect();
+                break;
+            }
+            if word == "--strict" {
+                options.strict = true;
+                continue;
+            }
+            let mut value = || rest.next().ok_or_else(|| format!("nothing is behind {word}"));
+            match word.as_str() {
+                "--story" => story = Some(value()?.into()),
+                "--log" => options.log = Some(value()?.into()),
+                "--out" => options.out = Some(value()?.into()),
+                "--folder" => options.folder = Some(value()?.into()),
+                "--keep" => options.keep = Some(value()?.into()),
+                "--uid" => {
+                    let text = value()?;
+                    let uid = text.to_str().and_then(|text| text.parse().ok());
+                    options.uid = Some(uid.ok_or("a user id is a number")?);
+                }
+                _ => return Err(format!("{word} is too much")),
+            }
+        }
+        options.story = story.ok_or("--story is missing")?;
+        options.fit()
+    }
+
+    /// Whether the arguments go together.
+    fn fit(self) -> Result<Options, String> {
+        let live = !self.command.is_empty();
+        let wrong = match &self.log {
+            Some(_) if live => "--log and a command do not go together",
+            Some(_) if self.out.is_none() => "--out is missing",
+            Some(_) if self.keep.is_some() => "--keep is for a live run",
+            None if !live => "--log or a command is missing",
+            None if self.uid.is_some() => "--uid is for a log",
+            _ => return Ok(self),
+        };
+        Err(wrong.into())
+    }
+}

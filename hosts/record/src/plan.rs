@@ -1,0 +1,169 @@
+//! The policy of a run: the story's containers and users, and behind them what the recorder needs.
+
+use std::ffi::OsStr;
+use std::fmt;
+use std::fs;
+use std::os::unix::ffi::{OsStrExt, OsStringExt};
+
+use policy_text::Story;
+use yaslaurel::{Kind, Policy, PolicyError, Rule};
+
+use crate::path;
+
+/// A file of the story.
+#[derive(Clone, Debug)]
+pub struct StoryFile {
+    pub name: String,
+    /// Its absolute path as the story has it.
+    pub written: Vec<u8>,
+    /// That path with links followed, as the log has it.
+    pub path: Vec<u8>,
+    pub number: u8,
+    /// Whether it has a permit rule, and the user that has the same rule, for whom a new file of this name is made.
+    pub rule: Option<RuleUser>,
+}
+
+/// The user who has the permit rule of a file; nothing if there was no room for one.
+#[derive(Clone, Copy, Debug, PartialEq, Eq)]
+pub struct RuleUser(pub Option<u8>);
+
+/// The policy and the numbers in it.
+#[derive(Clone, Debug)]
+pub struct Plan {
+    pub policy: Policy,
+    pub files: Vec<StoryFile>,
+    /// The recorder's own process: it executes nothing, so it may make files for every user.
+    pub recorder: u8,
+    /// The first process of the run.
+    pub first: u8,
+    pub unrestricted: u8,
+    uids: Vec<(u32, u8)>,
+}
+
+/// Why a story is none for a recorder.
+#[derive(Debug)]
+pub enum PlanError {
+    Step { line: usize },
+    NotAFile { name: String },
+    RelativeName { name: String },
+    TwoNames { name: String, other: String },
+    Policy(PolicyError),
+}
+
+impl fmt::Display for PlanError {
+    fn fmt(&self, f: &mut fmt::Formatter<'_>) -> fmt::Result {
+        match self {
+            PlanError::Step { line } => write!(f, "{line}: found a step, expected none: the steps come from the run"),
+            PlanError::NotAFile { name } => {
+                write!(f, "`{name}` is no file, expected files alone: the run brings the rest")
+            }
+            PlanError::RelativeName { name } => {
+                write!(f, "`{name}` is a relative name and the log names no folder, expected `--folder FOLDER`")
+            }
+            PlanError::TwoNames { name, other } => {
+                write!(f, "`{other}` and `{name}` are the same file, expected each file under one name")
+            }
+            PlanError::Policy(error) => write!(f, "no room for the recorder's own containers and users: {error}"),
+        }
+    }
+}
+
+impl std::error::Error for PlanError {}
+
+impl From<PolicyError> for PlanError {
+    fn from(error: PolicyError) -> PlanError {
+        PlanError::Policy(error)
+    }
+}
+
+impl Plan {
+    /// The plan of a story whose relative names stand in a folder. The names of the recorder's own processes and users have
+    /// a space, which paths in a story rarely have.
+    pub fn new(story: &Story, folder: Option<&[u8]>) -> Result<Plan, PlanError> {
+        if let Some(step) = story.steps().first() {
+            return Err(PlanError::Step { line: step.line });
+        }
+        let mut policy = story.policy().clone();
+        let mut files = story_files(&policy, folder)?;
+        let recorder = policy.process("the recorder")?;
+        let first = policy.process("the first process")?;
+        let unrestricted = policy.user("unrestricted user", Rule::unrestricted())?;
+        rule_users(&mut policy, &mut files)?;
+        Ok(Plan { policy, files, recorder, first, unrestricted, uids: story.uids().to_vec() })
+    }
+
+    /// The user on whose behalf a user id runs.
+    pub fn user(&self, uid: Option<u32>) -> u8 {
+        let found = self.uids.iter().find(|(other, _)| Some(*other) == uid);
+        found.map_or(self.unrestricted, |(_, user)| *user)
+    }
+
+    /// Whether the story names user ids.
+    pub fn names_uids(&self) -> bool {
+        !self.uids.is_empty()
+    }
+}
+
+fn story_files(policy: &Policy, folder: Option<&[u8]>) -> Result<Vec<StoryFile>, PlanError> {
+    let mut files: Vec<StoryFile> = Vec::new();
+    for (number, (name, container)) in policy.containers().enumerate() {
+        let name = name.to_string();
+        if container.kind != Kind::File {
+            return Err(PlanError::NotAFile { name });
+        }
+        let Some(written) = path::absolute(folder, name.as_bytes()) else {
+            return Err(PlanError::RelativeName { name });
+        };
+        let path = followed(&written);
+        if let Some(other) = files.iter().find(|file| file.path == path) {
+            return Err(PlanError::TwoNames { name, other: other.name.clone() });
+        }
+        let rule = container.permit.map(|_| RuleUser(None));
+        files.push(StoryFile { name, written, path, number: number as u8, rule });
+    }
+    Ok(files)
+}
+
+/// The links in the root folder of this machine that lead to folders, such as `/bin`, and where they lead.
+pub fn root_links() -> Vec<(Vec<u8>, Vec<u8>)> {
+    let Ok(entries) = fs::read_dir("/") else { return Vec::new() };
+    let links = entries.flatten().filter(|entry| entry.file_type().is_ok_and(|kind| kind.is_symlink()));
+    let found = links.filter_map(|entry| Some((entry.path(), fs::canonicalize(entry.path()).ok()?)));
+    let folders = found.filter(|(_, real)| real.is_dir());
+    folders.map(|(link, real)| (link.into_os_string().into_vec(), real.into_os_string().into_vec())).collect()
+}
+
+/// A path with links followed, as far as it is there on this machine.
+fn followed(path: &[u8]) -> Vec<u8> {
+    let real =
+        |path: &[u8]| fs::canonicalize(OsStr::from_bytes(path)).ok().map(|real| real.into_os_string().into_vec());
+    let (folder, name) = path::split(path);
+    let in_folder = || real(folder).and_then(|folder| path::absolute(Some(&folder), name));
+    real(path).or_else(in_folder).unwrap_or_else(|| path.to_vec())
+}
+
+/// Adds a user for each different permit rule of the story, as far as there is room: a new file is made for a user and has
+/// that user's rule, so this is how a file that is made anew under a name of the story gets the story's rule.
+fn rule_users(policy: &mut Policy, files: &mut [StoryFile]) -> Result<(), PlanError> {
+    let permits: Vec<Option<u16>> = policy.containers().map(|(_, container)| container.permit).collect();
+    let mut made: Vec<(u16, Option<u8>)> = Vec::new();
+    for file in files {
+        let Some(permit) = permits[usize::from(file.number)] else { continue };
+        let known = made.iter().find(|(other, _)| *other == permit).map(|(_, user)| *user);
+        let user = match known {
+            Some(user) => user,
+            None => {
+                let rule = policy.rules()[usize::from(permit)].clone();
+                let user = match policy.user(&format!("rule of {}", file.name), rule) {
+                    Ok(user) => Some(user),
+                    Err(PolicyError::TooManyUsers) => None,
+                    Err(error) => return Err(error.into()),
+                };
+                made.push((permit, user));
+                user
+            }
+        };
+        file.rule = Some(RuleUser(user));
+    }
+    Ok(())
+}

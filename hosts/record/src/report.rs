@@ -1,0 +1,108 @@
+//! What people read: alerts, refusals and gaps in words, a line of progress, the summary, and the exit status.
+
+use std::collections::HashSet;
+use std::io::{self, IsTerminal, Write};
+use std::time::{Duration, Instant};
+
+/// The exit statuses; alerts and refusals add up.
+pub mod status {
+    pub const QUIET: u8 = 0;
+    pub const ALERTS: u8 = 1;
+    pub const NOT_FOLLOWED: u8 = 2;
+    pub const STORY: u8 = 4;
+    pub const FAILED: u8 = 5;
+}
+
+/// How often the line of progress changes at most.
+const PROGRESS: Duration = Duration::from_millis(200);
+
+pub struct Report {
+    out: Box<dyn Write>,
+    failure: Option<io::Error>,
+    alerts: u64,
+    repeated: u64,
+    refusals: u64,
+    gaps: u64,
+    told: HashSet<String>,
+    /// When progress was last shown; nothing if it is not wanted.
+    shown: Option<Instant>,
+}
+
+impl Report {
+    /// A report to an output, with progress on standard error if that is a terminal.
+    pub fn new(out: Box<dyn Write>, progress: bool) -> Report {
+        let shown = (progress && io::stderr().is_terminal()).then(Instant::now);
+        let told = HashSet::new();
+        Report { out, failure: None, alerts: 0, repeated: 0, refusals: 0, gaps: 0, told, shown }
+    }
+
+    /// Prints a line. The first failure is kept for the end.
+    pub fn line(&mut self, text: &str) {
+        if self.shown.is_some() {
+            eprint!("\r\x1b[K");
+        }
+        let written = writeln!(self.out, "{text}").and_then(|()| self.out.flush());
+        if let Err(error) = written {
+            self.failure.get_or_insert(error);
+        }
+    }
+
+    /// An alert: what happened, and at which step. What was told before is counted.
+    pub fn alert(&mut self, step: u64, words: &str) {
+        self.alerts += 1;
+        if self.told.insert(words.to_string()) {
+            self.line(&format!("alert, step {step}: {words}"));
+        } else {
+            self.repeated += 1;
+        }
+    }
+
+    pub fn refusal(&mut self, step: u64, number: u32, words: &str) {
+        self.refusals += 1;
+        self.line(&format!("refused with {number}, step {step}: {words}"));
+    }
+
+    /// Something of the log that is not followed. What was told before is counted.
+    pub fn gap(&mut self, line: usize, words: &str) {
+        self.gaps += 1;
+        if self.told.insert(words.to_string()) {
+            self.line(&format!("not followed, line {line}: {words}"));
+        }
+    }
+
+    /// Shows how far the run is, on a terminal.
+    pub fn progress(&mut self, records: u64, processes: usize) {
+        if self.shown.is_some_and(|shown| shown.elapsed() >= PROGRESS) {
+            self.shown = Some(Instant::now());
+            eprint!("\r\x1b[K{records} records, {processes} processes, {} alerts", self.alerts);
+        }
+    }
+
+    /// The last line.
+    pub fn summary(&mut self, records: u64, containers: usize) {
+        let repeated = match self.repeated {
+            0 => String::new(),
+            count => format!(" ({count} as told above)"),
+        };
+        let (alerts, refusals, gaps) = (self.alerts, self.refusals, self.gaps);
+        self.line(&format!(
+            "{records} records, {containers} containers: {alerts} alerts{repeated}, {refusals} refused, {gaps} not followed"
+        ));
+    }
+
+    /// Whether something was refused or not followed.
+    pub fn incomplete(&self) -> bool {
+        self.refusals + self.gaps > 0
+    }
+
+    pub fn status(&self) -> u8 {
+        let alerts = if self.alerts > 0 { status::ALERTS } else { status::QUIET };
+        let incomplete = if self.incomplete() { status::NOT_FOLLOWED } else { status::QUIET };
+        alerts + incomplete
+    }
+
+    /// The first output that could not be written.
+    pub fn failure(&mut self) -> Option<io::Error> {
+        self.failure.take()
+    }
+}
