@@ -1,0 +1,156 @@
+# Part of tests/host/record/run: logs that are made here, with the records that the table gives for them.
+
+# 300 short-lived processes, one behind the other: each takes the number of the one before.
+{
+    echo '1000  execve("/bin/sh", ["sh"], 0x7ffc00000000 /* 1 var */) = 0'
+    echo '1000  openat(AT_FDCWD</srv/x>, "a", O_RDONLY) = 3</srv/x/a>'
+    for pid in $(seq 2001 2300); do
+        echo "1000  fork()                            = $pid"
+        echo "$pid  read(3</srv/x/a>, \"A\", 10)        = 1"
+        echo "$pid  +++ exited with 0 +++"
+    done
+    echo '1000  +++ exited with 0 +++'
+} >"$work/log"
+printf 'source a\n' >"$work/story"
+# a 0, the recorder 1, the first process 2, its program 3
+{
+    printf '%s\n' "file 1 3 as 0" "exec 2 3 as 0"
+    for pid in $(seq 2001 2300); do printf '%s\n' "fork 2 4" "read 4 0" "end 4"; done
+    echo "end 2"
+} >"$work/wanted"
+echo "903 records, 304 containers: 0 alerts, 0 refused, 0 not followed" >"$work/words"
+"$record" --log "$work/log" --story "$work/story" --out "$work/short-lived" >"$work/out"
+[ $? -eq 0 ] && followed short-lived "$work/wanted"
+note $? "300 short-lived processes"
+
+# opens FIRST LAST WORD: a process opens files, reads or writes each, and closes it.
+opens() {
+    local number
+    for number in $(seq "$1" "$2"); do
+        echo "1000  openat(AT_FDCWD</srv/x>, \"f$number\", O_RDWR|O_CREAT, 0666) = 4</srv/x/f$number>"
+        echo "1000  $3(4</srv/x/f$number>, \"x\", 1) = 1"
+        echo "1000  close(4</srv/x/f$number>) = 0"
+    done
+}
+
+# 300 files outside the story that hold nothing: when no number is free, the one that was used least lately gives its own back.
+# The file of the story keeps its own, though it holds nothing either.
+{
+    echo '1000  execve("/bin/sh", ["sh"], 0x7ffc00000000 /* 1 var */) = 0'
+    opens 1 300 read
+    opens 1 1 read
+    echo '1000  fork()                            = 1001'
+    opens 301 302 read
+} >"$work/log"
+printf 'file plain\n' >"$work/story"
+{
+    printf '%s\n' "file 1 3 as 0" "exec 2 3 as 0"
+    for number in $(seq 4 255); do printf '%s\n' "file 1 $number as 0" "read 2 $number"; done
+    # f253 takes the program's number, f254 that of f1, and so on; in the end f1 takes the one that f48 had.
+    for number in $(seq 3 51); do printf '%s\n' "delete 1 $number" "file 1 $number as 0" "read 2 $number"; done
+    # A child takes the number that f49 had, and two more files those of f50 and f51.
+    printf '%s\n' "delete 1 52" "fork 2 52"
+    for number in 53 54; do printf '%s\n' "delete 1 $number" "file 1 $number as 0" "read 2 $number"; done
+} >"$work/wanted"
+echo "661 records, 308 containers: 0 alerts, 0 refused, 0 not followed" >"$work/words"
+"$record" --log "$work/log" --story "$work/story" --out "$work/given-back" >"$work/out"
+[ $? -eq 0 ] && followed given-back "$work/wanted"
+note $? "300 files that hold nothing share the numbers"
+
+# What holds nothing and is restricted to run keeps its number, and what is open gives its own back last.
+{
+    echo '1000  execve("/bin/desk", ["desk"], 0x7ffc00000000 /* 1 var */) = 0'
+    opens 1 1 write
+    echo '1000  openat(AT_FDCWD</srv/x>, "f2", O_RDONLY) = 5</srv/x/f2>'
+    echo '1000  read(5</srv/x/f2>, "x", 1) = 1'
+    opens 3 254 read
+} >"$work/log"
+printf '%s\n' "source a" "rule desk-takes = {a}" "file /bin/desk run desk-takes" >"$work/story"
+# a 0, /bin/desk 1, the recorder 2, the first process 3, f1 4, f2 5
+{
+    printf '%s\n' "exec 3 1 as 0" "file 2 4 as 0" "append 3 4" "file 2 5 as 0" "read 3 5"
+    for number in $(seq 6 255); do printf '%s\n' "file 2 $number as 0" "read 3 $number"; done
+    # f253 and f254 take the numbers of f3 and f4.
+    for number in 6 7; do printf '%s\n' "delete 2 $number" "file 2 $number as 0" "read 3 $number"; done
+} >"$work/wanted"
+echo "511 records, 258 containers: 0 alerts, 0 refused, 0 not followed" >"$work/words"
+"$record" --log "$work/log" --story "$work/story" --out "$work/kept" >"$work/out"
+[ $? -eq 0 ] && followed kept "$work/wanted"
+note $? "what is restricted to run keeps its number, and what is open gives it back last"
+
+# 254 files that hold data: there is no number for the last two, nor for a child. The run goes on.
+{
+    echo '1000  execve("/bin/sh", ["sh"], 0x7ffc00000000 /* 1 var */) = 0'
+    echo '1000  openat(AT_FDCWD</srv/x>, "a", O_RDONLY) = 3</srv/x/a>'
+    echo '1000  read(3</srv/x/a>, "A", 10)        = 1'
+    opens 1 255 write
+    echo '1000  fork()                            = 1001'
+    echo '1001  read(3</srv/x/a>, "A", 10)        = 1'
+    echo '1001  read(3</srv/x/a>, "A", 10)        = 1'
+    echo '1001  +++ exited with 0 +++'
+    opens 300 300 read
+    echo '1000  unlink("f7")                      = 0'
+    opens 254 254 write
+} >"$work/log"
+printf 'source a\n' >"$work/story"
+{
+    printf '%s\n' "file 1 3 as 0" "exec 2 3 as 0" "read 2 0"
+    for number in $(seq 4 255); do printf '%s\n' "file 1 $number as 0" "append 2 $number"; done
+    # The program holds nothing: its number goes to f253.
+    printf '%s\n' "delete 1 3" "file 1 3 as 0" "append 2 3"
+    # A read of f300, which holds nothing, moves nothing. Then f7 is deleted.
+    printf '%s\n' "delete 2 10" "file 1 10 as 0" "append 2 10"
+} >"$work/wanted"
+cat >"$work/words" <<'END'
+not followed, line 764: /srv/x/f254: no number is free, 256 containers are in use
+not followed, line 767: /srv/x/f255: no number is free, 256 containers are in use
+not followed, line 769: the start of process 1001: no number is free, 256 containers are in use
+not followed, line 770: an operation of process 1001, which has no number
+513 records, 258 containers: 0 alerts, 0 refused, 5 not followed
+END
+"$record" --log "$work/log" --story "$work/story" --out "$work/full" >"$work/out"
+[ $? -eq 2 ] && followed full "$work/wanted"
+note $? "more than 256 at once are told, and the run goes on"
+"$record" --strict --log "$work/log" --story "$work/story" --out "$work/strict" >"$work/out"
+[ $? -eq 2 ] && [ "$(wc -l <"$work/out")" -eq 2 ] && grep -q '^not followed, line 764: ' "$work/out" &&
+    cmp <(head -n -3 "$work/wanted") <(cut -d ' ' -f 2- "$work/strict/records.txt")
+note $? "more than 256 at once: with --strict the run stops there"
+
+# More than 32 sources are an error of the story, with its line.
+for number in $(seq 33); do echo "source s$number"; done >"$work/story"
+"$record" --log "$work/log" --story "$work/story" --out "$work/sources" >"$work/out" 2>"$work/err"
+[ $? -eq 4 ] && grep -q "^record: $work/story:33: " "$work/err" && [ ! -s "$work/out" ]
+note $? "more than 32 sources: the story is refused at line 33"
+
+# Of 16 different permit rules the last one has no user: a new file of its name is told.
+# Equal rules share one.
+for number in $(seq 16); do
+    printf 'source s%s\npermit p%s: s%s\n' "$number" "$number" "$number"
+    [ "$number" -gt 1 ] || echo "permit same: s1"
+done >"$work/story"
+cat >"$work/log" <<'END'
+1000  execve("/bin/sh", ["sh"], 0x7ffc00000000 /* 1 var */) = 0
+1000  openat(AT_FDCWD</srv/x>, "s1", O_RDONLY) = 3</srv/x/s1>
+1000  read(3</srv/x/s1>, "1", 10)       = 1
+1000  unlink("p15")                     = 0
+1000  unlink("p16")                     = 0
+1000  openat(AT_FDCWD</srv/x>, "p15", O_WRONLY|O_CREAT, 0666) = 4</srv/x/p15>
+1000  openat(AT_FDCWD</srv/x>, "p16", O_WRONLY|O_CREAT, 0666) = 5</srv/x/p16>
+1000  write(4</srv/x/p15>, "1", 1)      = 1
+1000  write(5</srv/x/p16>, "1", 1)      = 1
+1000  rename("p16", "p16.old")          = 0
+1000  rename("p1", "p16")               = 0
+END
+# s1 0, p1 1, same 2, s2 3, .., p15 30, s16 31, p16 32, the recorder 33, the first process 34; users 0 unrestricted, 1 of p1 and
+# same, .., 15 of p15
+printf '%s\n' "file 33 35 as 0" "exec 34 35 as 0" "read 34 0" "delete 34 30" "delete 34 32" "file 33 30 as 15" \
+    "append 34 30" "file 33 32 as 0" "append 34 32" >"$work/wanted"
+cat >"$work/words" <<'END'
+alert, step 7: sh (1000) appends to p15, which now holds s1
+not followed, line 9: p16 is a new file of that name, and no user is left that has the story's rule
+not followed, line 11: p16 is another file now, and no user is left that has the story's rule
+9 records, 38 containers: 1 alerts, 0 refused, 2 not followed
+END
+"$record" --log "$work/log" --story "$work/story" --out "$work/rules" >"$work/out"
+[ $? -eq 3 ] && followed rules "$work/wanted"
+note $? "more different permit rules than users are told where they do not hold"
