@@ -1,17 +1,21 @@
 # make demo            runs the watch program on the demonstration in demo/, and names its alerts
 # make profiles-demo   turns the profiles in demo/profiles into a policy, and names the alerts of a session from it
 # make month           runs the month program on the five days in crates/month/data, and draws their alerts
+# make night           watches eight commands of one night under strace, and names the alert
 # make test            everything that can fail, as the gate runs it
 # make policy          builds the program `policy` for operators, and prints where it is
+# make record          builds the program `record`, which watches real programs, and prints where it is
 # make lib             target/lib: libyaslaurel.a, yaslaurel.h, yaslaurel.pc, FORMATS.md and manual pages, for hosts in C and Rust
 # make install         these where a distribution has them, with the Rust crate and the example host: PREFIX=/usr/local,
 #                      LIBDIR=PREFIX/lib, staged under DESTDIR
-# make uninstall       removes them, under the same names
+# make install-programs  the programs `policy` and `record`, in PREFIX/bin
+# make uninstall       removes all these, under the same names
 # make covering        target/staticlib/libcovering.a, the cover test alone, which the bench and a host test measure
 # make bench           ratios against Rust, in one run
-.PHONY: demo profiles-demo month test policy lib install uninstall covering bench
+.PHONY: demo profiles-demo month night test policy record lib install install-programs uninstall covering bench
 
 PREFIX = /usr/local
+BINDIR = $(PREFIX)/bin
 LIBDIR = $(PREFIX)/lib
 INCLUDEDIR = $(PREFIX)/include
 MANDIR = $(PREFIX)/share/man
@@ -33,6 +37,9 @@ demo:
 profiles-demo:
 	@demo/profiles/run
 
+night:
+	@demo/night/run
+
 month:
 	@demo/month/run
 
@@ -42,10 +49,16 @@ test:
 policy:
 	@hosts/build policy
 
-lib:
+record:
+	@hosts/build record
+
+# Proved and built again where a source, a definition or a proof has changed.
+target/lib/libyaslaurel.a: crates.txt $(shell find crates -name '*.rt' -o -name '*.antt')
 	rt staticlib capi
 	mkdir -p target/lib
-	cp target/staticlib/libcapi.a target/lib/libyaslaurel.a
+	cp target/staticlib/libcapi.a $@
+
+lib: target/lib/libyaslaurel.a
 	cp include/yaslaurel.h docs/FORMATS.md target/lib/
 	$(call pkgconfig,$${pcfiledir},$${prefix},$${prefix}) > target/lib/yaslaurel.pc
 	rm -rf target/lib/man
@@ -64,7 +77,12 @@ install: lib
 	$(INSTALL) -m 644 hosts/rust/Cargo.toml hosts/rust/build.rs $(DESTDIR)$(CRATEDIR)/
 	$(INSTALL) -m 644 $(addprefix hosts/rust/,$(CRATE_SOURCES)) $(DESTDIR)$(CRATEDIR)/src/
 
+install-programs: lib
+	$(INSTALL) -d $(DESTDIR)$(BINDIR)
+	$(INSTALL) -m 755 $$(hosts/build policy) $$(hosts/build record) $(DESTDIR)$(BINDIR)/
+
 uninstall:
+	rm -f $(DESTDIR)$(BINDIR)/policy $(DESTDIR)$(BINDIR)/record
 	rm -f $(DESTDIR)$(INCLUDEDIR)/yaslaurel.h $(DESTDIR)$(LIBDIR)/libyaslaurel.a $(DESTDIR)$(LIBDIR)/pkgconfig/yaslaurel.pc
 	rm -f $(DESTDIR)$(MANDIR)/man3/yaslaurel.3 $(DESTDIR)$(MANDIR)/man3/yaslaurel_*.3
 	rm -f $(DESTDIR)$(DOCDIR)/FORMATS.md $(DESTDIR)$(DOCDIR)/examples/host.c
