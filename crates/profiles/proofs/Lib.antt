@@ -1,4 +1,4 @@
--- Theorems is the file to read first. Walks is cited by code that walks a text.
+-- Theorems is the file to read first. Walks is cited by code that walks a text, TableLaws by code that reads its numbers.
 pub mod Theorems
 pub mod Examples
 pub mod Walks
@@ -15,3 +15,4 @@ pub mod LineScans
 pub mod LineWordLaws
 pub mod TextLaws
 pub mod TextScan
+pub mod TableLaws

@@ -1,13 +1,13 @@
 -- Each line of a text that names a path in one number, as the code that judges a text leaves them to the code that reads it
 -- afterwards: where the path begins, how long it is, and the modes, of which a profile's first line has none.
-use Prim.Native.Nat.{ℕ, _+_, _*_, _/_, _%_, _≤_}
+use Prim.Native.Nat.{ℕ, _+_, _-_, _*_, _/_, _%_, _≤_}
 use mathlib.Core.Path.{_≡_}
 use mathlib.Core.Bool.{Bool, true, false, not, cond}
-use mathlib.Core.List.{List, [], _∷_}
+use mathlib.Core.List.{List, [], _∷_, _++_}
 use lib.Dec.{eqb}
-use lib.ListN.{length, take}
+use lib.ListN.{length, take, replicate}
 use Rattle.profiles.specs.Reading.{Line, opens, enters, closes, lineText, linesIn}
-use Rattle.profiles.specs.Texts.{textLimit}
+use Rattle.profiles.specs.Texts.{textLimit, textGood}
 use Rattle.profiles.specs.Notes.{lengthLimit}
 use Rattle.profiles.specs.Scanning.{noLine, profileKind, lineScan}
 use Rattle.profiles.specs.declared.ScannedLine.{ScannedLine}
@@ -51,3 +51,15 @@ pub record Judged (t words : List ℕ) (b : Bool) (s : ScannedText) : Type 0 whe
   pub right : s .good ≡ b
   pub room : s .good ≡ true → s .count ≤ length words
   pub listed : s .good ≡ true → take (s .count) words ≡ textWords t
+
+-- the numbers of the lines of a good text, none of another
+unfoldable pub goodWords : List ℕ → List ℕ
+goodWords t = cond (textGood t) (textWords t) []
+
+-- whether a text is good, and how many of its lines name a path
+unfoldable pub scannedOf : List ℕ → ScannedText
+scannedOf t = record { good = textGood t; count = length (goodWords t) }
+
+-- the numbers, and zeros behind them
+unfoldable pub tableOf : List ℕ → List ℕ
+tableOf t = goodWords t ++ replicate (wordLimit - length (goodWords t)) 0

@@ -4,7 +4,7 @@ ghost use mathlib.Core.Logic.{_≢_};
 ghost use mathlib.Core.Bool.{true};
 ghost use mathlib.Core.List.{map};
 ghost use Prim.Native.Nat.{_+_, _*_, _≤_, _<_};
-ghost use lib.ListN.{length, getD, take, drop};
+ghost use lib.ListN.{length, getD, take, drop, replicate};
 ghost use Rattle.lists.specs.Lists.{every, sameList, position};
 ghost use Rattle.profiles.specs.Profiles.{isBetween, isPathByte, pathGood};
 ghost use Rattle.profiles.specs.Tokens.{starts};
@@ -12,7 +12,7 @@ ghost use Rattle.profiles.specs.Reading.{pathIn, readingOf};
 ghost use Rattle.profiles.specs.Texts.{textLimit, readsWell, textGood};
 ghost use Rattle.profiles.specs.Notes.{lengthLimit, pathKey, notedPath, noteGood, PathAt, ToNote, notedPlace, withNote};
 ghost use Rattle.profiles.specs.Scanning.{withX, modeAt, modesAt, noScan, lineAt};
-ghost use Rattle.profiles.specs.LineWords.{lineWord, namedPath, wordLimit, mayStand, noText, Judged};
+ghost use Rattle.profiles.specs.LineWords.{lineWord, namedPath, wordLimit, mayStand, noText, Judged, scannedOf, tableOf};
 
 // ---- the bytes and numbers of the format
 
@@ -559,8 +559,9 @@ fn scan_long(text: &[u8], words: &mut [u32]) -> ScannedText
     scan_lines(text, &mut notes, words)
 }
 
-// Whether the text is not too long, has a reading, and profiles no path twice; if so, the numbers of its lines.
-pub fn scan_text(text: &[u8], words: &mut [u32; WORD_LIMIT]) -> ScannedText
+// Whether the text is not too long, has a reading, and profiles no path twice; if so, the numbers of its lines in front.
+fn judge_text(text: &[u8], words: &mut [u32]) -> ScannedText
+    requires { ⌜ length (now words) ≡ wordLimit ⌝ }
     ensures { λ r. ⌜ Judged (now (text .entry)) (now (words .exit)) (textGood (now (text .entry))) r ⌝ }
 {
     if TEXT_LIMIT < text.len() {
@@ -570,4 +571,37 @@ pub fn scan_text(text: &[u8], words: &mut [u32; WORD_LIMIT]) -> ScannedText
         return scan_short(text, words);
     }
     scan_long(text, words)
+}
+
+// Zeros.
+fn clear(words: &mut [u32])
+    ensures { λ _. ⌜ now (words .exit) ≡ replicate (length (now (words .entry))) 0 ⌝ }
+{
+    let mut j: usize = 0;
+    while j < words.len() {
+        words[j] = 0;
+        j += 1;
+    }
+}
+
+// The same, with zeros behind the numbers, and zeros alone for a text that is not good.
+fn scan_table(text: &[u8], words: &mut [u32]) -> ScannedText
+    requires { ⌜ length (now words) ≡ wordLimit ⌝ }
+    ensures { λ r. ⌜ (r ≡ scannedOf (now (text .entry))) × (now (words .exit) ≡ tableOf (now (text .entry))) ⌝ }
+{
+    let scanned = judge_text(text, words);
+    if !scanned.good {
+        clear(words);
+        return no_text();
+    }
+    let count = scanned.count;
+    clear(&mut words[count..WORD_LIMIT]);
+    scanned
+}
+
+// Whether the text is good, with the numbers of its lines and zeros behind them, or zeros alone.
+pub fn scan_text(text: &[u8], words: &mut [u32; WORD_LIMIT]) -> ScannedText
+    ensures { λ r. ⌜ (r ≡ scannedOf (now (text .entry))) × (now (words .exit) ≡ tableOf (now (text .entry))) ⌝ }
+{
+    scan_table(text, words)
 }

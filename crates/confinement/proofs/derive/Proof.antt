@@ -3,6 +3,7 @@ use borrow.Author.Needs.{needs}
 use borrow.Author.Tests.{not-false}
 use mathlib.Core.Path.{refl}
 use Rattle.lists.proofs.Bools.{passes-test, fails-test}
+use Rattle.profiles.proofs.TableLaws.{judged-of}
 use Rattle.confinement.specs.Images.{profilesIn}
 use Rattle.confinement.proofs.DeriveLaws.{derive-short, derive-broken, derive-many, derive-done, tabulated, words-lent}
 use Rattle.confinement.proofs.derive.Statement.{statement}
@@ -12,15 +13,15 @@ returns : tie.Need-returns
 returns c = derive-short _ _ (c .if1 .taken)
 
 returns-2 : tie.Need-returns-2
-returns-2 c = derive-broken _ _ (c .before .before .before .before .if1 .left) (fails-test (c .before .before .scan-text .ensures .right) (c .if2 .taken))
+returns-2 c = derive-broken _ _ (c .before .before .before .before .if1 .left) (fails-test (judged-of _ _ _ (c .before .before .scan-text .ensures) .right) (c .if2 .taken))
 
 part-fill-tables-end : tie.Need-part-fill-tables-end
-part-fill-tables-end c = c .before .before .before .scan-text .ensures .room (not-false _ (c .before .if2 .left))
+part-fill-tables-end c = judged-of _ _ _ (c .before .before .before .scan-text .ensures) .room (not-false _ (c .before .if2 .left))
 
 fill-tables-requires : tie.Need-fill-tables-requires
 fill-tables-requires c κs = (
-  passes-test (c .before .before .before .before .before .before .before .before .scan-text .ensures .right) (c .before .before .before .before .before .before .if2 .left),
-  words-lent _ _ _ _ (c .before .before .before .before .before .before .before .before .scan-text .ensures) (c .before .before .before .before .before .before .if2 .left),
+  passes-test (judged-of _ _ _ (c .before .before .before .before .before .before .before .before .scan-text .ensures) .right) (c .before .before .before .before .before .before .if2 .left),
+  words-lent _ _ _ _ (judged-of _ _ _ (c .before .before .before .before .before .before .before .before .scan-text .ensures)) (c .before .before .before .before .before .before .if2 .left),
   search needs,
   search needs,
   search needs,
@@ -30,7 +31,7 @@ fill-tables-requires c κs = (
 returns-3 : tie.Need-returns-3
 returns-3 c =
     derive-many _ _ (c .before .before .before .before .before .before .before .before .before .before .before .before .before .before .before .before .if1 .left)
-    (passes-test (c .before .before .before .before .before .before .before .before .before .before .before .before .before .before .scan-text .ensures .right)
+    (passes-test (judged-of _ _ _ (c .before .before .before .before .before .before .before .before .before .before .before .before .before .before .scan-text .ensures) .right)
     (c .before .before .before .before .before .before .before .before .before .before .before .before .if2 .left)) (c .before .before .before .before .before .fill-tables .ensures .many (c .if3 .taken))
 
 write-tables-requires : tie.Need-write-tables-requires
@@ -49,7 +50,7 @@ returns-4 c =
     let start = c .before .before .before .before .before .before .before .before .before .before .before .before .before .before .before .before .before .before .before .before .before .before .before .before .before in
     derive-done (start .args .text .now) _
     (c .before .before .before .before .before .before .before .before .before .before .before .before .before .before .before .before .before .before .before .before .before .before .if1 .left)
-    (passes-test (c .before .before .before .before .before .before .before .before .before .before .before .before .before .before .before .before .before .before .before .before .scan-text .ensures .right)
+    (passes-test (judged-of _ _ _ (c .before .before .before .before .before .before .before .before .before .before .before .before .before .before .before .before .before .before .before .before .scan-text .ensures) .right)
     (c .before .before .before .before .before .before .before .before .before .before .before .before .before .before .before .before .before .before .if2 .left)) _ _ _ _
     (tabulated (c .before .before .before .before .before .before .before .before .before .before .before .fill-tables .ensures .paths (c .before .before .before .before .before .before .if3 .left))
     (c .before .before .before .before .before .before .before .before .before .before .before .fill-tables .ensures .programs (c .before .before .before .before .before .before .if3 .left)))

@@ -1,25 +1,10 @@
--- The two tests of the definition.
-use Rattle.profiles.proofs.TextScan.{no-text, long-text, short-text}
+-- The table as a slice.
 use borrow.Author.Needs.{needs}
 use Rattle.profiles.proofs.scan_text.Statement.{statement}
 use Rattle.profiles.proofs.scan_text.Tie as tie
 
 returns : tie.Need-returns
-returns c = no-text _ _ _ _ (c .no-text .ensures) (long-text _ (c .before .if1 .taken))
-
-returns-2 : tie.Need-returns-2
-returns-2 c = short-text _ _ _ (c .before .before .before .if1 .left) (c .scan-short .ensures)
-
-returns-3 : tie.Need-returns-3
-returns-3 c = short-text _ _ _ (c .before .before .before .if1 .left) (c .scan-long .ensures)
+returns c = c .scan-table .ensures
 
 pub scan-text-spec : {M : Type 1} → statement M
-scan-text-spec =
-    tie.close
-    (tie.spec
-    (λ c κs. search needs)
-    returns
-    (λ c κs. search needs)
-    returns-2
-    (λ c κs. search needs)
-    returns-3)
+scan-text-spec = tie.close (tie.spec (λ c κs. search needs) returns)
