@@ -2,12 +2,13 @@
 
 use std::ffi::{CString, OsString};
 use std::fs::{self, File, OpenOptions};
-use std::io::{self, BufRead, BufReader, Write};
+use std::io::{self, BufRead, BufReader, Read, Write};
 use std::os::raw::{c_char, c_int};
 use std::os::unix::ffi::OsStrExt;
 use std::path::{Path, PathBuf};
 use std::process::{Child, Command, ExitStatus};
 use std::thread::{self, JoinHandle};
+use std::time::Duration;
 use std::{env, process};
 
 use crate::follow::Follower;
@@ -22,6 +23,21 @@ extern "C" {
 const SIGINT: c_int = 2;
 const SIGQUIT: c_int = 3;
 const SIGKILL: c_int = 9;
+
+/// How long lines may wait in the pipe, and how many bytes it has.
+const BATCH: Duration = Duration::from_millis(1);
+const PIPE_LENGTH: usize = 65_536;
+
+/// Reads the lines of a millisecond at once: strace writes each by itself, and to wake up for each would cost the command more
+/// time than to follow it.
+struct Batches(File);
+
+impl Read for Batches {
+    fn read(&mut self, into: &mut [u8]) -> io::Result<usize> {
+        thread::sleep(BATCH);
+        self.0.read(into)
+    }
+}
 
 /// A folder of the run's own, with the named pipe; it is gone with this value.
 struct Pipe {
@@ -94,7 +110,8 @@ pub fn run(follower: &mut Follower, command: &[OsString], keep: Option<&Path>) -
     outlive_interrupts();
     let waiting = wait(child, pipe.path());
     let mut going = true;
-    for line in BufReader::new(File::open(pipe.path())?).split(b'\n') {
+    let log = BufReader::with_capacity(PIPE_LENGTH, Batches(File::open(pipe.path())?));
+    for line in log.split(b'\n') {
         let mut line = line?;
         if going && !follower.line(&line) {
             going = false;
