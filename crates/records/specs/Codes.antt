@@ -1,10 +1,11 @@
 -- "One table of codes gives the kind that each code needs" (the paper, "Operations"): the codes, the step that each asks for, and
 -- what the table of steps (crate chains, specs/Table) says of it.
-use Prim.Native.Nat.{ℕ}
+use Prim.Native.Nat.{ℕ, _+_, _^_}
 use mathlib.Core.Bool.{Bool, false, cond, _&&_}
 use mathlib.Core.Option.{none}
 use lib.Dec.{eqb, ltb}
 use Rattle.rules.specs.Sets.{atom}
+use Rattle.image.specs.Limits.{freeKind, fileKind, volatileKind, processKind}
 use Rattle.chains.specs.History.{Step, read, write, append, exec, fork, newFile, newVolatile, end, delete}
 use Rattle.chains.specs.Table.{State, freeRow, Need, store, file, free, process, entry, isSome}
 use Rattle.records.specs.declared.Code.{Code}
@@ -60,21 +61,25 @@ stepWith code p o u =
 
 -- ---- what a code needs of its object, as the set of the kinds that serve, kind k being worth 2 to the k
 
+-- no kind serves
+abbrev pub noNeed : ℕ
+noNeed = 0
+
 -- "free"
 abbrev pub needsFree : ℕ
-needsFree = 1
+needsFree = 2 ^ freeKind
 
 -- "file"
 abbrev pub needsFile : ℕ
-needsFile = 2
+needsFile = 2 ^ fileKind
 
 -- "file, volatile"
 abbrev pub needsStore : ℕ
-needsStore = 6
+needsStore = 2 ^ fileKind + 2 ^ volatileKind
 
 -- a process
 abbrev pub needsProcess : ℕ
-needsProcess = 8
+needsProcess = 2 ^ processKind
 
 abbrev pub needNumber : Need → ℕ
 needNumber store = needsStore
@@ -101,4 +106,4 @@ codeAt n =
 
 -- place 0 of the table: no kind serves, and no user is named
 unfoldable pub noCode : Code
-noCode = record { object = 0; user = false }
+noCode = record { object = noNeed; user = false }
