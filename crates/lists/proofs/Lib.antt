@@ -7,3 +7,4 @@ pub mod Every
 pub mod Places
 pub mod Joined
 pub mod Counting
+pub mod Copying

@@ -1,34 +1,16 @@
 -- The table of a text's numbers as it is left: the numbers of a good text, and zeros behind them.
-use Prim.Native.Nat.{ℕ, _+_, _-_, _≤_, _<_}
+use Prim.Native.Nat.{ℕ, _-_, _≤_}
 use native.Mathlib.Omega.{arith}
-use native.Mathlib.Numerals.{add-one}
 use mathlib.Core.Path.{_≡_, refl, sym, ap, ap₂, _∙_}
 use mathlib.Core.Bool.{Bool, true, false, not}
-use mathlib.Core.List.{List, [], _∷_, _++_, append-nil}
-use lib.ListN.{length, take, set, replicate, length-set, length-append, length-replicate, length-take, replicate-append-replicate, drop-of-length-le}
-use lib.Seq.{take-all, take-suc-set, take-append-seam}
+use mathlib.Core.List.{List, [], _++_, append-nil}
+use lib.ListN.{length, take, replicate, length-append, length-take, drop-of-length-le}
+use lib.Seq.{take-append-seam}
 use borrow.Author.Tests.{not-true, not-false}
 use borrow.Rule.Slice.PartMut.{midOf, postOf, putMid, post-is, mid-len}
 use Rattle.profiles.specs.Texts.{textGood}
 use Rattle.profiles.specs.LineWords.{wordLimit, textWords, noText, Judged, goodWords, scannedOf, tableOf}
 use Rattle.profiles.specs.declared.ScannedText.{ScannedText}
-
--- ---- zeros, one after the other
-
-pub zeros-next : (ws₀ ws : List ℕ) (j : ℕ) → (take j ws ≡ replicate j 0) × (length ws ≡ length ws₀) → j < length ws
-    → (take (j + 1) (set ws j 0) ≡ replicate (j + 1) 0) × (length (set ws j 0) ≡ length ws₀)
-zeros-next ws₀ ws j g l = (
-  ap (λ (k : ℕ). take k (set ws j 0)) (add-one j)
-      ∙ take-suc-set ws j 0 l
-      ∙ ap (λ (z : List ℕ). z ++ (0 ∷ [])) (g .0)
-      ∙ replicate-append-replicate j 1 0,
-  length-set ws j 0 ∙ g .1,
-)
-
-pub zeros-all : (ws₀ ws : List ℕ) (j : ℕ) → (take j ws ≡ replicate j 0) × (length ws ≡ length ws₀) → length ws ≤ j → ws ≡ replicate (length ws₀) 0
-zeros-all ws₀ ws j g l =
-    let e : j ≡ length ws₀ = omega (arith, g .1, ap length (g .0), length-take j ws, length-replicate {A = ℕ} j 0) in
-    sym (take-all j ws l) ∙ g .0 ∙ ap (λ (k : ℕ). replicate k 0) e
 
 -- ---- what is left
 

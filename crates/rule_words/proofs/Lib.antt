@@ -4,7 +4,6 @@
 pub mod WordLaws
 pub mod KeptWords
 pub mod ZeroLaws
-pub mod Copying
 -- inside this crate, for its functions
 pub mod NormalTest
 pub mod SortNetwork

@@ -1,6 +1,6 @@
 -- The mixtures of the rule are copied one after the other.
 use borrow.Author.Needs.{needs}
-use Rattle.rule_words.proofs.Copying.{Copied, copied-start, copied-next, copied-all}
+use Rattle.lists.proofs.Copying.{Copied, copied-start, copied-next, copied-all}
 use Rattle.image.proofs.RulesByNumber.{from-length, from-at}
 use Rattle.image.specs.Image.{mixturesIn}
 use lib.ListN.{length, take, drop}
