@@ -1,2 +1,3 @@
--- Theorems is the file to read.
+-- Theorems is the file to read; Cases is what other crates tell answers apart by.
+pub mod Cases
 pub mod Theorems

@@ -23,11 +23,11 @@ refused n = Refused n
 
 -- ---- their cases
 
--- "A step is accepted if it is answered quiet or alert"
-abbrev pub accepted : Answer → Bool
-accepted (Given Quiet e) = true
-accepted (Given Alert e) = true
-accepted (Refused n) = false
+-- the only place, with the listing's words, that takes the verdicts apart
+abbrev pub isQuiet : Answer → Bool
+isQuiet (Given Quiet e) = true
+isQuiet (Given Alert e) = false
+isQuiet (Refused n) = false
 
 abbrev pub isAlert : Answer → Bool
 isAlert (Given Quiet e) = false
@@ -37,6 +37,12 @@ isAlert (Refused n) = false
 abbrev pub isRefused : Answer → Bool
 isRefused (Given v e) = false
 isRefused (Refused n) = true
+
+-- "A step is accepted if it is answered quiet or alert"
+abbrev pub accepted : Answer → Bool
+accepted (Given Quiet e) = true
+accepted (Given Alert e) = true
+accepted (Refused n) = false
 
 -- ---- their numbers and values
 

@@ -1,6 +1,8 @@
 // What the product answers: the refusal numbers, the answer to a record, and the tally of a run (the paper, "Operations" and
 // "Refused because ..").
 ghost use mathlib.Core.Path.{_≡_};
+ghost use mathlib.Core.Bool.{cond};
+ghost use Rattle.answers.specs.Answers.{isQuiet, isAlert, isRefused, accepted, answerNumber};
 ghost use Rattle.answers.specs.Tallies.{more, noTally, counted};
 use std::num::wrapping_add_u64;
 
@@ -63,7 +65,10 @@ pub const OTHER_USER: u32 = 18;
 // A trace of over 1,000,000 records.
 pub const TRACE_LENGTH: u32 = 19;
 
-// The number of an alert, apart from every refusal. That of a quiet answer is 0.
+// The number of a quiet answer.
+pub const QUIET_NUMBER: u32 = 0;
+
+// The number of an alert, apart from every refusal.
 pub const ALERT_NUMBER: u32 = 256;
 
 // ---- the answer to a record
@@ -84,6 +89,68 @@ pub struct Received {
 pub enum Answer {
     Given(Verdict, Received),
     Refused(u32),
+}
+
+// The access was made, and is permitted.
+pub fn is_quiet(answer: Answer) -> bool
+    ensures { λ r. ⌜ r ≡ isQuiet answer ⌝ }
+{
+    match answer {
+        Answer::Given(verdict, _) => match verdict {
+            Verdict::Quiet => true,
+            Verdict::Alert => false,
+        },
+        Answer::Refused(_) => false,
+    }
+}
+
+// The access was made, and is not permitted.
+pub fn is_alert(answer: Answer) -> bool
+    ensures { λ r. ⌜ r ≡ isAlert answer ⌝ }
+{
+    match answer {
+        Answer::Given(verdict, _) => match verdict {
+            Verdict::Quiet => false,
+            Verdict::Alert => true,
+        },
+        Answer::Refused(_) => false,
+    }
+}
+
+// The record was refused.
+pub fn is_refused(answer: Answer) -> bool
+    ensures { λ r. ⌜ r ≡ isRefused answer ⌝ }
+{
+    match answer {
+        Answer::Given(_, _) => false,
+        Answer::Refused(_) => true,
+    }
+}
+
+// The access was made.
+pub fn is_accepted(answer: Answer) -> bool
+    ensures { λ r. ⌜ r ≡ accepted answer ⌝ }
+{
+    match answer {
+        Answer::Given(verdict, _) => match verdict {
+            Verdict::Quiet => true,
+            Verdict::Alert => true,
+        },
+        Answer::Refused(_) => false,
+    }
+}
+
+// The answer as one number.
+pub fn number(answer: Answer) -> u32
+    ensures { λ r. ⌜ r ≡ answerNumber answer ⌝ }
+{
+    match answer {
+        Answer::Given(verdict, _) => match verdict {
+            Verdict::Quiet => QUIET_NUMBER,
+            Verdict::Alert => ALERT_NUMBER,
+        },
+        Answer::Refused(n) => n,
+    }
 }
 
 // ---- the tally of a run
@@ -113,28 +180,23 @@ pub fn more(n: u64) -> u64
     wrapping_add_u64(n, 1)
 }
 
+// One more, or as many.
+fn counted_if(counts: bool, n: u64) -> u64
+    ensures { λ r. ⌜ r ≡ cond counts (more n) n ⌝ }
+{
+    if counts {
+        return more(n);
+    }
+    n
+}
+
 // The tally with one more record, which was answered so.
 pub fn count(tally: Tally, answer: Answer) -> Tally
     ensures { λ r. ⌜ r ≡ counted tally answer ⌝ }
 {
-    let records = more(tally.records);
-    match answer {
-        Answer::Given(verdict, _) => match verdict {
-            Verdict::Quiet => Tally {
-                records: records,
-                alerts: tally.alerts,
-                refused: tally.refused,
-            },
-            Verdict::Alert => Tally {
-                records: records,
-                alerts: more(tally.alerts),
-                refused: tally.refused,
-            },
-        },
-        Answer::Refused(_) => Tally {
-            records: records,
-            alerts: tally.alerts,
-            refused: more(tally.refused),
-        },
+    Tally {
+        records: more(tally.records),
+        alerts: counted_if(is_alert(answer), tally.alerts),
+        refused: counted_if(is_refused(answer), tally.refused),
     }
 }
