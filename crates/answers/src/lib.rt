@@ -2,7 +2,7 @@
 // "Refused because ..").
 ghost use mathlib.Core.Path.{_≡_};
 ghost use mathlib.Core.Bool.{cond};
-ghost use Rattle.answers.specs.Answers.{isQuiet, isAlert, isRefused, accepted, answerNumber};
+ghost use Rattle.answers.specs.Answers.{isQuiet, isAlert, isRefused, accepted, receivedOf, answerNumber};
 ghost use Rattle.answers.specs.Tallies.{more, noTally, counted};
 use std::num::wrapping_add_u64;
 
@@ -137,6 +137,19 @@ pub fn is_accepted(answer: Answer) -> bool
             Verdict::Alert => true,
         },
         Answer::Refused(_) => false,
+    }
+}
+
+// The receiver and its tag; zeros in a refusal.
+pub fn received_of(answer: Answer) -> Received
+    ensures { λ r. ⌜ r ≡ receivedOf answer ⌝ }
+{
+    match answer {
+        Answer::Given(_, received) => received,
+        Answer::Refused(_) => Received {
+            receiver: 0,
+            tag: 0,
+        },
     }
 }
 

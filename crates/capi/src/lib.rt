@@ -2,18 +2,17 @@
 ghost use mathlib.Core.Path.{_≡_};
 ghost use Rattle.image.specs.Image.{checkOf};
 ghost use Rattle.session.specs.Session.{startAnswer, startEffect};
-ghost use Rattle.answers.specs.Answers.{answerNumber};
+ghost use Rattle.answers.specs.Answers.{received, answerNumber};
 ghost use Rattle.monitor.specs.Steps.{stepAnswer, stepEffect};
 ghost use Rattle.monitor.specs.Stops.{ran, ranEffect};
 ghost use Rattle.normaliser.specs.Normaliser.{normalAnswer, normalEffect};
 ghost use Rattle.matrix.specs.Verdicts.{matrixVerdict};
-ghost use Rattle.withdrawals.specs.Judgements.{matrixOf, judgementOf};
+ghost use Rattle.matrix.specs.Flows.{matrixOf};
+ghost use Rattle.withdrawals.specs.Judgements.{judgementOf};
 ghost use Rattle.derivation.specs.Derived.{derivedAnswer, derivedEffect};
 ghost use Rattle.confinement.specs.Images.{profileAnswer, profileEffect};
-ghost use Rattle.capi.specs.Hosts.{receiverAfter, tagAfter, takenAfter, alertReceiver, alertTag, valueAfter};
+ghost use Rattle.capi.specs.Hosts.{receivedAfter, stopAfter, takenAfter, valueAfter};
 ghost use Rattle.capi.specs.Versions.{version};
-use answers::Answer;
-use answers::Verdict;
 use matrix::Consistency;
 
 // The number of a matrix that is not consistent.
@@ -65,21 +64,17 @@ pub extern "C" fn yaslaurel_step(
     ensures { λ r. ⌜
         (r ≡ answerNumber (stepAnswer (now (session .entry)) (now (bytes .entry))))
         × (now (session .exit) ≡ stepEffect (now (session .entry)) (now (bytes .entry)))
-        × (now (receiver .exit) ≡ receiverAfter (stepAnswer (now (session .entry)) (now (bytes .entry))) (now (receiver .entry)))
-        × (now (tag .exit) ≡ tagAfter (stepAnswer (now (session .entry)) (now (bytes .entry))) (now (tag .entry))) ⌝ }
+        × (received (now (receiver .exit)) (now (tag .exit))
+        ≡ receivedAfter (stepAnswer (now (session .entry)) (now (bytes .entry))) (received (now (receiver .entry)) (now (tag .entry)))) ⌝ }
 {
     let answer = monitor::step(session, bytes);
-    match answer {
-        Answer::Given(verdict, received) => {
-            *receiver = received.receiver as u64;
-            *tag = received.tag;
-            match verdict {
-                Verdict::Quiet => 0,
-                Verdict::Alert => answers::ALERT_NUMBER,
-            }
-        }
-        Answer::Refused(n) => n,
+    if answers::is_refused(answer) {
+        return answers::number(answer);
     }
+    let received = answers::received_of(answer);
+    *receiver = received.receiver as u64;
+    *tag = received.tag;
+    answers::number(answer)
 }
 
 // The records one behind the other, up to and with the first that is not answered quiet: 0 if each was, 256 alert, with receiver and
@@ -96,31 +91,23 @@ pub extern "C" fn yaslaurel_run(
         (r ≡ answerNumber (ran (now (session .entry)) (now (records .entry)) .answer))
         × (now (session .exit) ≡ ranEffect (now (session .entry)) (now (records .entry)))
         × (now (taken .exit) ≡ takenAfter (ran (now (session .entry)) (now (records .entry))) (now (taken .entry)))
-        × (now (receiver .exit) ≡ alertReceiver (ran (now (session .entry)) (now (records .entry)) .answer) (now (receiver .entry)))
-        × (now (tag .exit) ≡ alertTag (ran (now (session .entry)) (now (records .entry)) .answer) (now (tag .entry))) ⌝ }
+        × (received (now (receiver .exit)) (now (tag .exit))
+        ≡ stopAfter (ran (now (session .entry)) (now (records .entry)) .answer) (received (now (receiver .entry)) (now (tag .entry)))) ⌝ }
 {
     let ran = monitor::run(session, records);
     let answer = ran.answer;
-    match answer {
-        Answer::Given(verdict, received) => {
-            *taken = ran.taken;
-            match verdict {
-                Verdict::Quiet => 0,
-                Verdict::Alert => {
-                    *receiver = received.receiver as u64;
-                    *tag = received.tag;
-                    answers::ALERT_NUMBER
-                }
-            }
-        }
-        Answer::Refused(n) => {
-            if n == answers::LENT_LENGTH {
-                return n;
-            }
-            *taken = ran.taken;
-            n
-        }
+    let number = answers::number(answer);
+    if number == answers::LENT_LENGTH {
+        return number;
     }
+    *taken = ran.taken;
+    if !answers::is_alert(answer) {
+        return number;
+    }
+    let received = answers::received_of(answer);
+    *receiver = received.receiver as u64;
+    *tag = received.tag;
+    number
 }
 
 // 0 consistent, with zeros; 1 with the number of flows and the first of them; else 8, and everything is as it was.

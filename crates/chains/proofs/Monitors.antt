@@ -22,6 +22,7 @@ use Rattle.lists.specs.Conditions.{firstFailed}
 use Rattle.chains.specs.Chains.{UserRule, Item, dataAtom, runningAtom, Chain, Governs, Reaches, Forbidden}
 use Rattle.answers.specs.declared.Answer.{Answer}
 use Rattle.answers.specs.Answers.{accepted, isAlert, receiverOf, tagOf}
+use Rattle.answers.proofs.Cases.{accepted-given, unaccepted-refused}
 use Rattle.chains.specs.Demand.{judged, extend, after, historyFrom, AcceptedAt, Taken}
 use Rattle.chains.specs.Table.{State, freeRow, readRow, writeRow, appendRow, execRow, forkRow, newFileRow, newVolatileRow, fitsNeed, ruleOr, entry, processGood, objectGood, userGood, tableConditions, alerts, verdict, placed, operate, Faithful}
 use Rattle.session.specs.Rows.{Row}
@@ -29,7 +30,7 @@ use Rattle.chains.proofs.Exact.{Exact, covers-in, covers-out, Tagged, t
 use Rattle.chains.proofs.Rows.{Good, RowOk, other, read-good, write-good, append-good, exec-good, fork-good, new-file-good, new-volatile-good}
 use Rattle.lists.proofs.Places.{some-inj, none-some}
 use Rattle.chains.proofs.KindLaws.{process-used, file-used, store-used}
-use Rattle.chains.proofs.TableLaws.{Passed, passed, operate-done, operate-accepted, rule-declared}
+use Rattle.chains.proofs.TableLaws.{Passed, passed, operate-done, operate-given, rule-declared}
 use Rattle.chains.proofs.VerdictLaws.{verdict-alert, verdict-quiet}
 use Rattle.chains.proofs.Steps.{end-none, delete-none, new-file-none, new-file-rules, new-volatile-none, new-volatile-rules, fork-chains, fork-rules}
 use Rattle.chains.proofs.Start.{Inv}
@@ -176,7 +177,7 @@ module _ (P : Policy) where
 
   operate-ok : (h : History) (σ : State) → Inv P h σ → (s : Step) → accepted (operate σ s .1) ≡ true → Stepped h s (operate σ s .0) (operate σ s .1)
   operate-ok h σ I s a =
-      let e : firstFailed (tableConditions σ s) ≡ 0 = operate-accepted σ s a in
+      let e : firstFailed (tableConditions σ s) ≡ 0 = operate-given σ s (accepted-given (operate σ s .1) a) in
       let g : Put h s (entry σ s .row) = puts h σ I s (passed σ s e) in
       subst (λ (x : State × Answer). Stepped h s (x .0) (x .1)) (sym (operate-done σ s e))
       (record { inv = placed-ok h σ I s (entry σ s .row) g; told = told h s (entry σ s .row) g })
@@ -188,7 +189,7 @@ module _ (P : Policy) where
     op-accepted : (h : History) (σ : S) → Valid σ → Inv P h (view σ) → (r : R) → accepted (op σ r .1) ≡ true
         → (s : Step) × (stepOf r ≡ some s) × Stepped h s (view (op σ r .0)) (op σ r .1)
     op-accepted h σ ok I r e =
-        let f : (s : Step) × (stepOf r ≡ some s) × (view (op σ r .0) ≡ operate (view σ) s .0) × (op σ r .1 ≡ operate (view σ) s .1) = F .accepting σ r ok e in (
+        let f : (s : Step) × (stepOf r ≡ some s) × (view (op σ r .0) ≡ operate (view σ) s .0) × (op σ r .1 ≡ operate (view σ) s .1) = F .answering σ r ok (accepted-given (op σ r .1) e) in (
           f .0,
           f .1,
           subst (λ (τ : State). Stepped h (f .0) τ (op σ r .1)) (sym (f .2))
@@ -205,7 +206,7 @@ module _ (P : Policy) where
         on : (b : Bool) → accepted (op σ r .1) ≡ b → Inv P (extend h (stepOf r) b) (view (op σ r .0))
         on false e =
             subst (λ (x : History). Inv P x (view (op σ r .0))) (sym (refused-extend h (stepOf r)))
-            (subst (λ (τ : State). Inv P h τ) (sym (F .refusing σ r ok e)) I)
+            (subst (λ (τ : State). Inv P h τ) (sym (F .refusing σ r ok (unaccepted-refused (op σ r .1) e))) I)
         on true e =
             let f : (s : Step) × (stepOf r ≡ some s) × Stepped h s (view (op σ r .0)) (op σ r .1) = op-accepted h σ ok I r e in
             subst (λ (m : Option Step). Inv P (extend h m true) (view (op σ r .0))) (sym (f .1)) (f .2 .inv)
@@ -241,9 +242,9 @@ module _ (P : Policy) where
     taken-at h σ ok I [] n s a A = absurd (none-some (A .answered))
     taken-at h σ ok I (q ∷ rs) zero s a A =
         let e : accepted (op σ q .1) ≡ true = ap accepted (some-inj (A .answered)) ∙ A .counted in
-        let f : (t : Step) × (stepOf q ≡ some t) × (view (op σ q .0) ≡ operate (view σ) t .0) × (op σ q .1 ≡ operate (view σ) t .1) = F .accepting σ q ok e in
+        let f : (t : Step) × (stepOf q ≡ some t) × (view (op σ q .0) ≡ operate (view σ) t .0) × (op σ q .1 ≡ operate (view σ) t .1) = F .answering σ q ok (accepted-given (op σ q .1) e) in
         let es : f .0 ≡ s = some-inj (sym (f .1) ∙ ap stepOf (some-inj (A .spelled .1)) ∙ A .spelled .2) in
-        subst (Taken P h) es (taken h (view σ) I (f .0) (passed (view σ) (f .0) (operate-accepted (view σ) (f .0) (ap accepted (sym (f .3)) ∙ e))))
+        subst (Taken P h) es (taken h (view σ) I (f .0) (passed (view σ) (f .0) (operate-given (view σ) (f .0) (accepted-given (operate (view σ) (f .0) .1) (ap accepted (sym (f .3)) ∙ e)))))
     taken-at h σ ok I (q ∷ rs) (suc n) s a A =
         taken-at (extend h (stepOf q) (accepted (op σ q .1))) (op σ q .0) (F .stays σ q ok) (op-ok h σ ok I q) rs n s a
         (record { spelled = A .spelled; answered = A .answered; counted = A .counted })

@@ -11,7 +11,7 @@ use Rattle.lists.specs.Conditions.{AllHold, firstFailed, numbersOf, numbersGood
 use Rattle.lists.proofs.Bools.{clash}
 use Rattle.lists.proofs.Conditions.{zero-or-not, given-none}
 use Rattle.answers.specs.declared.Answer.{Answer}
-use Rattle.answers.specs.Answers.{refused, accepted}
+use Rattle.answers.specs.Answers.{refused, isRefused}
 use Rattle.chains.specs.History.{Step, receiver}
 use Rattle.chains.specs.Table.{State, needsFree, ruleOr, entry, isSome, processGood, objectGood, kindGood, freeGood, userGood, behalfFits, meetGood, earlyConditions, tableConditions, verdict, placed, operate}
 
@@ -35,13 +35,13 @@ module _ (σ : State) (t : Step) where
   unfolding operate
   operate-refused n = rw (ne-eqb (firstFailed (tableConditions σ t)) 0 n)
 
-  -- it is accepted exactly if it is not refused
-  pub operate-accepted : accepted (operate σ t .1) ≡ true → firstFailed (tableConditions σ t) ≡ 0
-  operate-accepted a = by (zero-or-not (firstFailed (tableConditions σ t)))
+  -- its answer is no refusal exactly if no condition fails
+  pub operate-given : isRefused (operate σ t .1) ≡ false → firstFailed (tableConditions σ t) ≡ 0
+  operate-given a = by (zero-or-not (firstFailed (tableConditions σ t)))
     where
       by : (firstFailed (tableConditions σ t) ≡ 0) ⊎ (firstFailed (tableConditions σ t) ≢ 0) → firstFailed (tableConditions σ t) ≡ 0
       by (inl e) = e
-      by (inr n) = clash a (ap (λ (x : State × Answer). accepted (x .1)) (operate-refused n))
+      by (inr n) = clash (ap (λ (x : State × Answer). isRefused (x .1)) (operate-refused n)) a
 
   -- ---- what a step that is not refused has passed
 

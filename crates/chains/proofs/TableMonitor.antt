@@ -5,30 +5,30 @@ use Rattle.lists.specs.Conditions.{firstFailed}
 use Rattle.lists.proofs.Conditions.{zero-or-not}
 use Rattle.answers.specs.declared.Answer.{Answer}
 use Rattle.chains.proofs.TableLaws.{operate-done, operate-refused}
-use mathlib.Core.Bool.{false}
+use mathlib.Core.Bool.{true}
 use mathlib.Core.Option.{some}
 use Rattle.lists.proofs.Bools.{clash}
 use Rattle.image.specs.Policy.{Policy, Sound}
 use Rattle.chains.specs.History.{Step}
-use Rattle.answers.specs.Answers.{accepted}
+use Rattle.answers.specs.Answers.{isRefused}
 use Rattle.chains.specs.Demand.{Demand3, TagTold}
 use Rattle.chains.specs.Table.{State, entry, tableConditions, operate, begin, Faithful}
-use Rattle.chains.proofs.VerdictLaws.{verdict-accepted}
+use Rattle.chains.proofs.VerdictLaws.{verdict-given}
 use Rattle.chains.proofs.Theorems.{demand3, tag-told}
 
 -- a refused step changes nothing
-pub refused-same : (σ : State) (s : Step) → accepted (operate σ s .1) ≡ false → operate σ s .0 ≡ σ
+pub refused-same : (σ : State) (s : Step) → isRefused (operate σ s .1) ≡ true → operate σ s .0 ≡ σ
 refused-same σ s f = by (zero-or-not (firstFailed (tableConditions σ s)))
   where
     by : (firstFailed (tableConditions σ s) ≡ 0) ⊎ (firstFailed (tableConditions σ s) ≢ 0) → operate σ s .0 ≡ σ
-    by (inl e) = clash (ap (λ (x : State × Answer). accepted (x .1)) (operate-done σ s e) ∙ verdict-accepted s (entry σ s .row)) f
+    by (inl e) = clash f (ap (λ (x : State × Answer). isRefused (x .1)) (operate-done σ s e) ∙ verdict-given s (entry σ s .row))
     by (inr n) = ap (λ (x : State × Answer). x .0) (operate-refused σ s n)
 
 pub itself : Faithful operate some (λ σ. σ) (λ σ. Unit {0})
 itself = record {
   stays = λ σ r k. tt;
   refusing = λ σ r k e. refused-same σ r e;
-  accepting = λ σ r k e. (r, refl, refl, refl);
+  answering = λ σ r k e. (r, refl, refl, refl);
 }
 
 pub table-demand3 : (P : Policy) → Sound P → Demand3 operate some (begin P) P

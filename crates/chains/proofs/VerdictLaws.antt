@@ -4,7 +4,7 @@ use mathlib.Core.Logic.{⊎-elim}
 use mathlib.Core.Bool.{true, false}
 use Rattle.lists.proofs.Bools.{decide}
 use Rattle.chains.specs.History.{Step, receiver}
-use Rattle.answers.specs.Answers.{quiet, alert, accepted}
+use Rattle.answers.specs.Answers.{quiet, alert, isRefused}
 use Rattle.chains.specs.Table.{alerts, verdict}
 use Rattle.session.specs.Rows.{Row}
 
@@ -17,6 +17,6 @@ module _ (s : Step) (w : Row) where
   unfolding verdict
   verdict-quiet e = rw e
 
-  -- a step that puts a row is accepted
-  pub verdict-accepted : accepted (verdict s w) ≡ true
-  verdict-accepted = ⊎-elim (λ e. ap accepted (verdict-alert e)) (λ e. ap accepted (verdict-quiet e)) (decide (alerts s w))
+  -- neither is a refusal
+  pub verdict-given : isRefused (verdict s w) ≡ false
+  verdict-given = ⊎-elim (λ e. ap isRefused (verdict-alert e)) (λ e. ap isRefused (verdict-quiet e)) (decide (alerts s w))

@@ -22,7 +22,7 @@ use Rattle.session.specs.Rows.{Row}
 use Rattle.session.specs.Session.{startRow}
 use Rattle.chains.specs.History.{Step, read, write, append, exec, fork, newFile, newVolatile, end, delete, receiver}
 use Rattle.answers.specs.declared.Answer.{Answer}
-use Rattle.answers.specs.Answers.{refused, quiet, alert, accepted}
+use Rattle.answers.specs.Answers.{refused, quiet, alert, isRefused}
 use Rattle.chains.specs.Demand.{judged}
 
 -- ---- rows
@@ -248,10 +248,10 @@ begin P = record { row = λ c. startRowOf (getElem? (meaning P .places) c); user
 
 -- ---- a monitor that follows the table
 
--- A monitor with states that read as rows: refusing, it leaves the rows; accepting, it does what the table says of the step
--- that the record spells. Valid says of which states this is claimed.
+-- A monitor with states that read as rows: refusing, it leaves the rows; else it does what the table says of the step that the
+-- record spells. Valid says of which states this is claimed.
 pub record Faithful {S R : Type 0} (op : S → R → S × Answer) (stepOf : R → Option Step) (view : S → State) (Valid : S → Type 0) : Type 0 where
   pub stays : (σ : S) (r : R) → Valid σ → Valid (op σ r .0)
-  pub refusing : (σ : S) (r : R) → Valid σ → accepted (op σ r .1) ≡ false → view (op σ r .0) ≡ view σ
-  pub accepting : (σ : S) (r : R) → Valid σ → accepted (op σ r .1) ≡ true
+  pub refusing : (σ : S) (r : R) → Valid σ → isRefused (op σ r .1) ≡ true → view (op σ r .0) ≡ view σ
+  pub answering : (σ : S) (r : R) → Valid σ → isRefused (op σ r .1) ≡ false
       → (s : Step) × (stepOf r ≡ some s) × (view (op σ r .0) ≡ operate (view σ) s .0) × (op σ r .1 ≡ operate (view σ) s .1)

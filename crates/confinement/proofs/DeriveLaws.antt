@@ -22,12 +22,12 @@ use Rattle.fields.proofs.ByteLaws.{bytes-length}
 use Rattle.rules.specs.Rules.{normal}
 use Rattle.rules.specs.Answers.{dataWidth}
 use Rattle.rules.proofs.RuleLaws.{normal-normal}
-use Rattle.rule_words.specs.Words.{ruleWidth, wordsOf}
+use Rattle.rule_words.specs.Words.{wordsOf}
 use Rattle.image.specs.Limits.{unrestrictedNumber, containerSize, userSize, outputBound}
 use Rattle.image.specs.Policy.{Policy, Sound}
 use Rattle.image.specs.Normal.{containerBytes, normalImage}
 use Rattle.image.proofs.Encode.{container-wide}
-use Rattle.normaliser.specs.Writer.{formWords, policyAt, Tabled, Answered}
+use Rattle.normaliser.specs.Writer.{formWidth, formWords, policyAt, Tabled, Answered}
 use Rattle.normaliser.proofs.WriterLaws.{producer-tabled, producer-wrote, normal-short}
 use Rattle.normaliser.proofs.AnswerLaws.{refused-answer, refused-effect, wrote-answer}
 use Rattle.profiles.specs.Profiles.{Profile}
@@ -102,10 +102,10 @@ module _ (ps : List Profile) (own modes : List ℕ) (n m : ℕ) (t : Tabulated p
       users-are = wrote-whole (two ∙ sym (bytes-length userSize unrestrictedNumber)) u ∙ sym (joined-one (bytesOf userSize unrestrictedNumber))
 
       module _ {forms : List ℕ} {b : Bool} (h : FormsPut (ruleOf own modes n m) (2 * n) forms b) (fit : b ≡ true) where
-        words-are : take (2 * n * ruleWidth - 0) forms ≡ formWords (profilePolicy ps .rules)
+        words-are : take (2 * n * formWidth - 0) forms ≡ formWords (profilePolicy ps .rules)
         unfolding profilePolicy formWords
         words-are =
-            let z : 2 * n * ruleWidth - 0 ≡ 2 * n * ruleWidth = omega arith in
+            let z : 2 * n * formWidth - 0 ≡ 2 * n * formWidth = omega arith in
             ap (λ (k : ℕ). take k forms) z
             ∙ h .words fit
             ∙ ap (λ (l : List (List ℕ)). joined (map wordsOf l)) (sym (forms-normal (ruleOf own modes n m) 0 (2 * n)) ∙ ap (map normal) (rules-are ps own modes n m t))
@@ -113,17 +113,17 @@ module _ (ps : List Profile) (own modes : List ℕ) (n m : ℕ) (t : Tabulated p
         sound : Sound (profilePolicy ps)
         sound = profile-sound ps (limits (sym (h .told) ∙ fit))
 
-        pub tables-tabled : Tabled (take (end - 0) after) users (take (2 * n * ruleWidth - 0) forms)
+        pub tables-tabled : Tabled (take (end - 0) after) users (take (2 * n * formWidth - 0) forms)
         tables-tabled = rw (containers-are, users-are, words-are) (producer-tabled (profilePolicy ps) sound)
 
-        pub tables-wrote : {first last : List ℕ} {r : ℕ} → Answered (policyAt (take (end - 0) after) users (take (2 * n * ruleWidth - 0) forms)) first last r
+        pub tables-wrote : {first last : List ℕ} {r : ℕ} → Answered (policyAt (take (end - 0) after) users (take (2 * n * formWidth - 0) forms)) first last r
             → Wrote (normalImage (profilePolicy ps)) first last 0 r
         tables-wrote w = producer-wrote (profilePolicy ps) sound (rw (containers-are, users-are, words-are) at w)
 
-        pub tables-small : {first last : List ℕ} {r : ℕ} → Answered (policyAt (take (end - 0) after) users (take (2 * n * ruleWidth - 0) forms)) first last r → r ≤ outputBound
+        pub tables-small : {first last : List ℕ} {r : ℕ} → Answered (policyAt (take (end - 0) after) users (take (2 * n * formWidth - 0) forms)) first last r → r ≤ outputBound
         tables-small w = omega (arith, tables-wrote w .ends, normal-short (profilePolicy ps) sound)
 
-        pub tables-written : {first last : List ℕ} {r : ℕ} → Answered (policyAt (take (end - 0) after) users (take (2 * n * ruleWidth - 0) forms)) first last r
+        pub tables-written : {first last : List ℕ} {r : ℕ} → Answered (policyAt (take (end - 0) after) users (take (2 * n * formWidth - 0) forms)) first last r
             → PolicyWritten (tablePolicy own modes n m) first last r
         unfolding tablePolicy
         tables-written {first} {last} {r} w =

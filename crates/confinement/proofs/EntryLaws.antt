@@ -9,7 +9,7 @@ use mathlib.Core.List.{List, [], _∷_, _++_, map, append-nil, append-assoc}
 use lib.Bits.{bitOr, or-zero-r}
 use lib.ListN.{length, getD, replicate, length-map, length-replicate, getD-replicate, List·getD-eq-default}
 use borrow.Author.Tests.{not-true}
-use Rattle.lists.specs.Lists.{every, sameList, known}
+use Rattle.lists.specs.Lists.{every, sameList, known, knownBy}
 use Rattle.lists.proofs.Bools.{and-0, and-1, or-0, or-1, or-cases, clash, refuted}
 use Rattle.lists.proofs.Same.{same-eq}
 use Rattle.lists.proofs.Every.{every-0, every-1, every-nil, every-cons, every-map}
@@ -31,7 +31,7 @@ without q [] = []
 without q (x ∷ ns) = cond (sameList q x) ns (x ∷ without q ns)
 
 without-length : (q : List ℕ) (ns : List (List ℕ)) → known q ns ≡ true → suc (length (without q ns)) ≡ length ns
-unfolding known without
+unfolding knownBy without
 without-length q [] h = clash h refl
 without-length q (x ∷ ns) h = by (sameList q x) h (without-length q ns)
   where
@@ -41,7 +41,7 @@ without-length q (x ∷ ns) h = by (sameList q x) h (without-length q ns)
     by false g ih = ap suc (ih g)
 
 without-known : (q y : List ℕ) (ns : List (List ℕ)) → sameList q y ≡ false → known y ns ≡ true → known y (without q ns) ≡ true
-unfolding known without
+unfolding knownBy without
 without-known q y [] d h = h
 without-known q y (x ∷ ns) d h = by (sameList q x) refl (or-cases (sameList y x) h) (without-known q y ns d)
   where
@@ -53,7 +53,7 @@ without-known q y (x ∷ ns) d h = by (sameList q x) refl (or-cases (sameList y 
     by false e (inr p) ih = or-1 (sameList y x) (known y (without q ns)) (ih p)
 
 others-known : (q : List ℕ) (ys ns : List (List ℕ)) → known q ys ≡ false → every (λ y. known y ns) ys ≡ true → every (λ y. known y (without q ns)) ys ≡ true
-unfolding known
+unfolding knownBy
 others-known q [] ns d h = every-nil (λ y. known y (without q ns))
 others-known q (y ∷ ys) ns d h =
     every-cons (λ y. known y (without q ns)) y ys

@@ -6,7 +6,7 @@ use mathlib.Core.Bool.{true, false}
 use mathlib.Core.List.{List, [], _∷_, map}
 use lib.ListN.{length, replicate}
 use Rattle.fields.specs.Ascii.{ascii}
-use Rattle.lists.specs.Lists.{every, elem, sameList, joined, known, position}
+use Rattle.lists.specs.Lists.{every, elem, sameList, joined, knownBy, positionBy}
 use Rattle.rules.specs.Sets.{atom, holds}
 use Rattle.rules.specs.Rules.{distinct, heldIn, unheldIn, insert, sort, normal, unrestricted}
 use Rattle.fields.specs.Bytes.{bytesOf}
@@ -84,7 +84,7 @@ pub record Clauses : Type 0 where
 
 pub clauses : Clauses
 unfolding ascii modeBit namesOf withPath withPaths pathsOf isOneOf someOf reading executing writing unconfined inheriting confined modesAmong modesOn fileAtoms atomsFrom runMixture programsWith profilesAt orElse ifSome permitMixtures runMixtures rulesFrom rulesOf
-    known position sameList unrestrictedRule unrestricted normal sort insert distinct elem unheldIn heldIn holds
+    knownBy positionBy sameList unrestrictedRule unrestricted normal sort insert distinct elem unheldIn heldIn holds
 clauses =
     record {
       first-appearance = refl;
@@ -131,7 +131,7 @@ pub record Limits : Type 0 where
 
 pub limits : Limits
 unfolding limitsGood every ascii modeBit namesOf withPath withPaths pathsOf isOneOf someOf reading executing writing unconfined inheriting confined modesAmong modesOn fileAtoms atomsFrom runMixture programsWith profilesAt orElse ifSome permitMixtures runMixtures rulesFrom rulesOf
-    known position sameList unrestrictedRule unrestricted normal sort insert distinct elem unheldIn heldIn holds
+    knownBy positionBy sameList unrestrictedRule unrestricted normal sort insert distinct elem unheldIn heldIn holds
 limits = record { paths-32 = refl; paths-33 = refl; writers-8 = refl; writers-9 = refl; inherited-8 = refl; inherited-9 = refl; held-9 = refl }
 
 -- ---- document 001's example: its two profiles, their lines in its order
@@ -143,16 +143,16 @@ document =
     ∷ []
 
 pub document-paths : pathsOf document ≡ map ascii ("/usr/bin/apache" ∷ "/etc/apache2.conf" ∷ "/www/index.php" ∷ "/usr/bin/ftpd" ∷ "/etc/ftpd.conf" ∷ "/home/ftpd/data" ∷ [])
-unfolding ascii namesOf withPath withPaths pathsOf known sameList
+unfolding ascii namesOf withPath withPaths pathsOf knownBy sameList
 document-paths = refl
 
 -- the run rules of the two programs
 pub apache-runs : runMixtures (pathsOf document) document (ascii "/usr/bin/apache") ≡ 0x900000006 ∷ []
-unfolding ascii modeBit namesOf withPath withPaths pathsOf isOneOf someOf reading executing modesAmong modesOn fileAtoms atomsFrom runMixture profilesAt orElse runMixtures known position sameList
+unfolding ascii modeBit namesOf withPath withPaths pathsOf isOneOf someOf reading executing modesAmong modesOn fileAtoms atomsFrom runMixture profilesAt orElse runMixtures knownBy positionBy sameList
 apache-runs = refl
 
 pub ftpd-runs : runMixtures (pathsOf document) document (ascii "/usr/bin/ftpd") ≡ 0x800000010 ∷ []
-unfolding ascii modeBit namesOf withPath withPaths pathsOf isOneOf someOf reading executing modesAmong modesOn fileAtoms atomsFrom runMixture profilesAt orElse runMixtures known position sameList
+unfolding ascii modeBit namesOf withPath withPaths pathsOf isOneOf someOf reading executing modesAmong modesOn fileAtoms atomsFrom runMixture profilesAt orElse runMixtures knownBy positionBy sameList
 ftpd-runs = refl
 
 -- permit rule and run rule of each path
@@ -165,7 +165,7 @@ pub document-rules : rulesOf document
     ∷ (0x800000030 ∷ []) ∷ any
     ∷ []
 unfolding ascii modeBit namesOf withPath withPaths pathsOf isOneOf someOf reading executing writing unconfined inheriting confined modesAmong modesOn fileAtoms atomsFrom runMixture programsWith profilesAt orElse ifSome permitMixtures runMixtures rulesFrom rulesOf
-    known position sameList unrestrictedRule unrestricted normal sort insert distinct elem unheldIn heldIn holds
+    knownBy positionBy sameList unrestrictedRule unrestricted normal sort insert distinct elem unheldIn heldIn holds
 document-rules = refl
 
 abbrev file : ℕ → ℕ → ℕ → Container
@@ -190,7 +190,7 @@ policy =
 
 policy-is : normalPolicy (profilePolicy document) ≡ policy
 unfolding profilePolicy filesFrom initialProcess ascii modeBit namesOf withPath withPaths pathsOf isOneOf someOf reading executing writing unconfined inheriting confined modesAmong modesOn fileAtoms atomsFrom runMixture programsWith profilesAt orElse ifSome permitMixtures runMixtures rulesFrom rulesOf
-    normalPolicy policyOf writtenBy containerOf numberOf position numbered noted known uses placeUses meaning placeOf normalAt ruleAt sameList unrestrictedRule unrestricted normal sort insert distinct elem unheldIn heldIn holds
+    normalPolicy policyOf writtenBy containerOf numberOf positionBy numbered noted knownBy uses placeUses meaning placeOf normalAt ruleAt sameList unrestrictedRule unrestricted normal sort insert distinct elem unheldIn heldIn holds
 policy-is = refl
 
 pub image-is : normalImage (profilePolicy document) ≡ encode policy
@@ -205,6 +205,6 @@ image-length = ap length image-is
 -- no profile: an image of 26 bytes
 pub empty-length : length (normalImage (profilePolicy [])) ≡ 26
 unfolding profilePolicy filesFrom initialProcess namesOf withPaths pathsOf rulesFrom rulesOf
-    normalImage normalPolicy policyOf writtenBy containerOf numberOf position numbered noted known uses placeUses meaning placeOf normalAt ruleAt sameList unrestrictedRule unrestricted normal sort insert distinct elem unheldIn heldIn holds
+    normalImage normalPolicy policyOf writtenBy containerOf numberOf positionBy numbered noted knownBy uses placeUses meaning placeOf normalAt ruleAt sameList unrestrictedRule unrestricted normal sort insert distinct elem unheldIn heldIn holds
     encode framed header pair containerBytes spanBytes spansOf bytesOf joined
 empty-length = refl

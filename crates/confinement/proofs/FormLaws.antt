@@ -20,7 +20,8 @@ use Rattle.image.proofs.Encode.{container-wide}
 use Rattle.fields.proofs.RowWriting.{part-wrote, RowsWritten, rows-start, rows-room, rows-next, rows-end}
 use Rattle.rules.specs.Rules.{normal}
 use Rattle.rules.specs.Answers.{mixtureLimit}
-use Rattle.rule_words.specs.Words.{ruleWidth, wordsOf}
+use Rattle.rule_words.specs.Words.{wordsOf}
+use Rattle.normaliser.specs.Writer.{formWidth}
 use Rattle.rule_words.proofs.WordLaws.{words-nine}
 use Rattle.image.specs.Limits.{containerSize}
 use Rattle.image.specs.Policy.{Container}
@@ -54,16 +55,16 @@ forms-at f j (suc n) (suc i) h =
 pub record Forming (f : ℕ → List ℕ) (count : ℕ) (forms : List ℕ) (i : ℕ) : Type 0 where
   pub place : i ≤ count
   pub most : count ≤ ruleCount
-  pub long : length forms ≡ ruleCount * ruleWidth
+  pub long : length forms ≡ ruleCount * formWidth
   pub fits : every shortRule (formsFrom f 0 i) ≡ true
-  pub front : take (i * ruleWidth) forms ≡ joined (map wordsOf (formsFrom f 0 i))
+  pub front : take (i * formWidth) forms ≡ joined (map wordsOf (formsFrom f 0 i))
 
-pub forming-start : (f : ℕ → List ℕ) (count : ℕ) (forms : List ℕ) → count ≤ ruleCount → length forms ≡ ruleCount * ruleWidth → Forming f count forms 0
+pub forming-start : (f : ℕ → List ℕ) (count : ℕ) (forms : List ℕ) → count ≤ ruleCount → length forms ≡ ruleCount * formWidth → Forming f count forms 0
 unfolding formsFrom joined
 forming-start f count forms m l = record { place = omega arith; most = m; long = l; fits = every-nil shortRule; front = refl }
 
 module _ (f : ℕ → List ℕ) (count : ℕ) (forms : List ℕ) (i : ℕ) (h : Forming f count forms i) (l : i < count) where
-  pub form-room : i * ruleWidth + ruleWidth ≤ length forms
+  pub form-room : i * formWidth + formWidth ≤ length forms
   form-room = omega (arith, h .long, h .most)
 
   -- the i-th does not fit
@@ -76,7 +77,7 @@ module _ (f : ℕ → List ℕ) (count : ℕ) (forms : List ℕ) (i : ℕ) (h : 
       zero-i = omega arith
 
   pub forming-next : (x : List ℕ) {before : List ℕ} {b : Bool} → FormPut (f i) before x b → b ≡ true
-      → Forming f count (putMid (i * ruleWidth) (i * ruleWidth + ruleWidth - i * ruleWidth) forms x) (i + 1)
+      → Forming f count (putMid (i * formWidth) (i * formWidth + formWidth - i * formWidth) forms x) (i + 1)
   forming-next x {before} {b} w e =
       record {
         place = omega arith;
@@ -85,7 +86,7 @@ module _ (f : ℕ → List ℕ) (count : ℕ) (forms : List ℕ) (i : ℕ) (h : 
         fits = rw (add-one i, forms-snoc f 0 i, zero-i) (every-append shortRule (formsFrom f 0 i) (normal (f i) ∷ []) (h .fits) (every-cons shortRule (normal (f i)) [] (sym (w .told) ∙ e) (every-nil shortRule)));
         front =
             ap₂ take next-place (put .buffer)
-            ∙ unfold overwritten in (take-at (take (i * ruleWidth) forms ++ x) (drop (i * ruleWidth + length x) forms) (i * ruleWidth + ruleWidth) front-long)
+            ∙ unfold overwritten in (take-at (take (i * formWidth) forms ++ x) (drop (i * formWidth + length x) forms) (i * formWidth + formWidth) front-long)
             ∙ ap₂ _++_ (h .front) x-is
             ∙ sym rows;
       }
@@ -96,16 +97,16 @@ module _ (f : ℕ → List ℕ) (count : ℕ) (forms : List ℕ) (i : ℕ) (h : 
       x-is : x ≡ wordsOf (normal (f i))
       x-is = w .words ∙ rw e
 
-      x-long : length x ≡ ruleWidth
+      x-long : length x ≡ formWidth
       x-long = ap length x-is ∙ words-nine (normal (f i)) (leb-true (length (normal (f i))) mixtureLimit (sym (w .told) ∙ e))
 
-      next-place : (i + 1) * ruleWidth ≡ i * ruleWidth + ruleWidth
+      next-place : (i + 1) * formWidth ≡ i * formWidth + formWidth
       next-place = omega arith
 
-      front-long : length (take (i * ruleWidth) forms ++ x) ≡ i * ruleWidth + ruleWidth
+      front-long : length (take (i * formWidth) forms ++ x) ≡ i * formWidth + formWidth
       front-long =
-          let r : i * ruleWidth ≤ length forms = omega (arith, form-room) in
-          omega (arith, length-append (take (i * ruleWidth) forms) x, length-take-le (i * ruleWidth) forms r, x-long)
+          let r : i * formWidth ≤ length forms = omega (arith, form-room) in
+          omega (arith, length-append (take (i * formWidth) forms) x, length-take-le (i * formWidth) forms r, x-long)
 
       rows : joined (map wordsOf (formsFrom f 0 (i + 1))) ≡ joined (map wordsOf (formsFrom f 0 i)) ++ wordsOf (normal (f i))
       rows =
@@ -115,8 +116,8 @@ module _ (f : ℕ → List ℕ) (count : ℕ) (forms : List ℕ) (i : ℕ) (h : 
           ∙ joined-append (map wordsOf (formsFrom f 0 i)) (wordsOf (normal (f i)) ∷ [])
           ∙ ap (λ (l : List ℕ). joined (map wordsOf (formsFrom f 0 i)) ++ l) (joined-one (wordsOf (normal (f i))))
 
-      put : Wrote x forms (putMid (i * ruleWidth) (i * ruleWidth + ruleWidth - i * ruleWidth) forms x) (i * ruleWidth) (i * ruleWidth + ruleWidth)
-      put = part-wrote forms x (i * ruleWidth) ruleWidth x-long
+      put : Wrote x forms (putMid (i * formWidth) (i * formWidth + formWidth - i * formWidth) forms x) (i * formWidth) (i * formWidth + formWidth)
+      put = part-wrote forms x (i * formWidth) formWidth x-long
 
 pub forming-end : (f : ℕ → List ℕ) (count : ℕ) (forms : List ℕ) (i : ℕ) → Forming f count forms i → count ≤ i → FormsPut f count forms true
 forming-end f count forms i h l =

@@ -8,7 +8,7 @@ use mathlib.Core.List.{List, [], _∷_, _++_, map}
 use lib.Dec.{eqb}
 use lib.ListN.{length, getD, length-append}
 use borrow.Author.Tests.{eqb-true, eq-eqb}
-use Rattle.lists.specs.Lists.{every, sameList, known, position}
+use Rattle.lists.specs.Lists.{every, sameList, known, knownBy, position, positionBy}
 use Rattle.lists.proofs.Bools.{or-0, or-1, clash, same-test}
 use Rattle.lists.proofs.Same.{same-refl, same-eq}
 use Rattle.lists.proofs.Every.{every-0, every-1, every-nil, every-cons, every-right}
@@ -67,12 +67,12 @@ pub record Distinct (ns : List (List ℕ)) : Type 0 where
   pub placed : (k : ℕ) → k < length ns → position (getD ns k []) ns ≡ k
 
 position-first : (q : List ℕ) (ns : List (List ℕ)) → position q (q ∷ ns) ≡ 0
-unfolding position
+unfolding positionBy
 position-first q ns = rw (same-refl q)
 
 -- a new path stands behind the others
 position-new : (q : List ℕ) (ns : List (List ℕ)) → known q ns ≡ false → position q (ns ++ (q ∷ [])) ≡ length ns
-unfolding position known
+unfolding positionBy knownBy
 position-new q [] h = position-first q []
 position-new q (x ∷ ns) h = by (sameList q x) refl h (position-new q ns)
   where
@@ -82,7 +82,7 @@ position-new q (x ∷ ns) h = by (sameList q x) refl h (position-new q ns)
     by false e g ih = ap suc (ih g)
 
 known-at : (ns : List (List ℕ)) (k : ℕ) → k < length ns → known (getD ns k []) ns ≡ true
-unfolding known
+unfolding knownBy
 known-at [] k h = absurd (omega arith)
 known-at (x ∷ ns) zero h = or-0 (sameList x x) (known x ns) (same-refl x)
 known-at (x ∷ ns) (suc k) h = or-1 (sameList (getD ns k []) x) (known (getD ns k []) ns) (known-at ns k (omega arith))

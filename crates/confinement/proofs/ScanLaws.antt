@@ -8,7 +8,7 @@ use mathlib.Core.Bool.{Bool, true, false, cond, _||_}
 use mathlib.Core.List.{List, [], _∷_, _++_}
 use lib.ListN.{length, getD, drop, set, length-drop, length-set}
 use lib.Seq.{length-take-le, getD-take, getD-drop, ext-getD, getD-set-same, getD-set-other}
-use Rattle.lists.specs.Lists.{sameList, known, position}
+use Rattle.lists.specs.Lists.{sameList, known, knownBy, position, positionBy}
 use Rattle.lists.proofs.Bools.{clash, refuted}
 use Rattle.lists.proofs.Same.{same-refl, same-eq}
 use Rattle.rules.specs.Answers.{dataWidth}
@@ -199,7 +199,7 @@ module _ (t q starts sizes : List ℕ) (n j : ℕ) (g : Searched t q starts size
   step : j < n
       → position q (pathsFrom t starts sizes j (n - j))
       ≡ cond (sameList q (pathAt t (getD starts j 0) (getD sizes j 0))) 0 (suc (position q (pathsFrom t starts sizes (j + 1) (n - (j + 1)))))
-  unfolding position pathsFrom
+  unfolding positionBy pathsFrom
   step h =
       let e : n - j ≡ suc (n - (j + 1)) = omega arith in
       ap (λ (k : ℕ). position q (pathsFrom t starts sizes j k)) e
@@ -219,7 +219,7 @@ module _ (t q starts sizes : List ℕ) (n j : ℕ) (g : Searched t q starts size
         }
 
   pub search-end : n ≤ j → n ≡ position q (tablePaths t starts sizes n)
-  unfolding position pathsFrom
+  unfolding positionBy pathsFrom
   search-end h =
       let z : n - j ≡ 0 = omega (arith, g .room) in
       let w : position q (pathsFrom t starts sizes j (n - j)) ≡ 0 = ap (λ (k : ℕ). position q (pathsFrom t starts sizes j k)) z in
@@ -227,7 +227,7 @@ module _ (t q starts sizes : List ℕ) (n j : ℕ) (g : Searched t q starts size
 
 -- a path that is not known has the number behind the last
 position-none : (q : List ℕ) (ns : List (List ℕ)) → known q ns ≡ false → position q ns ≡ length ns
-unfolding known position
+unfolding knownBy positionBy
 position-none q [] h = refl
 position-none q (x ∷ ns) h = by (sameList q x) h (position-none q ns)
   where
@@ -244,7 +244,7 @@ position-known q ns h = by (known q ns) refl
 
 -- and has it when it is added
 pub position-last : (q : List ℕ) (ns : List (List ℕ)) → known q ns ≡ false → position q (ns ++ (q ∷ [])) ≡ length ns
-unfolding known position
+unfolding knownBy positionBy
 position-last q [] h = rw (same-refl q)
 position-last q (x ∷ ns) h = by (sameList q x) h (position-last q ns)
   where

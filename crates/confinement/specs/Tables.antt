@@ -15,7 +15,8 @@ use Rattle.image.specs.Normal.{normalImage}
 use Rattle.rules.specs.Rules.{normal}
 use Rattle.rules.specs.Answers.{dataWidth, mixtureLimit}
 use Rattle.lists.specs.Lists.{every, joined, position}
-use Rattle.rule_words.specs.Words.{ruleWidth, wordsOf}
+use Rattle.rule_words.specs.Words.{wordsOf}
+use Rattle.normaliser.specs.Writer.{formWidth}
 use Rattle.profiles.specs.Profiles.{Profile}
 use Rattle.profiles.specs.Scanning.{modeBits}
 use Rattle.confinement.specs.Confinement.{pathsOf, modesOn, orElse, filesFrom, initialProcess}
@@ -180,7 +181,7 @@ ruleCount = 2 * dataWidth
 -- the words of all rules were put, if each fits
 pub record FormsPut (f : ℕ → List ℕ) (count : ℕ) (forms : List ℕ) (fits : Bool) : Type 0 where
   pub told : fits ≡ every shortRule (formsFrom f 0 count)
-  pub words : fits ≡ true → take (count * ruleWidth) forms ≡ joined (map wordsOf (formsFrom f 0 count))
+  pub words : fits ≡ true → take (count * formWidth) forms ≡ joined (map wordsOf (formsFrom f 0 count))
 
 -- ---- the policy
 

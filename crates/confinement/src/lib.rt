@@ -4,7 +4,7 @@ ghost use Prim.Native.Nat.{ℕ, _+_, _*_, _^_, _≤_, _<_};
 ghost use lib.ListN.{length, getD, take, replicate};
 ghost use mathlib.Core.Bool.{cond};
 ghost use Rattle.rules.specs.Answers.{dataWidth, tagWidth};
-ghost use Rattle.rule_words.specs.Words.{ruleWidth};
+ghost use Rattle.normaliser.specs.Writer.{formWidth};
 ghost use Rattle.confinement.specs.Tables.{cellCount, meets, fileBits, rowMixture, mixtures, columnAt, chosenBy, chosenAt, permitFrom, inheritedFrom, runFrom, Listed, FormPut, ruleFrom, ruleCount, FormsPut, tablePolicy, TabulatedOfSome, PolicyWritten};
 ghost use Rattle.confinement.specs.Images.{profileAnswer, profileEffect};
 ghost use Rattle.confinement.specs.Confinement.{filesFrom};
@@ -24,7 +24,7 @@ const CELLS: usize = PATHS * PATHS;
 
 const CONTAINER_BYTES: usize = (PATHS + 1) * image::CONTAINER_SIZE;
 
-const FORM_WORDS: usize = 2 * PATHS * rule_words::RULE_WIDTH;
+const FORM_WORDS: usize = 2 * PATHS * normaliser::FORM_WIDTH;
 
 // The bits of the modes by which a file is read, executed, written, executed unconfined, by inheriting, and under its own profile.
 const READING: u64 = 17;
@@ -186,7 +186,7 @@ fn list_run(words: &mut [u64], own: &[usize], modes: &[u64], runs: &[u64], k: us
 
 // The normal form of the mixtures as nine words, if it fits.
 fn put_form(form: &mut [u64], mixtures: &[u64]) -> bool
-    requires { ⌜ (length (now form) ≡ ruleWidth) × (length (now mixtures) ≤ dataWidth) ⌝ }
+    requires { ⌜ (length (now form) ≡ formWidth) × (length (now mixtures) ≤ dataWidth) ⌝ }
     ensures { λ r. ⌜ FormPut (now (mixtures .entry)) (now (form .entry)) (now (form .exit)) r ⌝ }
 {
     let rule = rules::normal(mixtures);
@@ -206,7 +206,7 @@ fn put_path_rule(
     runs: &[u64],
     i: usize,
 ) -> bool
-    requires { ⌜ (length (now form) ≡ ruleWidth) × (length (now words) ≡ dataWidth) × (i < ruleCount) × (length (now own) ≡ length (now runs)) × (length (now runs) ≤ dataWidth) × (length (now modes) ≡ cellCount) ⌝ }
+    requires { ⌜ (length (now form) ≡ formWidth) × (length (now words) ≡ dataWidth) × (i < ruleCount) × (length (now own) ≡ length (now runs)) × (length (now runs) ≤ dataWidth) × (length (now modes) ≡ cellCount) ⌝ }
     ensures { λ r. ⌜ FormPut (ruleFrom (now (own .entry)) (now (modes .entry)) (now (runs .entry)) i) (now (form .entry)) (now (form .exit)) r ⌝ }
 {
     let k = i / 2;
@@ -227,14 +227,14 @@ fn put_rules(
     runs: &[u64],
     count: usize,
 ) -> bool
-    requires { ⌜ (length (now forms) ≡ ruleCount * ruleWidth) × (length (now words) ≡ dataWidth) × (count ≤ ruleCount) × (length (now own) ≡ length (now runs)) × (length (now runs) ≤ dataWidth) × (length (now modes) ≡ cellCount) ⌝ }
+    requires { ⌜ (length (now forms) ≡ ruleCount * formWidth) × (length (now words) ≡ dataWidth) × (count ≤ ruleCount) × (length (now own) ≡ length (now runs)) × (length (now runs) ≤ dataWidth) × (length (now modes) ≡ cellCount) ⌝ }
     ensures { λ r. ⌜ FormsPut (ruleFrom (now (own .entry)) (now (modes .entry)) (now (runs .entry))) count (now (forms .exit)) r ⌝ }
 {
     let mut i = 0;
     while i < count {
-        let at = i * rule_words::RULE_WIDTH;
+        let at = i * normaliser::FORM_WIDTH;
         if !put_path_rule(
-            &mut forms[at..at + rule_words::RULE_WIDTH],
+            &mut forms[at..at + normaliser::FORM_WIDTH],
             words,
             own,
             modes,
@@ -296,7 +296,7 @@ fn write_tables(own: &[usize], modes: &[u64], n: usize, m: usize, out: &mut [u8]
     );
     let mut users = [0u8; image::USER_SIZE];
     fields::put16(&mut users, 0, image::UNRESTRICTED_NUMBER);
-    let w = count * rule_words::RULE_WIDTH;
+    let w = count * normaliser::FORM_WIDTH;
     normaliser::write_policy(&containers[0..end], &users, &forms[0..w], out) as u32
 }
 

@@ -19,11 +19,10 @@ use Rattle.fields.specs.Writing.{overwritten, Wrote}
 use Rattle.fields.proofs.WritingLaws.{wrote-join}
 use Rattle.fields.proofs.RowWriting.{wrote-whole}
 use Rattle.fields.proofs.ByteLaws.{bytes-length}
-use Rattle.rule_words.specs.Words.{ruleWidth}
 use Rattle.image.specs.Limits.{unrestrictedNumber, containerSize, userSize, outputBound}
 use Rattle.image.specs.Policy.{Container, Sound}
 use Rattle.image.specs.Normal.{containerBytes}
-use Rattle.normaliser.specs.Writer.{formWords, policyAt, Tabled, Answered}
+use Rattle.normaliser.specs.Writer.{formWidth, formWords, policyAt, Tabled, Answered}
 use Rattle.normaliser.proofs.WriterLaws.{producer-tabled, producer-wrote, normal-short}
 use Rattle.normaliser.proofs.AnswerLaws.{refused-answer, refused-effect, wrote-answer}
 use Rattle.matrix.specs.Flows.{matrixGood}
@@ -109,9 +108,9 @@ module _ (reads writes : List ℕ) (n : ℕ) (good : matrixGood reads writes n �
         length-replicate {A = Container} (length reads) subjectProcess,
       )
 
-  pub words-end : (words x : List ℕ) → x ≡ formWords (permits reads writes n) → n * ruleWidth ≤ length (putMid 0 (n * ruleWidth - 0) words x)
+  pub words-end : (words x : List ℕ) → x ≡ formWords (permits reads writes n) → n * formWidth ≤ length (putMid 0 (n * formWidth - 0) words x)
   words-end words x f =
-      omega (arith, ap length f, permits-size reads writes n (good-parts reads writes n good .subjects), length-append x (drop (n * ruleWidth - 0) words))
+      omega (arith, ap length f, permits-size reads writes n (good-parts reads writes n good .subjects), length-append x (drop (n * formWidth - 0) words))
 
   -- where the subjects start, and where they end
   pub objects-end : {before mid : List ℕ} {a : ℕ} → Wrote (joined (map containerBytes (objectFiles n))) before mid 0 a → a ≡ n * containerSize
@@ -137,16 +136,16 @@ module _ (reads writes : List ℕ) (n : ℕ) (good : matrixGood reads writes n �
       users-are = wrote-whole (two ∙ sym (bytes-length userSize unrestrictedNumber)) u ∙ sym (joined-one (bytesOf userSize unrestrictedNumber))
 
       module _ (words x : List ℕ) (f : x ≡ formWords (permits reads writes n)) where
-        words-are : take (n * ruleWidth - 0) (putMid 0 (n * ruleWidth - 0) words x) ≡ formWords (derivedPolicy reads writes n .rules)
+        words-are : take (n * formWidth - 0) (putMid 0 (n * formWidth - 0) words x) ≡ formWords (derivedPolicy reads writes n .rules)
         unfolding derivedPolicy
         words-are =
-            let z : n * ruleWidth - 0 ≡ length x = omega (arith, ap length f, permits-size reads writes n (good-parts reads writes n good .subjects)) in
-            ap (λ (k : ℕ). take k (putMid 0 (n * ruleWidth - 0) words x)) z ∙ take-at x (drop (n * ruleWidth - 0) words) (length x) refl ∙ f
+            let z : n * formWidth - 0 ≡ length x = omega (arith, ap length f, permits-size reads writes n (good-parts reads writes n good .subjects)) in
+            ap (λ (k : ℕ). take k (putMid 0 (n * formWidth - 0) words x)) z ∙ take-at x (drop (n * formWidth - 0) words) (length x) refl ∙ f
 
-        pub derive-tabled : Tabled (take (end - 0) after) users (take (n * ruleWidth - 0) (putMid 0 (n * ruleWidth - 0) words x))
+        pub derive-tabled : Tabled (take (end - 0) after) users (take (n * formWidth - 0) (putMid 0 (n * formWidth - 0) words x))
         derive-tabled = rw (containers-are, users-are, words-are) (producer-tabled (derivedPolicy reads writes n) S)
 
-        pub derive-wrote : {first last : List ℕ} {r : ℕ} → Answered (policyAt (take (end - 0) after) users (take (n * ruleWidth - 0) (putMid 0 (n * ruleWidth - 0) words x))) first last r
+        pub derive-wrote : {first last : List ℕ} {r : ℕ} → Answered (policyAt (take (end - 0) after) users (take (n * formWidth - 0) (putMid 0 (n * formWidth - 0) words x))) first last r
             → Wrote (derivedImage reads writes n) first last 0 r
         unfolding derivedImage
         derive-wrote w = producer-wrote (derivedPolicy reads writes n) S (rw (containers-are, users-are, words-are) at w)

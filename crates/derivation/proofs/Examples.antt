@@ -4,7 +4,7 @@ use mathlib.Core.Path.{_≡_, refl, ap}
 use mathlib.Core.List.{List, [], _∷_, map}
 use lib.ListN.{length}
 use Rattle.rules.specs.Sets.{atom, holds}
-use Rattle.lists.specs.Lists.{elem, sameList, joined, known, position}
+use Rattle.lists.specs.Lists.{elem, sameList, joined, knownBy, positionBy}
 use Rattle.rules.specs.Rules.{distinct, heldIn, unheldIn, insert, sort, normal, unrestricted}
 use Rattle.fields.specs.Bytes.{bytesOf, numberIn, field}
 use Rattle.image.specs.Limits.{fileKind, processKind, noAtom, unrestrictedNumber}
@@ -41,7 +41,7 @@ policy =
     }
 
 policy-is : normalPolicy (derivedPolicy reads writes 4) ≡ policy
-unfolding derivedPolicy countFrom objectFile subjectProcess permitOf writerMixtures orAlone has atom normalPolicy policyOf writtenBy containerOf numberOf position numbered noted known uses placeUses meaning placeOf normalAt ruleAt unrestrictedRule unrestricted sameList normal sort insert distinct elem unheldIn heldIn holds
+unfolding derivedPolicy countFrom objectFile subjectProcess permitOf writerMixtures orAlone has atom normalPolicy policyOf writtenBy containerOf numberOf positionBy numbered noted knownBy uses placeUses meaning placeOf normalAt ruleAt unrestrictedRule unrestricted sameList normal sort insert distinct elem unheldIn heldIn holds
 policy-is = refl
 
 -- "Image of 110 bytes, pairs (18,42), (60,2), (62,16), (78,32)"

@@ -24,7 +24,7 @@ use Rattle.rules.proofs.RuleLaws.{normal-length}
 use Rattle.rule_words.specs.Words.{ruleWidth, ruleOf, wordsOf, keptWell}
 use Rattle.rule_words.proofs.WordLaws.{words-nine, bounded-words}
 use Rattle.rule_words.proofs.KeptWords.{kept-normal}
-use Rattle.normaliser.specs.Writer.{formWords}
+use Rattle.normaliser.specs.Writer.{formWidth, formWords}
 use Rattle.normaliser.proofs.WriterLaws.{words-length}
 use Rattle.matrix.specs.Limits.{subjectLimit, objectLimit}
 use Rattle.matrix.specs.Flows.{has}
@@ -199,38 +199,38 @@ module _ (reads writes : List ℕ) (n : ℕ) where
     permits-short : every (λ r. leb (length r) mixtureLimit) permits ≡ true
     permits-short = every-count (λ r. leb (length r) mixtureLimit) (permitOf reads writes) 0 n (λ b l m. le-leb (length (permitOf reads writes b)) mixtureLimit (few-mixtures reads writes b few))
 
-    pub permits-size : length (formWords permits) ≡ n * ruleWidth
-    permits-size = words-length permits permits-short ∙ ap (λ (k : ℕ). k * ruleWidth) permits-count
+    pub permits-size : length (formWords permits) ≡ n * formWidth
+    permits-size = words-length permits permits-short ∙ ap (λ (k : ℕ). k * formWidth) permits-count
 
-    pub permits-start : {words : List ℕ} → words ≡ replicate (n * ruleWidth) 0 → RowsWritten permitRows words 0 words 0 0
+    pub permits-start : {words : List ℕ} → words ≡ replicate (n * formWidth) 0 → RowsWritten permitRows words 0 words 0 0
     unfolding formWords
-    permits-start {words} e = rows-start permitRows words 0 (omega (arith, permits-size, ap length e, length-replicate {A = ℕ} (n * ruleWidth) 0))
+    permits-start {words} e = rows-start permitRows words 0 (omega (arith, permits-size, ap length e, length-replicate {A = ℕ} (n * formWidth) 0))
 
-    module _ {before words : List ℕ} {b : ℕ} (g : RowsWritten permitRows before 0 words (b * ruleWidth) b) (l : b < n) where
-      pub permits-room : b * ruleWidth + ruleWidth ≤ length words
+    module _ {before words : List ℕ} {b : ℕ} (g : RowsWritten permitRows before 0 words (b * formWidth) b) (l : b < n) where
+      pub permits-room : b * formWidth + ruleWidth ≤ length words
       permits-room = omega (arith, rows-room g (omega (arith, permit-rows)), ap length (permit-row b l), row-long b)
 
       -- the words of the next rule are still 0
-      pub permits-zero : before ≡ replicate (n * ruleWidth) 0 → take (b * ruleWidth + ruleWidth - b * ruleWidth) (drop (b * ruleWidth) words) ≡ replicate ruleWidth 0
+      pub permits-zero : before ≡ replicate (n * formWidth) 0 → take (b * formWidth + ruleWidth - b * formWidth) (drop (b * formWidth) words) ≡ replicate ruleWidth 0
       unfolding overwritten
       permits-zero z =
-          let w : b * ruleWidth + ruleWidth - b * ruleWidth ≡ ruleWidth = omega arith in
-          let k : length (joined (take b permitRows)) ≡ b * ruleWidth = omega (arith, g .wrote .ends) in
-          let d : drop (b * ruleWidth) words ≡ drop (b * ruleWidth) before =
-          ap (drop (b * ruleWidth)) (g .wrote .buffer)
-          ∙ drop-at (joined (take b permitRows)) (drop (0 + length (joined (take b permitRows))) before) (b * ruleWidth) k
+          let w : b * formWidth + ruleWidth - b * formWidth ≡ ruleWidth = omega arith in
+          let k : length (joined (take b permitRows)) ≡ b * formWidth = omega (arith, g .wrote .ends) in
+          let d : drop (b * formWidth) words ≡ drop (b * formWidth) before =
+          ap (drop (b * formWidth)) (g .wrote .buffer)
+          ∙ drop-at (joined (take b permitRows)) (drop (0 + length (joined (take b permitRows))) before) (b * formWidth) k
           ∙ ap (λ (j : ℕ). drop j before) (zero-add (length (joined (take b permitRows))) ∙ k) in
-          let r : n * ruleWidth ≡ b * ruleWidth + (ruleWidth + (n - (b + 1)) * ruleWidth) = omega arith in
-          ap₂ (λ (j : ℕ) (x : List ℕ). take j x) w (d ∙ ap (drop (b * ruleWidth)) (z ∙ ap (λ (j : ℕ). replicate j 0) r))
-          ∙ zeros-part (b * ruleWidth) ruleWidth ((n - (b + 1)) * ruleWidth)
+          let r : n * formWidth ≡ b * formWidth + (ruleWidth + (n - (b + 1)) * formWidth) = omega arith in
+          ap₂ (λ (j : ℕ) (x : List ℕ). take j x) w (d ∙ ap (drop (b * formWidth)) (z ∙ ap (λ (j : ℕ). replicate j 0) r))
+          ∙ zeros-part (b * formWidth) ruleWidth ((n - (b + 1)) * formWidth)
 
       pub permits-next : {ws : List ℕ} → ws ≡ wordsOf (normal (permitOf reads writes b))
-          → RowsWritten permitRows before 0 (putMid (b * ruleWidth) (b * ruleWidth + ruleWidth - b * ruleWidth) words ws) ((b + 1) * ruleWidth) (b + 1)
+          → RowsWritten permitRows before 0 (putMid (b * formWidth) (b * formWidth + ruleWidth - b * formWidth) words ws) ((b + 1) * formWidth) (b + 1)
       permits-next {ws} e =
-          let m : b * ruleWidth + ruleWidth ≡ (b + 1) * ruleWidth = omega arith in
-          let w = part-wrote words ws (b * ruleWidth) ruleWidth (ap length e ∙ row-long b) in
+          let m : b * formWidth + ruleWidth ≡ (b + 1) * formWidth = omega arith in
+          let w = part-wrote words ws (b * formWidth) ruleWidth (ap length e ∙ row-long b) in
           rows-next g (omega (arith, permit-rows)) (e ∙ permit-row b l) (record { buffer = w .buffer; ends = sym m ∙ w .ends })
 
-    pub permits-end : {before words : List ℕ} {b : ℕ} → RowsWritten permitRows before 0 words (b * ruleWidth) b → before ≡ replicate (n * ruleWidth) 0 → n ≤ b → words ≡ formWords permits
+    pub permits-end : {before words : List ℕ} {b : ℕ} → RowsWritten permitRows before 0 words (b * formWidth) b → before ≡ replicate (n * formWidth) 0 → n ≤ b → words ≡ formWords permits
     unfolding formWords
-    permits-end g z l = wrote-whole (ap length z ∙ length-replicate {A = ℕ} (n * ruleWidth) 0 ∙ sym permits-size) (rows-end g (omega (arith, permit-rows)))
+    permits-end g z l = wrote-whole (ap length z ∙ length-replicate {A = ℕ} (n * formWidth) 0 ∙ sym permits-size) (rows-end g (omega (arith, permit-rows)))

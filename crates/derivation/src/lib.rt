@@ -10,7 +10,7 @@ ghost use Rattle.rules.specs.Answers.{mixtureLimit};
 ghost use Rattle.rule_words.specs.Words.{ruleWidth, ruleOf, wordsOf};
 ghost use Rattle.image.specs.Limits.{containerSize};
 ghost use Rattle.image.specs.Normal.{containerBytes};
-ghost use Rattle.normaliser.specs.Writer.{formWords};
+ghost use Rattle.normaliser.specs.Writer.{formWidth, formWords};
 ghost use Rattle.matrix.specs.Limits.{subjectLimit, objectLimit};
 ghost use Rattle.derivation.specs.Derived.{permitOf, countFrom, objectFile, subjectProcess, derivedAnswer, derivedEffect};
 
@@ -18,7 +18,7 @@ ghost use Rattle.derivation.specs.Derived.{permitOf, countFrom, objectFi
 const CONTAINER_BYTES: usize = (matrix::OBJECT_LIMIT + matrix::SUBJECT_LIMIT)
     * image::CONTAINER_SIZE;
 
-const RULE_WORDS: usize = matrix::OBJECT_LIMIT * rule_words::RULE_WIDTH;
+const RULE_WORDS: usize = matrix::OBJECT_LIMIT * normaliser::FORM_WIDTH;
 
 // Writes the objects, as files with their own atoms and their own permit rules.
 fn put_objects(out: &mut [u8], start: usize, n: usize) -> usize
@@ -111,14 +111,14 @@ fn put_permit(words: &mut [u64], reads: &[u32], writes: &[u32], b: usize)
 
 // The permit rules of the first n objects in words of zeros.
 fn put_permits(words: &mut [u64], reads: &[u32], writes: &[u32], n: usize)
-    requires { ⌜ (length (now writes) ≡ length (now reads)) × (length (now reads) ≤ subjectLimit) × (n ≤ objectLimit) × (now words ≡ replicate (n * ruleWidth) 0) ⌝ }
+    requires { ⌜ (length (now writes) ≡ length (now reads)) × (length (now reads) ≤ subjectLimit) × (n ≤ objectLimit) × (now words ≡ replicate (n * formWidth) 0) ⌝ }
     ensures { λ _. ⌜ now (words .exit) ≡ formWords (map (permitOf (now (reads .entry)) (now (writes .entry))) (countFrom 0 n)) ⌝ }
 {
     let mut b = 0;
     while b < n {
-        let at = b * rule_words::RULE_WIDTH;
+        let at = b * normaliser::FORM_WIDTH;
         put_permit(
-            &mut words[at..at + rule_words::RULE_WIDTH],
+            &mut words[at..at + normaliser::FORM_WIDTH],
             reads,
             writes,
             b,
@@ -144,7 +144,7 @@ pub fn derive(reads: &[u32], writes: &[u32], objects: u32, out: &mut [u8]) -> u3
     let mut users = [0u8; image::USER_SIZE];
     fields::put16(&mut users, 0, image::UNRESTRICTED_NUMBER);
     let mut words = [0u64; RULE_WORDS];
-    let w = n * rule_words::RULE_WIDTH;
+    let w = n * normaliser::FORM_WIDTH;
     put_permits(&mut words[0..w], reads, writes, n);
     normaliser::write_policy(&containers[0..end], &users, &words[0..w], out) as u32
 }

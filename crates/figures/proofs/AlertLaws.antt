@@ -26,8 +26,9 @@ use Rattle.chains.specs.Demand.{judged, extend, AcceptedAt, Demand3}
 use Rattle.chains.specs.Table.{entry}
 use Rattle.records.specs.Records.{stepOf}
 use Rattle.operations.specs.View.{view}
-use Rattle.monitor.specs.Steps.{stepAsked, refusalOf, stepAnswer, stepEffect}
+use Rattle.monitor.specs.Steps.{stepAsked, stepAnswer, stepEffect}
 use Rattle.monitor.specs.Runs.{stepOn, runAnswers, historyBehind}
+use Rattle.answers.proofs.Cases.{alert-accepted}
 use Rattle.monitor.proofs.Theorems.{answer-accepted, answer-judged, answer-new, accepted-spelled}
 use Rattle.monitor.proofs.StepLaws.{step-receiver}
 use Rattle.figures.specs.Figures.{alertAt}
@@ -63,25 +64,20 @@ answers-split (Refused n ∷ l) = omega (arith, answers-split l)
 
 -- ---- the receiver of an alert
 
-alert-accepted : (a : Answer) → isAlert a ≡ true → accepted a ≡ true
-alert-accepted (Given Quiet e) h = clash h refl
-alert-accepted (Given Alert e) h = refl
-alert-accepted (Refused n) h = clash h refl
-
 module _ (s r : List ℕ) (h : isAlert (stepAnswer s r) ≡ true) where
-  unrefused : refusalOf s r ≡ 0
-  unrefused = answer-accepted s r .0 (alert-accepted (stepAnswer s r) h)
+  accepts : accepted (stepAnswer s r) ≡ true
+  accepts = alert-accepted (stepAnswer s r) h
 
   alert-judged : judged (stepAsked r) ≡ true
   alert-judged = by (decide (judged (stepAsked r)))
     where
       by : (judged (stepAsked r) ≡ true) ⊎ (judged (stepAsked r) ≡ false) → judged (stepAsked r) ≡ true
       by (inl e) = e
-      by (inr e) = clash h (ap isAlert (answer-new s r unrefused e))
+      by (inr e) = clash h (ap isAlert (answer-new s r accepts e))
 
   alert-receiver : receiverOf (stepAnswer s r) ≡ receiver (stepAsked r)
   alert-receiver =
-      ap receiverOf (answer-judged s r unrefused alert-judged)
+      ap receiverOf (answer-judged s r accepts alert-judged)
       ∙ by (covers (entry (view s) (stepAsked r) .row .permit) (entry (view s) (stepAsked r) .row .tag))
     where
       by : (b : Bool) → receiverOf (cond b (quiet (receiver (stepAsked r)) (entry (view s) (stepAsked r) .row .tag)) (alert (receiver (stepAsked r)) (entry (view s) (stepAsked r) .row .tag))) ≡ receiver (stepAsked r)
@@ -89,7 +85,7 @@ module _ (s r : List ℕ) (h : isAlert (stepAnswer s r) ≡ true) where
       by false = refl
 
   alert-container : receiverOf (stepAnswer s r) < containerLimit
-  alert-container = rw alert-receiver (step-receiver s r unrefused)
+  alert-container = rw alert-receiver (step-receiver s r (answer-accepted s r .0 accepts))
 
 -- ---- the sum over the containers
 

@@ -35,15 +35,20 @@ record Fits (c : Container) : Type 0 where
   permit : c .permit < 256 ^ size16
   run : c .run < 256 ^ size16
 
+-- a file's kind is one byte
+file-low : (k : ℕ) → isFile k ≡ true → k < 256 ^ size8
+unfolding isFile
+file-low k e = omega (arith, eqb-true k fileKind e)
+
 container-fits : (n : ℕ) (c : Container) → n ≤ ruleLimit → containerGood n c ≡ true → Fits c
-unfolding containerGood isFile isVolatile isProcess
+unfolding containerGood isVolatile isProcess
 container-fits n c h = by (isFile (c .kind)) refl
   where
     file : isFile (c .kind) ≡ true → ((ltb (c .atom) dataWidth || eqb (c .atom) noAtom) && (named n (c .permit) && named n (c .run))) ≡ true → Fits c
     file e k =
         let g : (named n (c .permit) && named n (c .run)) ≡ true = and-1 (ltb (c .atom) dataWidth || eqb (c .atom) noAtom) k in
         record {
-          kind = omega (arith, eqb-true (c .kind) fileKind e);
+          kind = file-low (c .kind) e;
           atom = ⊎-elim (λ p. omega (arith, ltb-true (c .atom) dataWidth p)) (λ p. omega (arith, eqb-true (c .atom) noAtom p)) (or-cases (ltb (c .atom) dataWidth) (and-0 (ltb (c .atom) dataWidth || eqb (c .atom) noAtom) (named n (c .permit) && named n (c .run)) k));
           permit = named-fits n (c .permit) h (and-0 (named n (c .permit)) (named n (c .run)) g);
           run = named-fits n (c .run) h (and-1 (named n (c .permit)) g);

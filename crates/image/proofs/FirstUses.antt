@@ -13,7 +13,7 @@ use Rattle.rules.specs.Rules.{normal}
 use Rattle.rules.proofs.RuleLaws.{normal-normal}
 use Rattle.rule_words.specs.Words.{isNormal}
 use Rattle.rule_words.proofs.WordLaws.{is-normal-of}
-use Rattle.lists.specs.Lists.{sameList, every, known, position}
+use Rattle.lists.specs.Lists.{sameList, every, known, knownBy, position, positionBy}
 use Rattle.lists.proofs.Same.{same-eq}
 use Rattle.lists.proofs.Every.{every-0, every-1, every-nil, every-cons, every-imp, every-append}
 use Rattle.image.specs.Policy.{Container, Policy, unrestrictedRule, ruleAt}
@@ -23,12 +23,12 @@ use Rattle.image.proofs.Numbering.{settled, known-more, known-last, set
 -- ---- the first place of a rule
 
 pub known-every : (f : List ℕ → Bool) (r : List ℕ) (us : List (List ℕ)) → known r us ≡ true → every f us ≡ true → f r ≡ true
-unfolding known
+unfolding knownBy
 known-every f r [] h e = clash h refl
 known-every f r (x ∷ us) h e = ⊎-elim (λ p. ap f (same-eq r x p) ∙ every-0 f x us e) (λ p. known-every f r us p (every-1 f x us e)) (or-cases (sameList r x) h)
 
 pub position-stays : (r : List ℕ) (us vs : List (List ℕ)) → known r us ≡ true → position r (us ++ vs) ≡ position r us
-unfolding known position
+unfolding knownBy positionBy
 position-stays r [] vs h = clash h refl
 position-stays r (x ∷ us) vs h = by (sameList r x) h (position-stays r us vs)
   where
@@ -38,7 +38,7 @@ position-stays r (x ∷ us) vs h = by (sameList r x) h (position-stays r us vs)
 
 -- a rule that is not among us comes behind them
 position-behind : (r : List ℕ) (us vs : List (List ℕ)) → known r us ≡ false → length us ≤ position r (us ++ vs)
-unfolding known position
+unfolding knownBy positionBy
 position-behind r [] vs h = omega arith
 position-behind r (x ∷ us) vs h = by (sameList r x) h (position-behind r us vs)
   where

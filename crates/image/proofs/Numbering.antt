@@ -9,7 +9,7 @@ use lib.Dec.{eqb, ltb}
 use lib.ListN.{length, getD, length-append}
 use borrow.Author.Tests.{ne-eqb, lt-ltb}
 use Rattle.lists.proofs.Bools.{or-0, or-1, or-cases, clash, refuted}
-use Rattle.lists.specs.Lists.{sameList, every, known, position}
+use Rattle.lists.specs.Lists.{sameList, every, known, knownBy, position, positionBy}
 use Rattle.lists.proofs.Same.{same-refl, same-eq}
 use Rattle.image.specs.Limits.{unrestrictedNumber}
 use Rattle.image.specs.Policy.{unrestrictedRule, ruleAt, named}
@@ -25,7 +25,7 @@ settled t r = sameList r unrestrictedRule || known r t
 -- ---- one more rule
 
 known-append : (r : List ℕ) (t s : List (List ℕ)) → known r (t ++ s) ≡ (known r t || known r s)
-unfolding known
+unfolding knownBy
 known-append r [] s = refl
 known-append r (x ∷ t) s = by (sameList r x) (known-append r t s)
   where
@@ -37,7 +37,7 @@ pub known-more : (r : List ℕ) (t s : List (List ℕ)) → known r t ≡ true �
 known-more r t s h = known-append r t s ∙ or-0 (known r t) (known r s) h
 
 pub known-last : (r : List ℕ) (t : List (List ℕ)) → known r (t ++ (r ∷ [])) ≡ true
-unfolding known
+unfolding knownBy
 known-last r t = known-append r t (r ∷ []) ∙ or-1 (known r t) (sameList r r || false) (or-0 (sameList r r) false (same-refl r))
 
 pub settled-noted : (t : List (List ℕ)) (r s : List ℕ) → settled t s ≡ true → settled (noted t r) s ≡ true
@@ -97,7 +97,7 @@ unseen-falls t r [] = omega arith
 unseen-falls t r (x ∷ s) = omega (arith, unseen-falls t r s, weight (known x t) (known x (t ++ (r ∷ []))) (known-more x t (r ∷ [])))
 
 unseen-less : (t : List (List ℕ)) (r : List ℕ) (s : List (List ℕ)) → known r t ≡ false → known r s ≡ true → suc (unseen (t ++ (r ∷ [])) s) ≤ unseen t s
-unfolding unseen known
+unfolding unseen knownBy
 unseen-less t r [] h k = clash k refl
 unseen-less t r (x ∷ s) h k = ⊎-elim here (λ p. there (unseen-less t r s h p)) (or-cases (sameList r x) k)
   where
@@ -142,7 +142,7 @@ numbered-few rs s h = omega (arith, numbered-count [] rs s h, unseen-length [] s
 -- ---- a settled rule's number is that rule's
 
 pub position-lt : (r : List ℕ) (t : List (List ℕ)) → known r t ≡ true → position r t < length t
-unfolding known position
+unfolding knownBy positionBy
 position-lt r [] h = clash h refl
 position-lt r (x ∷ t) h = by (sameList r x) h (position-lt r t)
   where
@@ -151,7 +151,7 @@ position-lt r (x ∷ t) h = by (sameList r x) h (position-lt r t)
     by false k ih = omega (arith, ih k)
 
 pub position-at : (r : List ℕ) (t : List (List ℕ)) → known r t ≡ true → getD t (position r t) [] ≡ r
-unfolding known position
+unfolding knownBy positionBy
 position-at r [] h = clash h refl
 position-at r (x ∷ t) h = by (sameList r x) refl h (position-at r t)
   where
@@ -180,6 +180,6 @@ module _ (t : List (List ℕ)) (few : length t ≤ unrestrictedNumber) (r : List
 
 -- the place of a rule is the place of its words among their words
 pub position-words : (r : List ℕ) (t : List (List ℕ)) → position (wordsOf r) (map wordsOf t) ≡ position r t
-unfolding position
+unfolding positionBy
 position-words r [] = refl
 position-words r (s ∷ t) = ap₂ (λ (b : Bool) (n : ℕ). cond b 0 (suc n)) (words-same r s) (position-words r t)

@@ -12,7 +12,7 @@ use Rattle.lists.proofs.Bools.{and-in, and-0, and-1, or-0, or-1, or-cases}
 use Rattle.lists.proofs.Elem.{elem-here, elem-there}
 use Rattle.rules.proofs.RuleLaws.{normal-among, normal-length, normal-normal}
 use Rattle.rules.proofs.MeetAll.{normal-one}
-use Rattle.lists.specs.Lists.{elem, sameList, every, known}
+use Rattle.lists.specs.Lists.{elem, sameList, every, known, knownBy}
 use Rattle.rules.specs.Rules.{normal, unrestricted}
 use Rattle.lists.proofs.Same.{same-refl, same-eq}
 use Rattle.rules.specs.Answers.{dataWidth, tagWidth, mixtureLimit}
@@ -77,7 +77,7 @@ form-normal r h = same-eq (normal r) r (and-1 (ruleGood r) h)
 -- ---- a rule that is named
 
 known-map : (rules : List (List ℕ)) (n : ℕ) → n < length rules → known (normal (getD rules n [])) (map normal rules) ≡ true
-unfolding known
+unfolding knownBy
 known-map [] n h = absurd (omega arith)
 known-map (r ∷ rules) zero h = or-0 (sameList (normal r) (normal r)) (known (normal r) (map normal rules)) (same-refl (normal r))
 known-map (r ∷ rules) (suc n) h =

@@ -17,6 +17,10 @@ volatileKind = 2
 abbrev pub processKind : ℕ
 processKind = 3
 
+-- the last of the kinds
+abbrev pub lastKind : ℕ
+lastKind = processKind
+
 -- the only place that says which kinds serve as what
 unfoldable pub isFree : ℕ → Bool
 isFree k = eqb k freeKind

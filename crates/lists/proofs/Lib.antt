@@ -7,4 +7,5 @@ pub mod Every
 pub mod Places
 pub mod Joined
 pub mod Counting
+pub mod Below
 pub mod Copying

@@ -1,6 +1,21 @@
 -- The numbers below n that pass a test, and sums over the numbers below n.
 use Prim.Native.Nat.{ℕ, zero, suc, _+_}
-use mathlib.Core.Bool.{Bool, cond}
+use mathlib.Core.Bool.{Bool, true, false, cond, _&&_, _||_}
+
+-- whether one passes
+unfoldable pub someBelow : (ℕ → Bool) → ℕ → Bool
+someBelow f zero = false
+someBelow f (suc n) = f 0 || someBelow (λ k. f (suc k)) n
+
+-- whether each passes
+unfoldable pub allBelow : (ℕ → Bool) → ℕ → Bool
+allBelow f zero = true
+allBelow f (suc n) = f 0 && allBelow (λ k. f (suc k)) n
+
+-- the least that passes; n if none does
+unfoldable pub leastBelow : (ℕ → Bool) → ℕ → ℕ
+leastBelow f zero = 0
+leastBelow f (suc n) = cond (f 0) 0 (suc (leastBelow (λ k. f (suc k)) n))
 
 -- how many pass
 unfoldable pub countBelow : (ℕ → Bool) → ℕ → ℕ

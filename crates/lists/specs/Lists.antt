@@ -26,12 +26,19 @@ unfoldable pub joined : List (List ℕ) → List ℕ
 joined [] = []
 joined (x ∷ xs) = x ++ joined xs
 
--- r is one of the lists
-unfoldable pub known : List ℕ → List (List ℕ) → Bool
-known r [] = false
-known r (s ∷ ls) = sameList r s || known r ls
+-- x is one of the list, by a test of what is the same
+unfoldable pub knownBy : {A : Type 0} → (A → A → Bool) → A → List A → Bool
+knownBy same x [] = false
+knownBy same x (y ∷ ys) = same x y || knownBy same x ys
 
--- the place of r among the lists; their number if it is not there
-unfoldable pub position : List ℕ → List (List ℕ) → ℕ
-position r [] = 0
-position r (s ∷ ls) = cond (sameList r s) 0 (suc (position r ls))
+-- the place of x in the list; its length if it is not there
+unfoldable pub positionBy : {A : Type 0} → (A → A → Bool) → A → List A → ℕ
+positionBy same x [] = 0
+positionBy same x (y ∷ ys) = cond (same x y) 0 (suc (positionBy same x ys))
+
+-- of lists of numbers
+abbrev pub known : List ℕ → List (List ℕ) → Bool
+known r ls = knownBy sameList r ls
+
+abbrev pub position : List ℕ → List (List ℕ) → ℕ
+position r ls = positionBy sameList r ls

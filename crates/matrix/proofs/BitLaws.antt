@@ -1,18 +1,19 @@
 -- Bits of rows as tests.
 use Prim.Native.Nat.{ℕ, zero, suc, _+_, _-_, _*_, _/_, _%_, _^_, _≤_, _<_}
-use mathlib.Core.Path.{_≡_, sym, ap, _∙_}
+use mathlib.Core.Path.{_≡_, refl, sym, ap, ap₂, _∙_}
 use mathlib.Core.Bool.{Bool, true, false, not, cond, _&&_, _||_}
 use mathlib.Core.Logic.{_⊎_, inl, inr}
 use native.Mathlib.Decide.{ℕ-discrete, decLt}
-use native.Mathlib.Nat.{lt-of-lt-of-le, div-one}
+use native.Mathlib.Nat.{lt-of-lt-of-le, div-one, one-mul, mod-eq-of-lt}
 use native.Mathlib.Omega.{arith}
-use lib.Pow.{shr-shr, pow-mono}
+use lib.Pow.{shr-shr, pow-mono, pow-lt}
 use lib.Bits.{bitAnd, bitOr}
 use lib.Dec.{eqb}
 use borrow.Author.Tests.{eqb-true, eq-eqb, eqb-false, ne-eqb}
 use Rattle.rules.specs.Sets.{atom}
 use Rattle.rules.proofs.SetLaws.{atom-le, atom-and, atom-or, atom-above, single-same, single-other, ext}
 use Rattle.lists.proofs.Bools.{decide}
+use Rattle.matrix.specs.Limits.{objectLimit}
 use Rattle.matrix.specs.Flows.{has}
 use Rattle.matrix.specs.Rows.{bitsOf}
 
@@ -52,6 +53,10 @@ has-or a b k = by (decide (has a k)) (decide (has b k))
     by (inl p) q = rw p (atom-has (bitOr a b) k (omega (arith, atom-or a b k, has-atom a k p, atom-le b k)))
     by (inr p) (inl q) = rw (p, q) (atom-has (bitOr a b) k (omega (arith, atom-or a b k, has-atom b k q, has-none a k p)))
     by (inr p) (inr q) = rw (p, q) (none-has (bitOr a b) k (omega (arith, atom-or a b k, has-none b k q, has-none a k p)))
+
+-- the row of object a alone, as code makes it
+pub one-bit : (a : ℕ) → a < objectLimit → 1 * 2 ^ a % 2 ^ 32 ≡ 2 ^ a
+one-bit a h = ap (λ (x : ℕ). x % 2 ^ 32) (one-mul (2 ^ a)) ∙ mod-eq-of-lt (pow-lt h)
 
 -- a row with the single bit a
 pub has-single : (a k : ℕ) → has (2 ^ a) k ≡ eqb a k
@@ -159,3 +164,9 @@ bits-is x w f h e = has-ext x (bitsOf f w) (λ k. by k (decLt k w))
     by : (k : ℕ) → Dec (k < w) → has x k ≡ has (bitsOf f w) k
     by k (yes l) = e k l ∙ sym (bits-has f w k l)
     by k (no l) = has-above x w k h (omega arith) ∙ sym (bits-above f w k (omega arith))
+
+pub bits-same : (f g : ℕ → Bool) (w : ℕ) → ((k : ℕ) → k < w → f k ≡ g k) → bitsOf f w ≡ bitsOf g w
+unfolding bitsOf
+bits-same f g zero e = refl
+bits-same f g (suc w) e =
+    ap₂ (λ (b : Bool) (x : ℕ). cond b 1 0 + 2 * x) (e 0 (omega arith)) (bits-same (λ k. f (suc k)) (λ k. g (suc k)) w (λ k l. e (suc k) (omega arith)))

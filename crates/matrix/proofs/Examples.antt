@@ -6,8 +6,8 @@ use Rattle.rules.specs.Sets.{atom}
 use Rattle.lists.specs.Conditions.{firstFailed}
 use Rattle.lists.specs.Lists.{every}
 use Rattle.matrix.specs.Flows.{rowsWithin, counted, matrixGood, has, subjectCarries, granted, within, composed}
-use Rattle.lists.specs.Counting.{countBelow, sumBelow}
-use Rattle.matrix.specs.Verdicts.{someBelow, leastBelow, ungranted, ungrantedFrom, flowCount, firstSource, firstTarget, consistent, judgedBy, matrixConditions, unlessRefused, matrixVerdict}
+use Rattle.lists.specs.Counting.{countBelow, sumBelow, someBelow, leastBelow}
+use Rattle.matrix.specs.Verdicts.{ungranted, ungrantedFrom, flowCount, firstSource, firstTarget, consistent, judgedBy, matrixConditions, unlessRefused, matrixVerdict}
 
 abbrev reads : List ℕ
 reads = 5 ∷ 3 ∷ 2 ∷ []

@@ -15,14 +15,14 @@ use Rattle.lists.proofs.Bools.{and-in, and-0, and-1, decide, clash, refuted, sa
 use Rattle.lists.specs.Lists.{every}
 use Rattle.lists.proofs.Every.{every-0, every-1, every-nil, every-cons}
 use Rattle.matrix.specs.Flows.{has, granted, Composed, composed, rowsWithin, matrixGood}
-use Rattle.lists.specs.Counting.{countBelow, sumBelow}
-use Rattle.matrix.specs.Verdicts.{someBelow, ungranted, ungrantedFrom, flowCount, firstSource, firstTarget, consistent}
+use Rattle.lists.specs.Counting.{countBelow, sumBelow, someBelow}
+use Rattle.matrix.specs.Verdicts.{ungranted, ungrantedFrom, flowCount, firstSource, firstTarget, consistent}
 use Rattle.matrix.specs.Rows.{bitAt, Closed}
 use Rattle.matrix.proofs.GoodLaws.{good-parts, parts-good}
 use Rattle.matrix.proofs.BitLaws.{has-above, has-ext, has-at}
 use Rattle.matrix.proofs.PathLaws.{path-source, path-target, within-path, path-within}
 use Rattle.lists.proofs.Counting.{count-same, count-none, count-some, sum-same, sum-none, sum-some}
-use Rattle.matrix.proofs.CountLaws.{Least, some-at, least-some}
+use Rattle.lists.proofs.Below.{Least, some-at, least-some}
 
 pub composed-path : (reads writes : List ℕ) (n a b : ℕ) → a < n → b < n → (composed reads writes n a b ≡ true) ↔ Composed reads writes n a b
 unfolding composed

@@ -2,22 +2,23 @@
 use Prim.Native.Nat.{ℕ, zero, suc, _+_, _-_, _*_, _/_, _%_, _^_, _≤_, _<_}
 use mathlib.Core.Path.{_≡_, refl, sym, ap, ap₂, _∙_}
 use mathlib.Core.Bool.{Bool, true, false, cond, _&&_, _||_}
-use mathlib.Core.List.{List, _++_}
+use mathlib.Core.List.{List, _∷_, _++_}
 use native.Mathlib.Decide.{ℕ-discrete, decLt}
-use native.Mathlib.Nat.{one-mul, mod-eq-of-lt}
 use native.Mathlib.Numerals.{add-one}
+use native.Mathlib.Nat.{one-mul, mod-eq-of-lt}
 use native.Mathlib.Omega.{arith}
-use lib.Pow.{pow-lt}
 use lib.Bits.{bitOr}
 use lib.Dec.{ltb}
+use lib.Pow.{pow-lt}
 use lib.ListN.{length, getD, drop, set, length-set, length-append, length-drop, List·getD-append, drop-of-length-le}
-use lib.Seq.{drop-cons, getD-append-add, getD-drop, getD-set-same, getD-set-other, ext-getD}
+use lib.Seq.{drop-cons, drop-append-seam, getD-append-add, getD-drop, getD-set-same, getD-set-other, ext-getD}
 use borrow.Author.Tests.{lt-ltb, le-ltb}
 use Rattle.lists.specs.Lists.{every}
+use Rattle.lists.proofs.Bools.{or-none, or-assoc}
 use Rattle.matrix.specs.Flows.{has, subjectCarries, granted, within, rowsWithin}
 use Rattle.matrix.specs.Rows.{bitAt, bitsOf, rowsOf, spelling, joinedAt, Passed}
 use Rattle.matrix.specs.Limits.{objectLimit}
-use Rattle.matrix.proofs.BitLaws.{has-is, has-not, has-or, has-single, bits-has, bits-above, bits-is}
+use Rattle.matrix.proofs.BitLaws.{has-is, has-not, has-or, one-bit, has-single, bits-has, bits-above, bits-is, bits-same}
 
 -- ---- a row of the granted flows: the subjects before s are done
 
@@ -32,21 +33,14 @@ granting-start reads writes a e h =
     record {
       place = omega arith;
       even = e;
-      bits = λ b. ap (λ (x : Bool). x || subjectCarries reads writes a b) (ap (λ (x : ℕ). has x b) small ∙ has-single a b);
+      bits = λ b. ap (λ (x : Bool). x || subjectCarries reads writes a b) (ap (λ (x : ℕ). has x b) (one-bit a h) ∙ has-single a b);
     }
-  where
-    small : 1 * 2 ^ a % 2 ^ 32 ≡ 2 ^ a
-    small = ap (λ (x : ℕ). x % 2 ^ 32) (one-mul (2 ^ a)) ∙ mod-eq-of-lt (pow-lt h)
 
 carries-next : (reads writes : List ℕ) (a b s : ℕ) → s < length reads → s < length writes
     → subjectCarries (drop s reads) (drop s writes) a b
     ≡ (has (getD reads s 0) a && has (getD writes s 0) b || subjectCarries (drop (s + 1) reads) (drop (s + 1) writes) a b)
 unfolding subjectCarries
 carries-next reads writes a b s p q = rw (drop-cons reads s 0 p, drop-cons writes s 0 q, add-one)
-
-or-assoc : (a b c : Bool) → ((a || b) || c) ≡ (a || (b || c))
-or-assoc true b c = refl
-or-assoc false b c = refl
 
 pub granting-take : (reads writes : List ℕ) (a row s : ℕ) → Granting reads writes a row s → s < length reads
     → getD reads s 0 / 2 ^ a % 2 ≡ 1 → Granting reads writes a (bitOr row (getD writes s 0)) (s + 1)
@@ -80,11 +74,7 @@ granting-skip reads writes a row s g h t =
 
 pub granting-end : (reads writes : List ℕ) (a row s : ℕ) → Granting reads writes a row s → length reads ≤ s → (b : ℕ) → has row b ≡ granted reads writes a b
 unfolding subjectCarries
-granting-end reads writes a row s g h b = sym (or-false (has row b)) ∙ (rw (drop-of-length-le reads h) at (g .bits b))
-  where
-    or-false : (x : Bool) → (x || false) ≡ x
-    or-false true = refl
-    or-false false = refl
+granting-end reads writes a row s g h b = sym (or-none (has row b)) ∙ (rw (drop-of-length-le reads h) at (g .bits b))
 
 -- ---- rows that are stored one after the other: the first a are as P says, the rest is as it was
 
@@ -161,6 +151,23 @@ module _ (f : ℕ → ℕ → Bool) (n : ℕ) (rows : List ℕ) where
       by a (yes p) = e a p ∙ sym (spelling-row a p)
       by a (no p) = r a (omega arith) ∙ sym (spelling-behind a (omega arith))
 
+  -- a table that is spelled over keeps what stands behind
+  pub spelling-again : (g : ℕ → ℕ → Bool) → spelling f n (spelling g n rows) ≡ spelling f n rows
+  unfolding spelling
+  spelling-again g =
+      ap (λ (x : List ℕ). rowsOf f n ++ x)
+      (ap (λ (k : ℕ). drop k (rowsOf g n ++ drop n rows)) (sym (rows-length g n)) ∙ drop-append-seam (rowsOf g n) (drop n rows))
+
+rows-same : (f g : ℕ → ℕ → Bool) (n : ℕ) → ((a b : ℕ) → a < n → b < objectLimit → f a b ≡ g a b) → rowsOf f n ≡ rowsOf g n
+unfolding rowsOf
+rows-same f g zero e = refl
+rows-same f g (suc n) e =
+    ap₂ (λ (x : ℕ) (l : List ℕ). x ∷ l) (bits-same (f 0) (g 0) objectLimit (λ b l. e 0 b (omega arith) l)) (rows-same (λ a. f (suc a)) (λ a. g (suc a)) n (λ a b l m. e (suc a) b (omega arith) m))
+
+pub spelling-same : (f g : ℕ → ℕ → Bool) (n : ℕ) (rows : List ℕ) → ((a b : ℕ) → a < n → b < objectLimit → f a b ≡ g a b) → spelling f n rows ≡ spelling g n rows
+unfolding spelling
+spelling-same f g n rows e = ap (λ (x : List ℕ). x ++ drop n rows) (rows-same f g n e)
+
 -- ---- one pass for each object: the paths whose inner objects are below k are there
 
 pub record Closing (n : ℕ) (before rows : List ℕ) (k : ℕ) : Type 0 where
@@ -179,13 +186,9 @@ joined-has : (k other row b : ℕ) → has (joinedAt k other row) b ≡ (has row
 unfolding joinedAt
 joined-has k other row b = by (has row k)
   where
-    or-false : (x : Bool) → x ≡ (x || false)
-    or-false true = refl
-    or-false false = refl
-
     by : (t : Bool) → has (cond t (bitOr row other) row) b ≡ (has row b || (t && has other b))
     by true = has-or row other b
-    by false = or-false (has row b)
+    by false = sym (or-none (has row b))
 
 pub closing-next : (n : ℕ) (before rows after : List ℕ) (k : ℕ) → Closing n before rows k → k < n → Passed k n rows after → ((a : ℕ) → getD after a 0 < 2 ^ 32) → Closing n before after (k + 1)
 unfolding within bitAt

@@ -21,15 +21,17 @@ use Rattle.answers.specs.Refusals.{matrix}
 use Rattle.matrix.specs.declared.Consistency.{Consistency}
 use Rattle.matrix.specs.declared.Consistency.the-variants.{Refused, Consistent, Inconsistent}
 use Rattle.matrix.specs.Flows.{has, subjectCarries, granted, within, composed, rowsWithin, matrixGood}
-use Rattle.lists.specs.Counting.{countBelow, sumBelow}
-use Rattle.matrix.specs.Verdicts.{leastBelow, ungranted, ungrantedFrom, flowCount, firstSource, firstTarget, consistent, judgedBy, ConsistencyValues, consistencyValues, matrixConditions, unlessRefused, matrixVerdict}
+use Rattle.lists.specs.Counting.{countBelow, sumBelow, leastBelow}
+use Rattle.matrix.specs.Verdicts.{ungranted, ungrantedFrom, flowCount, firstSource, firstTarget, consistent, judgedBy, ConsistencyValues, consistencyValues, matrixConditions, unlessRefused, matrixVerdict}
 use Rattle.matrix.specs.Limits.{objectLimit}
 use Rattle.matrix.specs.Rows.{bitAt, spelling, Closed}
 use Rattle.matrix.proofs.BitLaws.{has-is, has-not, has-above, has-without}
 use Rattle.matrix.proofs.PathLaws.{within-same, within-none}
-use Rattle.matrix.proofs.RowLaws.{spelling-fits, spelling-bits, spelling-above}
+use Rattle.matrix.proofs.GoodLaws.{good-parts}
+use Rattle.matrix.proofs.RowLaws.{spelling-fits, spelling-bits, spelling-above, spelling-again, spelling-same}
 use Rattle.lists.proofs.Counting.{count-same, count-front, sum-next}
-use Rattle.matrix.proofs.CountLaws.{ones-count, some-at, some-none, least-is}
+use Rattle.lists.proofs.Below.{some-at, some-none, least-is}
+use Rattle.matrix.proofs.CountLaws.{ones-count}
 
 -- ---- no flow goes beyond the objects
 
@@ -169,25 +171,36 @@ searching-found reads writes n a b row count found s l e t =
 
 -- ---- the closure of the granted flows
 
-pub closed : (reads writes rows granting closure : List ℕ) (n : ℕ) → length writes ≡ length reads → n ≤ objectLimit → rowsWithin n writes ≡ true → n ≤ length rows
-    → granting ≡ spelling (granted reads writes) n rows → closure ≡ spelling (within (bitAt granting) n) n granting → Closed reads writes n closure
-unfolding composed
-closed reads writes rows granting closure n e f g r s t =
-    record {
-      even = e;
-      few = f;
-      good = g;
-      spelt = record { fit = spelling-fits (within (bitAt granting) n) n granting closure t (spelling-fits (granted reads writes) n rows granting s r); bits = λ a b l. ap (λ (x : List ℕ). bitAt x a b) t ∙ by a b l (decLt b objectLimit) };
-    }
-  where
-    by : (a b : ℕ) → a < n → Dec (b < objectLimit) → bitAt (spelling (within (bitAt granting) n) n granting) a b ≡ within (granted reads writes) n a b
-    by a b l (yes m) =
-        spelling-bits (within (bitAt granting) n) n granting a b l m
-        ∙ within-same (bitAt granting) (granted reads writes) n objectLimit n a b (omega arith) f l m
-        (λ a b l m. ap (λ (x : List ℕ). bitAt x a b) s ∙ spelling-bits (granted reads writes) n rows a b l m)
-    by a b l (no m) =
-        spelling-above (within (bitAt granting) n) n granting a b l (omega arith)
-        ∙ sym (within-none (granted reads writes) n n a b (omega arith) l (λ i p. granted-beyond reads writes n i b g p (omega arith)))
+module _ (reads writes rows : List ℕ) (n : ℕ) (good : matrixGood reads writes n ≡ true) where
+  -- the closure of the table of granted flows spells the composed flows
+  pub composes : (granting closure : List ℕ) → granting ≡ spelling (granted reads writes) n rows → closure ≡ spelling (within (bitAt granting) n) n granting
+      → closure ≡ spelling (composed reads writes n) n rows
+  unfolding composed
+  composes granting closure s t =
+      t
+      ∙ spelling-same (within (bitAt granting) n) (within (granted reads writes) n) n granting
+      (λ a b l m. within-same (bitAt granting) (granted reads writes) n objectLimit n a b (omega arith) (good-parts reads writes n good .few) l m
+      (λ a b l m. ap (λ (x : List ℕ). bitAt x a b) s ∙ spelling-bits (granted reads writes) n rows a b l m))
+      ∙ ap (spelling (within (granted reads writes) n) n) s
+      ∙ spelling-again (within (granted reads writes) n) n rows (granted reads writes)
+
+  -- what the functions that judge are given
+  pub closed : (closure : List ℕ) → n ≤ length rows → closure ≡ spelling (composed reads writes n) n rows → Closed reads writes n closure
+  unfolding composed
+  closed closure r t =
+      let p = good-parts reads writes n good in
+      record {
+        even = p .even;
+        few = p .few;
+        good = p .writesGood;
+        spelt = record { fit = spelling-fits (within (granted reads writes) n) n rows closure t r; bits = λ a b l. ap (λ (x : List ℕ). bitAt x a b) t ∙ by a b l (decLt b objectLimit) };
+      }
+    where
+      by : (a b : ℕ) → a < n → Dec (b < objectLimit) → bitAt (spelling (within (granted reads writes) n) n rows) a b ≡ within (granted reads writes) n a b
+      by a b l (yes m) = spelling-bits (within (granted reads writes) n) n rows a b l m
+      by a b l (no m) =
+          spelling-above (within (granted reads writes) n) n rows a b l (omega arith)
+          ∙ sym (within-none (granted reads writes) n n a b (omega arith) l (λ i p. granted-beyond reads writes n i b (good-parts reads writes n good .writesGood) p (omega (arith, good-parts reads writes n good .few))))
 
 -- ---- the verdict
 

@@ -27,6 +27,19 @@ matrixGood reads writes objects =
     && (counted subjectLimit (length reads)
     && (counted objectLimit objects && (rowsWithin objects reads && rowsWithin objects writes)))
 
+-- the three together: subject s may read object k where row s of the reads has bit k, and write it where row s of the writes has it
+pub record Matrix : Type 0 where
+  pub reads : List ℕ
+  pub writes : List ℕ
+  pub objects : ℕ
+
+abbrev pub matrixOf : List ℕ → List ℕ → ℕ → Matrix
+matrixOf reads writes objects = record { reads = reads; writes = writes; objects = objects }
+
+-- not "a malformed matrix" (change request No. 7)
+unfoldable pub wellFormed : Matrix → Bool
+wellFormed m = matrixGood (m .reads) (m .writes) (m .objects)
+
 -- ---- flows between objects
 
 -- "bit k for object k"

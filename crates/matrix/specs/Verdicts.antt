@@ -1,25 +1,13 @@
 -- The verdict on a matrix (the paper, "Matrix": "The verdict is consistent, or ..").
 use Prim.Native.Nat.{ℕ, zero, suc}
-use mathlib.Core.Bool.{Bool, false, not, cond, _&&_, _||_}
+use mathlib.Core.Bool.{Bool, not, cond, _&&_}
 use mathlib.Core.List.{List, [], _∷_}
-use Rattle.lists.specs.Counting.{countBelow, sumBelow}
+use Rattle.lists.specs.Counting.{someBelow, leastBelow, countBelow, sumBelow}
 use Rattle.lists.specs.Conditions.{Condition, _orRefuse_, firstFailed}
 use Rattle.answers.specs.Refusals.{matrix}
 use Rattle.matrix.specs.Flows.{matrixGood, granted, composed}
 use Rattle.matrix.specs.declared.Consistency.{Consistency}
 use Rattle.matrix.specs.declared.Consistency.the-variants.{Refused, Consistent, Inconsistent}
-
--- ---- numbers below n that pass a test
-
--- whether there is one
-unfoldable pub someBelow : (ℕ → Bool) → ℕ → Bool
-someBelow f zero = false
-someBelow f (suc n) = f 0 || someBelow (λ k. f (suc k)) n
-
--- the least, n if there is none
-unfoldable pub leastBelow : (ℕ → Bool) → ℕ → ℕ
-leastBelow f zero = 0
-leastBelow f (suc n) = cond (f 0) 0 (suc (leastBelow (λ k. f (suc k)) n))
 
 -- ---- "composed flows not granted"
 

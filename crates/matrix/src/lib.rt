@@ -4,7 +4,7 @@ ghost use Prim.Native.Nat.{ℕ, _+_, _≤_, _<_};
 ghost use mathlib.Core.Bool.{true};
 ghost use lib.ListN.{length};
 ghost use Rattle.matrix.specs.Limits.{objectLimit};
-ghost use Rattle.matrix.specs.Flows.{matrixGood, rowsWithin, counted, has, granted, within};
+ghost use Rattle.matrix.specs.Flows.{matrixGood, rowsWithin, counted, has, granted, within, composed};
 ghost use Rattle.matrix.specs.Verdicts.{ungranted, flowCount, judgedBy, consistencyValues, matrixVerdict};
 ghost use Rattle.matrix.specs.Rows.{bitAt, spelling, joinedAt, Passed, Closed};
 
@@ -182,10 +182,10 @@ pub fn matrix_good(reads: &[u32], writes: &[u32], objects: u32) -> bool
     rows_within(objects, writes)
 }
 
-// The closure of the granted flows in the first n rows.
-fn compose(reads: &[u32], writes: &[u32], rows: &mut [u32], n: usize)
+// The first n rows become those of the composed flows; the others stay.
+pub fn compose(reads: &[u32], writes: &[u32], rows: &mut [u32], n: usize)
     requires { ⌜ (matrixGood (now reads) (now writes) n ≡ true) × (n ≤ length (now rows)) ⌝ }
-    ensures { λ _. ⌜ Closed (now (reads .entry)) (now (writes .entry)) n (now (rows .exit)) ⌝ }
+    ensures { λ _. ⌜ now (rows .exit) ≡ spelling (composed (now (reads .entry)) (now (writes .entry)) n) n (now (rows .entry)) ⌝ }
 {
     fill_granted(reads, writes, rows, n);
     close(rows, n);

@@ -11,15 +11,12 @@ use Rattle.lists.specs.Lists.{elem}
 use Rattle.lists.specs.Conditions.{numbersOf}
 use Rattle.lists.proofs.Conditions.{given-among}
 use Rattle.chains.specs.History.{Step, read, write, append, exec, fork, newFile, newVolatile, end, delete, receiver}
-use Rattle.answers.specs.declared.Answer.{Answer}
-use Rattle.answers.specs.declared.Answer.the-variants.{Given, Refused}
-use Rattle.answers.specs.declared.Verdict.the-variants.{Quiet, Alert}
-use Rattle.answers.specs.Answers.{quiet, alert, accepted, isAlert, receiverOf, tagOf, quietNumber, alertNumber, answerNumber}
+use Rattle.answers.specs.Answers.{quiet, alert, isAlert, receiverOf, tagOf, alertNumber, answerNumber}
 use Rattle.chains.specs.Demand.{judged}
 use Rattle.chains.specs.Table.{State, freeRow, newFileRow, newVolatileRow, entry, earlyConditions, tableConditions, alerts, verdict}
 use Rattle.operations.specs.Effects.{sessionConditions}
 use Rattle.monitor.specs.Steps.{stepConditions, refusalOf, stepAnswer}
-use Rattle.monitor.proofs.StepLaws.{refused-answer, answered}
+use Rattle.monitor.proofs.StepLaws.{refused-answer}
 
 -- ---- quiet or alert
 
@@ -46,15 +43,6 @@ new-quiet σ (end p) e = refl
 new-quiet σ (delete p o) e = refl
 
 -- ---- numbers
-
--- the number of an accepted answer tells quiet from alert
-number-accepted : (a : Answer) → accepted a ≡ true → answerNumber a ≡ cond (isAlert a) alertNumber quietNumber
-number-accepted (Refused n) e = clash e refl
-number-accepted (Given Quiet r) e = refl
-number-accepted (Given Alert r) e = refl
-
-pub number-told : (s r : List ℕ) → refusalOf s r ≡ 0 → answerNumber (stepAnswer s r) ≡ cond (isAlert (stepAnswer s r)) alertNumber quietNumber
-number-told s r e = number-accepted (stepAnswer s r) (answered s r e)
 
 -- the number of an alert is no refusal
 never-alert : (s r : List ℕ) → refusalOf s r ≢ alertNumber

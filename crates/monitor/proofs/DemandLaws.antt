@@ -14,10 +14,10 @@ use Rattle.answers.specs.declared.Answer.{Answer}
 use Rattle.answers.specs.Answers.{accepted, isAlert, receiverOf, tagOf}
 use Rattle.chains.specs.Demand.{judged, historyOf, AcceptedAt, Demand3, TagTold}
 use Rattle.records.specs.Records.{stepOf}
-use Rattle.monitor.specs.Steps.{stepAsked, refusalOf, stepAnswer}
+use Rattle.monitor.specs.Steps.{stepAsked, stepAnswer}
 use Rattle.monitor.specs.Runs.{stepOn, runAnswers, runEffect, historyIn}
 use Rattle.records.proofs.RecordLaws.{record-step}
-use Rattle.monitor.proofs.StepLaws.{step-record, answered}
+use Rattle.monitor.proofs.StepLaws.{step-record, accepted-zero}
 use Rattle.monitor.proofs.RunLaws.{history-told, history-first, answer-last, record-last, take-last}
 
 -- ---- a position of a list of records
@@ -41,13 +41,13 @@ module _ (s : List ℕ) (P : Policy) (rs : List (List ℕ)) (given : List Answer
 
 -- ---- one more record
 
-module _ (s : List ℕ) (P : Policy) (rs : List (List ℕ)) (r : List ℕ) (e : refusalOf (runEffect s rs) r ≡ 0) where
+module _ (s : List ℕ) (P : Policy) (rs : List (List ℕ)) (r : List ℕ) (e : accepted (stepAnswer (runEffect s rs) r) ≡ true) where
   last : AcceptedAt stepOn stepOf s (rs ++ (r ∷ [])) (length rs) (stepAsked r) (stepAnswer (runEffect s rs) r)
   unfolding stepOn stepAsked
   last = record {
-    spelled = (r, record-last rs r, record-step r (step-record (runEffect s rs) r e));
+    spelled = (r, record-last rs r, record-step r (step-record (runEffect s rs) r (accepted-zero (runEffect s rs) r e)));
     answered = answer-last s rs r;
-    counted = answered (runEffect s rs) r e;
+    counted = e;
   }
 
   whole : historyOf stepOn stepOf s (take (suc (length rs)) (rs ++ (r ∷ []))) ≡ historyIn (rs ++ (r ∷ [])) (runAnswers s (rs ++ (r ∷ [])))

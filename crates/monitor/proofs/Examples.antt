@@ -24,7 +24,7 @@ use Rattle.lists.specs.Conditions.{firstFailed}
 use Rattle.records.specs.Codes.{readCode, writeCode, appendCode, execCode, forkCode, newFileCode, endCode, deleteCode, stepWith, noRows, codeAt, isCode}
 use Rattle.records.specs.Records.{noUser, requestIn, stepIn, userFits, ownObject, numbersGood, recordGood}
 use Rattle.operations.specs.View.{view}
-use Rattle.operations.specs.Effects.{rowsGood, sessionConditions, acceptedAnswer, acceptedEffect}
+use Rattle.operations.specs.Effects.{rowsGood, sessionConditions, madeAnswer, madeEffect}
 use Rattle.monitor.specs.Steps.{stepAsked, stepConditions, refusalOf, stepAnswer, stepEffect}
 use Rattle.monitor.specs.Runs.{stepOn, runAnswers}
 
@@ -150,7 +150,7 @@ unfolding holds dataOf runningOf covers elem distinct heldIn unheldIn insert sor
     putRow startTag startRow placeWords filled sessionOf startOf readRow writeRow appendRow execRow forkRow fits
     alerts verdict every firstFailed freeRow fitsNeed entry stepWith noRows codeAt isCode stepIn view rowsGood
     processGood objectGood kindGood freeGood userGood behalfFits meetGood earlyConditions tableConditions sessionConditions
-    acceptedAnswer acceptedEffect newFileRow requestIn userFits ownObject numbersGood recordGood sessionLengthGood stepAsked stepConditions refusalOf
+    madeAnswer madeEffect newFileRow requestIn userFits ownObject numbersGood recordGood sessionLengthGood stepAsked stepConditions refusalOf
     stepAnswer stepEffect stepOn runAnswers
 checked-runs = record { forkItself = refl; execHolding = refl; execKeeping = refl; readHolding = refl; leaving = refl; leavingRefused = refl; behalf = refl; meetOver = refl; listing = refl; shortSession = refl }
 

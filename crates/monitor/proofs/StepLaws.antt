@@ -1,4 +1,4 @@
--- One step: refused, it leaves the session; accepted, it does what the table says of the step that the record spells.
+-- One step: refused, it leaves the session; else it does what the table says of the step that the record spells.
 use Prim.Native.Nat.{ℕ, _<_}
 use native.Mathlib.Omega.{arith}
 use mathlib.Core.Path.{_≡_, refl, sym, ap, _∙_}
@@ -14,14 +14,15 @@ use Rattle.lists.proofs.Bools.{clash}
 use Rattle.lists.proofs.Conditions.{passed, zero-or-not, given-exactly, given-none}
 use Rattle.answers.specs.Refusals.{operationRecord, lentLength}
 use Rattle.answers.specs.declared.Answer.{Answer}
-use Rattle.answers.specs.Answers.{refused, accepted}
+use Rattle.answers.specs.Answers.{refused, accepted, isRefused}
+use Rattle.answers.proofs.Cases.{accepted-given}
 use Rattle.image.specs.Limits.{containerLimit}
 use Rattle.session.specs.Limits.{sessionLength}
 use Rattle.session.specs.Rows.{rowWords, putRow}
 use Rattle.chains.specs.History.{Step, receiver}
 use Rattle.chains.specs.Table.{State, entry, meetGood, earlyConditions, tableConditions, verdict, operate, Faithful}
 use Rattle.chains.proofs.TableLaws.{operate-done}
-use Rattle.chains.proofs.VerdictLaws.{verdict-accepted}
+use Rattle.chains.proofs.VerdictLaws.{verdict-given}
 use Rattle.records.specs.declared.Code.{Code}
 use Rattle.records.specs.declared.Request.{Request}
 use Rattle.records.specs.Codes.{codeAt}
@@ -29,7 +30,7 @@ use Rattle.records.specs.Records.{requestIn, stepIn, recordGood, needIn, stepOf
 use Rattle.records.proofs.CodeLaws.{receiver-bound}
 use Rattle.records.proofs.RecordLaws.{asked, record-step, record-missing, record-there, record-needs}
 use Rattle.operations.specs.View.{view}
-use Rattle.operations.specs.Effects.{Named, sessionConditions, sessionRefusal, acceptedAnswer, acceptedEffect, performAnswer, performEffect}
+use Rattle.operations.specs.Effects.{Named, sessionConditions, sessionRefusal, madeAnswer, madeEffect, performAnswer, performEffect}
 use Rattle.operations.specs.Parts.{firstConditions, Ready}
 use Rattle.operations.proofs.KeptLaws.{Laid, entry-laid}
 use Rattle.operations.proofs.PlacedRows.{Valid, view-put, valid-put, placed-long}
@@ -131,13 +132,13 @@ module _ (s r : List ℕ) (e : refusalOf s r ≡ 0) where
   step-table =
       rw (holds .1 .1 .1 .0, holds .1 .1 .1 .1 .0, holds .1 .1 .1 .1 .1 .0, holds .1 .1 .1 .1 .1 .1 .0, holds .1 .1 .1 .1 .1 .1 .1 .0, holds .1 .1 .1 .1 .1 .1 .1 .1)
 
-  pub accepted-answer : stepAnswer s r ≡ verdict (stepAsked r) (entry (view s) (stepAsked r) .row)
-  unfolding stepAnswer acceptedAnswer
-  accepted-answer = rw e
+  pub made-answer : stepAnswer s r ≡ verdict (stepAsked r) (entry (view s) (stepAsked r) .row)
+  unfolding stepAnswer madeAnswer
+  made-answer = rw e
 
-  pub accepted-effect : stepEffect s r ≡ putRow s (receiver (stepAsked r)) (rowWords (entry (view s) (stepAsked r) .row))
-  unfolding stepEffect acceptedEffect
-  accepted-effect = rw e
+  pub made-effect : stepEffect s r ≡ putRow s (receiver (stepAsked r)) (rowWords (entry (view s) (stepAsked r) .row))
+  unfolding stepEffect madeEffect
+  made-effect = rw e
 
   pub step-receiver : receiver (stepAsked r) < containerLimit
   unfolding stepAsked
@@ -147,34 +148,34 @@ module _ (s r : List ℕ) (e : refusalOf s r ≡ 0) where
   step-laid = entry-laid s (stepAsked r) step-ready step-meet
 
   pub effect-long : length (stepEffect s r) ≡ sessionLength
-  effect-long = ap length accepted-effect ∙ placed-long s step-long (receiver (stepAsked r)) step-receiver (entry (view s) (stepAsked r) .row) step-laid
+  effect-long = ap length made-effect ∙ placed-long s step-long (receiver (stepAsked r)) step-receiver (entry (view s) (stepAsked r) .row) step-laid
 
   step-view : view (stepEffect s r) ≡ operate (view s) (stepAsked r) .0
   step-view =
-      ap view accepted-effect
+      ap view made-effect
       ∙ view-put s step-long (receiver (stepAsked r)) step-receiver (entry (view s) (stepAsked r) .row) step-laid
       ∙ sym (ap (λ (x : State × Answer). x .0) (operate-done (view s) (stepAsked r) step-table))
 
   step-answer : stepAnswer s r ≡ operate (view s) (stepAsked r) .1
-  step-answer = accepted-answer ∙ sym (ap (λ (x : State × Answer). x .1) (operate-done (view s) (stepAsked r) step-table))
+  step-answer = made-answer ∙ sym (ap (λ (x : State × Answer). x .1) (operate-done (view s) (stepAsked r) step-table))
 
   step-valid : Valid s → Valid (stepEffect s r)
-  step-valid v = rw accepted-effect (valid-put s v (receiver (stepAsked r)) step-receiver (entry (view s) (stepAsked r) .row) step-laid)
+  step-valid v = rw made-effect (valid-put s v (receiver (stepAsked r)) step-receiver (entry (view s) (stepAsked r) .row) step-laid)
 
--- ---- a record is accepted if it is not refused
+-- ---- the answer is a refusal exactly if a condition fails
 
-pub answered : (s r : List ℕ) → refusalOf s r ≡ 0 → accepted (stepAnswer s r) ≡ true
-answered s r e = ap accepted (accepted-answer s r e) ∙ verdict-accepted (stepAsked r) (entry (view s) (stepAsked r) .row)
+pub answered : (s r : List ℕ) → refusalOf s r ≡ 0 → isRefused (stepAnswer s r) ≡ false
+answered s r e = ap isRefused (made-answer s r e) ∙ verdict-given (stepAsked r) (entry (view s) (stepAsked r) .row)
 
-answered-not : (s r : List ℕ) → refusalOf s r ≢ 0 → accepted (stepAnswer s r) ≡ false
-answered-not s r n = ap accepted (refused-answer s r n)
-
-pub answered-zero : (s r : List ℕ) → accepted (stepAnswer s r) ≡ true → refusalOf s r ≡ 0
+pub answered-zero : (s r : List ℕ) → isRefused (stepAnswer s r) ≡ false → refusalOf s r ≡ 0
 answered-zero s r a = by (zero-or-not (refusalOf s r))
   where
     by : (refusalOf s r ≡ 0) ⊎ (refusalOf s r ≢ 0) → refusalOf s r ≡ 0
     by (inl e) = e
-    by (inr n) = clash a (answered-not s r n)
+    by (inr n) = clash (ap isRefused (refused-answer s r n)) a
+
+pub accepted-zero : (s r : List ℕ) → accepted (stepAnswer s r) ≡ true → refusalOf s r ≡ 0
+accepted-zero s r a = answered-zero s r (accepted-given (stepAnswer s r) a)
 
 -- ---- the monitor follows the table
 
@@ -185,17 +186,17 @@ valid-step s r v = by (zero-or-not (refusalOf s r))
     by (inl e) = step-valid s r e v
     by (inr n) = rw (refused-effect s r n) v
 
-refusing-step : (s r : List ℕ) → accepted (stepAnswer s r) ≡ false → view (stepEffect s r) ≡ view s
+refusing-step : (s r : List ℕ) → isRefused (stepAnswer s r) ≡ true → view (stepEffect s r) ≡ view s
 refusing-step s r f = by (zero-or-not (refusalOf s r))
   where
     by : (refusalOf s r ≡ 0) ⊎ (refusalOf s r ≢ 0) → view (stepEffect s r) ≡ view s
-    by (inl e) = clash (answered s r e) f
+    by (inl e) = clash f (answered s r e)
     by (inr n) = ap view (refused-effect s r n)
 
-accepting-step : (s r : List ℕ) → accepted (stepAnswer s r) ≡ true
+answering-step : (s r : List ℕ) → isRefused (stepAnswer s r) ≡ false
     → (t : Step) × (stepOf r ≡ some t) × (view (stepEffect s r) ≡ operate (view s) t .0) × (stepAnswer s r ≡ operate (view s) t .1)
 unfolding stepAsked
-accepting-step s r a =
+answering-step s r a =
     let e : refusalOf s r ≡ 0 = answered-zero s r a in
     (stepIn (requestIn r), record-step r (step-record s r e), step-view s r e, step-answer s r e)
 
@@ -204,5 +205,5 @@ unfolding stepOn
 faithful = record {
   stays = λ s r v. valid-step s r v;
   refusing = λ s r v f. refusing-step s r f;
-  accepting = λ s r v a. accepting-step s r a;
+  answering = λ s r v a. answering-step s r a;
 }

@@ -14,9 +14,8 @@ use Rattle.lists.specs.Conditions.{numbersOf, numberAt}
 use Rattle.lists.proofs.Bools.{and-in, and-0, and-1, clash}
 use Rattle.answers.specs.Refusals.{lentLength}
 use Rattle.answers.specs.declared.Answer.{Answer}
-use Rattle.answers.specs.declared.Answer.the-variants.{Given, Refused}
-use Rattle.answers.specs.declared.Verdict.the-variants.{Quiet, Alert}
-use Rattle.answers.specs.Answers.{quiet, refused, accepted, isAlert, quietNumber, alertNumber, answerNumber}
+use Rattle.answers.specs.Answers.{quiet, refused, isQuiet, isAlert, quietNumber, alertNumber, answerNumber}
+use Rattle.answers.proofs.Cases.{quiet-no-alert, Numbered, given-numbered}
 use Rattle.session.specs.Limits.{sessionLength}
 use Rattle.session.specs.Session.{sessionLengthGood}
 use Rattle.records.specs.Records.{recordLength}
@@ -25,7 +24,7 @@ use Rattle.records.proofs.TraceLaws.{records-rest}
 use Rattle.monitor.specs.declared.Ran.{Ran}
 use Rattle.monitor.specs.Steps.{stepConditions, refusalOf, stepAnswer, stepEffect}
 use Rattle.monitor.specs.Runs.{stepOn, runAnswers, runEffect}
-use Rattle.monitor.specs.Stops.{isQuiet, stopAnswer, stopCount, ran}
+use Rattle.monitor.specs.Stops.{stopAnswer, stopCount, ran}
 use Rattle.monitor.proofs.StepLaws.{refused-effect, refused-at, effect-long, answered}
 use Rattle.monitor.proofs.AnswerLaws.{number-refused}
 use Rattle.monitor.proofs.RunLaws.{runAnswers-append, runEffect-append}
@@ -62,17 +61,7 @@ unfolding stopAnswer every
 quiet-stop [] q = refl
 quiet-stop (a ∷ l) q = let h : isQuiet a ≡ true = and-0 (isQuiet a) (every isQuiet l) q in rw h (quiet-stop l (and-1 (isQuiet a) q))
 
-pub alert-number : (a : Answer) → isAlert a ≡ true → answerNumber a ≡ alertNumber
-alert-number (Given Quiet e) k = clash k refl
-alert-number (Given Alert e) k = refl
-alert-number (Refused n) k = clash k refl
-
 -- ---- records up to and with it
-
-quiet-no-alert : (a : Answer) → isQuiet a ≡ true → isAlert a ≡ false
-quiet-no-alert (Given Quiet e) q = refl
-quiet-no-alert (Given Alert e) q = clash q refl
-quiet-no-alert (Refused n) q = clash q refl
 
 -- none is taken only if there is none
 none-taken : (s : List ℕ) (rs : List (List ℕ)) → take (stopCount (runAnswers s rs)) rs ≡ [] → isAlert (stopAnswer (runAnswers s rs)) ≡ false
@@ -117,23 +106,12 @@ step-keeps s r g = by (eqb (refusalOf s r) 0) refl
     by true e = unfold sessionLengthGood in (eq-eqb (length (stepEffect s r)) sessionLength (effect-long s r (eqb-true (refusalOf s r) 0 e)))
     by false e = ap sessionLengthGood (refused-effect s r (eqb-false (refusalOf s r) 0 e)) ∙ g
 
--- the number of an answer tells quiet, alert and 9 from all others
-record Numbered (a : Answer) : Type 0 where
-  quietAlone : answerNumber a ≡ quietNumber → isQuiet a ≡ true
-  alertAlone : answerNumber a ≡ alertNumber → isAlert a ≡ true
-  never9 : answerNumber a ≢ lentLength
-
-accepted-numbered : (a : Answer) → accepted a ≡ true → Numbered a
-accepted-numbered (Given Quiet e) k = record { quietAlone = λ z. refl; alertAlone = λ z. absurd (omega arith); never9 = λ z. omega arith }
-accepted-numbered (Given Alert e) k = record { quietAlone = λ z. absurd (omega arith); alertAlone = λ z. refl; never9 = λ z. omega arith }
-accepted-numbered (Refused n) k = clash k refl
-
--- so it is of each record's answer on a session of the right length
+-- the number of each record's answer tells quiet, alert and 9 from all others on a session of the right length
 step-numbered : (s r : List ℕ) → sessionLengthGood s ≡ true → Numbered (stepAnswer s r)
 step-numbered s r g = by (eqb (refusalOf s r) 0) refl
   where
     by : (b : Bool) → eqb (refusalOf s r) 0 ≡ b → Numbered (stepAnswer s r)
-    by true z = accepted-numbered (stepAnswer s r) (answered s r (eqb-true (refusalOf s r) 0 z))
+    by true z = given-numbered (stepAnswer s r) (answered s r (eqb-true (refusalOf s r) 0 z))
     by false z =
         let n = eqb-false (refusalOf s r) 0 z in
         let h = number-refused s r n in
@@ -145,7 +123,7 @@ step-numbered s r g = by (eqb (refusalOf s r) 0) refl
 
 stop-numbered : (s : List ℕ) (rs : List (List ℕ)) → sessionLengthGood s ≡ true → Numbered (stopAnswer (runAnswers s rs))
 unfolding stopAnswer runAnswers stepOn
-stop-numbered s [] g = accepted-numbered (quiet 0 0) refl
+stop-numbered s [] g = given-numbered (quiet 0 0) refl
 stop-numbered s (x ∷ rs) g = by (isQuiet (stepAnswer s x)) (stop-numbered (stepEffect s x) rs (step-keeps s x g))
   where
     by : (b : Bool) → Numbered (stopAnswer (runAnswers (stepEffect s x) rs)) → Numbered (cond b (stopAnswer (runAnswers (stepEffect s x) rs)) (stepAnswer s x))

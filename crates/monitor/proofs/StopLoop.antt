@@ -7,7 +7,7 @@ use mathlib.Core.List.{List, [], _∷_}
 use lib.ListN.{length, take, drop}
 use Rattle.answers.specs.Refusals.{lentLength}
 use Rattle.answers.specs.declared.Answer.{Answer}
-use Rattle.answers.specs.Answers.{quiet, refused}
+use Rattle.answers.specs.Answers.{quiet, refused, isQuiet}
 use Rattle.session.specs.Limits.{sessionLength}
 use Rattle.session.specs.Session.{sessionLengthGood}
 use Rattle.records.specs.Records.{recordLength}
@@ -16,7 +16,7 @@ use Rattle.records.proofs.TraceLaws.{next-record, no-record, record-length}
 use Rattle.monitor.specs.declared.Ran.{Ran}
 use Rattle.monitor.specs.Steps.{stepAnswer, stepEffect}
 use Rattle.monitor.specs.Runs.{stepOn, runAnswers, runEffect}
-use Rattle.monitor.specs.Stops.{isQuiet, stopAnswer, stopCount, ran, ranEffect}
+use Rattle.monitor.specs.Stops.{stopAnswer, stopCount, ran, ranEffect}
 use borrow.Author.Tests.{eq-eqb, ne-eqb}
 
 -- ---- a list of records: where it stops, and the session that it leaves

@@ -18,7 +18,8 @@ use Rattle.lists.proofs.Conditions.{given-among, given-none}
 use Rattle.fields.specs.Bytes.{Bytes}
 use Rattle.answers.specs.Refusals.{operationRecord, lentLength, row, noProcess, wrongKind, notFree, notDeclared, otherUser, overLimit}
 use Rattle.answers.specs.declared.Answer.{Answer}
-use Rattle.answers.specs.Answers.{quiet, alert, refused, accepted, isAlert, receiverOf, tagOf, answerNumber}
+use Rattle.answers.specs.Answers.{quiet, alert, refused, isQuiet, isAlert, isRefused, accepted, receiverOf, tagOf, answerNumber}
+use Rattle.answers.proofs.Cases.{given-accepted, alert-number, accepted-number}
 use Rattle.rules.specs.Sets.{atom}
 use Rattle.rules.specs.Rules.{covers}
 use Rattle.image.specs.Limits.{containerLimit, userLimit, isFree}
@@ -43,15 +44,15 @@ use Rattle.operations.specs.Effects.{rowsGood, sessionConditions}
 use Rattle.operations.proofs.PlacedRows.{Valid, placed-row, placed-other, placed-user}
 use Rattle.monitor.specs.Steps.{stepAsked, stepConditions, refusalOf, stepAnswer, stepEffect}
 use Rattle.monitor.specs.Runs.{stepOn, runAnswers, runEffect, historyIn}
-use Rattle.monitor.specs.Stops.{isQuiet, ran, ranEffect}
-use Rattle.monitor.proofs.StepLaws.{numbers, refused-at, refused-answer, refused-effect, step-long, step-record, step-receiver, step-laid, effect-long, accepted-answer, accepted-effect, answered, answered-zero, faithful}
+use Rattle.monitor.specs.Stops.{ran, ranEffect}
+use Rattle.monitor.proofs.StepLaws.{numbers, refused-at, refused-answer, refused-effect, step-long, step-record, step-receiver, step-laid, effect-long, made-answer, made-effect, answered, answered-zero, accepted-zero, faithful}
 use Rattle.monitor.proofs.AnswerLaws as answers
-use Rattle.monitor.proofs.AnswerLaws.{verdict-judged, new-quiet, number-told}
+use Rattle.monitor.proofs.AnswerLaws.{verdict-judged, new-quiet}
 use Rattle.monitor.proofs.BehalfLaws.{Other, behalf-fails, other-same, process-named}
 use Rattle.monitor.proofs.StartView.{start-valid, start-view}
 use Rattle.monitor.proofs.RunLaws.{valid-run, never-10, runEffect-append}
 use Rattle.monitor.proofs.DemandLaws.{alert-at, tag-at, alert-last}
-use Rattle.monitor.proofs.StopLaws.{stopped, all-quiet, quiet-stop, alert-number, length-run, ran-good, ran-alert, number-9, number-0, number-256, answers-split, effect-split}
+use Rattle.monitor.proofs.StopLaws.{stopped, all-quiet, quiet-stop, length-run, ran-good, ran-alert, number-9, number-0, number-256, answers-split, effect-split}
 
 -- ---- DEMAND 3 (the paper, "Chains")
 
@@ -114,7 +115,7 @@ tag-exactly image lent bytes ok rs given g n r a er ea k t et h eh =
 
 -- Demand 3 of one step on the session that a run has left.
 pub alert-next : (image lent : List ℕ) → Bytes image → startAnswer image lent ≡ 0 → (rs : List (List ℕ)) (r : List ℕ)
-    → refusalOf (runEffect (startEffect image lent) rs) r ≡ 0 → judged (stepAsked r) ≡ true
+    → accepted (stepAnswer (runEffect (startEffect image lent) rs) r) ≡ true → judged (stepAsked r) ≡ true
     → (isAlert (stepAnswer (runEffect (startEffect image lent) rs) r) ≡ true)
     ↔ Forbidden (policyIn image) (historyIn (rs ++ (r ∷ [])) (runAnswers (startEffect image lent) (rs ++ (r ∷ [])))) (receiver (stepAsked r))
 alert-next image lent bytes ok rs r e j = alert-last (startEffect image lent) (policyIn image) rs r e (demand3-started image lent bytes ok) j
@@ -159,15 +160,15 @@ unfolding ranEffect
 ran-on s t = (answers-split s t (ran s t .taken), effect-split s t (ran s t .taken))
 
 -- Demand 3 of it. The start did not refuse, the records rs were run, then those of the bytes t, of which qs and r were taken. If r
--- is not refused and has a code of 1 to 5, an alert is given exactly when its receiver is forbidden what it holds after that history.
+-- is accepted and has a code of 1 to 5, an alert is given exactly when its receiver is forbidden what it holds after that history.
 pub ran-exactly : (image lent : List ℕ) → Bytes image → startAnswer image lent ≡ 0 → (rs : List (List ℕ)) (s : List ℕ) → runEffect (startEffect image lent) rs ≡ s
     → (t : List ℕ) (qs : List (List ℕ)) (r : List ℕ) → take (ran s t .taken) (traceRecords t) ≡ qs ++ (r ∷ [])
-    → refusalOf (runEffect s qs) r ≡ 0 → judged (stepAsked r) ≡ true
+    → accepted (stepAnswer (runEffect s qs) r) ≡ true → judged (stepAsked r) ≡ true
     → (isAlert (ran s t .answer) ≡ true)
     ↔ Forbidden (policyIn image) (historyIn ((rs ++ qs) ++ (r ∷ [])) (runAnswers (startEffect image lent) ((rs ++ qs) ++ (r ∷ [])))) (receiver (stepAsked r))
 ran-exactly image lent bytes ok rs s es t qs r et e j =
     let m : runEffect (startEffect image lent) (rs ++ qs) ≡ runEffect s qs = runEffect-append (startEffect image lent) rs qs ∙ ap (λ (x : List ℕ). runEffect x qs) es in
-    rw (ran-alert s t qs r et, ← m) (alert-next image lent bytes ok (rs ++ qs) r (ap (λ (x : List ℕ). refusalOf x r) m ∙ e) j)
+    rw (ran-alert s t qs r et, ← m) (alert-next image lent bytes ok (rs ++ qs) r (ap (λ (x : List ℕ). accepted (stepAnswer x r)) m ∙ e) j)
 
 -- ---- each refusal has its condition, and is given only under it: of any session and any record (the paper, "Refused ..")
 
@@ -244,12 +245,16 @@ module _ (s r : List ℕ) where
   unfolding refusalOf stepConditions sessionConditions tableConditions earlyConditions numbersOf
   refusals = given-among (stepConditions s r)
 
-  -- the answer is the refusal, or quiet or alert
+  -- the answer is the refusal, or one that is not refused
   pub answer-refused : refusalOf s r ≢ 0 → stepAnswer s r ≡ refused (refusalOf s r)
   answer-refused = refused-answer s r
 
+  pub answer-given : (isRefused (stepAnswer s r) ≡ false) ↔ (refusalOf s r ≡ 0)
+  answer-given = (answered-zero s r, answered s r)
+
+  -- what is not refused is accepted
   pub answer-accepted : (accepted (stepAnswer s r) ≡ true) ↔ (refusalOf s r ≡ 0)
-  answer-accepted = (answered-zero s r, answered s r)
+  answer-accepted = (accepted-zero s r, λ e. given-accepted (stepAnswer s r) (answered s r e))
 
 -- ---- the session stays as the paper's section "Session" says
 
@@ -339,11 +344,14 @@ module _ (image : List ℕ) (bytes : Bytes image) (ok : checkOf image ≡ 0) (rs
 pub refused-nothing : (s r : List ℕ) → refusalOf s r ≢ 0 → stepEffect s r ≡ s
 refused-nothing = refused-effect
 
--- a step that is not refused writes the receiver's row, which is then as "Session" says, and nothing else
-module _ (s r : List ℕ) (e : refusalOf s r ≡ 0) where
+-- an accepted step writes the receiver's row, which is then as "Session" says, and nothing else
+module _ (s r : List ℕ) (a : accepted (stepAnswer s r) ≡ true) where
+  e : refusalOf s r ≡ 0
+  e = accepted-zero s r a
+
   pub effect-row : containerRow (stepEffect s r) (receiver (stepAsked r)) ≡ rowWords (entry (view s) (stepAsked r) .row)
   effect-row =
-      rw (accepted-effect s r e)
+      rw (made-effect s r e)
       (placed-row s (step-long s r e) (receiver (stepAsked r)) (step-receiver s r e) (entry (view s) (stepAsked r) .row) (step-laid s r e))
 
   pub effect-good : containerRowGood (containerRow (stepEffect s r) (receiver (stepAsked r))) ≡ true
@@ -351,12 +359,12 @@ module _ (s r : List ℕ) (e : refusalOf s r ≡ 0) where
 
   pub effect-others : (d : ℕ) → d ≢ receiver (stepAsked r) → containerRow (stepEffect s r) d ≡ containerRow s d
   effect-others d n =
-      rw (accepted-effect s r e)
+      rw (made-effect s r e)
       (placed-other s (step-long s r e) (receiver (stepAsked r)) (step-receiver s r e) (entry (view s) (stepAsked r) .row) (step-laid s r e) d n)
 
   pub effect-users : (u : ℕ) → userRow (stepEffect s r) u ≡ userRow s u
   effect-users u =
-      rw (accepted-effect s r e)
+      rw (made-effect s r e)
       (placed-user s (step-long s r e) (receiver (stepAsked r)) (step-receiver s r e) (entry (view s) (stepAsked r) .row) (step-laid s r e) u)
 
   pub effect-length : length (stepEffect s r) ≡ sessionLength
@@ -368,15 +376,15 @@ module _ (s r : List ℕ) (e : refusalOf s r ≡ 0) where
       ≡ cond (covers (entry (view s) (stepAsked r) .row .permit) (entry (view s) (stepAsked r) .row .tag))
       (quiet (receiver (stepAsked r)) (entry (view s) (stepAsked r) .row .tag))
       (alert (receiver (stepAsked r)) (entry (view s) (stepAsked r) .row .tag))
-  answer-judged j = accepted-answer s r e ∙ verdict-judged (stepAsked r) (entry (view s) (stepAsked r) .row) j
+  answer-judged j = made-answer s r e ∙ verdict-judged (stepAsked r) (entry (view s) (stepAsked r) .row) j
 
   -- "6 and 7 answer quiet", with "empty tag"; 8 and 9 "answer quiet with tag 0"
   pub answer-new : judged (stepAsked r) ≡ false → stepAnswer s r ≡ quiet (receiver (stepAsked r)) 0
-  answer-new j = accepted-answer s r e ∙ new-quiet (view s) (stepAsked r) j
+  answer-new j = made-answer s r e ∙ new-quiet (view s) (stepAsked r) j
 
 -- the answer as one number: 0 quiet, 256 alert, else the refusal, which is neither
-pub number-accepted : (s r : List ℕ) → refusalOf s r ≡ 0 → answerNumber (stepAnswer s r) ≡ cond (isAlert (stepAnswer s r)) 256 0
-number-accepted = number-told
+pub number-accepted : (s r : List ℕ) → accepted (stepAnswer s r) ≡ true → answerNumber (stepAnswer s r) ≡ cond (isAlert (stepAnswer s r)) 256 0
+number-accepted s r a = accepted-number (stepAnswer s r) a
 
 pub number-refused : (s r : List ℕ) → refusalOf s r ≢ 0 → (answerNumber (stepAnswer s r) ≡ refusalOf s r) × (refusalOf s r ≢ 256)
 number-refused = answers.number-refused
@@ -388,4 +396,4 @@ refused-zeros = answers.refused-zeros
 -- each accepted record spells a step, so that the history has it
 pub accepted-spelled : (s r : List ℕ) → accepted (stepAnswer s r) ≡ true → stepOf r ≡ some (stepAsked r)
 unfolding stepAsked
-accepted-spelled s r a = record-step r (step-record s r (answered-zero s r a))
+accepted-spelled s r a = record-step r (step-record s r (accepted-zero s r a))

@@ -10,7 +10,7 @@ use Rattle.answers.specs.Answers.{refused}
 use Rattle.session.specs.Session.{sessionLengthGood}
 use Rattle.chains.specs.History.{Step}
 use Rattle.records.specs.Records.{requestIn, stepIn, recordGood}
-use Rattle.operations.specs.Effects.{sessionConditions, acceptedAnswer, acceptedEffect}
+use Rattle.operations.specs.Effects.{sessionConditions, madeAnswer, madeEffect}
 
 -- the step that the bytes of a record ask for
 unfoldable pub stepAsked : List ℕ → Step
@@ -27,7 +27,7 @@ refusalOf s r = firstFailed (stepConditions s r)
 
 -- "A refusal returns its number, zeros elsewhere, and changes no lent memory."
 unfoldable pub stepAnswer : List ℕ → List ℕ → Answer
-stepAnswer s r = cond (eqb (refusalOf s r) 0) (acceptedAnswer s (stepAsked r)) (refused (refusalOf s r))
+stepAnswer s r = cond (eqb (refusalOf s r) 0) (madeAnswer s (stepAsked r)) (refused (refusalOf s r))
 
 unfoldable pub stepEffect : List ℕ → List ℕ → List ℕ
-stepEffect s r = cond (eqb (refusalOf s r) 0) (acceptedEffect s (stepAsked r)) s
+stepEffect s r = cond (eqb (refusalOf s r) 0) (madeEffect s (stepAsked r)) s

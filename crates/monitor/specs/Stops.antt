@@ -1,22 +1,15 @@
 -- A run that stops: the records of a trace one after the other, up to and with the first that is not answered quiet.
 use Prim.Native.Nat.{ℕ, suc}
-use mathlib.Core.Bool.{Bool, true, false, cond}
+use mathlib.Core.Bool.{cond}
 use mathlib.Core.List.{List, [], _∷_}
 use lib.ListN.{take}
 use Rattle.answers.specs.Refusals.{lentLength}
 use Rattle.answers.specs.declared.Answer.{Answer}
-use Rattle.answers.specs.declared.Answer.the-variants.{Given, Refused}
-use Rattle.answers.specs.declared.Verdict.the-variants.{Quiet, Alert}
-use Rattle.answers.specs.Answers.{quiet, refused}
+use Rattle.answers.specs.Answers.{quiet, refused, isQuiet}
 use Rattle.session.specs.Session.{sessionLengthGood}
 use Rattle.records.specs.Traces.{traceRecords}
 use Rattle.monitor.specs.declared.Ran.{Ran}
 use Rattle.monitor.specs.Runs.{runAnswers, runEffect}
-
-abbrev pub isQuiet : Answer → Bool
-isQuiet (Given Quiet e) = true
-isQuiet (Given Alert e) = false
-isQuiet (Refused n) = false
 
 -- the first answer that is not quiet; quiet, with zeros, if there is none
 unfoldable pub stopAnswer : List Answer → Answer

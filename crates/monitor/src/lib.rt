@@ -1,7 +1,7 @@
 // The monitor: a record on a lent session, and a run over many records (the paper, "Operations" and "Refused ..").
 ghost use mathlib.Core.Path.{_≡_};
 ghost use Rattle.monitor.specs.Steps.{stepAnswer, stepEffect};
-ghost use Rattle.monitor.specs.Stops.{isQuiet, ran, ranEffect};
+ghost use Rattle.monitor.specs.Stops.{ran, ranEffect};
 use answers::Answer;
 use answers::Received;
 use answers::Verdict;
@@ -29,19 +29,6 @@ pub struct Ran {
     pub taken: usize,
 }
 
-// The access was made, and is permitted.
-fn is_quiet(answer: Answer) -> bool
-    ensures { λ r. ⌜ r ≡ isQuiet answer ⌝ }
-{
-    match answer {
-        Answer::Given(verdict, _) => match verdict {
-            Verdict::Quiet => true,
-            Verdict::Alert => false,
-        },
-        Answer::Refused(_) => false,
-    }
-}
-
 // The records of the trace on the session, which must have 5,536 numbers, up to and with the first that is not answered quiet. Any
 // bytes and any numbers end in an answer.
 pub fn run(session: &mut [u64], trace: &[u8]) -> Ran
@@ -59,7 +46,7 @@ pub fn run(session: &mut [u64], trace: &[u8]) -> Ran
         let bytes = records::record_at(trace, at);
         let answer = step(session, bytes);
         taken += 1;
-        if !is_quiet(answer) {
+        if !answers::is_quiet(answer) {
             return Ran {
                 answer: answer,
                 taken: taken,

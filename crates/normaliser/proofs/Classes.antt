@@ -10,7 +10,7 @@ use lib.ListN.{length, getD}
 use borrow.Author.Tests.{eqb-true, eq-eqb, ltb-true}
 use Rattle.lists.proofs.Bools.{or-0, or-1, or-cases, clash, same-test}
 use Rattle.lists.proofs.Same.{same-refl, same-eq}
-use Rattle.lists.specs.Lists.{elem, sameList, every, known, position}
+use Rattle.lists.specs.Lists.{elem, sameList, every, known, knownBy, position, positionBy}
 use Rattle.image.specs.Limits.{unrestrictedNumber}
 use Rattle.image.specs.Policy.{unrestrictedRule, ruleAt, named}
 use Rattle.image.specs.Normal.{noted, numbered, numberOf}
@@ -19,7 +19,7 @@ use Rattle.image.proofs.Numbering.{settled, number-rule}
 use Rattle.normaliser.specs.Tables.{withClass, withClasses, indexOf, placeIn}
 
 known-at : (rules : List (List ℕ)) (n : ℕ) → n < length rules → known (getD rules n []) rules ≡ true
-unfolding known
+unfolding knownBy
 known-at [] n h = absurd (omega arith)
 known-at (r ∷ rules) zero h = or-0 (sameList r r) (known r rules) (same-refl r)
 known-at (r ∷ rules) (suc n) h = or-1 (sameList (getD rules n []) r) (known (getD rules n []) rules) (known-at rules n (omega arith))
@@ -56,13 +56,13 @@ module _ (F : List (List ℕ)) (few : length F ≤ unrestrictedNumber) where
   number-unrestricted r h = ap (eqb (numberOf F r)) (sym number-none) ∙ number-same r unrestrictedRule h settled-none
 
   elem-known : (r : List ℕ) (T : List (List ℕ)) → settled F r ≡ true → every (settled F) T ≡ true → elem (numberOf F r) (map (numberOf F) T) ≡ known r T
-  unfolding elem known
+  unfolding elem knownBy
   elem-known r [] h k = refl
   elem-known r (s ∷ T) h k =
       ap₂ _||_ (number-same r s h (every-0 (settled F) s T k)) (elem-known r T h (every-1 (settled F) s T k))
 
   index-position : (r : List ℕ) (T : List (List ℕ)) → settled F r ≡ true → every (settled F) T ≡ true → indexOf (numberOf F r) (map (numberOf F) T) ≡ position r T
-  unfolding indexOf position
+  unfolding indexOf positionBy
   index-position r [] h k = refl
   index-position r (s ∷ T) h k =
       ap₂ (λ (b : Bool) (n : ℕ). cond b 0 (suc n)) (number-same r s h (every-0 (settled F) s T k)) (index-position r T h (every-1 (settled F) s T k))

@@ -11,23 +11,24 @@ use lib.ListN.{length, getD, take, drop, length-take, length-drop}
 use lib.Seq.{drop-cons}
 use Rattle.lists.proofs.Bools.{refuted}
 use Rattle.lists.proofs.Same.{same-refl, same-eq}
-use Rattle.lists.specs.Lists.{sameList, position}
+use Rattle.lists.specs.Lists.{sameList, position, positionBy}
 use Rattle.rules.specs.Rules.{unrestricted}
 use Rattle.fields.specs.Bytes.{records}
 use Rattle.image.specs.Policy.{unrestrictedRule}
-use Rattle.rule_words.specs.Words.{ruleWidth, ruleOf}
+use Rattle.rule_words.specs.Words.{ruleOf}
+use Rattle.normaliser.specs.Writer.{formWidth}
 use Rattle.fields.proofs.RecordLaws.{records-count}
 use Rattle.normaliser.specs.Keys.{wordsAt}
 use Rattle.normaliser.proofs.FormLaws.{words-at}
 
 -- the words of a rule, lent
-pub words-part : (forms : List ℕ) (k : ℕ) → take (k * ruleWidth + ruleWidth - k * ruleWidth) (drop (k * ruleWidth) forms) ≡ wordsAt forms k
+pub words-part : (forms : List ℕ) (k : ℕ) → take (k * formWidth + formWidth - k * formWidth) (drop (k * formWidth) forms) ≡ wordsAt forms k
 unfolding wordsAt
 words-part forms k = rw add-sub-cancel-left
 
 -- ---- the unrestricted rule
 
-module _ (ws : List ℕ) (h : length ws ≡ ruleWidth) where
+module _ (ws : List ℕ) (h : length ws ≡ formWidth) where
   pub other-count : (getD ws 0 0 ≡ 1 → ⊥) → false ≡ sameList (ruleOf ws) unrestrictedRule
   unfolding ruleOf unrestrictedRule unrestricted
   other-count d =
@@ -48,29 +49,29 @@ module _ (ws : List ℕ) (h : length ws ≡ ruleWidth) where
 
 pub record Seeking (forms : List ℕ) (k j : ℕ) : Type 0 where
   pub place : j ≤ k
-  pub rest : j + position (wordsAt forms k) (drop j (records ruleWidth forms)) ≡ position (wordsAt forms k) (records ruleWidth forms)
+  pub rest : j + position (wordsAt forms k) (drop j (records formWidth forms)) ≡ position (wordsAt forms k) (records formWidth forms)
 
 pub seek-start : (forms : List ℕ) (k : ℕ) → Seeking forms k 0
 seek-start forms k = record { place = omega arith; rest = omega arith }
 
-module _ (forms : List ℕ) (k j : ℕ) (l : k < length forms / ruleWidth) (g : Seeking forms k j) where
-  step : position (wordsAt forms k) (drop j (records ruleWidth forms))
-      ≡ cond (sameList (wordsAt forms k) (wordsAt forms j)) 0 (suc (position (wordsAt forms k) (drop (j + 1) (records ruleWidth forms))))
-  unfolding position
+module _ (forms : List ℕ) (k j : ℕ) (l : k < length forms / formWidth) (g : Seeking forms k j) where
+  step : position (wordsAt forms k) (drop j (records formWidth forms))
+      ≡ cond (sameList (wordsAt forms k) (wordsAt forms j)) 0 (suc (position (wordsAt forms k) (drop (j + 1) (records formWidth forms))))
+  unfolding positionBy
   step =
-      let q : j < length (records ruleWidth forms) = omega (arith, records-count ruleWidth forms, g .place) in
-      let s : j < length forms / ruleWidth = omega (arith, g .place) in
-      rw (add-one, drop-cons (records ruleWidth forms) j [] q, words-at forms j s)
+      let q : j < length (records formWidth forms) = omega (arith, records-count formWidth forms, g .place) in
+      let s : j < length forms / formWidth = omega (arith, g .place) in
+      rw (add-one, drop-cons (records formWidth forms) j [] q, words-at forms j s)
 
-  pub seek-found : true ≡ sameList (wordsAt forms k) (wordsAt forms j) → j ≡ position (wordsAt forms k) (records ruleWidth forms)
+  pub seek-found : true ≡ sameList (wordsAt forms k) (wordsAt forms j) → j ≡ position (wordsAt forms k) (records formWidth forms)
   seek-found h = omega (arith, rw (← h) at step, g .rest)
 
   pub seek-next : j < k → false ≡ sameList (wordsAt forms k) (wordsAt forms j) → Seeking forms k (j + 1)
   seek-next m h =
-      let e : position (wordsAt forms k) (drop j (records ruleWidth forms)) ≡ suc (position (wordsAt forms k) (drop (j + 1) (records ruleWidth forms))) = rw (← h) at step in
+      let e : position (wordsAt forms k) (drop j (records formWidth forms)) ≡ suc (position (wordsAt forms k) (drop (j + 1) (records formWidth forms))) = rw (← h) at step in
       record { place = omega arith; rest = omega (arith, g .rest) }
 
-  pub seek-end : k ≤ j → j ≡ position (wordsAt forms k) (records ruleWidth forms)
+  pub seek-end : k ≤ j → j ≡ position (wordsAt forms k) (records formWidth forms)
   seek-end m =
       let q : j ≡ k = omega (arith, g .place) in
       seek-found (sym (ap (λ (x : ℕ). sameList (wordsAt forms k) (wordsAt forms x)) q ∙ same-refl (wordsAt forms k)))

@@ -12,13 +12,13 @@ use lib.ListN.{length, getD, drop, set, replicate, length-set, length-replicate,
 use lib.Seq.{drop-cons, getD-set-same, getD-set-other}
 use Rattle.lists.proofs.Bools.{refuted}
 use Rattle.lists.proofs.Same.{same-eq}
-use Rattle.lists.specs.Lists.{sameList, position}
+use Rattle.lists.specs.Lists.{sameList, position, positionBy}
 use Rattle.image.specs.Limits.{unrestrictedNumber}
 use Rattle.fields.specs.Bytes.{records}
 use Rattle.image.specs.Policy.{unrestrictedRule}
-use Rattle.rule_words.specs.Words.{ruleWidth, ruleOf}
+use Rattle.rule_words.specs.Words.{ruleOf}
 use Rattle.fields.proofs.RecordLaws.{records-count}
-use Rattle.normaliser.specs.Writer.{useLimit}
+use Rattle.normaliser.specs.Writer.{formWidth, useLimit}
 use Rattle.normaliser.specs.Tables.{formAt, classOf, Classified}
 use Rattle.normaliser.specs.Keys.{wordsAt, mixed, keyLimit, spread, keyOf, Keyed}
 use Rattle.normaliser.proofs.FirstEqual.{Seeking, seek-start, seek-next, seek-end}
@@ -117,7 +117,7 @@ module _ (forms keys : List ℕ) (k h : ℕ) (g : Keyed forms keys k) (e : h ≡
         (λ s. let q : keyOf (length keys) (wordsAt forms j) ≡ h = ap (keyOf (length keys)) (sym (same-eq (wordsAt forms k) (wordsAt forms j) s)) ∙ sym e in
         omega (arith, z, ap (λ (x : ℕ). getD keys x 0) q, g .seen j m)))
 
-    module _ (b : k < length forms / ruleWidth) where
+    module _ (b : k < length forms / formWidth) where
       seeks : (j : ℕ) → j ≤ k → Seeking forms k j
       seeks zero m = seek-start forms k
       seeks (suc j) m = rw (add-one j) at (seek-next forms k j b (seeks j (omega arith)) (omega arith) (unlike j (omega arith)))
@@ -146,13 +146,13 @@ same-class forms j k e = rw e
 pub class-old : (forms classes : List ℕ) (j k : ℕ) → Classified forms classes k → j < k → true ≡ sameList (wordsAt forms k) (wordsAt forms j) → getD classes j 0 ≡ classOf forms k
 class-old forms classes j k t l s = t .is j l ∙ same-class forms j k (same-eq (wordsAt forms k) (wordsAt forms j) (sym s))
 
-pub class-sought : (forms : List ℕ) (k r first : ℕ) → r ≡ cond (sameList (ruleOf (wordsAt forms k)) unrestrictedRule) unrestrictedNumber first → first ≡ position (wordsAt forms k) (records ruleWidth forms) → r ≡ classOf forms k
+pub class-sought : (forms : List ℕ) (k r first : ℕ) → r ≡ cond (sameList (ruleOf (wordsAt forms k)) unrestrictedRule) unrestrictedNumber first → first ≡ position (wordsAt forms k) (records formWidth forms) → r ≡ classOf forms k
 unfolding classOf formAt
 class-sought forms k r first e f = e ∙ ap (cond (sameList (ruleOf (wordsAt forms k)) unrestrictedRule) unrestrictedNumber) f
 
 -- a class is a number of 16 bits
 position-most : (r : List ℕ) (t : List (List ℕ)) → position r t ≤ length t
-unfolding position
+unfolding positionBy
 position-most r [] = omega arith
 position-most r (x ∷ t) = by (sameList r x) (position-most r t)
   where
@@ -160,10 +160,10 @@ position-most r (x ∷ t) = by (sameList r x) (position-most r t)
     by true h = omega arith
     by false h = omega arith
 
-pub class-fits : (forms : List ℕ) (k : ℕ) → length forms / ruleWidth ≤ useLimit → classOf forms k < 2 ^ 16
+pub class-fits : (forms : List ℕ) (k : ℕ) → length forms / formWidth ≤ useLimit → classOf forms k < 2 ^ 16
 unfolding classOf
 class-fits forms k l = by (sameList (formAt forms k) unrestrictedRule)
   where
-    by : (b : Bool) → cond b unrestrictedNumber (position (wordsAt forms k) (records ruleWidth forms)) < 2 ^ 16
+    by : (b : Bool) → cond b unrestrictedNumber (position (wordsAt forms k) (records formWidth forms)) < 2 ^ 16
     by true = omega arith
-    by false = omega (arith, position-most (wordsAt forms k) (records ruleWidth forms), records-count ruleWidth forms)
+    by false = omega (arith, position-most (wordsAt forms k) (records formWidth forms), records-count formWidth forms)

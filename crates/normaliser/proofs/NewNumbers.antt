@@ -12,14 +12,13 @@ use Rattle.lists.proofs.Bools.{and-in, and-0, and-1, or-0, or-1, or-cases, clas
 use Rattle.lists.specs.Lists.{sameList, joined, every, known, position}
 use Rattle.image.specs.Limits.{unrestrictedNumber}
 use Rattle.rules.specs.Answers.{mixtureLimit}
-use Rattle.rule_words.specs.Words.{ruleWidth}
 use Rattle.image.specs.Policy.{Container, unrestrictedRule, ruleAt, named}
 use Rattle.image.specs.Image.{containersIn, usersIn}
 use Rattle.image.specs.Normal.{normalAt, placeOf, meaning, placeUses, uses, numbered, numberOf, containerOf}
 use Rattle.lists.proofs.Every.{every-0, every-1, every-nil, every-cons, every-imp, every-append, every-left, every-right, every-both, every-map, map-back}
 use Rattle.image.proofs.Numbering.{settled, all-settled, numbered-every, numbered-few, number-named, number-rule}
 use Rattle.normaliser.specs.Tables.{formAt, formGood, Classified, classAt, classNamed, withClasses, placeIn, Ordered, newNumber, found}
-use Rattle.normaliser.specs.Writer.{formsIn, policyGiven, policyAt, containerUses, Tabled}
+use Rattle.normaliser.specs.Writer.{formWidth, formsIn, policyGiven, policyAt, containerUses, Tabled}
 use Rattle.normaliser.specs.Sections.{renumbered}
 use Rattle.normaliser.proofs.FirstUse.{named-some, classes-append}
 use Rattle.normaliser.proofs.Classes.{settled-at, number-unrestricted, place-number, all-numbered, restricted, numbered-restricted}
@@ -115,9 +114,9 @@ module _ (containers users forms : List ℕ) (t : Tabled containers users forms)
   form-good : (v : ℕ) → v < length F → formGood forms v ≡ true
   unfolding formGood
   form-good v l =
-      let k : v < length forms / ruleWidth = omega (arith, forms-count forms) in
-      and-in (lt-ltb v (length forms / ruleWidth) k)
-      (le-leb (getD forms (v * ruleWidth) 0) mixtureLimit (omega (arith, count-form forms (t .good) v k, form-short forms (t .good) v k)))
+      let k : v < length forms / formWidth = omega (arith, forms-count forms) in
+      and-in (lt-ltb v (length forms / formWidth) k)
+      (le-leb (getD forms (v * formWidth) 0) mixtureLimit (omega (arith, count-form forms (t .good) v k, form-short forms (t .good) v k)))
 
   number-small : (r : List ℕ) → (settled F r && restricted r) ≡ true → numberOf F r < length F
   unfolding restricted
@@ -133,7 +132,7 @@ module _ (containers users forms : List ℕ) (t : Tabled containers users forms)
   form-back : (r : List ℕ) → (settled F r && restricted r) ≡ true → formAt forms (numberOf F r) ≡ r
   form-back r h =
       let l : numberOf F r < length F = number-small r h in
-      let k : numberOf F r < length forms / ruleWidth = omega (arith, forms-count forms) in
+      let k : numberOf F r < length forms / formWidth = omega (arith, forms-count forms) in
       sym (form-at forms (numberOf F r) k) ∙ sym (some (numberOf F r) (λ e. omega (arith, few))) ∙ number-rule F few r (and-0 (settled F r) (restricted r) h)
     where
       some : (v : ℕ) → (v ≡ unrestrictedNumber → ⊥) → ruleAt F v ≡ getD F v []
@@ -146,7 +145,7 @@ module _ (containers users forms : List ℕ) (t : Tabled containers users forms)
   rule-short : (r : List ℕ) → (settled F r && restricted r) ≡ true → leb (length r) mixtureLimit ≡ true
   rule-short r h =
       let l : numberOf F r < length F = number-small r h in
-      let k : numberOf F r < length forms / ruleWidth = omega (arith, forms-count forms) in
+      let k : numberOf F r < length forms / formWidth = omega (arith, forms-count forms) in
       le-leb (length r) mixtureLimit (omega (arith, ap length (form-back r h), form-short forms (t .good) (numberOf F r) k))
 
   pub T-short : length (joined T) ≤ length T * mixtureLimit
@@ -155,7 +154,7 @@ module _ (containers users forms : List ℕ) (t : Tabled containers users forms)
   pub forms-good : every (formGood forms) (map (numberOf F) T) ≡ true
   forms-good = every-map (λ r. settled F r && restricted r) (formGood forms) (numberOf F) T (λ r h. form-good (numberOf F r) (number-small r h)) T-both
 
-  module _ (classes : List ℕ) (told : Classified forms classes (length forms / ruleWidth)) where
+  module _ (classes : List ℕ) (told : Classified forms classes (length forms / formWidth)) where
     class-normal : (k : ℕ) → named (length F) k ≡ true → classAt classes k ≡ numberOf F (normalAt F k)
     class-normal k h = class-at forms (t .good) classes told k h ∙ ap (numberOf F) (sym (normal-at forms (t .good) k h))
 

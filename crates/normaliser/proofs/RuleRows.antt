@@ -19,7 +19,8 @@ use Rattle.fields.specs.Writing.{Wrote}
 use Rattle.fields.proofs.ByteLaws.{bytes-length, joined-length}
 use Rattle.fields.proofs.FieldLaws.{take-mid}
 use Rattle.fields.proofs.RowWriting.{RowsWritten, rows-start, rows-room, rows-next}
-use Rattle.rule_words.specs.Words.{ruleWidth, ruleOf}
+use Rattle.rule_words.specs.Words.{ruleOf}
+use Rattle.normaliser.specs.Writer.{formWidth}
 use Rattle.image.specs.Limits.{ruleSize, mixtureSize}
 use Rattle.image.specs.Image.{Span}
 use Rattle.image.specs.Normal.{spanBytes, spansOf}
@@ -31,43 +32,43 @@ use Rattle.normaliser.specs.Sections.{pairBytes, mixtureBytes, mixtureSe
 -- ---- one rule
 
 module _ (forms : List ℕ) (v : ℕ) (h : formGood forms v ≡ true) where
-  form-in : v < length forms / ruleWidth
+  form-in : v < length forms / formWidth
   unfolding formGood
-  form-in = ltb-true v (length forms / ruleWidth) (and-0 (ltb v (length forms / ruleWidth)) _ h)
+  form-in = ltb-true v (length forms / formWidth) (and-0 (ltb v (length forms / formWidth)) _ h)
 
-  form-small : getD forms (v * ruleWidth) 0 ≤ mixtureLimit
+  form-small : getD forms (v * formWidth) 0 ≤ mixtureLimit
   unfolding formGood
-  form-small = leb-true (getD forms (v * ruleWidth) 0) mixtureLimit (and-1 (ltb v (length forms / ruleWidth)) h)
+  form-small = leb-true (getD forms (v * formWidth) 0) mixtureLimit (and-1 (ltb v (length forms / formWidth)) h)
 
-  first-word : getD (take ruleWidth (drop (v * ruleWidth) forms)) 0 0 ≡ getD forms (v * ruleWidth) 0
+  first-word : getD (take formWidth (drop (v * formWidth) forms)) 0 0 ≡ getD forms (v * formWidth) 0
   first-word =
-      let z : v * ruleWidth + 0 ≡ v * ruleWidth = omega arith in
-      getD-take ruleWidth (drop (v * ruleWidth) forms) 0 0 (omega arith) ∙ getD-drop (v * ruleWidth) forms 0 0 ∙ ap (λ (x : ℕ). getD forms x 0) z
+      let z : v * formWidth + 0 ≡ v * formWidth = omega arith in
+      getD-take formWidth (drop (v * formWidth) forms) 0 0 (omega arith) ∙ getD-drop (v * formWidth) forms 0 0 ∙ ap (λ (x : ℕ). getD forms x 0) z
 
-  form-is : formAt forms v ≡ take (getD forms (v * ruleWidth) 0) (drop (v * ruleWidth + 1) forms)
+  form-is : formAt forms v ≡ take (getD forms (v * formWidth) 0) (drop (v * formWidth + 1) forms)
   unfolding formAt wordsAt ruleOf
   form-is =
-      ap (λ (n : ℕ). take n (drop 1 (take ruleWidth (drop (v * ruleWidth) forms)))) first-word
-      ∙ take-mid (drop (v * ruleWidth) forms) ruleWidth 1 (getD forms (v * ruleWidth) 0) (omega (arith, form-small))
-      ∙ ap (take (getD forms (v * ruleWidth) 0)) (drop-drop 1 (v * ruleWidth) forms)
+      ap (λ (n : ℕ). take n (drop 1 (take formWidth (drop (v * formWidth) forms)))) first-word
+      ∙ take-mid (drop (v * formWidth) forms) formWidth 1 (getD forms (v * formWidth) 0) (omega (arith, form-small))
+      ∙ ap (take (getD forms (v * formWidth) 0)) (drop-drop 1 (v * formWidth) forms)
 
-  form-count : length (formAt forms v) ≡ getD forms (v * ruleWidth) 0
+  form-count : length (formAt forms v) ≡ getD forms (v * formWidth) 0
   form-count =
       ap length form-is
-      ∙ omega (arith, length-take (getD forms (v * ruleWidth) 0) (drop (v * ruleWidth + 1) forms), length-drop (v * ruleWidth + 1) forms, form-small, form-in)
+      ∙ omega (arith, length-take (getD forms (v * formWidth) 0) (drop (v * formWidth + 1) forms), length-drop (v * formWidth + 1) forms, form-small, form-in)
 
 -- what is known of rule v: its words stand in the table, its count is that of its mixtures, and they are lent as a part
 pub record RuleHere (forms : List ℕ) (v : ℕ) : Type 0 where
-  pub inside : v < length forms / ruleWidth
-  pub small : getD forms (v * ruleWidth) 0 ≤ mixtureLimit
-  pub count : length (formAt forms v) ≡ getD forms (v * ruleWidth) 0
-  pub part : take (v * ruleWidth + 1 + getD forms (v * ruleWidth) 0 - (v * ruleWidth + 1)) (drop (v * ruleWidth + 1) forms) ≡ formAt forms v
+  pub inside : v < length forms / formWidth
+  pub small : getD forms (v * formWidth) 0 ≤ mixtureLimit
+  pub count : length (formAt forms v) ≡ getD forms (v * formWidth) 0
+  pub part : take (v * formWidth + 1 + getD forms (v * formWidth) 0 - (v * formWidth + 1)) (drop (v * formWidth + 1) forms) ≡ formAt forms v
 
 -- the part of the words that is lent
-form-part : (forms : List ℕ) (v : ℕ) → formGood forms v ≡ true → take (v * ruleWidth + 1 + getD forms (v * ruleWidth) 0 - (v * ruleWidth + 1)) (drop (v * ruleWidth + 1) forms) ≡ formAt forms v
+form-part : (forms : List ℕ) (v : ℕ) → formGood forms v ≡ true → take (v * formWidth + 1 + getD forms (v * formWidth) 0 - (v * formWidth + 1)) (drop (v * formWidth + 1) forms) ≡ formAt forms v
 form-part forms v h =
-    let e : v * ruleWidth + 1 + getD forms (v * ruleWidth) 0 - (v * ruleWidth + 1) ≡ getD forms (v * ruleWidth) 0 = omega arith in
-    ap (λ (n : ℕ). take n (drop (v * ruleWidth + 1) forms)) e ∙ sym (form-is forms v h)
+    let e : v * formWidth + 1 + getD forms (v * formWidth) 0 - (v * formWidth + 1) ≡ getD forms (v * formWidth) 0 = omega arith in
+    ap (λ (n : ℕ). take n (drop (v * formWidth + 1) forms)) e ∙ sym (form-is forms v h)
 
 pub rule-here : (forms order : List ℕ) (j : ℕ) → every (formGood forms) order ≡ true → j < length order → RuleHere forms (getD order j 0)
 rule-here forms order j h l =
@@ -129,7 +130,7 @@ module _ (forms order : List ℕ) where
 
   module _ {before : List ℕ} {start : ℕ} {out : List ℕ} {at first j : ℕ} (g : SpansWritten before start out at first j) (l : j < length order) (h : RuleHere forms (getD order j 0)) where
     abbrev count : ℕ
-    count = getD forms (getD order j 0 * ruleWidth) 0
+    count = getD forms (getD order j 0 * formWidth) 0
 
     span-row : pairBytes first count ≡ getD spanRows j []
     span-row =

@@ -24,8 +24,7 @@ use Rattle.fields.proofs.ByteLaws.{bytes-length, joined-length}
 use Rattle.fields.specs.Writing.{Wrote}
 use Rattle.fields.proofs.RowWriting.{RowsWritten, rows-room, rows-next}
 use Rattle.image.specs.Limits.{containerSize, userSize}
-use Rattle.rule_words.specs.Words.{ruleWidth}
-use Rattle.normaliser.specs.Writer.{useLimit}
+use Rattle.normaliser.specs.Writer.{formWidth, useLimit}
 use Rattle.normaliser.specs.Tables.{classOf, Classified, classAt, withClasses, Ordered, newNumber}
 use Rattle.normaliser.specs.Writer.{containerUses}
 use Rattle.normaliser.specs.Sections.{renumbered}
@@ -83,12 +82,12 @@ one-at f s i l h = rw (user-at s i l) at (every-getD f (usersIn s) i 0 (omega (a
 
 -- the classes of the first k rules are in the table
 pub record Classing (forms classes₀ classes : List ℕ) (n k : ℕ) : Type 0 where
-  pub count : n ≡ length forms / ruleWidth
+  pub count : n ≡ length forms / formWidth
   pub place : k ≤ n
   pub long : length classes ≡ length classes₀
   pub told : Classified forms classes k
 
-pub classing-start : (forms classes : List ℕ) → length forms / ruleWidth ≤ length classes → length classes ≤ useLimit → Classing forms classes classes (length forms / ruleWidth) 0
+pub classing-start : (forms classes : List ℕ) → length forms / formWidth ≤ length classes → length classes ≤ useLimit → Classing forms classes classes (length forms / formWidth) 0
 classing-start forms classes h f =
     record { count = refl; place = omega arith; long = refl; told = record { room = h; few = f; is = λ k l. absurd (omega arith) } }
 
@@ -106,8 +105,8 @@ module _ {forms classes₀ classes : List ℕ} {n k : ℕ} (g : Classing forms c
       by x m (yes q) = ap (λ (y : ℕ). getD (set classes k v) y 0) q ∙ getD-set-same classes k v 0 (omega (arith, g .count, g .told .room)) ∙ e ∙ ap (classOf forms) (sym q)
       by x m (no d) = getD-set-other classes k x v 0 d ∙ g .told .is x (omega (arith, d))
 
-  pub classing-end : n ≤ k → Classified forms classes (length forms / ruleWidth)
-  classing-end l = let e : k ≡ length forms / ruleWidth = omega (arith, g .count, g .place) in rw e at (g .told)
+  pub classing-end : n ≤ k → Classified forms classes (length forms / formWidth)
+  classing-end l = let e : k ≡ length forms / formWidth = omega (arith, g .count, g .place) in rw e at (g .told)
 
 -- ---- uses, one after the other
 

@@ -12,12 +12,11 @@ use Rattle.lists.specs.Lists.{joined, every}
 use Rattle.lists.proofs.Every.{every-left, every-right}
 use Rattle.fields.specs.Bytes.{bytesOf}
 use Rattle.fields.specs.Writing.{overwritten, Wrote}
-use Rattle.rule_words.specs.Words.{ruleWidth}
 use Rattle.image.specs.Limits.{ruleLimit, userSize, mixtureSize, outputBound}
 use Rattle.image.specs.Policy.{Container, Policy}
 use Rattle.image.specs.Image.{containersIn, usersIn}
 use Rattle.image.specs.Normal.{normalAt, placeOf, meaning, numberOf, containerOf, writtenBy, policyOf, normalPolicy, containerBytes, spanBytes, spansOf, framed, encode, normalImage}
-use Rattle.normaliser.specs.Writer.{policyGiven, formsIn, policyAt, containerUses, Tabled, rulesNeeded, writerAnswer, writerEffect, Answered}
+use Rattle.normaliser.specs.Writer.{formWidth, policyGiven, formsIn, policyAt, containerUses, Tabled, rulesNeeded, writerAnswer, writerEffect, Answered}
 use Rattle.normaliser.specs.Tables.{formAt, Classified, classAt, classNamed, withClasses, Ordered, found}
 use Rattle.normaliser.specs.Sections.{containerSection, userSection, ruleSection, mixtureBytes, mixtureSection, Writable}
 use Rattle.normaliser.proofs.FirstUse.{classes-grow}
@@ -39,8 +38,8 @@ module _ (containers users forms : List ℕ) (t : Tabled containers users forms)
   abbrev policy : Policy
   policy = policyAt containers users forms
 
-  module _ (classes : List ℕ) (told : Classified forms classes (length forms / ruleWidth)) where
-    pub both-fit : length (withClasses (withClasses [] (containerClasses classes)) (userClasses classes)) ≤ length forms / ruleWidth
+  module _ (classes : List ℕ) (told : Classified forms classes (length forms / formWidth)) where
+    pub both-fit : length (withClasses (withClasses [] (containerClasses classes)) (userClasses classes)) ≤ length forms / formWidth
     both-fit =
         omega (
           arith,
@@ -50,10 +49,10 @@ module _ (containers users forms : List ℕ) (t : Tabled containers users forms)
           forms-count forms,
         )
 
-    pub first-fits : length (withClasses [] (containerClasses classes)) ≤ length forms / ruleWidth
+    pub first-fits : length (withClasses [] (containerClasses classes)) ≤ length forms / formWidth
     first-fits = omega (arith, both-fit, classes-grow (withClasses [] (containerClasses classes)) (userClasses classes))
 
-    module _ (w : ℕ) (room : length forms / ruleWidth ≤ w) where
+    module _ (w : ℕ) (room : length forms / formWidth ≤ w) where
       all : every (classNamed classes w) (containerUses (containersIn containers) ++ usersIn users) ≡ true
       all = new.all-classes containers users forms t classes told w (omega (arith, told .room, forms-count forms)) (omega (arith, forms-count forms))
 
@@ -65,13 +64,13 @@ module _ (containers users forms : List ℕ) (t : Tabled containers users forms)
 
   -- the classes in use have their places
   pub record Noted (classes order places : List ℕ) (m : ℕ) : Type 0 where
-    pub told : Classified forms classes (length forms / ruleWidth)
+    pub told : Classified forms classes (length forms / formWidth)
     pub ordered : Ordered order places m
     pub is : take m order ≡ withClasses (withClasses [] (containerClasses classes)) (userClasses classes)
-    pub room : length forms / ruleWidth ≤ length places
+    pub room : length forms / formWidth ≤ length places
 
-  pub noted : {classes first order places : List ℕ} {m : ℕ} → Classified forms classes (length forms / ruleWidth) → first ≡ withClasses [] (containerClasses classes)
-      → take m order ≡ withClasses first (userClasses classes) → Ordered order places m → length forms / ruleWidth ≤ length places → Noted classes order places m
+  pub noted : {classes first order places : List ℕ} {m : ℕ} → Classified forms classes (length forms / formWidth) → first ≡ withClasses [] (containerClasses classes)
+      → take m order ≡ withClasses first (userClasses classes) → Ordered order places m → length forms / formWidth ≤ length places → Noted classes order places m
   noted {classes} told p q g l = record { told = told; ordered = g; is = q ∙ ap (λ (x : List ℕ). withClasses x (userClasses classes)) p; room = l }
 
   module _ {classes order places : List ℕ} {m : ℕ} (n : Noted classes order places m) where

@@ -16,7 +16,7 @@ use Rattle.fields.proofs.RowLaws.{wide, length-wide, rows-length, records-rows}
 use Rattle.rules.specs.Answers.{mixtureLimit}
 use Rattle.rules.specs.Rules.{normal, sort, unheldIn, distinct}
 use Rattle.rules.proofs.RuleLaws.{normal-normal, normal-length}
-use Rattle.rule_words.specs.Words.{ruleWidth, ruleOf, wordsOf, keptWell}
+use Rattle.rule_words.specs.Words.{ruleOf, wordsOf, keptWell}
 use Rattle.rule_words.proofs.WordLaws.{words-rule, words-nine}
 use Rattle.rule_words.proofs.KeptWords.{words-kept}
 use Rattle.image.specs.Limits.{unrestrictedNumber, headerSize, containerSize, userSize, ruleSize, mixtureSize, imageLimit, outputBound, ruleLimit}
@@ -27,7 +27,7 @@ use Rattle.image.proofs.Encode.{container-wide, span-wide, spans-length, policy
 use Rattle.image.proofs.FramedSections.{part-0, part-1}
 use Rattle.fields.proofs.ByteLaws.{bytes-length, joined-length}
 use Rattle.image.proofs.WrittenMeaning.{container-named, meaning-encodable, policy-sound}
-use Rattle.normaliser.specs.Writer.{policyGiven, formWords, formsIn, policyAt, containerUses, Usable, Tabled, rulesNeeded, writerAnswer, writerEffect, Answered}
+use Rattle.normaliser.specs.Writer.{formWidth, policyGiven, formWords, formsIn, policyAt, containerUses, Usable, Tabled, rulesNeeded, writerAnswer, writerEffect, Answered}
 
 -- ---- a policy that an image can spell is one that the writer takes
 
@@ -110,20 +110,20 @@ module _ (rules : List (List ℕ)) (short : every (λ r. leb (length r) mixtureL
       one : (r : List ℕ) → leb (length r) mixtureLimit ≡ true → leb (length (normal r)) mixtureLimit ≡ true
       one r h = le-leb (length (normal r)) mixtureLimit (omega (arith, leb-true (length r) mixtureLimit h, normal-length r))
 
-  words-wide : every (wide ruleWidth) (map wordsOf (map normal rules)) ≡ true
+  words-wide : every (wide formWidth) (map wordsOf (map normal rules)) ≡ true
   words-wide =
-      every-map (λ r. leb (length r) mixtureLimit) (wide ruleWidth) wordsOf (map normal rules)
-      (λ r h. length-wide ruleWidth (wordsOf r) (words-nine r (leb-true (length r) mixtureLimit h))) forms-short
+      every-map (λ r. leb (length r) mixtureLimit) (wide formWidth) wordsOf (map normal rules)
+      (λ r h. length-wide formWidth (wordsOf r) (words-nine r (leb-true (length r) mixtureLimit h))) forms-short
 
-  pub words-length : length (formWords rules) ≡ length rules * ruleWidth
+  pub words-length : length (formWords rules) ≡ length rules * formWidth
   unfolding formWords
   words-length =
-      rows-length ruleWidth (map wordsOf (map normal rules)) words-wide
-      ∙ ap (λ (n : ℕ). n * ruleWidth) (length-map (map normal rules) wordsOf ∙ length-map rules normal)
+      rows-length formWidth (map wordsOf (map normal rules)) words-wide
+      ∙ ap (λ (n : ℕ). n * formWidth) (length-map (map normal rules) wordsOf ∙ length-map rules normal)
 
-  words-rows : records ruleWidth (formWords rules) ≡ map wordsOf (map normal rules)
+  words-rows : records formWidth (formWords rules) ≡ map wordsOf (map normal rules)
   unfolding formWords
-  words-rows = records-rows ruleWidth (map wordsOf (map normal rules)) (omega arith) words-wide
+  words-rows = records-rows formWidth (map wordsOf (map normal rules)) (omega arith) words-wide
 
   words-forms : formsIn (formWords rules) ≡ map normal rules
   unfolding formsIn
@@ -133,7 +133,7 @@ module _ (rules : List (List ℕ)) (short : every (λ r. leb (length r) mixtureL
       undone [] = refl
       undone (r ∷ l) = ap₂ _∷_ (words-rule r) (undone l)
 
-  words-good : every keptWell (records ruleWidth (formWords rules)) ≡ true
+  words-good : every keptWell (records formWidth (formWords rules)) ≡ true
   words-good = rw words-rows (again rules short)
     where
       again : (l : List (List ℕ)) → every (λ r. leb (length r) mixtureLimit) l ≡ true → every keptWell (map wordsOf (map normal l)) ≡ true

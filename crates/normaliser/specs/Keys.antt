@@ -4,11 +4,11 @@ use Prim.Native.Nat.{ℕ, _+_, _*_, _/_, _%_, _^_, _≤_, _<_}
 use mathlib.Core.List.{List, [], _∷_}
 use lib.Bits.{bitOr, bitXor}
 use lib.ListN.{length, getD, take, drop}
-use Rattle.rule_words.specs.Words.{ruleWidth}
+use Rattle.normaliser.specs.Writer.{formWidth}
 
 -- the words of rule k
 unfoldable pub wordsAt : List ℕ → ℕ → List ℕ
-wordsAt forms k = take ruleWidth (drop (k * ruleWidth) forms)
+wordsAt forms k = take formWidth (drop (k * formWidth) forms)
 
 -- the words go into h one after the other: h is rotated, then takes the word's bits
 unfoldable pub mixed : ℕ → List ℕ → ℕ

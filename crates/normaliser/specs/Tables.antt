@@ -10,9 +10,9 @@ use Rattle.rules.specs.Answers.{mixtureLimit}
 use Rattle.image.specs.Limits.{unrestrictedNumber}
 use Rattle.fields.specs.Bytes.{records}
 use Rattle.image.specs.Policy.{unrestrictedRule, named}
-use Rattle.normaliser.specs.Writer.{useLimit}
+use Rattle.normaliser.specs.Writer.{formWidth, useLimit}
 use Rattle.normaliser.specs.Keys.{wordsAt, Keyed}
-use Rattle.rule_words.specs.Words.{ruleWidth, ruleOf}
+use Rattle.rule_words.specs.Words.{ruleOf}
 
 -- ---- the rules
 
@@ -22,18 +22,18 @@ formAt forms k = ruleOf (wordsAt forms k)
 
 -- there is a rule v, and its count is that of a rule
 unfoldable pub formGood : List ℕ → ℕ → Bool
-formGood forms v = ltb v (length forms / ruleWidth) && leb (getD forms (v * ruleWidth) 0) mixtureLimit
+formGood forms v = ltb v (length forms / formWidth) && leb (getD forms (v * formWidth) 0) mixtureLimit
 
 -- ---- classes of equal rules
 
 -- the class of rule k: the number of the first rule with its words; the unrestricted number if it is unrestricted
 unfoldable pub classOf : List ℕ → ℕ → ℕ
 classOf forms k =
-    cond (sameList (formAt forms k) unrestrictedRule) unrestrictedNumber (position (wordsAt forms k) (records ruleWidth forms))
+    cond (sameList (formAt forms k) unrestrictedRule) unrestrictedNumber (position (wordsAt forms k) (records formWidth forms))
 
 -- the table has the classes of the first n rules
 pub record Classified (forms classes : List ℕ) (n : ℕ) : Type 0 where
-  pub room : length forms / ruleWidth ≤ length classes
+  pub room : length forms / formWidth ≤ length classes
   pub few : length classes ≤ useLimit
   pub is : (k : ℕ) → k < n → getD classes k 0 ≡ classOf forms k
 
@@ -97,10 +97,10 @@ abbrev pub fewRules : ℕ
 fewRules = 16
 
 pub record Cleared (forms classes keys order places : List ℕ) : Type 0 where
-  pub classesRoom : length forms / ruleWidth ≤ length classes
+  pub classesRoom : length forms / formWidth ≤ length classes
   pub classesFew : length classes ≤ useLimit
   pub keyed : Keyed forms keys 0
-  pub orderRoom : length forms / ruleWidth ≤ length order
+  pub orderRoom : length forms / formWidth ≤ length order
   pub orderFew : length order ≤ useLimit
-  pub placesRoom : length forms / ruleWidth ≤ length places
+  pub placesRoom : length forms / formWidth ≤ length places
   pub zero : (v : ℕ) → getD places v 0 ≡ 0

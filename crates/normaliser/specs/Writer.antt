@@ -1,5 +1,5 @@
 -- The writer of normal images: what a producer of a policy hands over, and what it is answered.
--- Containers and users stand as an image has them. Rules stand as words, 9 for each, in normal form, so that two are equal just if their words are.
+-- Containers and users stand as an image has them. Rules stand as rows of words in normal form, so that two are equal just if their words are.
 use Prim.Native.Nat.{ℕ, _+_, _*_, _≤_}
 use mathlib.Core.Path.{_≡_}
 use mathlib.Core.Bool.{true, cond}
@@ -23,13 +23,21 @@ use Rattle.rule_words.specs.Words.{ruleWidth, ruleOf, wordsOf, keptWell}
 unfoldable pub policyGiven : List ℕ → List ℕ → List (List ℕ) → Policy
 policyGiven containers users rules = record { containers = containersIn containers; users = usersIn users; rules = rules }
 
--- the words of rules in normal form
-unfoldable pub formWords : List (List ℕ) → List ℕ
-formWords rules = joined (map wordsOf (map normal rules))
+-- how many words a rule's row has
+abbrev pub formWidth : ℕ
+formWidth = ruleWidth
 
--- the rules of words
+-- the row of a rule
+abbrev pub formRow : List ℕ → List ℕ
+formRow rule = wordsOf rule
+
+-- the rows of rules in normal form
+unfoldable pub formWords : List (List ℕ) → List ℕ
+formWords rules = joined (map formRow (map normal rules))
+
+-- the rules of rows
 unfoldable pub formsIn : List ℕ → List (List ℕ)
-formsIn forms = map ruleOf (records ruleWidth forms)
+formsIn forms = map ruleOf (records formWidth forms)
 
 unfoldable pub policyAt : List ℕ → List ℕ → List ℕ → Policy
 policyAt containers users forms = policyGiven containers users (formsIn forms)
@@ -56,7 +64,7 @@ pub record Usable (p : Policy) : Type 0 where
 
 pub record Tabled (containers users forms : List ℕ) : Type 0 where
   pub usable : Usable (policyAt containers users forms)
-  pub good : every keptWell (records ruleWidth forms) ≡ true
+  pub good : every keptWell (records formWidth forms) ≡ true
 
 -- ---- what is answered
 

@@ -11,15 +11,18 @@ ghost use Rattle.image.specs.Limits.{pairSize, unrestrictedNumber, containerSiz
 ghost use Rattle.image.specs.Policy.{unrestrictedRule};
 ghost use Rattle.image.specs.Image.{containersIn, usersIn, spansIn, rulesIn, spansGood};
 ghost use Rattle.image.specs.Normal.{containerBytes, framed, normalImage};
-ghost use Rattle.rule_words.specs.Words.{ruleWidth, ruleOf};
+ghost use Rattle.rule_words.specs.Words.{ruleOf};
 ghost use Rattle.normaliser.specs.Normaliser.{normalAnswer, normalEffect};
-ghost use Rattle.normaliser.specs.Writer.{useLimit, containerUses, policyGiven, policyAt, formWords, Tabled, Answered};
+ghost use Rattle.normaliser.specs.Writer.{formWidth, useLimit, containerUses, policyGiven, policyAt, formWords, Tabled, Answered};
 ghost use Rattle.normaliser.specs.Keys.{wordsAt, mixed, keyLimit, keyOf, Keyed};
 ghost use Rattle.normaliser.specs.Tables.{formAt, formGood, classOf, Classified, classAt, classNamed, withClass, withClasses, Ordered, Placeable, newNumber, found, Cleared, fewRules};
 ghost use Rattle.normaliser.specs.Sections.{pairBytes, headerBytes, containerSection, userSection, ruleSection, mixtureBytes, mixtureSection, Writable, SectionsAccepted};
 
 // The bytes that an output has at least.
 pub const OUTPUT_BOUND: usize = 18994;
+
+// The words of a rule's row.
+pub const FORM_WIDTH: usize = rule_words::RULE_WIDTH;
 
 // The most uses of a rule: two for each container, one for each user. A policy has no more rules to write.
 pub const USE_LIMIT: usize = 528;
@@ -63,7 +66,7 @@ pub fn put_container(
 
 // The words are those of the unrestricted rule.
 fn is_unrestricted(words: &[u64]) -> bool
-    requires { ⌜ length (now words) ≡ ruleWidth ⌝ }
+    requires { ⌜ length (now words) ≡ formWidth ⌝ }
     ensures { λ r. ⌜ r ≡ sameList (ruleOf (now (words .entry))) unrestrictedRule ⌝ }
 {
     if words[0] != 1 {
@@ -74,17 +77,14 @@ fn is_unrestricted(words: &[u64]) -> bool
 
 // The first rule with the words of rule k.
 fn first_same(forms: &[u64], k: usize) -> usize
-    requires { ⌜ k < length (now forms) / ruleWidth ⌝ }
-    ensures { λ r. ⌜ r ≡ position (wordsAt (now (forms .entry)) k) (records ruleWidth (now (forms .entry))) ⌝ }
+    requires { ⌜ k < length (now forms) / formWidth ⌝ }
+    ensures { λ r. ⌜ r ≡ position (wordsAt (now (forms .entry)) k) (records formWidth (now (forms .entry))) ⌝ }
 {
-    let a = k * rule_words::RULE_WIDTH;
+    let a = k * FORM_WIDTH;
     let mut j: usize = 0;
     while j < k {
-        let b = j * rule_words::RULE_WIDTH;
-        if rules::same(
-            &forms[a..a + rule_words::RULE_WIDTH],
-            &forms[b..b + rule_words::RULE_WIDTH],
-        ) {
+        let b = j * FORM_WIDTH;
+        if rules::same(&forms[a..a + FORM_WIDTH], &forms[b..b + FORM_WIDTH]) {
             return j;
         }
         j += 1;
@@ -94,7 +94,7 @@ fn first_same(forms: &[u64], k: usize) -> usize
 
 // The class of a rule, given the first rule with its words.
 fn class_by(words: &[u64], first: usize) -> usize
-    requires { ⌜ length (now words) ≡ ruleWidth ⌝ }
+    requires { ⌜ length (now words) ≡ formWidth ⌝ }
     ensures { λ r. ⌜ r ≡ cond (sameList (ruleOf (now (words .entry))) unrestrictedRule) unrestrictedNumber first ⌝ }
 {
     if is_unrestricted(words) {
@@ -129,32 +129,29 @@ fn key(words: &[u64], n: usize) -> usize
 
 // The class of rule k, given those before it. A rule before it with its key is looked at first; without one it is the first of its class.
 fn class_of(forms: &[u64], classes: &[u16], keys: &mut [u16], k: usize) -> usize
-    requires { ⌜ (k < length (now forms) / ruleWidth) × Classified (now forms) (now classes) k × Keyed (now forms) (now keys) k ⌝ }
+    requires { ⌜ (k < length (now forms) / formWidth) × Classified (now forms) (now classes) k × Keyed (now forms) (now keys) k ⌝ }
     ensures { λ r. ⌜ (r ≡ classOf (now (forms .entry)) k) × Keyed (now (forms .entry)) (now (keys .exit)) (k + 1) ⌝ }
 {
-    let a = k * rule_words::RULE_WIDTH;
-    let h = key(&forms[a..a + rule_words::RULE_WIDTH], keys.len());
+    let a = k * FORM_WIDTH;
+    let h = key(&forms[a..a + FORM_WIDTH], keys.len());
     let j = keys[h] as usize;
     if j == 0 {
         keys[h] = (k + 1) as u16;
-        return class_by(&forms[a..a + rule_words::RULE_WIDTH], k);
+        return class_by(&forms[a..a + FORM_WIDTH], k);
     }
-    let b = (j - 1) * rule_words::RULE_WIDTH;
-    if rules::same(
-        &forms[a..a + rule_words::RULE_WIDTH],
-        &forms[b..b + rule_words::RULE_WIDTH],
-    ) {
+    let b = (j - 1) * FORM_WIDTH;
+    if rules::same(&forms[a..a + FORM_WIDTH], &forms[b..b + FORM_WIDTH]) {
         return classes[j - 1] as usize;
     }
-    class_by(&forms[a..a + rule_words::RULE_WIDTH], first_same(forms, k))
+    class_by(&forms[a..a + FORM_WIDTH], first_same(forms, k))
 }
 
 // The class of each rule.
 fn classify(forms: &[u64], classes: &mut [u16], keys: &mut [u16])
-    requires { ⌜ (length (now forms) / ruleWidth ≤ length (now classes)) × (length (now classes) ≤ useLimit) × Keyed (now forms) (now keys) 0 ⌝ }
-    ensures { λ _. ⌜ Classified (now (forms .entry)) (now (classes .exit)) (length (now (forms .entry)) / ruleWidth) ⌝ }
+    requires { ⌜ (length (now forms) / formWidth ≤ length (now classes)) × (length (now classes) ≤ useLimit) × Keyed (now forms) (now keys) 0 ⌝ }
+    ensures { λ _. ⌜ Classified (now (forms .entry)) (now (classes .exit)) (length (now (forms .entry)) / formWidth) ⌝ }
 {
-    let n = forms.len() / rule_words::RULE_WIDTH;
+    let n = forms.len() / FORM_WIDTH;
     let mut k: usize = 0;
     while k < n {
         let v = class_of(forms, classes, keys, k);
@@ -301,7 +298,7 @@ fn write_spans(out: &mut [u8], start: usize, forms: &[u64], order: &[u16]) -> us
     let mut first: usize = 0;
     let mut j: usize = 0;
     while j < order.len() {
-        let v = (order[j] as usize) * rule_words::RULE_WIDTH;
+        let v = (order[j] as usize) * FORM_WIDTH;
         let count = forms[v] as usize;
         at = put_pair(out, at, first, count);
         first += count;
@@ -332,7 +329,7 @@ fn write_mixtures(out: &mut [u8], start: usize, forms: &[u64], order: &[u16]) ->
     let mut at = start;
     let mut j: usize = 0;
     while j < order.len() {
-        let v = (order[j] as usize) * rule_words::RULE_WIDTH;
+        let v = (order[j] as usize) * FORM_WIDTH;
         let count = forms[v] as usize;
         at = write_rule(out, at, &forms[v + 1..v + 1 + count]);
         j += 1;
@@ -403,7 +400,7 @@ fn write_by(
 
 // The normal image of a policy of few rules, by way of tables that are quick to clear.
 fn write_few(containers: &[u8], users: &[u8], forms: &[u64], out: &mut [u8]) -> usize
-    requires { ⌜ Tabled (now containers) (now users) (now forms) × (length (now forms) / ruleWidth ≤ fewRules) × (outputBound ≤ length (now out)) ⌝ }
+    requires { ⌜ Tabled (now containers) (now users) (now forms) × (length (now forms) / formWidth ≤ fewRules) × (outputBound ≤ length (now out)) ⌝ }
     ensures { λ r. ⌜ Answered (policyAt (now (containers .entry)) (now (users .entry)) (now (forms .entry))) (now (out .entry)) (now (out .exit)) r ⌝ }
 {
     let mut classes = [0u16; FEW_RULES];
@@ -449,7 +446,7 @@ pub fn write_policy(containers: &[u8], users: &[u8], forms: &[u64], out: &mut [u
     requires { ⌜ Tabled (now containers) (now users) (now forms) × (outputBound ≤ length (now out)) ⌝ }
     ensures { λ r. ⌜ Answered (policyAt (now (containers .entry)) (now (users .entry)) (now (forms .entry))) (now (out .entry)) (now (out .exit)) r ⌝ }
 {
-    if forms.len() / rule_words::RULE_WIDTH <= FEW_RULES {
+    if forms.len() / FORM_WIDTH <= FEW_RULES {
         write_few(containers, users, forms, out)
     } else {
         write_many(containers, users, forms, out)
@@ -460,19 +457,14 @@ pub fn write_policy(containers: &[u8], users: &[u8], forms: &[u64], out: &mut [u
 
 // The rules of an image's sections, in normal form.
 fn fill_forms(forms: &mut [u64], rules: &[u8], mixtures: &[u8])
-    requires { ⌜ (length (now forms) ≡ length (now rules) / ruleSize * ruleWidth) × (spansGood (length (now mixtures) / mixtureSize) 0 (spansIn (now rules)) ≡ true) ⌝ }
+    requires { ⌜ (length (now forms) ≡ length (now rules) / ruleSize * formWidth) × (spansGood (length (now mixtures) / mixtureSize) 0 (spansIn (now rules)) ≡ true) ⌝ }
     ensures { λ _. ⌜ now (forms .exit) ≡ formWords (rulesIn (now (rules .entry)) (now (mixtures .entry))) ⌝ }
 {
     let n = rules.len() / image::RULE_SIZE;
     let mut k: usize = 0;
     while k < n {
-        let at = k * rule_words::RULE_WIDTH;
-        image::put_own_rule(
-            &mut forms[at..at + rule_words::RULE_WIDTH],
-            rules,
-            mixtures,
-            k,
-        );
+        let at = k * FORM_WIDTH;
+        image::put_own_rule(&mut forms[at..at + FORM_WIDTH], rules, mixtures, k);
         k += 1;
     }
 }
@@ -489,7 +481,7 @@ fn rewrite_few(
     ensures { λ r. ⌜ Wrote (normalImage (policyGiven (now (containers .entry)) (now (users .entry)) (rulesIn (now (rules .entry)) (now (mixtures .entry))))) (now (out .entry)) (now (out .exit)) 0 r ⌝ }
 {
     let mut forms = [0u64; 144];
-    let n = rules.len() / image::RULE_SIZE * rule_words::RULE_WIDTH;
+    let n = rules.len() / image::RULE_SIZE * FORM_WIDTH;
     fill_forms(&mut forms[0..n], rules, mixtures);
     write_few(containers, users, &forms[0..n], out)
 }
@@ -506,7 +498,7 @@ fn rewrite_many(
     ensures { λ r. ⌜ Wrote (normalImage (policyGiven (now (containers .entry)) (now (users .entry)) (rulesIn (now (rules .entry)) (now (mixtures .entry))))) (now (out .entry)) (now (out .exit)) 0 r ⌝ }
 {
     let mut forms = [0u64; 2304];
-    let n = rules.len() / image::RULE_SIZE * rule_words::RULE_WIDTH;
+    let n = rules.len() / image::RULE_SIZE * FORM_WIDTH;
     fill_forms(&mut forms[0..n], rules, mixtures);
     write_many(containers, users, &forms[0..n], out)
 }

@@ -28,7 +28,7 @@ use Rattle.chains.specs.History.{Step, read, write, append, exec, fork, newFile
 use Rattle.chains.specs.Demand.{judged}
 use Rattle.chains.specs.Table.{freeRow, readRow, writeRow, appendRow, execRow, forkRow, newFileRow, newVolatileRow, ruleOr, entry, fits, meetGood, alerts, verdict}
 use Rattle.operations.specs.View.{view}
-use Rattle.operations.specs.Effects.{acceptedAnswer, acceptedEffect}
+use Rattle.operations.specs.Effects.{madeAnswer, madeEffect}
 use Rattle.operations.specs.Parts.{Ready, UsedAt, Kept, wordsFrom, contentWords, newWords, coverVerdict, coverAnswer, lateAnswer, lateEffect, sharedRun, absorbed, absorbAnswer, absorbEffect, launchTag, launchAnswer, launchEffect}
 use Rattle.operations.proofs.ViewLaws.{view-row}
 use Rattle.operations.proofs.ReadyLaws.{process-kind, ready-process, ready-object, ready-user}
@@ -104,7 +104,7 @@ refused-done s t g = (rw g, rw g)
 
 module _ (s : List ℕ) (t : Step) (g : meetGood (view s) t ≡ true) where
   put-done : (a : Answer) (ws : List ℕ) → a ≡ verdict t (entry (view s) t .row) → ws ≡ rowWords (entry (view s) t .row) → Done s t a (returned s (receiver t) ws)
-  unfolding lateAnswer lateEffect acceptedAnswer acceptedEffect
+  unfolding lateAnswer lateEffect madeAnswer madeEffect
   put-done a ws ea e = (rw g ea, row-returned s (receiver t) ws ∙ rw (g, e))
 
   -- all of it new
@@ -147,14 +147,14 @@ module _ (s : List ℕ) (c d t : ℕ) (h : UsedAt s c) (m : Bounded) (em : m ≡
 -- what an absorbing step is answered, and does, is what the table says
 module _ (s : List ℕ) (c d t : ℕ) (step : Step) (j : judged step ≡ true) (er : receiver step ≡ c) (ew : entry (view s) step .row ≡ absorbed s c d t) (eg : meetGood (view s) step ≡ fits (sharedRun s c d)) where
   absorb-answer : absorbAnswer s c d t ≡ lateAnswer s step
-  unfolding lateAnswer acceptedAnswer absorbAnswer absorbed
+  unfolding lateAnswer madeAnswer absorbAnswer absorbed
   absorb-answer =
       ap (λ (x : Answer). cond (fits (sharedRun s c d)) x (refused overLimit))
       (ap (λ (k : ℕ). coverAnswer k (view s .row c .permit) t) (sym er) ∙ verdict-covers step (absorbed s c d t) j)
       ∙ rw (ew, eg)
 
   absorb-effect : absorbEffect s c d t ≡ lateEffect s step
-  unfolding lateEffect acceptedEffect absorbEffect
+  unfolding lateEffect madeEffect absorbEffect
   absorb-effect = rw (ew, eg, er)
 
   absorb-late : (a : Answer) (s₁ : List ℕ) → (a ≡ absorbAnswer s c d t) × (s₁ ≡ absorbEffect s c d t) → Done s step a s₁
@@ -293,6 +293,6 @@ cleared s c l h ws e = row-returned s c ws ∙ ap (putRow s c) (e ∙ ap (λ (n 
 -- a step that frees its receiver's row
 pub left-done : (s : List ℕ) (t : Step) → entry (view s) t .row ≡ freeRow → meetGood (view s) t ≡ true → judged t ≡ false → (a : Answer) (s₁ : List ℕ)
     → (a ≡ quiet (receiver t) 0) × (s₁ ≡ putRow s (receiver t) freeWords) → Done s t a s₁
-unfolding lateAnswer lateEffect acceptedAnswer acceptedEffect freeRow
+unfolding lateAnswer lateEffect madeAnswer madeEffect freeRow
 left-done s t er g j a s₁ (ea, es) =
     (ea ∙ verdict-unjudged t freeRow j ∙ ap (verdict t) (sym er) ∙ rw g, es ∙ ap (putRow s (receiver t)) (sym free-words ∙ ap rowWords (sym er)) ∙ rw g)

@@ -13,7 +13,7 @@ use borrow.Author.Tests.{eq-eqb, ne-eqb, not-true, not-false}
 use Rattle.lists.specs.Conditions.{firstFailed}
 use Rattle.lists.proofs.Bools.{and-0, and-1, or-1, passes-test, fails-test, clash, refuted}
 use Rattle.answers.specs.Refusals.{row, noProcess, wrongKind, notFree, notDeclared, otherUser}
-use Rattle.image.specs.Limits.{isProcess, processKind, containerLimit, userLimit}
+use Rattle.image.specs.Limits.{isProcess, lastKind, containerLimit, userLimit}
 use Rattle.session.specs.Limits.{rowWidth, userWidth, usersAt, kindAt, declaredAt, declared, nobody}
 use Rattle.session.specs.Rows.{Row, containerRow, userRow, rowOf, isDeclared, userRuleOf, containerRowGood, userRowGood}
 use Rattle.session.proofs.PutLaws.{row-lent, user-lent}
@@ -203,8 +203,8 @@ module _ (s : List ℕ) (q : Request) (a : Asked q) where
                 ex ∙ ap (λ (m : ℕ). cond (eqb m nobody || eqb m (q .u)) 0 otherUser) eb
                 ∙ sym (by-behalf user-passes _ (behalf-file (view s) q c))
 
--- the kind of the object is one of the four where both rows are as the session says
-pub object-kind : (s : List ℕ) (q : Request) → Asked q → (b : Bool) → b ≡ rowsGood s (stepIn q) → not b ≡ false → getD s (q .o * rowWidth + kindAt) 0 ≤ processKind
+-- the kind of the object is one of the kinds where both rows are as the session says
+pub object-kind : (s : List ℕ) (q : Request) → Asked q → (b : Bool) → b ≡ rowsGood s (stepIn q) → not b ≡ false → getD s (q .o * rowWidth + kindAt) 0 ≤ lastKind
 unfolding rowOf
 object-kind s q a b r h =
     rw (kind-read s (q .o)) (good-kind (containerRow s (q .o)) (and-0 (containerRowGood (containerRow s (q .o))) _ (and-1 (containerRowGood (containerRow s (q .p))) (sym (opened s q a) ∙ passes-test r h))))

@@ -47,14 +47,14 @@ sessionRefusal s t = firstFailed (sessionConditions s t)
 -- ---- what a step does
 
 -- the session with the receiver's row of the table
-unfoldable pub acceptedEffect : List ℕ → Step → List ℕ
-acceptedEffect s t = putRow s (receiver t) (rowWords (entry (view s) t .row))
+unfoldable pub madeEffect : List ℕ → Step → List ℕ
+madeEffect s t = putRow s (receiver t) (rowWords (entry (view s) t .row))
 
-unfoldable pub acceptedAnswer : List ℕ → Step → Answer
-acceptedAnswer s t = verdict t (entry (view s) t .row)
+unfoldable pub madeAnswer : List ℕ → Step → Answer
+madeAnswer s t = verdict t (entry (view s) t .row)
 
 unfoldable pub performAnswer : List ℕ → Step → Answer
-performAnswer s t = cond (eqb (sessionRefusal s t) 0) (acceptedAnswer s t) (refused (sessionRefusal s t))
+performAnswer s t = cond (eqb (sessionRefusal s t) 0) (madeAnswer s t) (refused (sessionRefusal s t))
 
 unfoldable pub performEffect : List ℕ → Step → List ℕ
-performEffect s t = cond (eqb (sessionRefusal s t) 0) (acceptedEffect s t) s
+performEffect s t = cond (eqb (sessionRefusal s t) 0) (madeEffect s t) s

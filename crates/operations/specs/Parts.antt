@@ -25,7 +25,7 @@ use Rattle.rules.specs.Answers.{dataWidth, boundedOf}
 use Rattle.chains.specs.History.{Step}
 use Rattle.chains.specs.Table.{entry, fits, meetGood, earlyConditions}
 use Rattle.operations.specs.View.{view}
-use Rattle.operations.specs.Effects.{rowsGood, acceptedAnswer, acceptedEffect}
+use Rattle.operations.specs.Effects.{rowsGood, madeAnswer, madeEffect}
 
 -- ---- before a meet is formed
 
@@ -43,10 +43,10 @@ pub record Ready (s : List ℕ) (t : Step) : Type 0 where
 
 -- what is left: 15, or the effect
 unfoldable pub lateAnswer : List ℕ → Step → Answer
-lateAnswer s t = cond (meetGood (view s) t) (acceptedAnswer s t) (refused overLimit)
+lateAnswer s t = cond (meetGood (view s) t) (madeAnswer s t) (refused overLimit)
 
 unfoldable pub lateEffect : List ℕ → Step → List ℕ
-lateEffect s t = cond (meetGood (view s) t) (acceptedEffect s t) s
+lateEffect s t = cond (meetGood (view s) t) (madeEffect s t) s
 
 -- ---- what is read
 

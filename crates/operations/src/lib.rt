@@ -11,7 +11,7 @@ ghost use Rattle.answers.specs.Answers.{quiet};
 ghost use Rattle.answers.specs.Refusals.{otherUser};
 ghost use Rattle.rules.specs.Rules.{meet};
 ghost use Rattle.rules.specs.Answers.{mixtureLimit, boundedOf};
-ghost use Rattle.image.specs.Limits.{containerLimit, processKind};
+ghost use Rattle.image.specs.Limits.{containerLimit, processKind, lastKind};
 ghost use Rattle.rule_words.specs.Words.{ruleOf};
 ghost use Rattle.session.specs.Limits.{sessionLength, rowWidth, nobody};
 ghost use Rattle.session.specs.Rows.{rowOf, permitWords, runWords, freeWords, putRow};
@@ -47,7 +47,7 @@ use session::USERS_AT;
 
 // A container of the kind serves as the object: the kind is in the set.
 fn object_fits(need: u8, kind: u64) -> bool
-    requires { ⌜ kind ≤ processKind ⌝ }
+    requires { ⌜ kind ≤ lastKind ⌝ }
     ensures { λ r. ⌜ r ≡ objectFits need kind ⌝ }
 {
     (need >> kind) % 2 == 1

@@ -9,7 +9,7 @@ use lib.Dec.{eqb, ltb}
 use lib.ListN.{length, getD, take, drop, set, length-append, length-drop, length-set, length-map, drop-of-length-le}
 use lib.Seq.{length-take-le, take-append-seam, drop-cons, take-suc-set}
 use borrow.Author.Tests.{eqb-true, eq-eqb, ltb-true, lt-ltb, le-ltb}
-use Rattle.lists.specs.Lists.{every, sameList, known, position}
+use Rattle.lists.specs.Lists.{every, sameList, known, knownBy, position, positionBy}
 use Rattle.lists.proofs.Bools.{and-in, and-0, and-1, refuted, same-test}
 use Rattle.lists.proofs.Every.{every-nil, every-cons, every-append}
 use Rattle.lists.proofs.Same.{same-eq}
@@ -114,7 +114,7 @@ notes-start t notes p = record { place = omega arith; rest = omega arith }
 module _ (t notes p : List ℕ) (j : ℕ) (g : NotesPassed t notes p j) where
   notes-step : j < length notes
       → position p (map (notedPath t) (drop j notes)) ≡ cond (sameList p (notedPath t (getD notes j 0))) 0 (suc (position p (map (notedPath t) (drop (j + 1) notes))))
-  unfolding position
+  unfolding positionBy
   notes-step l = rw (add-one, drop-cons notes j 0 l)
 
   pub notes-found : j < length notes → sameList p (notedPath t (getD notes j 0)) ≡ true → j ≡ position p (map (notedPath t) notes)
@@ -126,7 +126,7 @@ module _ (t notes p : List ℕ) (j : ℕ) (g : NotesPassed t notes p j) where
       record { place = omega arith; rest = omega (arith, g .rest) }
 
   pub notes-end : length notes ≤ j → j ≡ position p (map (notedPath t) notes)
-  unfolding position
+  unfolding positionBy
   notes-end l = let e : position p (map (notedPath t) (drop j notes)) ≡ 0 = rw (drop-of-length-le notes l) in omega (arith, g .rest)
 
 ltb-suc : (a b : ℕ) → ltb (suc a) (suc b) ≡ ltb a b
@@ -135,7 +135,7 @@ ltb-suc a b =
 
 -- a path that has a place is there
 pub place-among : (p : List ℕ) (qs : List (List ℕ)) → ltb (position p qs) (length qs) ≡ known p qs
-unfolding position known
+unfolding positionBy knownBy
 place-among p [] = refl
 place-among p (q ∷ qs) = by (sameList p q) (place-among p qs)
   where

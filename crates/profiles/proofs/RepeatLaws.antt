@@ -7,13 +7,13 @@ use mathlib.Core.List.{List, [], _∷_}
 use native.Mathlib.Omega.{arith}
 use lib.ListN.{length, getD}
 use borrow.Author.Tests.{not-true}
-use Rattle.lists.specs.Lists.{sameList, known}
+use Rattle.lists.specs.Lists.{sameList, known, knownBy}
 use Rattle.lists.proofs.Bools.{and-in, and-0, and-1, or-0, or-1, or-cases, clash, refuted}
 use Rattle.lists.proofs.Same.{same-refl, same-eq}
 use Rattle.profiles.specs.Texts.{noRepeat, Differ}
 
 among-at : (ps : List (List ℕ)) (j : ℕ) → j < length ps → known (getD ps j []) ps ≡ true
-unfolding known
+unfolding knownBy
 among-at [] j l = absurd (omega arith)
 among-at (p ∷ ps) zero l = or-0 (sameList p p) (known p ps) (same-refl p)
 among-at (p ∷ ps) (suc j) l = or-1 (sameList (getD ps j []) p) (known (getD ps j []) ps) (among-at ps j (omega arith))
@@ -25,7 +25,7 @@ pub record Found (p : List ℕ) (ps : List (List ℕ)) : Type 0 where
   pub is : p ≡ getD ps place []
 
 among-place : (p : List ℕ) (ps : List (List ℕ)) → known p ps ≡ true → Found p ps
-unfolding known
+unfolding knownBy
 among-place p [] h = clash h refl
 among-place p (q ∷ ps) h =
     ⊎-elim (λ e. record { place = 0; inside = omega arith; is = same-eq p q e })

@@ -8,7 +8,7 @@ use native.Mathlib.Omega.{arith}
 use lib.Dec.{eqb}
 use lib.ListN.{length, drop, length-append, length-drop, drop-of-length-le}
 use borrow.Author.Tests.{eqb-true, eq-eqb, ne-eqb}
-use Rattle.lists.specs.Lists.{every, joined, sameList, known}
+use Rattle.lists.specs.Lists.{every, joined, sameList, known, knownBy}
 use Rattle.lists.proofs.Bools.{same-test}
 use Rattle.lists.proofs.Same.{same-refl, same-eq}
 use Rattle.lists.proofs.Every.{every-all}
@@ -34,7 +34,7 @@ same-sym a b =
     (λ h. ap (λ (x : List ℕ). sameList a x) (same-eq b a h) ∙ same-refl a)
 
 among-more : (q p : List ℕ) (seen : List (List ℕ)) → known q (seen ++ (p ∷ [])) ≡ (known q seen || sameList p q)
-unfolding known
+unfolding knownBy
 among-more q p [] = by (sameList q p) (same-sym q p)
   where
     by : (b : Bool) → b ≡ sameList p q → (b || false) ≡ sameList p q
@@ -47,7 +47,7 @@ among-more q p (r ∷ seen) = by (sameList q r) (among-more q p seen)
     by false h = h
 
 apart : (seen : List (List ℕ)) (p : List ℕ) (ps : List (List ℕ)) → every (λ q. not (known q (seen ++ (p ∷ [])))) ps ≡ (every (λ q. not (known q seen)) ps && not (known p ps))
-unfolding every known
+unfolding every knownBy
 apart seen p [] = refl
 apart seen p (q ∷ ps) = rw (among-more q p seen, apart seen p ps) (by (known q seen) (sameList p q) (every (λ q. not (known q seen)) ps) (known p ps))
   where
@@ -69,7 +69,7 @@ once-behind seen (p ∷ ps) =
     by false b c d = refl
 
 pub once-from-none : (ps : List (List ℕ)) → onceBehind [] ps ≡ noRepeat ps
-unfolding known
+unfolding knownBy
 once-from-none ps = once-behind [] ps ∙ ap (λ (b : Bool). b && noRepeat ps) (every-all (λ q. not (known q [])) ps (λ q. refl))
 
 -- ---- lines judged from the left

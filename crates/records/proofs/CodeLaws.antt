@@ -1,5 +1,5 @@
 -- A request has one of the codes: what holds of each of them holds of all. What the table says of a code, whatever the rows.
-use Prim.Native.Nat.{ℕ, zero, suc, _≤_, _<_}
+use Prim.Native.Nat.{ℕ, zero, suc, _≤_, _<_, _^_}
 use native.Mathlib.Omega.{arith}
 use native.Mathlib.Decide.{ℕ-discrete}
 use native.Mathlib.Nat.{lt-of-lt-of-le}
@@ -15,7 +15,7 @@ use borrow.Author.Tests.{ne-eqb}
 use Rattle.lists.proofs.Bools.{clash}
 use Rattle.rules.specs.Sets.{atom}
 use Rattle.rules.proofs.SetLaws.{atom-above}
-use Rattle.image.specs.Limits.{freeKind, fileKind, volatileKind, processKind, isFree, isFile, isVolatile, isProcess, isStore, containerLimit}
+use Rattle.image.specs.Limits.{freeKind, fileKind, volatileKind, processKind, lastKind, isFree, isFile, isVolatile, isProcess, isStore, containerLimit}
 use Rattle.session.specs.Limits.{nobody}
 use Rattle.chains.specs.History.{read, write, append, exec, fork, newFile, newVolatile, end, delete, receiver}
 use Rattle.chains.specs.Table.{State, Need, store, file, free, process, fitsNeed, entry, behalfFits}
@@ -75,7 +75,7 @@ entered σ q a =
 
 -- kind by kind
 module _ (P : ℕ → Type 0) (frees : P freeKind) (files : P fileKind) (volatiles : P volatileKind) (processes : P processKind)
-    (others : (k : ℕ) → processKind < k → P k) where
+    (others : (k : ℕ) → lastKind < k → P k) where
   by-kind : (k : ℕ) → P k
   by-kind zero = frees
   by-kind (suc zero) = files
@@ -84,7 +84,7 @@ module _ (P : ℕ → Type 0) (frees : P freeKind) (files : P fileKind) (volatil
   by-kind (suc (suc (suc (suc k)))) = others (suc (suc (suc (suc k)))) (omega arith)
 
 -- no need names another kind
-other-kind : (m k : ℕ) → m < 16 → processKind < k → eqb (atom m k) 1 ≡ false
+other-kind : (m k : ℕ) → m < 2 ^ suc lastKind → lastKind < k → eqb (atom m k) 1 ≡ false
 other-kind m k l h = ap (λ (x : ℕ). eqb x 1) (atom-above m k (lt-of-lt-of-le l (pow-mono h)))
 
 pub need-fits : (n : Need) (k : ℕ) → objectFits (needNumber n) k ≡ fitsNeed n k

@@ -12,7 +12,7 @@ use borrow.Author.Tests.{eqb-true, ne-eqb}
 use Rattle.lists.proofs.Bools.{and-0, and-1, or-cases, clash}
 use Rattle.rules.specs.Rules.{normal}
 use Rattle.rules.specs.Answers.{mixtureLimit}
-use Rattle.image.specs.Limits.{fileKind, volatileKind, processKind, isFree, isFile, isVolatile, isProcess, isStore, usedKind}
+use Rattle.image.specs.Limits.{fileKind, volatileKind, processKind, lastKind, isFree, isFile, isVolatile, isProcess, isStore, usedKind}
 use Rattle.session.specs.Limits.{rowWidth, userWidth, kindAt, tagAt, permitAt, runAt, behalfAt, nobody, declaredAt, userRuleAt, declared}
 use Rattle.rule_words.specs.Words.{ruleWidth, ruleOf, wordsOf, allZero, keptWell}
 use Rattle.session.specs.Rows.{Row, rowWords, freeWords, permitWords, runWords, rowOf, behalfGood, containerRowGood, InUse, userWords, undeclaredWords, isDeclared, userRuleWords, userRuleOf, userRowGood}
@@ -22,7 +22,7 @@ use Rattle.rule_words.proofs.WordLaws.{words-rule, words-nine}
 
 -- ---- kinds
 
-pub used-kind : (k : ℕ) → usedKind k ≡ true → (1 ≤ k) × (k ≤ processKind)
+pub used-kind : (k : ℕ) → usedKind k ≡ true → (1 ≤ k) × (k ≤ lastKind)
 unfolding usedKind isStore isFile isVolatile isProcess
 used-kind k h =
     ⊎-elim
@@ -30,13 +30,13 @@ used-kind k h =
     (λ p. process (eqb-true k processKind p))
     (or-cases (eqb k fileKind || eqb k volatileKind) h)
   where
-    file : k ≡ fileKind → (1 ≤ k) × (k ≤ processKind)
+    file : k ≡ fileKind → (1 ≤ k) × (k ≤ lastKind)
     file e = (omega arith, omega arith)
 
-    volatile : k ≡ volatileKind → (1 ≤ k) × (k ≤ processKind)
+    volatile : k ≡ volatileKind → (1 ≤ k) × (k ≤ lastKind)
     volatile e = (omega arith, omega arith)
 
-    process : k ≡ processKind → (1 ≤ k) × (k ≤ processKind)
+    process : k ≡ processKind → (1 ≤ k) × (k ≤ lastKind)
     process e = (omega arith, omega arith)
 
 pub used-free : (k : ℕ) → usedKind k ≡ true → isFree k ≡ false
@@ -152,12 +152,12 @@ module _ (ws : List ℕ) (g : containerRowGood ws ≡ true) where
           behalfKept = and-1 (keptWell (runWords ws)) good-last;
         }
 
-  -- it has one of the four kinds
-  pub good-kind : getD ws kindAt 0 ≤ processKind
+  -- it has one of the kinds
+  pub good-kind : getD ws kindAt 0 ≤ lastKind
   unfolding isFree
   good-kind = by (isFree (getD ws kindAt 0)) refl
     where
-      by : (b : Bool) → isFree (getD ws kindAt 0) ≡ b → getD ws kindAt 0 ≤ processKind
+      by : (b : Bool) → isFree (getD ws kindAt 0) ≡ b → getD ws kindAt 0 ≤ lastKind
       by true e = omega (arith, eqb-true (getD ws kindAt 0) 0 e)
       by false e = used-kind (getD ws kindAt 0) (and-0 (usedKind (getD ws kindAt 0)) _ (good-tests e)) .1
 

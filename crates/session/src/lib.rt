@@ -232,3 +232,15 @@ pub fn start(image: &[u8], session: &mut [u64]) -> u32
     );
     0
 }
+
+// The numbers of a session over those of another.
+pub fn copy(from: &[u64], to: &mut [u64])
+    requires { ⌜ length (now from) ≡ length (now to) ⌝ }
+    ensures { λ _. ⌜ now (to .exit) ≡ now (from .entry) ⌝ }
+{
+    let mut i: usize = 0;
+    while i < from.len() {
+        to[i] = from[i];
+        i += 1;
+    }
+}

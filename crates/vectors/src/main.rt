@@ -1,5 +1,4 @@
 // The checked examples of the paper that are run and not proved; the listing is the watch program's.
-use answers::Answer;
 use image::HEADER_SIZE;
 use libc::STDOUT_FILENO;
 use normaliser::OUTPUT_BOUND;
@@ -12,14 +11,6 @@ fn line(name: &[u8], number: u64) {
     io::write_all(STDOUT_FILENO, b" ");
     io::print_decimal(STDOUT_FILENO, number);
     io::write_all(STDOUT_FILENO, b"\n");
-}
-
-// The number of a refusal, and 0 where there is none.
-fn refusal(answer: Answer) -> u64 {
-    match answer {
-        Answer::Refused(number) => number as u64,
-        _ => 0,
-    }
 }
 
 // "Empty policy: 18 bytes."
@@ -46,11 +37,11 @@ fn short_session() {
     let mut whole = [0u64; SESSION_LENGTH];
     line(
         b"code 9, session of 5535",
-        refusal(monitor::step(&mut short, &record)),
+        answers::number(monitor::step(&mut short, &record)) as u64,
     );
     line(
         b"code 9, session of 5536",
-        refusal(monitor::step(&mut whole, &record)),
+        answers::number(monitor::step(&mut whole, &record)) as u64,
     );
 }
 

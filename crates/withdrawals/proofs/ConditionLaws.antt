@@ -10,16 +10,16 @@ use lib.ListN.{length, getD, List·getD-eq-default}
 use borrow.Author.Tests.{not-true, not-false}
 use Rattle.rules.specs.Sets.{holds}
 use Rattle.lists.proofs.Bools.{and-in, and-0, and-1, decide, clash, refuted}
-use Rattle.matrix.specs.Flows.{has, rowsWithin}
-use Rattle.matrix.specs.Verdicts.{someBelow, leastBelow, consistent, firstSource, firstTarget}
+use Rattle.matrix.specs.Flows.{has, rowsWithin, Matrix}
+use Rattle.lists.specs.Counting.{someBelow, leastBelow}
+use Rattle.matrix.specs.Verdicts.{consistent, firstSource, firstTarget}
 use Rattle.matrix.specs.Rows.{bitAt}
 use Rattle.matrix.proofs.BitLaws.{has-above}
-use Rattle.matrix.proofs.CountLaws.{Least, none-at, least-some}
+use Rattle.lists.proofs.Below.{Least, none-at, least-some, Miss, all-at, all-in, all-miss}
 use Rattle.matrix.proofs.GoodLaws.{good-parts}
 use Rattle.matrix.proofs.FlowLaws.{rows-exact, pair-flow, flow-inconsistent, consistent-granted}
-use Rattle.withdrawals.specs.Judgements.{Matrix, rowsHeld, noneAdded, allKept, staysConsistent, withdrawn, withRight, readNeeded, writeNeeded, subjectNeeded, minimal}
+use Rattle.withdrawals.specs.Judgements.{rowsHeld, noneAdded, allKept, staysConsistent, withdrawn, withRight, readNeeded, writeNeeded, subjectNeeded, minimal}
 use Rattle.withdrawals.specs.Rights.{Comparable, Among, SomeBeyond, NoneAdded, SomeAdded, AllKept, SomeLost, AllGranted, SomeUngranted, EachNeeded, SomeReturns}
-use Rattle.withdrawals.proofs.BelowLaws.{Miss, all-at, all-in, all-miss}
 use Rattle.withdrawals.proofs.RightLaws.{holds-bits}
 
 -- ---- which rights there are

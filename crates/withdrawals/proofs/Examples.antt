@@ -5,10 +5,11 @@ use mathlib.Core.List.{[], _∷_}
 use Rattle.rules.specs.Sets.{atom, holds}
 use Rattle.lists.specs.Conditions.{firstFailed}
 use Rattle.lists.specs.Lists.{every}
-use Rattle.matrix.specs.Flows.{rowsWithin, counted, matrixGood, has, subjectCarries, granted, within, composed}
-use Rattle.matrix.specs.Verdicts.{someBelow, ungranted, ungrantedFrom, consistent}
+use Rattle.matrix.specs.Flows.{rowsWithin, counted, matrixGood, has, subjectCarries, granted, within, composed, Matrix, matrixOf, wellFormed}
+use Rattle.lists.specs.Counting.{someBelow, allBelow}
+use Rattle.matrix.specs.Verdicts.{ungranted, ungrantedFrom, consistent}
 use Rattle.matrix.specs.Rows.{bitAt}
-use Rattle.withdrawals.specs.Judgements.{Matrix, matrixOf, wellFormed, sameCounts, comparable, allBelow, rowsHeld, noneAdded, allKept, staysConsistent, withdrawn, withRight, readNeeded, writeNeeded, subjectNeeded, minimal, judgementConditions, judgementOf}
+use Rattle.withdrawals.specs.Judgements.{sameCounts, comparable, rowsHeld, noneAdded, allKept, staysConsistent, withdrawn, withRight, readNeeded, writeNeeded, subjectNeeded, minimal, judgementConditions, judgementOf}
 
 -- ---- a consistent matrix, of which a smaller one is accepted though more rights would also be consistent
 

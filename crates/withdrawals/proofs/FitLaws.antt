@@ -12,15 +12,13 @@ use lib.Dec.{eqb}
 use lib.ListN.{getD}
 use borrow.Author.Tests.{eq-eqb, ne-eqb}
 use Rattle.rules.specs.Sets.{holds}
-use Rattle.lists.proofs.Bools.{decide, clash, same-test}
+use Rattle.lists.proofs.Bools.{decide, clash, same-test, or-none}
 use Rattle.matrix.specs.Flows.{has}
-use Rattle.matrix.specs.Verdicts.{someBelow, leastBelow}
+use Rattle.lists.specs.Counting.{someBelow, leastBelow, allBelow}
 use Rattle.matrix.specs.Rows.{bitAt}
 use Rattle.matrix.proofs.BitLaws.{has-is, has-not, has-and, has-or, has-above, has-ext}
-use Rattle.matrix.proofs.CountLaws.{Least, some-none, none-at, least-some}
-use Rattle.withdrawals.specs.Judgements.{allBelow}
+use Rattle.lists.proofs.Below.{Least, some-none, none-at, least-some, all-at, all-in, some-next}
 use Rattle.withdrawals.specs.Returns.{FlowTable, reachedFrom, rowClosed, leadsTo, withFlows, sourceFits, rowFits}
-use Rattle.withdrawals.proofs.BelowLaws.{all-at, all-in, or-none, some-next}
 use Rattle.withdrawals.proofs.RightLaws.{holds-bits}
 
 -- no row has bit b of 0

@@ -9,12 +9,12 @@ use borrow.Author.Tests.{eq-eqb, eqb-true}
 use Rattle.lists.specs.Conditions.{firstFailed}
 use Rattle.lists.proofs.Bools.{and-in, and-0, and-1}
 use Rattle.answers.specs.Refusals.{matrix}
-use Rattle.matrix.specs.Flows.{matrixGood}
+use Rattle.matrix.specs.Flows.{matrixGood, Matrix, matrixOf, wellFormed}
 use Rattle.matrix.specs.Verdicts.{consistent}
 use Rattle.matrix.proofs.GoodLaws.{good-parts}
 use Rattle.withdrawals.specs.declared.Judgement.{Judgement}
 use Rattle.withdrawals.specs.declared.Judgement.the-variants.{Accepted, RightAdded, RightLost, Inconsistent, NotMinimal, Refused}
-use Rattle.withdrawals.specs.Judgements.{Matrix, matrixOf, wellFormed, sameCounts, comparable, rowsHeld, noneAdded, allKept, staysConsistent, readNeeded, writeNeeded, subjectNeeded, minimal, judgementConditions, judgementOf, judgementNumber}
+use Rattle.withdrawals.specs.Judgements.{sameCounts, comparable, rowsHeld, noneAdded, allKept, staysConsistent, readNeeded, writeNeeded, subjectNeeded, minimal, judgementConditions, judgementOf, judgementNumber}
 use Rattle.withdrawals.specs.Rights.{Comparable}
 use Rattle.withdrawals.specs.Returns.{Proposed, flowJudgement}
 

@@ -1,7 +1,6 @@
 -- Theorems is the file to read: the laws of this crate, stated and cited. Examples computes judgements. The others serve inside.
 pub mod Theorems
 pub mod Examples
-pub mod BelowLaws
 pub mod TransitiveLaws
 pub mod RightLaws
 pub mod FitLaws

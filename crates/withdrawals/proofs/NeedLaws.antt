@@ -4,52 +4,46 @@ use mathlib.Core.Path.{_≡_, refl, sym, ap, ap₂, _∙_}
 use mathlib.Core.Bool.{Bool, true, false, not, cond, _&&_, _||_}
 use mathlib.Core.List.{List}
 use native.Mathlib.Decide.{decLt}
-use native.Mathlib.Nat.{one-mul, mod-eq-of-lt}
 use native.Mathlib.Omega.{arith}
-use lib.Pow.{pow-lt}
 use lib.Bits.{bitAnd}
 use lib.Dec.{eqb}
 use lib.ListN.{length, getD}
 use borrow.Author.Tests.{eq-eqb}
 use Rattle.lists.proofs.Bools.{and-in, or-0, same-test}
 use Rattle.matrix.specs.Limits.{objectLimit}
-use Rattle.matrix.specs.Flows.{has, subjectCarries, granted}
+use Rattle.matrix.specs.Flows.{has, subjectCarries, granted, matrixOf}
 use Rattle.matrix.specs.Verdicts.{consistent}
 use Rattle.matrix.specs.Rows.{bitAt, spelling}
-use Rattle.matrix.proofs.BitLaws.{has-without}
+use Rattle.matrix.proofs.BitLaws.{one-bit, has-without}
 use Rattle.matrix.proofs.RowLaws.{spelling-fits, spelling-bits, spelling-above}
 use Rattle.matrix.proofs.VerdictLaws.{granted-beyond}
-use Rattle.withdrawals.specs.Judgements.{matrixOf, withdrawn, withRight, readNeeded, writeNeeded, subjectNeeded}
+use Rattle.withdrawals.specs.Judgements.{withdrawn, withRight, readNeeded, writeNeeded, subjectNeeded}
 use Rattle.withdrawals.specs.Returns.{FlowTable, tableClosed, withFlows, staysClosed, lossNeeded, objectNeeded, lossesNeeded, Proposed, Judging}
-use Rattle.withdrawals.proofs.BelowLaws.{all-same}
+use Rattle.lists.proofs.Below.{all-same}
 use Rattle.withdrawals.proofs.TransitiveLaws.{Transitive, transitive-same, consistent-transitive, table-transitive, stays-transitive}
 use Rattle.withdrawals.proofs.RightLaws.{granted-read, granted-write}
 
 -- ---- the rights to object k, one after the other
 
--- the row of object k alone, as code makes it
-object-row : (k : ℕ) → k < objectLimit → 1 * 2 ^ k % 2 ^ 32 ≡ 2 ^ k
-object-row k l = ap (λ (x : ℕ). x % 2 ^ 32) (one-mul (2 ^ k)) ∙ mod-eq-of-lt (pow-lt l)
-
 module _ (f : ℕ → ℕ → Bool) (n lostReads lostWrites reads writes k : ℕ) (l : k < objectLimit) where
   pub read-not-needed : lossNeeded f n lostReads k (1 * 2 ^ k % 2 ^ 32) writes ≡ false → objectNeeded f n lostReads lostWrites reads writes k ≡ false
   unfolding objectNeeded
-  read-not-needed h = let e : lossNeeded f n lostReads k (2 ^ k) writes ≡ false = rw (object-row k l) at h in rw e
+  read-not-needed h = let e : lossNeeded f n lostReads k (2 ^ k) writes ≡ false = rw (one-bit k l) at h in rw e
 
   pub write-not-needed : lossNeeded f n lostReads k (1 * 2 ^ k % 2 ^ 32) writes ≡ true → lossNeeded f n lostWrites k reads (1 * 2 ^ k % 2 ^ 32) ≡ false
       → objectNeeded f n lostReads lostWrites reads writes k ≡ false
   unfolding objectNeeded
   write-not-needed g h =
-      let d : lossNeeded f n lostReads k (2 ^ k) writes ≡ true = rw (object-row k l) at g in
-      let e : lossNeeded f n lostWrites k reads (2 ^ k) ≡ false = rw (object-row k l) at h in
+      let d : lossNeeded f n lostReads k (2 ^ k) writes ≡ true = rw (one-bit k l) at g in
+      let e : lossNeeded f n lostWrites k reads (2 ^ k) ≡ false = rw (one-bit k l) at h in
       rw (d, e)
 
   pub both-needed : lossNeeded f n lostReads k (1 * 2 ^ k % 2 ^ 32) writes ≡ true → lossNeeded f n lostWrites k reads (1 * 2 ^ k % 2 ^ 32) ≡ true
       → objectNeeded f n lostReads lostWrites reads writes k ≡ true
   unfolding objectNeeded
   both-needed g h =
-      let d : lossNeeded f n lostReads k (2 ^ k) writes ≡ true = rw (object-row k l) at g in
-      let e : lossNeeded f n lostWrites k reads (2 ^ k) ≡ true = rw (object-row k l) at h in
+      let d : lossNeeded f n lostReads k (2 ^ k) writes ≡ true = rw (one-bit k l) at g in
+      let e : lossNeeded f n lostWrites k reads (2 ^ k) ≡ true = rw (one-bit k l) at h in
       and-in d e
 
 -- ---- the table of granted flows

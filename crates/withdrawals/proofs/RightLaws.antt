@@ -13,13 +13,12 @@ use lib.Seq.{getD-set-same, getD-set-other}
 use borrow.Author.Tests.{eq-eqb, ne-eqb}
 use Rattle.rules.specs.Sets.{atom, holds}
 use Rattle.rules.proofs.SetLaws.{atom-le, atoms-holds, holds-has}
-use Rattle.lists.proofs.Bools.{decide}
+use Rattle.lists.proofs.Bools.{decide, or-none, or-assoc}
 use Rattle.matrix.specs.Flows.{has, subjectCarries, granted}
 use Rattle.matrix.specs.Rows.{bitAt}
 use Rattle.matrix.proofs.BitLaws.{has-atom, atom-has, has-none, has-or, has-single}
 use Rattle.withdrawals.specs.Judgements.{withRight}
 use Rattle.withdrawals.specs.Returns.{withFlows}
-use Rattle.withdrawals.proofs.BelowLaws.{or-none, or-assoc}
 
 -- each bit of the one row is a bit of the other
 pub holds-bits : (m t : ℕ) → (holds m t ≡ true) ↔ ((k : ℕ) → has t k ≡ true → has m k ≡ true)

@@ -12,10 +12,10 @@ use Rattle.lists.specs.Conditions.{Condition, numbersOf, numberAt, numbersGood}
 use Rattle.lists.proofs.Conditions.{given-exactly, given-none, given-among}
 use Rattle.lists.proofs.Bools.{refuted, clash}
 use Rattle.answers.specs.Refusals.{matrix}
-use Rattle.matrix.specs.Flows.{granted}
+use Rattle.matrix.specs.Flows.{granted, Matrix}
 use Rattle.matrix.specs.Verdicts.{consistent}
 use Rattle.matrix.specs.Rows.{bitAt}
-use Rattle.withdrawals.specs.Judgements.{Matrix, withRight, comparable, judgementConditions, judgementOf, judgementNumber}
+use Rattle.withdrawals.specs.Judgements.{withRight, comparable, judgementConditions, judgementOf, judgementNumber}
 use Rattle.withdrawals.specs.declared.Judgement.{Judgement}
 use Rattle.withdrawals.specs.Rights.{Comparable, NoneAdded, SomeAdded, AllKept, SomeLost, AllGranted, SomeUngranted, EachNeeded, SomeReturns}
 use Rattle.withdrawals.specs.Returns.{withFlows, staysClosed}

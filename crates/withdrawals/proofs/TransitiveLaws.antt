@@ -7,14 +7,13 @@ use mathlib.Core.Logic.{_⊎_, inl, inr, _↔_}
 use lib.ListN.{getD}
 use Rattle.lists.proofs.Bools.{and-in, and-0, and-1, or-0, or-1, or-cases}
 use Rattle.matrix.specs.Flows.{has, granted, Path, step, onward}
-use Rattle.matrix.specs.Verdicts.{leastBelow, consistent}
+use Rattle.lists.specs.Counting.{leastBelow, allBelow}
+use Rattle.matrix.specs.Verdicts.{consistent}
 use Rattle.matrix.specs.Rows.{bitAt}
 use Rattle.matrix.proofs.PathLaws.{path-source, path-target}
-use Rattle.matrix.proofs.CountLaws.{Least, some-at, least-some}
+use Rattle.lists.proofs.Below.{Least, some-at, least-some, all-at, all-in}
 use Rattle.matrix.proofs.FlowLaws.{consistent-granted}
-use Rattle.withdrawals.specs.Judgements.{allBelow}
 use Rattle.withdrawals.specs.Returns.{reachedFrom, rowClosed, tableClosed, leadsTo, withFlows, sourceFits, staysClosed}
-use Rattle.withdrawals.proofs.BelowLaws.{all-at, all-in}
 
 abbrev pub Transitive : (ℕ → ℕ → Bool) → ℕ → Type 0
 Transitive f n = (a b c : ℕ) → a < n → b < n → c < n → f a b ≡ true → f b c ≡ true → f a c ≡ true

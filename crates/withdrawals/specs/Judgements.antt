@@ -1,33 +1,21 @@
 -- The judgement on a proposal to withdraw rights of a matrix (change request No. 7, "Which rights to withdraw").
-use Prim.Native.Nat.{ℕ, zero, suc, _^_}
+use Prim.Native.Nat.{ℕ, _^_}
 use mathlib.Core.Bool.{Bool, true, not, cond, _&&_}
 use mathlib.Core.List.{List, [], _∷_}
 use lib.Bits.{bitOr}
 use lib.Dec.{eqb}
 use lib.ListN.{length, getD, set}
 use Rattle.rules.specs.Sets.{holds}
+use Rattle.lists.specs.Counting.{allBelow}
 use Rattle.lists.specs.Conditions.{Condition, _orRefuse_, firstFailed}
 use Rattle.answers.specs.Refusals.{matrix}
-use Rattle.matrix.specs.Flows.{matrixGood}
+use Rattle.matrix.specs.Flows.{Matrix, wellFormed}
 use Rattle.matrix.specs.Verdicts.{consistent}
 use Rattle.matrix.specs.Rows.{bitAt}
 use Rattle.withdrawals.specs.declared.Judgement.{Judgement}
 use Rattle.withdrawals.specs.declared.Judgement.the-variants.{Accepted, RightAdded, RightLost, Inconsistent, NotMinimal, Refused}
 
 -- ---- the three matrices: "a matrix, the rights that must stay as a second one, and a proposed matrix"
-
--- subject s may read object k where row s of the reads has bit k (`bitAt reads s k`), and write it where row s of the writes has it
-pub record Matrix : Type 0 where
-  pub reads : List ℕ
-  pub writes : List ℕ
-  pub objects : ℕ
-
-abbrev pub matrixOf : List ℕ → List ℕ → ℕ → Matrix
-matrixOf reads writes objects = record { reads = reads; writes = writes; objects = objects }
-
--- not "a malformed matrix"
-unfoldable pub wellFormed : Matrix → Bool
-wellFormed m = matrixGood (m .reads) (m .writes) (m .objects)
 
 -- not "differing counts", of subjects or of objects
 unfoldable pub sameCounts : Matrix → Matrix → Bool
@@ -39,11 +27,6 @@ comparable old required proposed =
     wellFormed old && (wellFormed required && (wellFormed proposed && (sameCounts old required && sameCounts old proposed)))
 
 -- ---- the four conditions
-
--- each number below n passes the test
-unfoldable pub allBelow : (ℕ → Bool) → ℕ → Bool
-allBelow f zero = true
-allBelow f (suc n) = f 0 && allBelow (λ k. f (suc k)) n
 
 -- each right in the rows is also in the others
 unfoldable pub rowsHeld : List ℕ → List ℕ → Bool

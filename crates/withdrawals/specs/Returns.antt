@@ -10,10 +10,11 @@ use lib.Dec.{eqb}
 use lib.ListN.{length, getD}
 use Rattle.rules.specs.Sets.{holds}
 use Rattle.matrix.specs.Limits.{objectLimit}
-use Rattle.matrix.specs.Flows.{has, granted, rowsWithin}
-use Rattle.matrix.specs.Verdicts.{someBelow, consistent}
+use Rattle.matrix.specs.Flows.{has, granted, rowsWithin, Matrix}
+use Rattle.lists.specs.Counting.{someBelow, allBelow}
+use Rattle.matrix.specs.Verdicts.{consistent}
 use Rattle.matrix.specs.Rows.{bitAt}
-use Rattle.withdrawals.specs.Judgements.{Matrix, allBelow, staysConsistent, minimal}
+use Rattle.withdrawals.specs.Judgements.{staysConsistent, minimal}
 
 -- the first n rows of a table have no bit beyond the objects
 pub record FlowTable (n : ℕ) (rows : List ℕ) : Type 0 where

@@ -5,9 +5,9 @@ use mathlib.Core.Bool.{true, false}
 use mathlib.Core.List.{List}
 use mathlib.Core.Logic.{_⊎_}
 use lib.ListN.{length}
-use Rattle.matrix.specs.Flows.{matrixGood, granted, Composed}
+use Rattle.matrix.specs.Flows.{matrixGood, granted, Composed, Matrix}
 use Rattle.matrix.specs.Rows.{bitAt}
-use Rattle.withdrawals.specs.Judgements.{Matrix, withRight}
+use Rattle.withdrawals.specs.Judgements.{withRight}
 
 -- three matrices, of as many subjects and as many objects
 pub record Comparable (old required proposed : Matrix) : Type 0 where

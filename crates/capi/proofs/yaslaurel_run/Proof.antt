@@ -1,47 +1,49 @@
--- `yaslaurel_run`: the answer and the count are what `monitor::run` ensures; each case of the answer gives the number and what is written.
+-- `yaslaurel_run`: the answer and the count are what `monitor::run` ensures; 9 leaves all, and only an alert leaves what it received.
+use native.Mathlib.Omega.{arith}
+use mathlib.Core.Path.{sym, ap, _∙_}
 use borrow.Author.Needs.{needs}
-use borrow.Author.Tests.{eq-eqb, ne-eqb}
+use borrow.Author.Tests.{eq-eqb, ne-eqb, not-true, not-false}
+use Rattle.answers.specs.Answers.{isAlert, receivedOf, answerNumber}
+use Rattle.answers.proofs.Cases.{other-number}
+use Rattle.monitor.specs.declared.Ran.{Ran}
 use Rattle.capi.proofs.yaslaurel_run.Statement.{statement}
 use Rattle.capi.proofs.yaslaurel_run.Tie as tie
 
 returns : tie.Need-returns
 returns c =
-    let e = c .before .before .before .before .before .before .run .ensures .0 in
-    let a = c .before .before .answer2 .given .1 in
-    (rw (← e, a), c .before .before .before .before .before .before .run .ensures .1, rw (← e, a, eq-eqb _ _ (c .if1 .taken)), rw (← e, a), rw (← e, a))
+    let run = c .before .before .before .before .run .ensures in
+    let number = c .before .number .ensures ∙ ap (λ (x : Ran). answerNumber (x .answer)) (run .0) in
+    let nine = sym number ∙ c .if1 .taken in
+    let quiet = ap (λ (x : Ran). isAlert (x .answer)) (sym (run .0)) ∙ other-number (c .before .before .before .before .run .result .answer) (λ z. omega (arith, c .before .number .ensures, c .if1 .taken, z)) in
+    (number, run .1, rw (eq-eqb _ _ nine), rw quiet)
 
 returns-2 : tie.Need-returns-2
 returns-2 c =
-    let e = c .before .before .before .before .before .before .before .run .ensures .0 in
-    let a = c .before .before .before .answer .given .1 in
-    (rw (← e, a, c .enum-told .given .1), c .before .before .before .before .before .before .before .run .ensures .1, rw (← e, a, c .enum-told .given .1), rw (← e, a, c .enum-told .given .1), rw (← e, a, c .enum-told .given .1))
+    let run = c .before .before .before .before .before .before .run .ensures in
+    let number = c .before .before .before .number .ensures ∙ ap (λ (x : Ran). answerNumber (x .answer)) (run .0) in
+    let taken = ne-eqb _ _ (λ z. c .before .before .if1 .left (number ∙ z)) in
+    let quiet = ap (λ (x : Ran). isAlert (x .answer)) (sym (run .0)) ∙ sym (c .before .is-alert .ensures) ∙ not-true _ (c .if2 .taken) in
+    (number, run .1, rw taken (ap (λ (x : Ran). x .taken) (run .0)), rw quiet)
 
 returns-3 : tie.Need-returns-3
 returns-3 c =
-    let e = c .before .before .before .before .before .before .before .run .ensures .0 in
-    let a = c .before .before .before .answer .given .1 in
-    (rw (← e, a, c .enum-told2 .given .1), c .before .before .before .before .before .before .before .run .ensures .1, rw (← e, a, c .enum-told2 .given .1), rw (← e, a, c .enum-told2 .given .1), rw (← e, a, c .enum-told2 .given .1))
-
-returns-4 : tie.Need-returns-4
-returns-4 c =
-    let e = c .before .before .before .before .before .before .run .ensures .0 in
-    let a = c .before .before .answer2 .given .1 in
-    (rw (← e, a), c .before .before .before .before .before .before .run .ensures .1, rw (← e, a, ne-eqb _ _ (c .if1 .left)), rw (← e, a), rw (← e, a))
+    let run = c .before .before .before .before .before .before .before .run .ensures in
+    let number = c .before .before .before .before .number .ensures ∙ ap (λ (x : Ran). answerNumber (x .answer)) (run .0) in
+    let taken = ne-eqb _ _ (λ z. c .before .before .before .if1 .left (number ∙ z)) in
+    let alerts = ap (λ (x : Ran). isAlert (x .answer)) (sym (run .0)) ∙ sym (c .before .before .is-alert .ensures) ∙ not-false _ (c .before .if2 .left) in
+    (number, run .1, rw taken (ap (λ (x : Ran). x .taken) (run .0)), rw alerts (c .received-of .ensures ∙ ap (λ (x : Ran). receivedOf (x .answer)) (run .0)))
 
 pub yaslaurel-run-spec : {M : Type 1} → statement M
 yaslaurel-run-spec =
     tie.close
     (tie.spec
     (λ c κs. search needs)
-    (λ c. search needs)
-    (λ c. search needs)
-    (λ c. search needs)
-    (λ c. search needs)
+    (λ c κs. search needs)
     (λ c. search needs)
     returns
+    (λ c κs. search needs)
     (λ c. search needs)
     returns-2
+    (λ c κs. search needs)
     (λ c. search needs)
-    returns-3
-    (λ c. search needs)
-    returns-4)
+    returns-3)

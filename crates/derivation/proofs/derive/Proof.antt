@@ -1,7 +1,7 @@
 -- Each case is the definition's; the bytes of the containers and of the user and the words of the rules go to the writer.
 use native.Mathlib.Omega.{arith}
 use Prim.Native.Nat.{_*_}
-use Rattle.rule_words.specs.Words.{ruleWidth}
+use Rattle.normaliser.specs.Writer.{formWidth}
 use Rattle.matrix.specs.Limits.{objectLimit}
 use Rattle.lists.proofs.Bools.{passes-test, fails-test}
 use Rattle.matrix.proofs.GoodLaws.{good-parts}
@@ -40,7 +40,7 @@ put-permits-requires c κs =
     let start = c .before .before .before .before .before .before .before .before .before .before .before .before .before .before .before .before in
     let good = passes-test (c .before .before .before .before .before .before .before .before .before .before .before .matrix-good .ensures) (c .before .before .before .before .before .before .before .before .before .before .if2 .left) in
     let g = good-parts _ _ _ good in
-    (g .even, g .subjects, g .few, zeros-front (start .args .objects * ruleWidth) (objectLimit * ruleWidth) (omega (arith, g .few)))
+    (g .even, g .subjects, g .few, zeros-front (start .args .objects * formWidth) (objectLimit * formWidth) (omega (arith, g .few)))
 
 part-write-policy-end : tie.Need-part-write-policy-end
 part-write-policy-end c =

@@ -2,14 +2,14 @@
 use native.Mathlib.Omega.{arith}
 use Prim.Native.Nat.{_-_, _*_}
 use Rattle.fields.proofs.RowWriting.{RowsWritten}
-use Rattle.rule_words.specs.Words.{ruleWidth}
+use Rattle.normaliser.specs.Writer.{formWidth}
 use Rattle.derivation.proofs.PermitWords.{permitRows, permits-start, permits-room, permits-zero, permits-next, permits-end}
 use borrow.Author.Needs.{needs}
 use Rattle.derivation.proofs.put_permits.Statement.{statement}
 use Rattle.derivation.proofs.put_permits.Tie as tie
 
 abbrev Inv-loop : tie.InvT-loop
-Inv-loop words₀ reads writes n b₀ words b = RowsWritten (permitRows reads writes n) words₀ 0 words (b * ruleWidth) b
+Inv-loop words₀ reads writes n b₀ words b = RowsWritten (permitRows reads writes n) words₀ 0 words (b * formWidth) b
 
 abbrev μ-loop : tie.MeasureT-loop
 μ-loop words₀ reads writes n b₀ words b = n - b

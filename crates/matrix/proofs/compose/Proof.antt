@@ -2,7 +2,7 @@
 use borrow.Author.Needs.{needs}
 use Rattle.matrix.proofs.RowLaws.{spelling-fits}
 use Rattle.matrix.proofs.GoodLaws.{good-parts}
-use Rattle.matrix.proofs.VerdictLaws.{closed}
+use Rattle.matrix.proofs.VerdictLaws.{composes}
 use Rattle.matrix.proofs.compose.Statement.{statement}
 use Rattle.matrix.proofs.compose.Tie as tie
 
@@ -20,8 +20,7 @@ close-requires c κs =
 returns : tie.Need-returns
 returns c =
     let start = c .before .before .before .before .before .before .before .before .before .before .before in
-    let g = good-parts _ _ _ (start .pre .0) in
-    closed _ _ _ _ _ _ (g .even) (g .few) (g .writesGood) (start .pre .1) (c .before .before .before .before .before .before .fill-granted .ensures) (c .before .before .close .ensures)
+    composes _ _ _ _ (start .pre .0) _ _ (c .before .before .before .before .before .before .fill-granted .ensures) (c .before .before .close .ensures)
 
 pub compose-spec : {M : Type 1} → statement M
 compose-spec = tie.close (tie.spec fill-granted-requires close-requires (λ c. search needs) returns)

@@ -3,7 +3,7 @@ use borrow.Author.Needs.{needs}
 use mathlib.Core.Path.{sym}
 use Rattle.lists.proofs.Bools.{passes-test, fails-test}
 use Rattle.matrix.proofs.GoodLaws.{good-parts}
-use Rattle.matrix.proofs.VerdictLaws.{verdict-is, verdict-refused}
+use Rattle.matrix.proofs.VerdictLaws.{closed, verdict-is, verdict-refused}
 use Rattle.matrix.proofs.verdict.Statement.{statement}
 use Rattle.matrix.proofs.verdict.Tie as tie
 
@@ -14,6 +14,18 @@ compose-requires : tie.Need-compose-requires
 compose-requires c κs =
     let good = passes-test (c .before .before .matrix-good .ensures) (c .before .if1 .left) in
     (good, good-parts _ _ _ good .few)
+
+count-flows-requires : tie.Need-count-flows-requires
+count-flows-requires c κs =
+    let test = c .before .before .before .before in
+    let good = passes-test (test .before .matrix-good .ensures) (test .if1 .left) in
+    closed _ _ _ _ good _ (good-parts _ _ _ good .few) (c .before .before .compose .ensures)
+
+first-flow-requires : tie.Need-first-flow-requires
+first-flow-requires c κs =
+    let test = c .before .before .before .before .before .before in
+    let good = passes-test (test .before .matrix-good .ensures) (test .if1 .left) in
+    closed _ _ _ _ good _ (good-parts _ _ _ good .few) (c .before .before .before .before .compose .ensures)
 
 returns-2 : tie.Need-returns-2
 returns-2 c =
@@ -29,7 +41,7 @@ verdict-spec =
     (λ c. search needs)
     compose-requires
     (λ c. search needs)
-    (λ c κs. search needs)
+    count-flows-requires
     (λ c. search needs)
-    (λ c κs. search needs)
+    first-flow-requires
     returns-2)

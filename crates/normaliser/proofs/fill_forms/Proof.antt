@@ -1,14 +1,14 @@
 -- The invariant: the words of the first k rules are written.
 use Prim.Native.Nat.{_-_, _*_}
 use Rattle.fields.proofs.RowWriting.{RowsWritten, part-long}
-use Rattle.rule_words.specs.Words.{ruleWidth}
+use Rattle.normaliser.specs.Writer.{formWidth}
 use Rattle.normaliser.proofs.FormRows.{wordRows, forms-start, forms-room, forms-next, forms-end}
 use borrow.Author.Needs.{needs}
 use Rattle.normaliser.proofs.fill_forms.Statement.{statement}
 use Rattle.normaliser.proofs.fill_forms.Tie as tie
 
 abbrev Inv-loop : tie.InvT-loop
-Inv-loop forms₀ rules mixtures n k₀ forms k = RowsWritten (wordRows rules mixtures) forms₀ 0 forms (k * ruleWidth) k
+Inv-loop forms₀ rules mixtures n k₀ forms k = RowsWritten (wordRows rules mixtures) forms₀ 0 forms (k * formWidth) k
 
 abbrev μ-loop : tie.MeasureT-loop
 μ-loop forms₀ rules mixtures n k₀ forms k = n - k
@@ -28,7 +28,7 @@ put-own-rule-requires c κs =
     let start = c .before .before .before .before .before .before in
     let loop = c .before .before .loop in
     let taken = c .before .loop-test .taken in
-    (part-long (loop .forms) (loop .k * ruleWidth) ruleWidth (forms-room (start .args .rules .now) (start .args .mixtures .now) (start .pre .1) (loop .inv) taken), taken, start .pre .1)
+    (part-long (loop .forms) (loop .k * formWidth) formWidth (forms-room (start .args .rules .now) (start .args .mixtures .now) (start .pre .1) (loop .inv) taken), taken, start .pre .1)
 
 loop-again : tie.Need-loop-again Inv-loop μ-loop
 loop-again c =

@@ -1,7 +1,8 @@
 -- Each answer rewrites the definition by the tests that led there.
 use Rattle.lists.proofs.Bools.{passes-test, fails-test}
 use borrow.Author.Needs.{needs}
-use Rattle.withdrawals.specs.Judgements.{wellFormed, sameCounts, comparable}
+use Rattle.matrix.specs.Flows.{wellFormed}
+use Rattle.withdrawals.specs.Judgements.{sameCounts, comparable}
 use Rattle.withdrawals.proofs.comparable.Statement.{statement}
 use Rattle.withdrawals.proofs.comparable.Tie as tie
 

@@ -5,7 +5,7 @@ use Rattle.lists.proofs.Bools.{passes-test, fails-test}
 use Rattle.matrix.specs.Rows.{bitAt}
 use borrow.Author.Needs.{needs}
 use Rattle.withdrawals.specs.Returns.{objectNeeded, lossesNeeded}
-use Rattle.withdrawals.proofs.BelowLaws.{Passing, passing-start, passing-next, passing-fails, passing-end}
+use Rattle.lists.proofs.Below.{Passing, passing-start, passing-next, passing-fails, passing-end}
 use Rattle.withdrawals.proofs.NeedLaws.{read-not-needed, write-not-needed, both-needed}
 use Rattle.withdrawals.proofs.losses_needed.Statement.{statement}
 use Rattle.withdrawals.proofs.losses_needed.Tie as tie

@@ -5,7 +5,7 @@ use lib.ListN.{length, getD}
 use Rattle.rules.specs.Sets.{holds}
 use Rattle.rules.proofs.SetLaws.{holds-is, holds-not}
 use Rattle.withdrawals.specs.Judgements.{rowsHeld}
-use Rattle.withdrawals.proofs.BelowLaws.{Passing, passing-start, passing-next, passing-fails, passing-end}
+use Rattle.lists.proofs.Below.{Passing, passing-start, passing-next, passing-fails, passing-end}
 use Rattle.withdrawals.proofs.rows_held.Statement.{statement}
 use Rattle.withdrawals.proofs.rows_held.Tie as tie
 

@@ -5,8 +5,9 @@ use mathlib.Core.Path.{_≡_, _∙_}
 use lib.ListN.{length}
 use Rattle.lists.proofs.Bools.{passes-test, fails-test}
 use borrow.Author.Needs.{needs}
-use Rattle.withdrawals.specs.Judgements.{matrixOf, subjectNeeded, minimal}
-use Rattle.withdrawals.proofs.BelowLaws.{Passing, passing-start, passing-next, passing-fails, passing-end}
+use Rattle.matrix.specs.Flows.{matrixOf}
+use Rattle.withdrawals.specs.Judgements.{subjectNeeded, minimal}
+use Rattle.lists.proofs.Below.{Passing, passing-start, passing-next, passing-fails, passing-end}
 use Rattle.withdrawals.proofs.NeedLaws.{subject-is}
 use Rattle.withdrawals.proofs.subjects_needed.Statement.{statement}
 use Rattle.withdrawals.proofs.subjects_needed.Tie as tie

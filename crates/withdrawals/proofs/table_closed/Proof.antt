@@ -4,7 +4,7 @@ use mathlib.Core.Path.{sym, _∙_}
 use Rattle.rules.proofs.SetLaws.{holds-is, holds-not}
 use borrow.Author.Needs.{needs}
 use Rattle.withdrawals.specs.Returns.{rowClosed, tableClosed}
-use Rattle.withdrawals.proofs.BelowLaws.{Passing, passing-start, passing-next, passing-fails, passing-end}
+use Rattle.lists.proofs.Below.{Passing, passing-start, passing-next, passing-fails, passing-end}
 use Rattle.withdrawals.proofs.FitLaws.{row-closed-is}
 use Rattle.withdrawals.proofs.table_closed.Statement.{statement}
 use Rattle.withdrawals.proofs.table_closed.Tie as tie
