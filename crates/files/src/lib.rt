@@ -2,8 +2,8 @@
 // the system's text, and never passes for a complete result. No contract can say which bytes the system reads or writes.
 ghost use mathlib.Core.Path.{_≡_};
 ghost use Prim.Native.Nat.{_-_, _≤_};
-ghost use lib.ListN.{length};
-ghost use Rattle.files.specs.Moves.{Within};
+ghost use lib.ListN.{length, take};
+ghost use Rattle.files.specs.Moves.{Within, Took, Held};
 use libc::STDERR_FILENO;
 use libc::STDOUT_FILENO;
 
@@ -51,14 +51,25 @@ fn write_some(bytes: &[u8], from: usize) -> Move
     Move::Failed
 }
 
-// All of the bytes on standard output: true, or the failure was told. Nothing says how often a write must be tried again, so the
+// How many bytes standard output took, and whether these are all.
+pub struct Written {
+    pub good: bool,
+    pub taken: usize,
+}
+
+// All of the bytes on standard output, or the failure was told. Nothing says how often a write must be tried again, so the
 // turns are counted down, from more than any run has.
-pub fn write_whole(bytes: &[u8]) -> bool {
+fn write_whole(bytes: &[u8]) -> Written
+    ensures { λ r. ⌜ Took r (length (now (bytes .entry))) ⌝ }
+{
     let mut done: usize = 0;
     let mut turns = u64::MAX;
     while turns > 0 {
         if done == bytes.len() {
-            return true;
+            return Written {
+                good: true,
+                taken: done,
+            };
         }
         turns -= 1;
         match write_some(bytes, done) {
@@ -67,15 +78,23 @@ pub fn write_whole(bytes: &[u8]) -> bool {
             }
             Move::Again => {}
             Move::Failed => {
-                return false;
+                return Written {
+                    good: false,
+                    taken: done,
+                };
             }
         }
     }
-    false
+    Written {
+        good: done == bytes.len(),
+        taken: done,
+    }
 }
 
-// The first bytes of a buffer, all of it where `end` lies behind it: true, or the failure was told.
-pub fn write_front(out: &[u8], end: usize) -> bool {
+// The first bytes of a buffer, all of it where `end` lies behind it, or the failure was told.
+pub fn write_front(out: &[u8], end: usize) -> Written
+    ensures { λ r. ⌜ Took r (length (take end (now (out .entry)))) ⌝ }
+{
     if end < out.len() {
         return write_whole(&out[..end]);
     }
@@ -92,7 +111,9 @@ pub enum Opened {
 }
 
 // The file opened for reading. Only a missing one is missing: any other failure is told.
-pub fn open(name: &[u8]) -> Opened {
+pub fn open(name: &[u8]) -> Opened
+    ensures { λ r. ⌜ Held r ⌝ }
+{
     let fd = os::open_read(name);
     if fd >= 0 {
         return Opened::File(fd);

@@ -71,7 +71,7 @@ fn show_trace(
     let written = files::write_front(out, end);
     let summed = figures::add_total(sums, total, &places, counts);
     Progress {
-        good: written,
+        good: written.good,
         counts: summed,
     }
 }

@@ -27,7 +27,8 @@ fn list_file(fd: i32, name: &[u8], session: &mut [u64], out: &mut [u8; BUFFER_SI
         let got = files::read_part(fd, name, &mut part);
         let listed = trace_listing::list_part(&part, got.size, session, out, tally);
         tally = listed.tally;
-        if !files::write_front(out, listed.end) {
+        let written = files::write_front(out, listed.end);
+        if !written.good {
             return Progress {
                 good: false,
                 tally: tally,
@@ -69,7 +70,8 @@ fn list_trace(name: &[u8], session: &mut [u64], out: &mut [u8; BUFFER_SIZE]) -> 
 // The heading, the steps and the total line, as far as all goes well.
 fn watch(session: &mut [u64], out: &mut [u8; BUFFER_SIZE]) {
     let heading = trace_listing::list_heading(out);
-    if !files::write_front(out, heading) {
+    let written = files::write_front(out, heading);
+    if !written.good {
         return;
     }
     let run = list_trace(b"trace.bin", session, out);
