@@ -7,9 +7,11 @@ use mathlib.Core.List.{List, [], _∷_, _++_}
 use lib.Bits.{bitAnd, bitOr, or-add-and, and-le-l, and-le-r, and-zero-l, or-zero-l, or-zero-r}
 use lib.Dec.{eqb}
 use borrow.Author.Tests.{eqb-true, eq-eqb, ne-eqb}
+use Rattle.lists.specs.Lists.{sameList}
 use Rattle.lists.proofs.Bools.{clash}
+use Rattle.fields.specs.Ascii.{ascii}
 use Rattle.rules.proofs.SetLaws.{atom-and, atom-or, ext}
-use Rattle.profiles.specs.Profiles.{Mode, mode-r, mode-w, mode-a, mode-l, mode-m, mode-ix, mode-px, mode-Px, mode-ux, mode-Ux, modesGood}
+use Rattle.profiles.specs.Profiles.{Mode, mode-r, mode-w, mode-a, mode-l, mode-m, mode-ix, mode-px, mode-Px, mode-ux, mode-Ux, modeText, modesGood}
 use Rattle.profiles.specs.Scanning.{modeBit, withModes, modeBits}
 use Rattle.confinement.specs.Confinement.{isOneOf, someOf, reading, executing, writing, unconfined, inheriting, confined}
 use Rattle.confinement.specs.Tables.{readingBits, executingBits, writingBits, unconfinedBits, inheritingBits, confinedBits, meets}
@@ -109,25 +111,25 @@ each P r w a l m ix px Px ux Ux mode-ux = ux
 each P r w a l m ix px Px ux Ux mode-Ux = Ux
 
 pub reading-spelt : Spelt reading readingBits
-unfolding isOneOf meets modeBit reading
+unfolding ascii sameList modeText isOneOf meets modeBit reading
 reading-spelt = each (λ m. isOneOf reading m ≡ meets (modeBit m) readingBits) refl refl refl refl refl refl refl refl refl refl
 
 pub executing-spelt : Spelt executing executingBits
-unfolding isOneOf meets modeBit executing
+unfolding ascii sameList modeText isOneOf meets modeBit executing
 executing-spelt = each (λ m. isOneOf executing m ≡ meets (modeBit m) executingBits) refl refl refl refl refl refl refl refl refl refl
 
 pub writing-spelt : Spelt writing writingBits
-unfolding isOneOf meets modeBit writing
+unfolding ascii sameList modeText isOneOf meets modeBit writing
 writing-spelt = each (λ m. isOneOf writing m ≡ meets (modeBit m) writingBits) refl refl refl refl refl refl refl refl refl refl
 
 pub unconfined-spelt : Spelt unconfined unconfinedBits
-unfolding isOneOf meets modeBit unconfined
+unfolding ascii sameList modeText isOneOf meets modeBit unconfined
 unconfined-spelt = each (λ m. isOneOf unconfined m ≡ meets (modeBit m) unconfinedBits) refl refl refl refl refl refl refl refl refl refl
 
 pub inheriting-spelt : Spelt inheriting inheritingBits
-unfolding isOneOf meets modeBit inheriting
+unfolding ascii sameList modeText isOneOf meets modeBit inheriting
 inheriting-spelt = each (λ m. isOneOf inheriting m ≡ meets (modeBit m) inheritingBits) refl refl refl refl refl refl refl refl refl refl
 
 pub confined-spelt : Spelt confined confinedBits
-unfolding isOneOf meets modeBit confined
+unfolding ascii sameList modeText isOneOf meets modeBit confined
 confined-spelt = each (λ m. isOneOf confined m ≡ meets (modeBit m) confinedBits) refl refl refl refl refl refl refl refl refl refl

@@ -13,8 +13,7 @@ use Rattle.fields.specs.Bytes.{bytesOf}
 use Rattle.image.specs.Limits.{fileKind, processKind, noAtom, unrestrictedNumber}
 use Rattle.image.specs.Policy.{Container, Policy, unrestrictedRule, ruleAt}
 use Rattle.image.specs.Normal.{normalAt, placeOf, meaning, placeUses, uses, noted, numbered, numberOf, containerOf, writtenBy, policyOf, normalPolicy, containerBytes, spanBytes, spansOf, pair, header, framed, encode, normalImage}
-use Rattle.profiles.specs.Profiles.{Mode, mode-r, mode-w, mode-a, mode-l, mode-m, mode-ix, mode-px, mode-Px, mode-ux, mode-Ux, Entry, Profile, slash}
-use Rattle.profiles.specs.Scanning.{modeBit}
+use Rattle.profiles.specs.Profiles.{Mode, mode-r, mode-w, mode-a, mode-l, mode-m, mode-ix, mode-px, mode-Px, mode-ux, mode-Ux, Entry, Profile, modeText, slash}
 use Rattle.confinement.specs.Confinement.{namesOf, withPath, withPaths, pathsOf, isOneOf, someOf, reading, executing, writing, unconfined, inheriting, confined, modesAmong, modesOn, fileAtoms, atomsFrom, runMixture, programsWith, profilesAt, orElse, ifSome, permitMixtures, runMixtures, rulesFrom, rulesOf, filesFrom, initialProcess, profilePolicy}
 use Rattle.confinement.specs.Images.{limitsGood}
 
@@ -83,7 +82,7 @@ pub record Clauses : Type 0 where
   pub no-x : rulesOf (profile "/p" (line "/f" (mode-l ∷ []) ∷ []) ∷ []) ≡ (d 0 ∷ []) ∷ (r 0 ∷ []) ∷ (d 1 ∷ []) ∷ any ∷ []
 
 pub clauses : Clauses
-unfolding ascii modeBit namesOf withPath withPaths pathsOf isOneOf someOf reading executing writing unconfined inheriting confined modesAmong modesOn fileAtoms atomsFrom runMixture programsWith profilesAt orElse ifSome permitMixtures runMixtures rulesFrom rulesOf
+unfolding ascii modeText namesOf withPath withPaths pathsOf isOneOf someOf reading executing writing unconfined inheriting confined modesAmong modesOn fileAtoms atomsFrom runMixture programsWith profilesAt orElse ifSome permitMixtures runMixtures rulesFrom rulesOf
     knownBy positionBy sameList unrestrictedRule unrestricted normal sort insert distinct elem unheldIn heldIn holds
 clauses =
     record {
@@ -130,7 +129,7 @@ pub record Limits : Type 0 where
   pub held-9 : limitsGood (profile "/p/" (line "/f/" (mode-w ∷ []) ∷ linesOf 9 (mode-px ∷ [])) ∷ profilesOf 9 (line "/f/" (mode-w ∷ []) ∷ [])) ≡ true
 
 pub limits : Limits
-unfolding limitsGood every ascii modeBit namesOf withPath withPaths pathsOf isOneOf someOf reading executing writing unconfined inheriting confined modesAmong modesOn fileAtoms atomsFrom runMixture programsWith profilesAt orElse ifSome permitMixtures runMixtures rulesFrom rulesOf
+unfolding limitsGood every ascii modeText namesOf withPath withPaths pathsOf isOneOf someOf reading executing writing unconfined inheriting confined modesAmong modesOn fileAtoms atomsFrom runMixture programsWith profilesAt orElse ifSome permitMixtures runMixtures rulesFrom rulesOf
     knownBy positionBy sameList unrestrictedRule unrestricted normal sort insert distinct elem unheldIn heldIn holds
 limits = record { paths-32 = refl; paths-33 = refl; writers-8 = refl; writers-9 = refl; inherited-8 = refl; inherited-9 = refl; held-9 = refl }
 
@@ -148,11 +147,11 @@ document-paths = refl
 
 -- the run rules of the two programs
 pub apache-runs : runMixtures (pathsOf document) document (ascii "/usr/bin/apache") ≡ 0x900000006 ∷ []
-unfolding ascii modeBit namesOf withPath withPaths pathsOf isOneOf someOf reading executing modesAmong modesOn fileAtoms atomsFrom runMixture profilesAt orElse runMixtures knownBy positionBy sameList
+unfolding ascii modeText namesOf withPath withPaths pathsOf isOneOf someOf reading executing modesAmong modesOn fileAtoms atomsFrom runMixture profilesAt orElse runMixtures knownBy positionBy sameList
 apache-runs = refl
 
 pub ftpd-runs : runMixtures (pathsOf document) document (ascii "/usr/bin/ftpd") ≡ 0x800000010 ∷ []
-unfolding ascii modeBit namesOf withPath withPaths pathsOf isOneOf someOf reading executing modesAmong modesOn fileAtoms atomsFrom runMixture profilesAt orElse runMixtures knownBy positionBy sameList
+unfolding ascii modeText namesOf withPath withPaths pathsOf isOneOf someOf reading executing modesAmong modesOn fileAtoms atomsFrom runMixture profilesAt orElse runMixtures knownBy positionBy sameList
 ftpd-runs = refl
 
 -- permit rule and run rule of each path
@@ -164,7 +163,7 @@ pub document-rules : rulesOf document
     ∷ (0x800000010 ∷ []) ∷ any
     ∷ (0x800000030 ∷ []) ∷ any
     ∷ []
-unfolding ascii modeBit namesOf withPath withPaths pathsOf isOneOf someOf reading executing writing unconfined inheriting confined modesAmong modesOn fileAtoms atomsFrom runMixture programsWith profilesAt orElse ifSome permitMixtures runMixtures rulesFrom rulesOf
+unfolding ascii modeText namesOf withPath withPaths pathsOf isOneOf someOf reading executing writing unconfined inheriting confined modesAmong modesOn fileAtoms atomsFrom runMixture programsWith profilesAt orElse ifSome permitMixtures runMixtures rulesFrom rulesOf
     knownBy positionBy sameList unrestrictedRule unrestricted normal sort insert distinct elem unheldIn heldIn holds
 document-rules = refl
 
@@ -189,7 +188,7 @@ policy =
     }
 
 policy-is : normalPolicy (profilePolicy document) ≡ policy
-unfolding profilePolicy filesFrom initialProcess ascii modeBit namesOf withPath withPaths pathsOf isOneOf someOf reading executing writing unconfined inheriting confined modesAmong modesOn fileAtoms atomsFrom runMixture programsWith profilesAt orElse ifSome permitMixtures runMixtures rulesFrom rulesOf
+unfolding profilePolicy filesFrom initialProcess ascii modeText namesOf withPath withPaths pathsOf isOneOf someOf reading executing writing unconfined inheriting confined modesAmong modesOn fileAtoms atomsFrom runMixture programsWith profilesAt orElse ifSome permitMixtures runMixtures rulesFrom rulesOf
     normalPolicy policyOf writtenBy containerOf numberOf positionBy numbered noted knownBy uses placeUses meaning placeOf normalAt ruleAt sameList unrestrictedRule unrestricted normal sort insert distinct elem unheldIn heldIn holds
 policy-is = refl
 

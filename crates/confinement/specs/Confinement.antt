@@ -3,14 +3,12 @@ use Prim.Native.Nat.{ℕ, suc, _+_, _*_, _^_}
 use mathlib.Core.Bool.{Bool, false, cond, _||_}
 use mathlib.Core.List.{List, [], _∷_, _++_, map}
 use lib.Bits.{bitOr}
-use lib.Dec.{eqb}
 use Rattle.lists.specs.Lists.{sameList, known, position}
 use Rattle.rules.specs.Rules.{normal}
 use Rattle.rules.specs.Answers.{dataWidth}
 use Rattle.image.specs.Limits.{fileKind, processKind, noAtom, unrestrictedNumber}
 use Rattle.image.specs.Policy.{Container, Policy, unrestrictedRule}
-use Rattle.profiles.specs.Profiles.{Mode, mode-r, mode-w, mode-a, mode-m, mode-ix, mode-px, mode-Px, mode-ux, mode-Ux, Entry, Profile}
-use Rattle.profiles.specs.Scanning.{modeBit}
+use Rattle.profiles.specs.Profiles.{Mode, mode-r, mode-w, mode-a, mode-m, mode-ix, mode-px, mode-Px, mode-ux, mode-Ux, Entry, Profile, modeText}
 
 -- ---- paths
 
@@ -33,10 +31,10 @@ pathsOf ps = withPaths [] (namesOf ps)
 
 -- ---- modes
 
--- the mode is one of these
+-- the mode is one of these: it has the same letters
 unfoldable pub isOneOf : List Mode → Mode → Bool
 isOneOf [] m = false
-isOneOf (n ∷ ns) m = eqb (modeBit n) (modeBit m) || isOneOf ns m
+isOneOf (n ∷ ns) m = sameList (modeText n) (modeText m) || isOneOf ns m
 
 -- one of the modes is one of these
 unfoldable pub someOf : List Mode → List Mode → Bool
