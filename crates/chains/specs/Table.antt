@@ -39,21 +39,21 @@ freeRow = record { kind = freeKind; tag = 0; permit = []; run = []; behalf = 0 }
 -- ---- the column "effect": the receiver's row afterwards, from the rows of p and o and the rule of u; on whose behalf: "exec sets it
 -- and fork copies it" (change request No. 5)
 
--- "1 read: p's tag gains o's data atoms; p's run rule becomes its meet with o's"
+-- 1 read: "p's tag gains o's data atoms; p's run rule becomes its meet with o's"
 unfoldable pub readRow : Row → Row → Row
 readRow p o =
     record { kind = p .kind; tag = bitOr (p .tag) (dataOf dataWidth (o .tag)); permit = p .permit; run = meet (p .run) (o .run); behalf = p .behalf }
 
--- "2 write: o's tag and run rule become p's"
+-- 2 write: "o's tag and run rule become p's"
 unfoldable pub writeRow : Row → Row → Row
 writeRow p o = record { kind = o .kind; tag = p .tag; permit = o .permit; run = p .run; behalf = o .behalf }
 
--- "3 append: o's tag gains all of p's; o's run rule becomes its meet with p's"
+-- 3 append: "o's tag gains all of p's; o's run rule becomes its meet with p's"
 unfoldable pub appendRow : Row → Row → Row
 appendRow p o =
     record { kind = o .kind; tag = bitOr (o .tag) (p .tag); permit = o .permit; run = meet (o .run) (p .run); behalf = o .behalf }
 
--- "4 exec: p's tag becomes the twins of o's data atoms"; it "keeps p's old data atoms beside the new twins. It still drops old
+-- 4 exec: "p's tag becomes the twins of o's data atoms"; it "keeps p's old data atoms beside the new twins. It still drops old
 -- twins and replaces the run rule" (change request No. 2); "p's run rule becomes o's; p's permit rule becomes the meet of o's run
 -- rule and u's"
 unfoldable pub execRow : Row → Row → List ℕ → ℕ → Row
@@ -66,15 +66,15 @@ execRow p o v u =
       behalf = u;
     }
 
--- "5 fork: o becomes a copy of p"
+-- 5 fork: "o becomes a copy of p"
 unfoldable pub forkRow : Row → Row
 forkRow p = record { kind = p .kind; tag = p .tag; permit = p .permit; run = p .run; behalf = p .behalf }
 
--- "6 new file: empty tag, permit u's rule, run unrestricted"
+-- 6 new file: "empty tag, permit u's rule, run unrestricted"
 unfoldable pub newFileRow : List ℕ → Row
 newFileRow v = record { kind = fileKind; tag = 0; permit = v; run = unrestrictedRule; behalf = nobody }
 
--- "7 new volatile: empty tag, both unrestricted"
+-- 7 new volatile: "empty tag, both unrestricted"
 unfoldable pub newVolatileRow : Row
 newVolatileRow = record { kind = volatileKind; tag = 0; permit = unrestrictedRule; run = unrestrictedRule; behalf = nobody }
 

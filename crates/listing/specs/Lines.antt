@@ -53,7 +53,7 @@ unfoldable pub answerWord : Answer → List ℕ
 answerWord (Given verdict received) = verdictWord verdict
 answerWord (Refused number) = ascii "refused"
 
--- "receiver, tag in 16 hexadecimal digits (by-ten letters), or the refusal number": the fields behind it
+-- "receiver, tag in 16 hexadecimal digits (small letters), or the refusal number": the fields behind it
 unfoldable pub answerFields : Answer → List (List ℕ)
 answerFields (Given verdict received) = decimal (received .receiver) ∷ hexadecimal (received .tag) ∷ []
 answerFields (Refused number) = decimal number ∷ []

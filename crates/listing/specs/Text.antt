@@ -6,7 +6,7 @@ use lib.Dec.{ltb}
 use lib.ListN.{getD}
 use Rattle.fields.specs.Ascii.{ascii}
 
--- a digit below 16, "by-ten letters"
+-- a digit below 16, "small letters"
 unfoldable pub digit : ℕ → ℕ
 digit d = getD (ascii "0123456789abcdef") d 0
 
@@ -28,7 +28,7 @@ decimalLimit = 20
 unfoldable pub decimal : ℕ → List ℕ
 decimal n = decimalIn decimalLimit n
 
--- "tag in 16 hexadecimal digits (by-ten letters)"
+-- "tag in 16 hexadecimal digits (small letters)"
 abbrev pub tagDigits : ℕ
 tagDigits = 16
 

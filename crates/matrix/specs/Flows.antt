@@ -36,7 +36,7 @@ pub record Matrix : Type 0 where
 abbrev pub matrixOf : List ℕ → List ℕ → ℕ → Matrix
 matrixOf reads writes objects = record { reads = reads; writes = writes; objects = objects }
 
--- not "a malformed matrix" (change request No. 7)
+-- no "malformed matrix" (change request No. 7)
 unfoldable pub wellFormed : Matrix → Bool
 wellFormed m = matrixGood (m .reads) (m .writes) (m .objects)
 

@@ -1,4 +1,4 @@
--- The product's numbers ("There are 32 data atoms", "this 64", "0 to 8 mixtures"), and a rule as the functions answer it.
+-- The product's numbers ("There are 32 data atoms", "these 64", "0 to 8 mixtures"), and a rule as the functions answer it.
 use Prim.Native.Nat.{ℕ, _-_}
 use mathlib.Core.Bool.{true, false, cond}
 use mathlib.Core.List.{List, _++_}
