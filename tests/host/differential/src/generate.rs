@@ -1,17 +1,11 @@
-//! Random policies, damaged images, sessions, records and matrices.
+//! Random policies, damaged images, and records that suit a session.
 
-use judge::rules::normal;
 use yaslaurel::layout::image::{
     CONTAINERS, HEADER, LEADING, LIMIT, MIXTURES, NO_ATOM, RULES, SECTIONS, UNRESTRICTED, USERS,
 };
 use yaslaurel::layout::record::{CODE, NO_USER, OBJECT, PROCESS, USER, ZERO};
-use yaslaurel::layout::session::{
-    container, rule, user, BEHALF, CONTAINER_ROW, DECLARED, KIND, NOBODY, PERMIT, RULE, RULE_MIXTURES, RUN, TAG,
-    USER_ROW, USER_RULE,
-};
-use yaslaurel::SESSION_LENGTH;
+use yaslaurel::layout::session::{container, user, BEHALF, DECLARED, KIND, RULE_MIXTURES};
 
-use crate::case::{Rows, StepCase};
 use crate::random::Random;
 use crate::spec::{number_at, put_number, Spec, GAPS};
 
@@ -19,7 +13,7 @@ use crate::spec::{number_at, put_number, Spec, GAPS};
 pub const PROCESS_RECORD: (u8, u8, u16, u16) = (3, NO_ATOM, UNRESTRICTED, UNRESTRICTED);
 
 /// A set of mixtures to draw from: few enough that rules repeat, hold one another and meet in many ways.
-fn pool(r: &mut Random) -> Vec<u64> {
+pub fn pool(r: &mut Random) -> Vec<u64> {
     let size = r.between(1, 12);
     match r.below(5) {
         // All of a few atoms but one: meets of these have many mixtures.
@@ -293,84 +287,6 @@ pub fn length(r: &mut Random, right: usize, longer: bool) -> usize {
     }
 }
 
-/// A rule in normal form, of 0 to 8 mixtures.
-fn normal_rule(r: &mut Random, pool: &[u64]) -> Vec<u64> {
-    let wanted = r.pick(&[0, 1, 1, 1, 2, 3, 4, 8, 8]);
-    if wanted == 1 && r.percent(40) {
-        return vec![u64::MAX];
-    }
-    let drawn: Vec<u64> = (0..2 * wanted).map(|_| r.pick(pool)).collect();
-    let mut rule = normal(&drawn);
-    rule.truncate(wanted);
-    rule
-}
-
-/// A rule as the numbers of a row.
-fn rule_words(rule: &[u64]) -> [u64; RULE] {
-    let mut words = [0; RULE];
-    words[0] = rule.len() as u64;
-    words[1..1 + rule.len()].copy_from_slice(rule);
-    words
-}
-
-fn tag(r: &mut Random) -> u64 {
-    match r.below(4) {
-        0 => 0,
-        1 => 1 << r.below(64),
-        2 => r.word() & r.word() & 0x3f_0000_003f,
-        _ => r.word() & r.word(),
-    }
-}
-
-fn container_row(r: &mut Random, kind: u64, pool: &[u64]) -> [u64; CONTAINER_ROW] {
-    let mut row = [0; CONTAINER_ROW];
-    if kind == 0 {
-        return row;
-    }
-    row[KIND] = kind;
-    row[TAG] = tag(r);
-    row[rule(PERMIT)].copy_from_slice(&rule_words(&normal_rule(r, pool)));
-    row[rule(RUN)].copy_from_slice(&rule_words(&normal_rule(r, pool)));
-    row[BEHALF] = if kind == 3 && r.percent(60) { r.below(USERS.most) as u64 } else { NOBODY };
-    row
-}
-
-/// Breaks the numbers of a rule in a way that refusal 10 looks at.
-fn damage_rule(r: &mut Random, words: &mut [u64]) {
-    let most = RULE_MIXTURES as u64;
-    let count = words[0].min(most) as usize;
-    match r.below(6) {
-        0 => words[0] = r.pick(&[most + 1, 1 << 32, (1 << 32) + 1, u64::MAX, words[0] + 1]),
-        1 => words[RULE_MIXTURES] ^= 1 << r.below(64),
-        2 if count >= 2 => words.swap(1, count),
-        3 if (1..RULE_MIXTURES).contains(&count) => {
-            // A repeat, or a mixture that the last one holds.
-            words[count + 1] = words[count] & r.pick(&[u64::MAX, 0xff, 0]);
-            words[0] += 1;
-        }
-        4 if count >= 1 => words[0] -= 1,
-        _ => words[1 + r.below(RULE_MIXTURES)] ^= 1 << r.below(64),
-    }
-}
-
-fn damage_row(r: &mut Random, row: &mut [u64]) {
-    match r.below(5) {
-        4 => row[BEHALF] = r.pick(&[0, 15, 16, 255, NOBODY - 1, NOBODY, NOBODY + 1, 1 << 32, u64::MAX]),
-        0 => row[KIND] = r.pick(&[0, 4, 1 << 32, (1 << 32) + 1, u64::MAX, 2, 3]),
-        1 => row[r.below(CONTAINER_ROW)] ^= 1 << r.below(64),
-        2 => damage_rule(r, &mut row[rule(PERMIT)]),
-        _ => damage_rule(r, &mut row[rule(RUN)]),
-    }
-}
-
-fn damage_user(r: &mut Random, row: &mut [u64]) {
-    match r.below(3) {
-        0 => row[DECLARED] = r.pick(&[0, 2, (1 << 32) + 1, u64::MAX]),
-        1 => row[r.below(USER_ROW)] ^= 1 << r.below(64),
-        _ => damage_rule(r, &mut row[rule(USER_RULE)]),
-    }
-}
-
 /// The bytes of a record.
 pub fn record_bytes(code: u8, p: u16, o: u16, u: u16) -> Vec<u8> {
     let mut bytes = vec![code, 0];
@@ -398,100 +314,11 @@ pub fn damage_record(r: &mut Random, record: &mut Vec<u8>) {
     }
 }
 
-/// The kind of object that a code wants, or sometimes another.
-fn object_kind(r: &mut Random, code: u8) -> u64 {
-    if r.percent(10) {
-        return r.below(4) as u64;
-    }
-    match code {
-        1..=3 | 9 => r.pick(&[1, 1, 2]),
-        4 => 1,
-        8 => 3,
-        _ => 0,
-    }
-}
-
-/// A rule of `count` mixtures, each all atoms of `universe` but one of those from atom `from` on. Two such rules over
-/// different atoms meet in as many mixtures as the product of their counts: around 8 the meets that just fit.
-fn all_but_one(universe: u64, from: usize, count: usize) -> Vec<u64> {
-    let mut rule: Vec<u64> = (from..from + count).map(|atom| universe & !(1 << atom)).collect();
-    rule.sort_unstable();
-    rule
-}
-
-/// Gives p and o run rules, and the user a rule, whose meets have about 8 mixtures.
-fn about_eight(r: &mut Random, rows: &mut Rows) {
-    let universe = r.pick(&[u64::MAX, 0xffff_ffff, 0xffff]);
-    let (few, more) = r.pick(&[(1, 8), (2, 4), (3, 3), (2, 5), (2, 3), (3, 2), (4, 2), (8, 1), (8, 8)]);
-    let rules = [all_but_one(universe, 0, few), all_but_one(universe, 8, more)];
-    for (i, (_, row)) in rows.containers.iter_mut().enumerate() {
-        if row[KIND] != 0 {
-            row[rule(RUN)].copy_from_slice(&rule_words(&rules[i]));
-        }
-    }
-    for (_, row) in &mut rows.users {
-        if row[DECLARED] == 1 {
-            row[rule(USER_RULE)].copy_from_slice(&rule_words(&rules[0]));
-        }
-    }
-}
-
-/// One operation on rows made for it, well formed or damaged.
-pub fn step(r: &mut Random) -> StepCase {
-    let code = r.between(1, 9) as u8;
-    let pool = pool(r);
-    let (p, o, u) = (r.below(CONTAINERS.most), r.below(CONTAINERS.most), r.below(USERS.most));
-    let o = if r.percent(if code == 8 { 92 } else { 4 }) { p } else { o };
-    let kind = if r.percent(6) { r.below(4) as u64 } else { 3 };
-    let mut rows = Rows::default();
-    rows.containers.push((p, container_row(r, kind, &pool)));
-    // Rules from two sets of mixtures meet in more ways than rules from one, which share mixtures.
-    let pool = if r.percent(50) { self::pool(r) } else { pool };
-    if o != p {
-        let kind = object_kind(r, code);
-        rows.containers.push((o, container_row(r, kind, &pool)));
-    }
-    if r.percent(94) {
-        let mut row = [0; USER_ROW];
-        row[DECLARED] = 1;
-        row[rule(USER_RULE)].copy_from_slice(&rule_words(&normal_rule(r, &pool)));
-        rows.users.push((u, row));
-    } else {
-        rows.users.push((u, [0; USER_ROW]));
-    }
-    if r.percent(12) {
-        about_eight(r, &mut rows);
-    }
-    // Half of the files are made for the user of the process, where it has one.
-    let process = &mut rows.containers[0].1;
-    if code == 6 && process[KIND] == 3 && process[BEHALF] != NOBODY && r.percent(50) {
-        process[BEHALF] = u as u64;
-    }
-    if r.percent(35) {
-        for _ in 0..r.pick(&[1, 1, 2]) {
-            let at = r.below(rows.containers.len() + 1);
-            match rows.containers.get_mut(at) {
-                Some((_, row)) => damage_row(r, row),
-                None => damage_user(r, &mut rows.users[0].1),
-            }
-        }
-    }
-    let user = if code == 4 || code == 6 { u as u16 } else { NO_USER };
-    let mut record = record_bytes(code, p as u16, o as u16, user);
-    if r.percent(8) {
-        damage_record(r, &mut record);
-    }
-    // What the other rows hold must not matter.
-    let background = if r.percent(50) { 0 } else { r.word() };
-    StepCase { rows, background, length: length(r, SESSION_LENGTH, false), record }
-}
-
-/// A record that suits the session in most ways; in so many of a hundred a container leaves.
-pub fn record(r: &mut Random, session: &[u64], containers: usize, leaving: usize) -> Vec<u8> {
-    let kind = |number: usize| session[container(number)][KIND];
-    let code = if r.percent(leaving) {
+/// A code for the session; in so many of a hundred a container leaves.
+fn code(r: &mut Random, session: &[u64], leaving: usize) -> u8 {
+    if r.percent(leaving) {
         // The last process stays in most cases, or all that follows is refused.
-        let processes = (0..CONTAINERS.most).filter(|&number| kind(number) == 3).count();
+        let processes = (0..CONTAINERS.most).filter(|&number| session[container(number)][KIND] == 3).count();
         let end = if processes > 1 { r.percent(40) } else { r.below(500) == 0 };
         r.pick(if end { &[8] } else { &[9] })
     } else if leaving == 0 {
@@ -499,28 +326,38 @@ pub fn record(r: &mut Random, session: &[u64], containers: usize, leaving: usize
     } else {
         // Where containers leave, others come, and take their numbers.
         r.pick(&[1, 1, 1, 2, 2, 3, 3, 3, 4, 4, 5, 5, 6, 6, 7])
-    };
-    // The first container from a random place on whose kind will do.
-    let find = |r: &mut Random, wanted: &[u64], bound: usize| {
-        let from = r.below(bound.max(1));
-        let turn = (from..bound).chain(0..from).find(|&c| wanted.contains(&kind(c)));
-        turn.unwrap_or(from) as u16
-    };
-    let any = |r: &mut Random| r.below(containers.max(1)) as u16;
-    let p = if r.percent(96) { find(r, &[3], containers) } else { any(r) };
+    }
+}
+
+/// The first container from a random place below the bound on whose kind will do.
+fn container_of(r: &mut Random, session: &[u64], wanted: &[u64], bound: usize) -> u16 {
+    let from = r.below(bound.max(1));
+    let turn = (from..bound).chain(0..from).find(|&c| wanted.contains(&session[container(c)][KIND]));
+    turn.unwrap_or(from) as u16
+}
+
+/// An object for a code.
+fn object(r: &mut Random, session: &[u64], code: u8, p: u16, containers: usize) -> u16 {
     let kinds: &[u64] = match code {
         1..=3 | 9 => &[1, 2],
         4 => &[1],
         _ => &[0],
     };
     // A free number among the first ones is mostly one that was left.
-    let near = (0..containers).any(|number| kind(number) == 0) && r.percent(85);
+    let near = (0..containers).any(|number| session[container(number)][KIND] == 0) && r.percent(85);
     let bound = if (5..=7).contains(&code) && !near { CONTAINERS.most } else { containers };
-    let o = match code {
+    match code {
         8 if r.percent(94) => p,
-        _ if r.percent(94) => find(r, kinds, bound),
-        _ => any(r),
-    };
+        _ if r.percent(94) => container_of(r, session, kinds, bound),
+        _ => r.below(containers.max(1)) as u16,
+    }
+}
+
+/// A record that suits the session in most ways; in so many of a hundred a container leaves.
+pub fn record(r: &mut Random, session: &[u64], containers: usize, leaving: usize) -> Vec<u8> {
+    let code = code(r, session, leaving);
+    let p = if r.percent(96) { container_of(r, session, &[3], containers) } else { r.below(containers.max(1)) as u16 };
+    let o = object(r, session, code, p, containers);
     let declared = (0..USERS.most).filter(|&u| session[user(u)][DECLARED] == 1).count();
     let own = session[container(usize::from(p))][BEHALF];
     let u = match code {
@@ -534,38 +371,4 @@ pub fn record(r: &mut Random, session: &[u64], containers: usize, leaving: usize
         damage_record(r, &mut record);
     }
     record
-}
-
-/// A matrix: read rows, write rows and objects.
-pub fn matrix(r: &mut Random) -> (Vec<u32>, Vec<u32>, u32) {
-    let objects = match r.below(20) {
-        0 => r.pick(&[0, 33, 64, u32::MAX]),
-        1 => 32,
-        _ => r.between(1, 12) as u32,
-    };
-    let subjects = match r.below(20) {
-        0 => r.pick(&[0, 9, 20]),
-        _ => r.between(1, 8),
-    };
-    let mask = if objects >= 32 { u32::MAX } else { (1u32 << objects) - 1 };
-    let dense = r.below(4);
-    let row = |r: &mut Random| {
-        let row = match dense {
-            0 => r.word() & r.word() & r.word(),
-            1 => r.word() & r.word(),
-            2 => r.word(),
-            _ => 1 << r.below(32) | 1 << r.below(32),
-        };
-        let row = row as u32;
-        if r.percent(1) {
-            row
-        } else {
-            row & mask
-        }
-    };
-    let reads: Vec<u32> = (0..subjects).map(|_| row(r)).collect();
-    let differ = r.percent(2);
-    let writers = if differ { r.below(10) } else { subjects };
-    let writes = (0..writers).map(|_| row(r)).collect();
-    (reads, writes, objects)
 }

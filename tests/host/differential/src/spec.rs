@@ -90,16 +90,17 @@ impl Spec {
             }
         };
         add(&|s| s.gaps = [0; GAPS]);
-        for keep in [0, self.containers.len() / 2, self.containers.len().saturating_sub(1)] {
+        let keeps = |count: usize| [0, count / 2, count.saturating_sub(1)];
+        for keep in keeps(self.containers.len()) {
             add(&|s| s.containers.truncate(keep));
         }
-        for keep in [0, self.users.len() / 2, self.users.len().saturating_sub(1)] {
+        for keep in keeps(self.users.len()) {
             add(&|s| s.users.truncate(keep));
         }
-        for keep in [0, self.rules.len() / 2, self.rules.len().saturating_sub(1)] {
+        for keep in keeps(self.rules.len()) {
             add(&|s| s.rules.truncate(keep));
         }
-        for keep in [0, self.mixtures.len() / 2, self.mixtures.len().saturating_sub(1)] {
+        for keep in keeps(self.mixtures.len()) {
             add(&|s| s.mixtures.truncate(keep));
         }
         for i in 0..self.containers.len() {
@@ -107,12 +108,8 @@ impl Spec {
             add(&|s| s.containers[i].2 = UNRESTRICTED);
             add(&|s| s.containers[i].3 = UNRESTRICTED);
         }
-        for i in 0..self.users.len() {
-            add(&|s| s.users[i] = UNRESTRICTED);
-        }
-        for i in 0..self.rules.len() {
-            add(&|s| s.rules[i].1 = s.rules[i].1.saturating_sub(1));
-        }
+        (0..self.users.len()).for_each(|i| add(&|s| s.users[i] = UNRESTRICTED));
+        (0..self.rules.len()).for_each(|i| add(&|s| s.rules[i].1 = s.rules[i].1.saturating_sub(1)));
         for i in 0..self.mixtures.len() {
             add(&|s| s.mixtures[i] = 0);
             add(&|s| s.mixtures[i] &= 0xff);

@@ -6,8 +6,8 @@ use yaslaurel::layout::session::RULE_MIXTURES;
 use crate::random::Random;
 
 /// A kind of text: what it is, how many in a thousand are of it, and how one is made.
-pub struct Kind {
-    pub name: &'static str,
+struct Kind {
+    name: &'static str,
     weight: usize,
     make: fn(&mut Random) -> Vec<u8>,
 }
@@ -17,7 +17,7 @@ const fn kind(name: &'static str, weight: usize, make: fn(&mut Random) -> Vec<u8
 }
 
 /// Every kind; a run that does not make one of each has failed.
-pub const KINDS: [Kind; 35] = [
+const KINDS: [Kind; 35] = [
     kind("any profiles", 200, |r| joined(&any(r))),
     kind("no profile", 5, |_| vec![]),
     kind("one program's lines over and over", 30, |r| joined(&repeated_lines(r))),
@@ -54,6 +54,17 @@ pub const KINDS: [Kind; 35] = [
     kind("over 8 mixtures and damaged", 20, mixtures_and_damaged),
     kind("any bytes", 10, |r| (0..r.below(60)).map(|_| byte(r)).collect()),
 ];
+
+/// The names of the kinds.
+pub const KIND_NAMES: [&str; KINDS.len()] = {
+    let mut names = [""; KINDS.len()];
+    let mut place = 0;
+    while place < names.len() {
+        names[place] = KINDS[place].name;
+        place += 1;
+    }
+    names
+};
 
 /// A text and its kind's name.
 pub fn text(r: &mut Random) -> (&'static str, Vec<u8>) {

@@ -1,0 +1,27 @@
+//! The cases of the comparison, a module for each kind. For a further function of the library add a module with its case
+//! and its part, and the part to this list, at its end: the seed of a part goes by its place.
+
+mod batches;
+mod histories;
+mod images;
+mod matrices;
+mod operations;
+mod pairs;
+mod profiles;
+mod proposals;
+pub mod traces;
+
+use crate::case::Part;
+
+pub const PARTS: &[Part] = &[
+    images::PART,
+    pairs::PART,
+    operations::PART,
+    traces::SHORT,
+    histories::PART,
+    traces::LONG,
+    batches::PART,
+    matrices::PART,
+    profiles::PART,
+    proposals::PART,
+];
