@@ -56,6 +56,19 @@ use_standin() {
     libraries=(-lpthread -ldl -lm)
 }
 
+# planted COUNT COMMAND..: the list of planted faults that the command prints goes to $work/planted, a line `NUMBER PART TEXT` for
+# each. COUNT says how many there are, so that a list that has lost some, or all, is a failure.
+planted() {
+    local count=$1
+    shift
+    "$@" >"$work/planted"
+    [ "$(wc -l <"$work/planted")" -eq "$count" ]
+    note $? "$count faults are planted: ${*##*/}"
+}
+
+# standin_faults TEST: the faults of the stand-in, which must be built, that a test must see.
+standin_faults() { "$root/target/cargo/release/standin-faults" "$1"; }
+
 # need_library: ends the test if there is no library.
 need_library() {
     if [ ! -f "$library/libyaslaurel.a" ]; then

@@ -2,7 +2,7 @@
 
 use judge::withdrawals::{consistent, judge, rights, Access, Right, Rights, Rows};
 
-use crate::fault;
+use crate::faults::{planted, Fault};
 
 /// Whether one of these, put back alone, leaves the proposal consistent.
 fn some_returns(withdrawn: &[Right], proposed: &Rights, objects: usize) -> bool {
@@ -19,32 +19,42 @@ pub fn answer(old_rows: &Rows, required_rows: &Rows, proposed_rows: &Rows) -> u3
     if number == 8 {
         let alone = |rows: &Rows| judge(rows, rows, rows) != 8;
         let all_well_formed = [old_rows, required_rows, proposed_rows].into_iter().all(alone);
-        return if fault(71) && all_well_formed { 1 } else { 8 };
+        return if planted(Fault::CountsDifferAnswered1) && all_well_formed { 1 } else { 8 };
     }
-    if fault(72) && !required.is_subset(&old) {
+    if planted(Fault::RequiredLackedRefused) && !required.is_subset(&old) {
         return 8;
     }
     let objects = old_rows.objects as usize;
-    let compared = |right: &&Right| !fault(65) || right.0 == Access::Read;
+    let compared = |right: &&Right| !planted(Fault::ReadRightsCompared) || right.0 == Access::Read;
     let within = |some: &Rights, all: &Rights| some.iter().filter(compared).all(|right| all.contains(right));
-    let kept = |rights: &Rights| if fault(68) { consistent(&old, objects) } else { consistent(rights, objects) };
-    let withdrawn: Vec<Right> = if fault(67) {
+    let kept = |rights: &Rights| {
+        if planted(Fault::OldMatrixConsistent) {
+            consistent(&old, objects)
+        } else {
+            consistent(rights, objects)
+        }
+    };
+    let withdrawn: Vec<Right> = if planted(Fault::LackedRightPutBack) {
         let each = |access| (0..old_rows.reads.len()).flat_map(move |s| (0..objects).map(move |k| (access, s, k)));
         each(Access::Read).chain(each(Access::Write)).filter(|right| !proposed.contains(right)).collect()
     } else {
-        old.difference(&proposed).copied().filter(|right| !fault(74) || right.0 == Access::Read).collect()
+        old.difference(&proposed)
+            .copied()
+            .filter(|right| !planted(Fault::ReadRightsPutBack) || right.0 == Access::Read)
+            .collect()
     };
-    let minimal = if fault(66) {
+    let minimal = if planted(Fault::PutBackTogether) {
         withdrawn.is_empty() || !consistent(&proposed.iter().chain(&withdrawn).copied().collect(), objects)
     } else {
-        !(some_returns(&withdrawn, &proposed, objects) || fault(73) && withdrawn.is_empty())
+        !(some_returns(&withdrawn, &proposed, objects)
+            || planted(Fault::NothingWithdrawnAnswered4) && withdrawn.is_empty())
     };
     let mut conditions =
         vec![(1, within(&proposed, &old)), (2, within(&required, &proposed)), (3, kept(&proposed)), (4, minimal)];
-    if fault(69) {
+    if planted(Fault::MinimalBeforeConsistent) {
         conditions.swap(2, 3);
     }
-    if fault(70) {
+    if planted(Fault::LastConditionGiven) {
         conditions.reverse();
     }
     conditions.into_iter().find(|(_, holds)| !holds).map_or(0, |(number, _)| number)

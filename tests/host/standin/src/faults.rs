@@ -1,0 +1,118 @@
+//! The planted faults of the library's stand-in, in one list.
+
+/// A list of planted faults: the name of each in the code, the part of the comparison that finds it (`all`, or the
+/// beginning of a part's name), the tests that must see it, and what is wrong. A fault's number is its place in the list, from
+/// 1 on; the variable `YASLAUREL_FAULT` plants the one of its number.
+#[macro_export]
+macro_rules! faults {
+    ($($name:ident, $part:ident, $($test:ident)+, $text:literal;)+) => {
+        #[derive(Clone, Copy, Debug, PartialEq, Eq)]
+        pub enum Fault {
+            $($name,)+
+        }
+
+        impl Fault {
+            const ALL: &'static [Fault] = &[$(Fault::$name,)+];
+
+            /// The fault that is planted.
+            pub fn planted() -> Option<Fault> {
+                static PLANTED: std::sync::OnceLock<Option<Fault>> = std::sync::OnceLock::new();
+                *PLANTED.get_or_init(|| {
+                    let number: usize = std::env::var("YASLAUREL_FAULT").ok()?.parse().expect("the number of a fault");
+                    (number > 0).then(|| *Fault::ALL.get(number - 1).expect("a fault has this number"))
+                })
+            }
+
+            /// The faults that a test must see, a line for each: its number, its part and what is wrong.
+            #[allow(dead_code)]
+            pub fn list(test: &str) -> String {
+                let rows = [$((stringify!($part), &[$(stringify!($test)),+][..], $text),)+];
+                let seen = rows.iter().enumerate().filter(|(_, (_, tests, _))| tests.contains(&test));
+                seen.map(|(place, (part, _, text))| format!("{} {part} {text}\n", place + 1)).collect()
+            }
+        }
+
+        /// Whether this fault is planted.
+        pub fn planted(fault: Fault) -> bool {
+            Fault::planted() == Some(fault)
+        }
+    };
+}
+
+// Each is a mistake that a reviewer would try. A new one goes to the end: the notes of changes name them by number.
+faults! {
+    AlwaysQuiet, all, differential chains demo, "a monitor that is always quiet";
+    RunningAtomByRead, all, differential chains, "a running atom passes by read";
+    CoveringByAtoms, all, differential chains, "covering is tested atom by atom";
+    OverwrittenKeepsTag, all, differential chains, "an overwritten file keeps its old tag";
+    ReadNarrowsPermit, all, differential chains, "a read narrows p's permit rule";
+    MeetOfEightRefused, all, differential, "a meet of exactly 8 is refused with 15";
+    NormaliserCopies, all, differential, "the normaliser copies";
+    FlowsOneTooHigh, all, differential calls, "the count of flows is one too high";
+    UsersBeforeContainers, all, differential fuzz, "a user's rule number is judged before the containers";
+    RefusedStartClears, all, differential calls fuzz, "a refused start clears the session";
+    RefusedStepClearsAnswer, all, differential calls fuzz, "a refused step clears receiver and tag";
+    NormaliserOverwrites, all, differential calls fuzz, "the normaliser writes one byte behind its image";
+    UnusedWordsUnseen, all, differential, "unused words of a row are not looked at";
+    ExecKeepsAll, all, differential chains, "exec keeps all that p held, as in document 003";
+    DerivedPermitLacksOwn, all, differential, "a derived permit rule lacks its own object";
+    StartLeavesLastUser, all, differential, "the start leaves the last user row as it was";
+    PairByTarget, all, differential, "the pair has the smallest target, then the smallest source";
+    StepWritesBehind, all, differential fuzz, "a step writes one number behind the session";
+    SessionUntouched, all, differential chains fuzz, "a session left untouched";
+    ShortRecordPadded, all, differential calls, "a short record is padded with zeros";
+    RunPastAlert, all, differential calls fuzz, "a run goes on behind an alert";
+    StopNotCounted, all, differential calls fuzz, "the record at which a run stops is not counted";
+    RefusedRunClearsCount, all, differential calls fuzz, "a run refused with 9 clears the count";
+    QuietRunClearsAnswer, all, differential calls fuzz, "a quiet run clears receiver and tag";
+    ShortLastRecordLeftOut, all, differential calls fuzz, "a run leaves out a short last record";
+    EmptyRunUnchecked, all, differential calls fuzz, "a run without records does not look at the session";
+    RefusalUndoesRun, all, differential calls fuzz, "a record refused in a run undoes those before it";
+    ModeXAlone, profiles, differential calls, "a mode x alone is accepted";
+    LineWithoutMode, profiles, differential, "a line without a mode is accepted";
+    PathOf65, profiles, differential, "a path of 65 bytes is accepted";
+    NoLastByte10, profiles, differential calls fuzz, "a last line without byte 10 is accepted";
+    OpenProfileAtEnd, profiles, differential calls, "an open profile at the end is accepted";
+    RepeatOnlyNext, profiles, differential, "a repeated profile is found only next to its first";
+    LaterLineReplaces, profiles, differential calls, "a later line of a path replaces the one before it";
+    AtomsByProfiles, profiles, differential demo, "atoms go to the profiled paths first";
+    RunLacksOwnAtom, profiles, differential calls demo, "a run mixture lacks the program's own running atom";
+    ExecuteAsData, profiles, differential calls demo, "what a program may execute counts as data";
+    PermitLacksOwnAtom, profiles, differential demo, "a written file's permit rule lacks its own atom";
+    InheritBeforeUnconfined, profiles, differential, "ix goes before ux";
+    DiscreteUnrestricted, profiles, differential demo, "px leaves a path unrestricted to run";
+    MixturesBeforeNormalForm, profiles, differential, "17 by the count of mixtures before normal form";
+    PathsBeforeGrammar, profiles, differential calls, "17 goes before 16";
+    RepeatBeyond32Unseen, profiles, differential, "a repeated profile beyond the 32nd path is not found";
+    RefusedTextClears, profiles, differential calls fuzz, "a text refused with 16 clears the output";
+    ExecDropsData, all, differential chains, "exec drops the data that p held";
+    ExecTurnsData, all, differential chains, "exec turns the data that p held into running atoms";
+    ExecKeepsRunRule, all, differential chains, "exec keeps p's run rule";
+    LeaverKeepsRow, all, differential chains calls fuzz, "an end or a delete leaves the row as it was";
+    LeaverLosesKindAlone, all, differential calls fuzz, "an end or a delete clears the kind alone";
+    EndOfAnotherRefusedByKind, all, differential calls, "an end of another o is refused with 12";
+    ProcessDeleted, all, differential calls, "a process can be deleted";
+    DeleteFreesProcess, all, differential chains calls fuzz, "a delete frees p";
+    LeaverAnswersOldTag, all, differential chains calls fuzz, "an end or a delete answers the old tag";
+    LaterHolderKeepsPermit, all, differential chains calls fuzz, "a later holder of a number keeps the permit rule";
+    ExecKeepsUser, all, differential chains calls fuzz, "exec keeps the user that p had";
+    ForkForNobody, all, differential chains calls fuzz, "a fork runs on nobody's behalf";
+    WriteHandsOnUser, all, differential calls fuzz, "a write gives o the user of p";
+    ProcessOfUser16, all, differential calls, "a process with user 16 passes";
+    FileOfUser0, all, differential calls, "a file with user 0 passes";
+    FreeRowOfNobody, all, differential calls, "a free row with user 65535 passes";
+    OtherUserBeforeUndeclared, all, differential calls, "18 goes before 14";
+    NobodyRefusedByUser, all, differential calls fuzz, "a process that runs on nobody's behalf is refused with 18";
+    ExecRefusedByUser, all, differential calls fuzz, "an exec for another user is refused with 18";
+    UsersReadAtOldPlace, all, differential calls, "the users are read behind 256 rows of 20";
+    ReadRightsCompared, withdrawals, differential, "a proposal is compared by its rights to read alone";
+    PutBackTogether, withdrawals, differential, "withdrawn rights are put back together";
+    LackedRightPutBack, withdrawals, differential, "a right that the old matrix lacked is put back";
+    OldMatrixConsistent, withdrawals, differential, "the old matrix has to be consistent, not the proposed one";
+    MinimalBeforeConsistent, withdrawals, differential, "condition 4 goes before condition 3";
+    LastConditionGiven, withdrawals, differential, "the last condition that fails is given";
+    CountsDifferAnswered1, withdrawals, differential, "differing counts are answered 1";
+    RequiredLackedRefused, withdrawals, differential, "a right that must stay and that the old matrix lacks is answered 8";
+    NothingWithdrawnAnswered4, withdrawals, differential, "a proposal that withdraws nothing is answered 4";
+    ReadRightsPutBack, withdrawals, differential, "only rights to read are put back";
+}
