@@ -1,10 +1,11 @@
 #!/usr/bin/env python3
-"""frames.py ARCHIVE HEADER: no call of the library can use more stack than the header says, whatever it is lent.
+"""frames.py ARCHIVE HEADER [NAME=COUNT]..: no call of the library can use more stack than the header says, whatever it is lent.
 
 Reads the machine code of the archive (objdump): what each function takes of the stack, and whom it calls. The deepest
-way through these is a bound, since no function calls itself or an address that is computed, and a computed jump goes
-by a table into its own function; the test fails where that is not so, or where it meets a change of the stack pointer
-that it does not know. Prints a line for each function of the header and `N passed, M failed`."""
+way through these is a bound, since no function calls itself, directly or through others, but for those that REPEATED
+names, and none calls an address that is computed; a computed jump goes by a table into its own function. The test fails
+where that is not so, or where it meets a branch or a change of the stack pointer that it does not know. NAME=COUNT adds
+to REPEATED. Prints a line for each function of the header and `N passed, M failed`."""
 
 import re
 import subprocess
@@ -16,6 +17,8 @@ sys.path.append(str(Path(__file__).resolve().parents[3] / "hosts" / "python"))
 import header
 
 START = re.compile(r"^[0-9a-f]+ <(.+)>:$")
+BRANCH = re.compile(r"\t(call|j[a-z]+) +[0-9a-f]+ <([^+]+)(\+0x[0-9a-f]+)?>$")
+RELOCATED = re.compile(r"\bR_X86_64_\w+\s")
 TARGET = re.compile(r"R_X86_64_(?:PLT32|PC32)\s+(?:\.text\.)?([\w:]+)-0x4$")
 TABLE = re.compile(r"^RELOCATION RECORDS FOR \[(.+)\]:$")
 PLACE = re.compile(r"R_X86_64_\w+\s+\.text\.([\w:]+)")
@@ -25,6 +28,10 @@ KNOWN = re.compile(r"\b(add|sub) +\$0x[0-9a-f]+,%rsp$|\bpop ")
 
 WORD = 8  # a push, or a return address
 LEAVES = {"memset", "memcpy", "memmove", "memcmp"}  # of the C library: the header leaves them out
+
+# The functions that call themselves, directly or through others: how often each can be on the stack at a time, and the
+# reason, as (COUNT, "REASON").
+REPEATED = {}
 
 
 class Code:
@@ -57,26 +64,56 @@ def tables_stay(archive):
             raise SystemExit(f"a table of {section} names {found[1]}")
 
 
+def target(caller, branch, relocation):
+    """Whom a branch calls, nobody if it stays in its own function."""
+    kind, name, place = BRANCH.search(branch).groups()
+    if relocation:
+        found = TARGET.search(relocation)
+        name, place = (found[1], None) if found else (name, "somewhere")
+    elif name == caller and kind != "call":
+        return set()
+    if place:
+        raise SystemExit(f"not understood in {caller}: {branch.strip()} {relocation.strip()}")
+    return {name}
+
+
 def read(archive):
-    functions, current, before = {}, None, ""
-    for line in objdump("-dr", "--no-show-raw-insn", archive):
+    functions, caller = {}, None
+    lines = objdump("-dr", "--no-show-raw-insn", archive)
+    for line, behind in zip(lines, lines[1:]):
         if found := START.match(line):
-            current = functions.setdefault(found[1], Code())
-        elif (found := TARGET.search(line)) and re.search(r"\b(call|jmp)\b", before):
-            current.calls.add(found[1])
-        elif current and "\t" in line:
-            current.instruction(line)
-        before = line
+            caller = found[1]
+            functions.setdefault(caller, Code())
+        elif caller and "\t" in line and not RELOCATED.search(line):
+            functions[caller].instruction(line)
+            if BRANCH.search(line):
+                relocation = behind if RELOCATED.search(behind) else ""
+                functions[caller].calls |= target(caller, line, relocation)
     return functions
 
 
-def depth(functions, name, callers=()):
+def reached(functions, name):
+    """The functions that a function calls, directly or through others."""
+    found, left = set(), [name]
+    while left:
+        new = functions[left.pop()].calls - LEAVES - found
+        found |= new
+        left += new
+    return found
+
+
+def depth(functions, repeated, name):
+    """The stack of a call: each function of a cycle as often as it can be there, then the deepest call out of it."""
     if name in LEAVES:
         return WORD
-    if name in callers:
-        raise SystemExit(f"{name} calls itself")
-    code = functions[name]
-    return code.frame + max([code.below] + [depth(functions, other, callers + (name,)) for other in code.calls])
+    cycle = {other for other in reached(functions, name) if name in reached(functions, other)}
+    if unknown := cycle - repeated.keys():
+        raise SystemExit(f"calls itself: {', '.join(sorted(unknown))}")
+    members = cycle or {name}
+    own = sum(functions[member].frame * (repeated[member][0] if cycle else 1) for member in members)
+    calls = set.union(*(functions[member].calls for member in members)) - members
+    below = [functions[member].below for member in members]
+    return own + max(below + [depth(functions, repeated, other) for other in calls])
 
 
 def arguments(function):
@@ -91,13 +128,14 @@ def said(parts):
     return {match[1].lower(): int(match[2]) for match in found if match}
 
 
-def main(archive, name):
+def main(archive, name, *further):
     tables_stay(archive)
+    repeated = REPEATED | {word.partition("=")[0]: (int(word.partition("=")[2]), "asked for") for word in further}
     functions, parts = read(archive), header.read(name)
     numbers, failed = said(parts), 0
     called = [function for part in parts for function in part.functions if not function.inline]
     for function in called:
-        bound = arguments(function) + depth(functions, function.name)
+        bound = arguments(function) + depth(functions, repeated, function.name)
         number = numbers.get(function.name, 0)
         failed += bound > number
         print(f"{'ok' if bound <= number else 'FAILED'} {function.name}: at most {bound} bytes, the header says {number}")
