@@ -55,14 +55,51 @@ static int out_stayed_from(size_t from)
     return 1;
 }
 
-/* The empty policy: four empty sections behind the header. */
-static const uint8_t empty[HEADER] = {
-    [0] = YASLAUREL_LEADING,
-    [YASLAUREL_OFFSET_AT(0)] = HEADER,
-    [YASLAUREL_OFFSET_AT(1)] = HEADER,
-    [YASLAUREL_OFFSET_AT(2)] = HEADER,
-    [YASLAUREL_OFFSET_AT(3)] = HEADER,
+/* What lies behind the pointers of the calls, and what it is before them. */
+struct numbers {
+    uint64_t receiver, tag;
+    size_t taken;
+    uint32_t count, source, target;
 };
+
+static const struct numbers unset = {77, 88, 99, 11, 22, 33};
+static struct numbers got;
+
+static int answer_stayed(void) { return got.receiver == unset.receiver && got.tag == unset.tag; }
+
+static int numbers_stayed(void)
+{
+    return answer_stayed() && got.taken == unset.taken && got.count == unset.count && got.source == unset.source &&
+           got.target == unset.target;
+}
+
+/* Each function that has such pointers is called here alone. */
+static uint32_t step(uint64_t *words, size_t words_length, const uint8_t *record, size_t length)
+{
+    return yaslaurel_step(words, words_length, record, length, &got.receiver, &got.tag);
+}
+
+static uint32_t run(uint64_t *words, size_t words_length, const uint8_t *records, size_t length)
+{
+    return yaslaurel_run(words, words_length, records, length, &got.taken, &got.receiver, &got.tag);
+}
+
+static uint32_t verdict(const uint32_t *rows, size_t rows_length, const uint32_t *others, size_t others_length,
+                        uint32_t objects)
+{
+    return yaslaurel_matrix_verdict(rows, rows_length, others, others_length, objects, &got.count, &got.source,
+                                    &got.target);
+}
+
+/* Whether a step on the session by a record of the right length gives these. */
+static int step_gives(const uint8_t *record, uint32_t answer, uint64_t receiver, uint64_t tag)
+{
+    got = unset;
+    return step(session, SESSION, record, RECORD) == answer && got.receiver == receiver && got.tag == tag;
+}
+
+/* The empty policy: four empty sections behind the header. */
+static uint8_t empty[HEADER];
 
 /* A text of profiles: two programs, one of which appends to what the other reads. */
 static const char profiles[] = "profile /bin/mailer {\n"
@@ -86,34 +123,33 @@ static const uint32_t writes[3] = {1, 2, 10};
 
 static void session_lengths(void)
 {
-    uint64_t receiver = 11, tag = 22;
-    size_t taken = 33;
     const uint8_t record[RECORD + 1] = {4};
 
+    got = unset;
     mark_session();
     check(yaslaurel_session_start(empty, HEADER, session, SESSION - 1) == 9, "start: session one short");
     check(yaslaurel_session_start(empty, HEADER, session, SESSION + 1) == 9, "start: session one long");
     check(yaslaurel_session_start(empty, HEADER, session, 0) == 9, "start: session of length 0");
     check(yaslaurel_session_start(empty, HEADER - 1, session, SESSION) == 1, "start: image one short");
     check(yaslaurel_session_start(empty, HEADER - 1, session, SESSION - 1) == 9, "start: 9 comes before 1");
-    check(yaslaurel_step(session, SESSION - 1, record, RECORD, &receiver, &tag) == 9, "step: session one short");
-    check(yaslaurel_step(session, SESSION, record, RECORD - 1, &receiver, &tag) == 7, "step: record one short");
-    check(yaslaurel_step(session, SESSION, record, RECORD + 1, &receiver, &tag) == 7, "step: record one long");
-    check(yaslaurel_step(session, SESSION, record, 0, &receiver, &tag) == 7, "step: record of length 0");
-    check(yaslaurel_step(session, 0, record, 0, &receiver, &tag) == 9, "step: 9 comes before 7");
-    check(yaslaurel_step(session, SESSION, record, RECORD, &receiver, &tag) == 10, "step: rows not well formed");
-    check(yaslaurel_run(session, SESSION - 1, record, RECORD, &taken, &receiver, &tag) == 9, "run: session one short");
-    check(yaslaurel_run(session, SESSION + 1, record, RECORD - 1, &taken, &receiver, &tag) == 9,
+    check(step(session, SESSION - 1, record, RECORD) == 9, "step: session one short");
+    check(step(session, SESSION, record, RECORD - 1) == 7, "step: record one short");
+    check(step(session, SESSION, record, RECORD + 1) == 7, "step: record one long");
+    check(step(session, SESSION, record, 0) == 7, "step: record of length 0");
+    check(step(session, 0, record, 0) == 9, "step: 9 comes before 7");
+    check(step(session, SESSION, record, RECORD) == 10, "step: rows not well formed");
+    check(run(session, SESSION - 1, record, RECORD) == 9, "run: session one short");
+    check(run(session, SESSION + 1, record, RECORD - 1) == 9,
           "run: 9 comes before 7");
-    check(yaslaurel_run(session, 0, record, 0, &taken, &receiver, &tag) == 9, "run: 9 without records");
-    check(taken == 33, "run: 9 leaves the count");
-    check(yaslaurel_run(session, SESSION, record, RECORD - 1, &taken, &receiver, &tag) == 7 && taken == 1,
+    check(run(session, 0, record, 0) == 9, "run: 9 without records");
+    check(got.taken == unset.taken, "run: 9 leaves the count");
+    check(run(session, SESSION, record, RECORD - 1) == 7 && got.taken == 1,
           "run: a short record counts and is refused");
-    check(yaslaurel_run(session, SESSION, record, 0, &taken, &receiver, &tag) == 0 && taken == 0, "run: no records");
-    check(yaslaurel_run(session, SESSION, record, RECORD + 1, &taken, &receiver, &tag) == 10 && taken == 1,
+    check(run(session, SESSION, record, 0) == 0 && got.taken == 0, "run: no records");
+    check(run(session, SESSION, record, RECORD + 1) == 10 && got.taken == 1,
           "run: rows not well formed");
     check(session_stayed(), "refused calls leave the session");
-    check(receiver == 11 && tag == 22, "refused calls leave receiver and tag, and so does a run without records");
+    check(answer_stayed(), "refused calls leave receiver and tag, and so does a run without records");
 }
 
 static void output_lengths(void)
@@ -144,16 +180,13 @@ static void output_lengths(void)
 /* The header lets a host turn a null with length 0 into an address. */
 static void nulls(void)
 {
-    uint64_t receiver = 11, tag = 22;
-    size_t taken = 33;
-    uint32_t count = 1, source = 2, target = 3;
-
+    got = unset;
     check(yaslaurel_image_check(yaslaurel_bytes(NULL), 0) == 1, "check: a null image");
     check(yaslaurel_image_normalise(yaslaurel_bytes(NULL), 0, yaslaurel_output(NULL), 0) == 9, "normalise: nulls");
     check(yaslaurel_session_start(yaslaurel_bytes(NULL), 0, yaslaurel_words(NULL), 0) == 9, "start: nulls");
-    check(yaslaurel_step(yaslaurel_words(NULL), 0, yaslaurel_bytes(NULL), 0, &receiver, &tag) == 9, "step: nulls");
-    check(yaslaurel_run(yaslaurel_words(NULL), 0, yaslaurel_bytes(NULL), 0, &taken, &receiver, &tag) == 9, "run: nulls");
-    check(yaslaurel_matrix_verdict(yaslaurel_rows(NULL), 0, yaslaurel_rows(NULL), 0, 4, &count, &source, &target) == 8,
+    check(step(yaslaurel_words(NULL), 0, yaslaurel_bytes(NULL), 0) == 9, "step: nulls");
+    check(run(yaslaurel_words(NULL), 0, yaslaurel_bytes(NULL), 0) == 9, "run: nulls");
+    check(verdict(yaslaurel_rows(NULL), 0, yaslaurel_rows(NULL), 0, 4) == 8,
           "verdict: null rows");
     check(yaslaurel_matrix_policy(yaslaurel_rows(NULL), 0, yaslaurel_rows(NULL), 0, 4, out, OUTPUT) == 8,
           "matrix policy: null rows");
@@ -161,19 +194,17 @@ static void nulls(void)
                                  yaslaurel_rows(NULL), 0, 4, yaslaurel_rows(NULL), 0, yaslaurel_rows(NULL), 0, 4) == 8,
           "judge: null rows");
     check(yaslaurel_profiles_policy(yaslaurel_bytes(NULL), 0, yaslaurel_output(NULL), 0) == 9, "profiles: nulls");
-    check(receiver == 11 && tag == 22 && taken == 33 && count == 1 && source == 2 && target == 3,
-          "refused calls leave the numbers");
+    check(numbers_stayed(), "refused calls leave the numbers");
 }
 
 /* The paper's example: the verdict on its matrix, and the policy that is derived from it. */
 static void matrix_example(void)
 {
-    uint32_t count = 9, source = 9, target = 9;
-
-    check(yaslaurel_matrix_verdict(reads, 3, writes, 3, 4, &count, &source, &target) == 1, "verdict: not consistent");
-    check(count == 3 && source == 0 && target == 3, "verdict: 3 flows, the first from 0 to 3");
-    check(yaslaurel_matrix_verdict(reads, 1, reads, 1, 4, &count, &source, &target) == 0, "verdict: consistent");
-    check(count == 0 && source == 0 && target == 0, "verdict: consistent gives zeros");
+    got = unset;
+    check(verdict(reads, 3, writes, 3, 4) == 1, "verdict: not consistent");
+    check(got.count == 3 && got.source == 0 && got.target == 3, "verdict: 3 flows, the first from 0 to 3");
+    check(verdict(reads, 1, reads, 1, 4) == 0, "verdict: consistent");
+    check(got.count == 0 && got.source == 0 && got.target == 0, "verdict: consistent gives zeros");
     mark_out();
     check(yaslaurel_matrix_policy(reads, 3, writes, 3, 4, out, OUTPUT) == 110, "matrix policy: 110 bytes");
     check(out_stayed_from(110), "matrix policy: the bytes behind the image stay");
@@ -199,9 +230,7 @@ static void step_example(void)
     int good = 1;
 
     for (int i = 0; i < 6; i++) {
-        uint64_t receiver = 77, tag = 88;
-        uint32_t answer = yaslaurel_step(session, SESSION, trace + 1 + RECORD * i, RECORD, &receiver, &tag);
-        good = good && answer == answers[i] && receiver == receivers[i] && tag == tags[i];
+        good = step_gives(trace + 1 + RECORD * i, answers[i], receivers[i], tags[i]) && good;
     }
     check(good, "the paper's trace, from odd addresses");
 }
@@ -209,20 +238,16 @@ static void step_example(void)
 /* The same as batches, on a new session: the alert stops the first, the refusal the second, and the rest is none. */
 static void batch_example(void)
 {
-    size_t taken = 66;
-    uint64_t receiver = 77, tag = 88;
-
+    got = unset;
     memcpy(before, session, sizeof session);
     check(yaslaurel_session_start(out, 110, session, SESSION) == 0, "the derived policy starts a session again");
-    check(yaslaurel_run(session, SESSION, trace + 1, 3 * RECORD, &taken, &receiver, &tag) == 0 && taken == 3 &&
-              receiver == 77 && tag == 88,
+    check(run(session, SESSION, trace + 1, 3 * RECORD) == 0 && got.taken == 3 && answer_stayed(),
           "run: a batch that is quiet to its end");
-    check(yaslaurel_run(session, SESSION, trace + 1 + 3 * RECORD, 3 * RECORD, &taken, &receiver, &tag) ==
-                  YASLAUREL_ALERT &&
-              taken == 1 && receiver == 1 && tag == 7,
+    check(run(session, SESSION, trace + 1 + 3 * RECORD, 3 * RECORD) == YASLAUREL_ALERT && got.taken == 1 &&
+              got.receiver == 1 && got.tag == 7,
           "run: a batch that stops at an alert");
-    check(yaslaurel_run(session, SESSION, trace + 1 + 4 * RECORD, 2 * RECORD, &taken, &receiver, &tag) == 12 &&
-              taken == 2 && receiver == 1 && tag == 7,
+    check(run(session, SESSION, trace + 1 + 4 * RECORD, 2 * RECORD) == 12 && got.taken == 2 && got.receiver == 1 &&
+              got.tag == 7,
           "run: a batch that stops at a refusal, and keeps what came before it");
     check(session_stayed(), "run: batches leave the session that single steps leave");
 }
@@ -255,9 +280,7 @@ static void leaving_example(void)
           "leaving: the session starts");
     for (size_t i = 0; i < sizeof steps / sizeof steps[0]; i++) {
         const uint8_t record[RECORD] = {steps[i].code, 0, steps[i].p, 0, steps[i].o, 0, 255, 255};
-        uint64_t receiver = 77, tag = 88;
-        uint32_t answer = yaslaurel_step(session, SESSION, record, RECORD, &receiver, &tag);
-        check(answer == steps[i].answer && receiver == steps[i].receiver && tag == steps[i].tag,
+        check(step_gives(record, steps[i].answer, steps[i].receiver, steps[i].tag),
               "leaving: a step of files that are deleted and processes that end");
     }
 }
@@ -265,7 +288,7 @@ static void leaving_example(void)
 /* On whose behalf processes run, on a session of file 0, process 1 and users 0 and 1, all unrestricted. */
 static void behalf_example(void)
 {
-    static const uint8_t header[] = {YASLAUREL_LEADING, 0, 18, 0, 12, 0, 30, 0, 4, 0, 34, 0, 0, 0, 34, 0, 0, 0};
+    static const size_t counts[YASLAUREL_SECTIONS] = {2, 2, 0, 0};
     static const struct {
         uint8_t code, p, o;
         uint16_t u;
@@ -283,21 +306,17 @@ static void behalf_example(void)
         {2, 1, 0, YASLAUREL_NO_USER, 0, 0, (uint64_t)1 << 32}, /* a write gives a file no user */
     };
     uint8_t image[34];
-    uint64_t receiver, tag;
+    size_t length = put_header(image, counts, NULL);
+    uint8_t *at = section_at(image, CONTAINER_SECTION);
 
-    memset(image, 255, sizeof image);
-    memcpy(image, header, HEADER);
-    image[HEADER] = 1;
-    image[HEADER + 1] = 0;
-    image[HEADER + YASLAUREL_CONTAINER_LENGTH] = 3;
-    check(yaslaurel_session_start(image, sizeof image, session, SESSION) == 0, "behalf: the session starts");
+    at = put_container(at, YASLAUREL_FILE, 0, YASLAUREL_UNRESTRICTED, YASLAUREL_UNRESTRICTED);
+    put_user(put_user(put_other(at, YASLAUREL_PROCESS), YASLAUREL_UNRESTRICTED), YASLAUREL_UNRESTRICTED);
+    check(length == sizeof image && yaslaurel_session_start(image, length, session, SESSION) == 0,
+          "behalf: the session starts");
     for (size_t i = 0; i < sizeof steps / sizeof steps[0]; i++) {
         const uint8_t record[RECORD] = {
             steps[i].code, 0, steps[i].p, 0, steps[i].o, 0, (uint8_t)steps[i].u, (uint8_t)(steps[i].u >> 8)};
-        receiver = 77;
-        tag = 88;
-        uint32_t answer = yaslaurel_step(session, SESSION, record, RECORD, &receiver, &tag);
-        check(answer == steps[i].answer && receiver == steps[i].receiver && tag == steps[i].tag,
+        check(step_gives(record, steps[i].answer, steps[i].receiver, steps[i].tag),
               "behalf: a step of processes that make files for users");
     }
 }
@@ -314,7 +333,6 @@ static void behalf_rows(void)
     } damages[] = {
         {1, 15, 1, 0, 0}, {1, 16, 1, 0, 10}, {0, 0, 1, 0, 10}, {2, 1, 1, 2, 10}, {6, YASLAUREL_NO_USER, 7, 6, 10},
     };
-    uint64_t receiver, tag;
 
     for (size_t i = 0; i < sizeof users / sizeof users[0]; i++) {
         check(session[YASLAUREL_CONTAINER_ROW * i + YASLAUREL_BEHALF_AT] == users[i], "behalf: the user of a container");
@@ -324,7 +342,7 @@ static void behalf_rows(void)
         const uint8_t record[RECORD] = {damages[i].code, 0, 1, 0, damages[i].o, 0, 255, 255};
         memcpy(session, before, sizeof session);
         session[YASLAUREL_CONTAINER_ROW * damages[i].container + YASLAUREL_BEHALF_AT] = damages[i].user;
-        check(yaslaurel_step(session, SESSION, record, RECORD, &receiver, &tag) == damages[i].answer,
+        check(step(session, SESSION, record, RECORD) == damages[i].answer,
               "behalf: a user that a row may or may not have");
     }
 }
@@ -346,7 +364,6 @@ static void profile_example(void)
                          write_keys[RECORD] = {2, 0, 5, 0, 4, 0, 255, 255},
                          read_hosts[RECORD] = {1, 0, 5, 0, 1, 0, 255, 255};
     const uint64_t admin = (uint64_t)9 << 32 | 1 << 2 | 1 << 4;
-    uint64_t receiver = 0, tag = 0;
 
     mark_out();
     uint32_t length = yaslaurel_profiles_policy((const uint8_t *)profiles, sizeof profiles - 1, out, OUTPUT);
@@ -360,11 +377,11 @@ static void profile_example(void)
           "profiles: the run rule of a program");
     check(session[YASLAUREL_CONTAINER_ROW * 4 + 2] == 1 && session[YASLAUREL_CONTAINER_ROW * 4 + 3] == admin,
           "profiles: the permit rule of what it writes");
-    check(yaslaurel_step(session, SESSION, exec_admin, RECORD, &receiver, &tag) == 0 && tag == (uint64_t)8 << 32,
+    check(step(session, SESSION, exec_admin, RECORD) == 0 && got.tag == (uint64_t)8 << 32,
           "profiles: the program starts");
-    check(yaslaurel_step(session, SESSION, read_mail, RECORD, &receiver, &tag) == 0, "profiles: it reads what it may");
-    check(yaslaurel_step(session, SESSION, write_keys, RECORD, &receiver, &tag) == 0, "profiles: it writes what it may");
-    check(yaslaurel_step(session, SESSION, read_hosts, RECORD, &receiver, &tag) == YASLAUREL_ALERT && receiver == 5,
+    check(step(session, SESSION, read_mail, RECORD) == 0, "profiles: it reads what it may");
+    check(step(session, SESSION, write_keys, RECORD) == 0, "profiles: it writes what it may");
+    check(step(session, SESSION, read_hosts, RECORD) == YASLAUREL_ALERT && got.receiver == 5,
           "profiles: it reads what it may not");
 }
 
@@ -458,30 +475,29 @@ static int step_answer(uint32_t answer)
 static int random_steps(uint64_t *seed, const uint8_t *image, size_t length)
 {
     static const uint8_t codes[] = {0, 1, 2, 3, 4, 5, 6, 7, 8, 9, 200, 255};
-    uint64_t receiver = 0, tag = 0;
-    size_t taken = 99;
     uint8_t record[RECORD];
 
+    got = unset;
     yaslaurel_record(codes[draw(seed) % sizeof codes], draw(seed) % 256, draw(seed) % 256, YASLAUREL_NO_USER, record);
-    uint32_t answer = yaslaurel_step(session, SESSION, record, RECORD, &receiver, &tag);
-    int good = step_answer(answer) && receiver < YASLAUREL_CONTAINERS;
-    good = good && (answer == YASLAUREL_QUIET || answer == YASLAUREL_ALERT || (receiver == 0 && tag == 0));
-    answer = yaslaurel_run(session, SESSION, image, length, &taken, &receiver, &tag);
+    uint32_t answer = step(session, SESSION, record, RECORD);
+    int good = step_answer(answer) && got.receiver < YASLAUREL_CONTAINERS;
+    good = good && (answer == YASLAUREL_QUIET || answer == YASLAUREL_ALERT || answer_stayed());
+    answer = run(session, SESSION, image, length);
     good = good && (step_answer(answer) || answer == 18);
-    return good && taken <= (length + RECORD - 1) / RECORD && (answer != 0 || taken * RECORD >= length);
+    return good && got.taken <= (length + RECORD - 1) / RECORD && (answer != 0 || got.taken * RECORD >= length);
 }
 
 /* The verdict on a random matrix, and the judgement on a random proposal. */
 static int random_matrices(uint64_t *seed, int round)
 {
-    uint32_t rows[10], count, source, target;
+    uint32_t rows[10];
 
     for (int i = 0; i < 10; i++) {
         rows[i] = draw(seed) & draw(seed) & (round % 2 ? 0xffu : 0xffffffffu);
     }
     size_t subjects = draw(seed) % 6;
     uint32_t objects = 4 * (draw(seed) % 9);
-    uint32_t answer = yaslaurel_matrix_verdict(rows, subjects, rows + 5, subjects, objects, &count, &source, &target);
+    uint32_t answer = verdict(rows, subjects, rows + 5, subjects, objects);
     int good = answer <= 1 || answer == 8;
     answer = yaslaurel_matrix_judge(rows, subjects, rows + 5, subjects, objects, rows + 1, subjects % 5, rows + 4,
                                     subjects % 5, objects, rows + 2, subjects, rows + 3, subjects, objects);
@@ -513,29 +529,16 @@ static void random_bytes(void)
 /* A policy spelled by the header's names: a file, a volatile, a process; a user; two rules; three mixtures. */
 static size_t named_image(uint8_t *image)
 {
-    const uint64_t lengths[YASLAUREL_SECTIONS] = {3 * YASLAUREL_CONTAINER_LENGTH, YASLAUREL_USER_LENGTH,
-                                                  2 * YASLAUREL_RULE_LENGTH, 3 * YASLAUREL_MIXTURE_LENGTH};
-    const uint64_t containers[3][4] = {
-        {YASLAUREL_FILE, 5, 0, YASLAUREL_UNRESTRICTED},
-        {YASLAUREL_VOLATILE, YASLAUREL_NO_ATOM, YASLAUREL_UNRESTRICTED, YASLAUREL_UNRESTRICTED},
-        {YASLAUREL_PROCESS, YASLAUREL_NO_ATOM, YASLAUREL_UNRESTRICTED, YASLAUREL_UNRESTRICTED},
-    };
-    uint64_t offset = HEADER;
-    uint8_t *at = image + HEADER;
+    static const size_t counts[YASLAUREL_SECTIONS] = {3, 1, 2, 3};
+    size_t length = put_header(image, counts, NULL);
+    uint8_t *at = section_at(image, CONTAINER_SECTION);
 
-    put(image, YASLAUREL_LEADING, 2);
-    for (unsigned i = 0; i < YASLAUREL_SECTIONS; i++) {
-        put(image + YASLAUREL_OFFSET_AT(i), offset, 2);
-        put(image + YASLAUREL_LENGTH_AT(i), lengths[i], 2);
-        offset += lengths[i];
-    }
-    for (unsigned i = 0; i < 3; i++) {
-        at = put(put(put(put(at, containers[i][0], 1), containers[i][1], 1), containers[i][2], 2), containers[i][3], 2);
-    }
-    at = put(at, 1, 2);
-    at = put(put(put(put(at, 0, 2), 1, 2), 1, 2), 2, 2);
-    at = put(put(at, 1u << 5, 8), (uint64_t)1 << YASLAUREL_RUNNING | 1, 8);
-    return (size_t)(put(at, 1u << (YASLAUREL_ATOMS - 1), 8) - image);
+    at = put_container(at, YASLAUREL_FILE, 5, 0, YASLAUREL_UNRESTRICTED);
+    at = put_other(put_other(at, YASLAUREL_VOLATILE), YASLAUREL_PROCESS);
+    at = put_rule(put_rule(put_user(at, 1), 0, 1), 1, 2);
+    at = put_mixture(put_mixture(at, 1u << 5), (uint64_t)1 << YASLAUREL_RUNNING | 1);
+    put_mixture(at, 1u << (YASLAUREL_ATOMS - 1));
+    return length;
 }
 
 /* The header's names against numbers that are written out: the image byte by byte, and what a session has of it. */
@@ -605,14 +608,13 @@ static void large_numbers(void)
         {YASLAUREL_EXEC, 4, 2, 65536},
     };
     uint8_t record[RECORD];
-    uint64_t receiver, tag;
 
     check(yaslaurel_matrix_policy(reads, 3, writes, 3, 4, out, OUTPUT) == 110 &&
               yaslaurel_session_start(out, 110, session, SESSION) == 0,
           "record: the session starts");
     for (size_t i = 0; i < sizeof large / sizeof large[0]; i++) {
         yaslaurel_record(large[i][0], large[i][1], large[i][2], large[i][3], record);
-        check(yaslaurel_step(session, SESSION, record, RECORD, &receiver, &tag) == 7, "record: a number that does not fit");
+        check(step(session, SESSION, record, RECORD) == 7, "record: a number that does not fit");
     }
 }
 
@@ -663,6 +665,7 @@ static void answer_meanings(void)
 
 int main(void)
 {
+    put_header(empty, (const size_t[YASLAUREL_SECTIONS]){0, 0, 0, 0}, NULL);
     check(yaslaurel_version() == YASLAUREL_VERSION, "the library has the header's version");
     names();
     records();

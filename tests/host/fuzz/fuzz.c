@@ -35,9 +35,7 @@ enum {
     LENGTH = ANSWERS - 1
 };
 
-/* The bytes of a record of each section, and how many there are at most. */
-static const size_t sizes[SECTIONS] = {YASLAUREL_CONTAINER_LENGTH, YASLAUREL_USER_LENGTH, YASLAUREL_RULE_LENGTH,
-                                       YASLAUREL_MIXTURE_LENGTH};
+/* How many records a section has at most. */
 static const size_t most[SECTIONS] = {YASLAUREL_CONTAINERS, YASLAUREL_USERS, YASLAUREL_RULES, YASLAUREL_MIXTURES};
 
 static uint64_t state;
@@ -118,59 +116,63 @@ static unsigned long checks[ANSWERS], normals[ANSWERS], starts[ANSWERS], steps[A
 
 static uint8_t *put16(uint8_t *at, size_t value) { return put(at, value, 2); }
 
-static size_t get16(const uint8_t *at) { return at[0] + 256u * at[1]; }
-
 static uint8_t image[YASLAUREL_IMAGE_LIMIT + 100];
 static uint8_t blank[OUTPUT + 40];
+
+/* The number of one of so many rules, or of the unrestricted one in so many of a hundred. */
+static size_t rule_of(size_t rules, unsigned chance)
+{
+    return rules == 0 || percent(chance) ? YASLAUREL_UNRESTRICTED : below(rules);
+}
+
+/* The containers of an image: a process first, then files and others. */
+static void make_containers(const size_t *counts)
+{
+    uint8_t *at = section_at(image, CONTAINER_SECTION);
+
+    for (size_t i = 0; i < counts[CONTAINER_SECTION]; i++) {
+        if (i > 0 && percent(60)) {
+            size_t permit = rule_of(counts[RULE_SECTION], 20), run = rule_of(counts[RULE_SECTION], 40);
+            at = put_container(at, YASLAUREL_FILE, below(YASLAUREL_ATOMS), permit, run);
+        } else {
+            at = put_other(at, i == 0 || percent(50) ? YASLAUREL_PROCESS : YASLAUREL_VOLATILE);
+        }
+    }
+}
 
 /* An image that is accepted, of small or largest size. Its length. */
 static size_t make_image(void)
 {
     static const size_t few[SECTIONS] = {14, 6, 8, 20};
     int large = percent(2);
-    size_t counts[SECTIONS], at = HEADER;
+    size_t counts[SECTIONS], gaps[SECTIONS];
+
     for (int section = 0; section < SECTIONS; section++) {
         counts[section] = large ? most[section] : below(few[section]);
+        gaps[section] = percent(10) ? below(5) : 0;
     }
-    put16(image, YASLAUREL_LEADING);
-    for (size_t section = 0; section < SECTIONS; section++) {
-        at += percent(10) ? below(5) : 0;
-        put16(image + YASLAUREL_OFFSET_AT(section), at);
-        put16(image + YASLAUREL_LENGTH_AT(section), sizes[section] * counts[section]);
-        for (size_t i = 0; i < counts[section]; i++) {
-            uint8_t *record = image + at + sizes[section] * i;
-            size_t first = counts[3] * i / (counts[2] + 1), left = counts[3] - first;
-            int file = i > 0 && percent(60);
-            size_t rule = counts[2] == 0 || percent(20) ? YASLAUREL_UNRESTRICTED : below(counts[2]);
-            size_t run = counts[2] == 0 || percent(40) ? YASLAUREL_UNRESTRICTED : below(counts[2]);
-            uint64_t mixture = percent(50) ? draw() : draw() & 0x3f0000003fu;
-            switch (section) {
-            case 0:
-                *record++ = (uint8_t)(file ? 1 : i == 0 ? 3 : 2 + below(2));
-                *record++ = (uint8_t)(file ? below(32) : YASLAUREL_NO_ATOM);
-                record = put16(record, file ? rule : YASLAUREL_UNRESTRICTED);
-                put16(record, file ? run : YASLAUREL_UNRESTRICTED);
-                break;
-            case 1:
-                put16(record, rule);
-                break;
-            case 2:
-                record = put16(record, first);
-                put16(record, below(1 + (left < YASLAUREL_RULE_MIXTURES ? left : YASLAUREL_RULE_MIXTURES)));
-                break;
-            default:
-                put(record, mixture, YASLAUREL_MIXTURE_LENGTH);
-            }
-        }
-        at += sizes[section] * counts[section];
+    size_t length = put_header(image, counts, gaps), rules = counts[RULE_SECTION], mixtures = counts[MIXTURE_SECTION];
+    make_containers(counts);
+    uint8_t *at = section_at(image, USER_SECTION);
+    for (size_t i = 0; i < counts[USER_SECTION]; i++) {
+        at = put_user(at, rule_of(rules, 20));
     }
-    return at;
+    at = section_at(image, RULE_SECTION);
+    for (size_t i = 0; i < rules; i++) {
+        size_t first = mixtures * i / (rules + 1), left = mixtures - first;
+        at = put_rule(at, first, below(1 + (left < YASLAUREL_RULE_MIXTURES ? left : YASLAUREL_RULE_MIXTURES)));
+    }
+    at = section_at(image, MIXTURE_SECTION);
+    for (size_t i = 0; i < mixtures; i++) {
+        at = put_mixture(at, percent(50) ? draw() : draw() & 0x3f0000003fu);
+    }
+    return length;
 }
 
 /* Breaks an image in a few places, or makes it any bytes. Its new length. */
 static size_t damage(size_t length)
 {
-    size_t section = below(SECTIONS), size = sizes[section];
+    size_t section = below(SECTIONS), size = record_sizes[section];
     size_t at = get16(image + YASLAUREL_OFFSET_AT(section));
     size_t count = get16(image + YASLAUREL_LENGTH_AT(section)) / size;
 
@@ -276,12 +278,9 @@ static unsigned make_record(uint8_t *record)
         record[i] = (uint8_t)draw();
     }
     if (percent(95)) {
-        record[YASLAUREL_CODE_AT] = (uint8_t)code;
-        record[YASLAUREL_ZERO_AT] = 0;
-        put16(record + YASLAUREL_PROCESS_AT, p);
-        put16(record + YASLAUREL_OBJECT_AT, percent(94) ? o : below(YASLAUREL_CONTAINERS));
-        put16(record + YASLAUREL_USER_AT,
-              code == 4 || code == 6 ? below(percent(90) ? 3 : YASLAUREL_USERS) : YASLAUREL_NO_USER);
+        o = percent(94) ? o : below(YASLAUREL_CONTAINERS);
+        size_t u = code == 4 || code == 6 ? below(percent(90) ? 3 : YASLAUREL_USERS) : YASLAUREL_NO_USER;
+        yaslaurel_record(code, (uint32_t)p, (uint32_t)o, (uint32_t)u, record);
     }
     return code;
 }
@@ -312,6 +311,12 @@ static int other_user(const uint8_t *record)
     return record[YASLAUREL_CODE_AT] == 6 && own != YASLAUREL_NO_USER && own != record[YASLAUREL_USER_AT];
 }
 
+/* A step, with the two numbers that it answers. */
+static uint32_t step(uint64_t *words, size_t words_length, const uint8_t *record, size_t length, uint64_t *numbers)
+{
+    return yaslaurel_step(words, words_length, record, length, &numbers[0], &numbers[1]);
+}
+
 /* One step on the session as it stands, or after damage to it. */
 static void try_step(int damaged)
 {
@@ -340,8 +345,7 @@ static void try_step(int damaged)
     lend(&numbers_at, before, sizeof before);
     read_only(&record_at, 1);
     uint64_t *numbers = (uint64_t *)(void *)numbers_at.slice;
-    uint32_t answer = yaslaurel_step((uint64_t *)(void *)session_at.slice, session_length, record_at.slice, length,
-                                     &numbers[0], &numbers[1]);
+    uint32_t answer = step((uint64_t *)(void *)session_at.slice, session_length, record_at.slice, length, numbers);
     read_only(&record_at, 0);
 
     int accepted = answer == YASLAUREL_QUIET || answer == YASLAUREL_ALERT;
@@ -396,8 +400,7 @@ static void try_run(int damaged)
     memcpy(stepped, session, sizeof session);
     while (expected == YASLAUREL_QUIET && at < length) {
         size_t left = length - at;
-        expected = yaslaurel_step(stepped, SESSION, records + at, left < RECORD ? left : RECORD, &received[0],
-                                  &received[1]);
+        expected = step(stepped, SESSION, records + at, left < RECORD ? left : RECORD, received);
         at += RECORD;
         steps_taken++;
     }

@@ -166,35 +166,27 @@ static uint64_t draw(void)
  */
 static void make_image(int sparse)
 {
-    const size_t lengths[YASLAUREL_SECTIONS] = {(FILES + PROCESSES) * YASLAUREL_CONTAINER_LENGTH,
-                                                YASLAUREL_USERS * YASLAUREL_USER_LENGTH,
-                                                YASLAUREL_RULES * YASLAUREL_RULE_LENGTH,
-                                                YASLAUREL_MIXTURES * YASLAUREL_MIXTURE_LENGTH};
-    size_t offset = YASLAUREL_HEADER_LENGTH;
-    uint8_t *at = put(image, YASLAUREL_LEADING, 2);
+    static const size_t counts[YASLAUREL_SECTIONS] = {FILES + PROCESSES, YASLAUREL_USERS, YASLAUREL_RULES, YASLAUREL_MIXTURES};
+    uint8_t *at;
 
-    for (size_t i = 0; i < YASLAUREL_SECTIONS; i++) {
-        at = put(put(at, offset, 2), lengths[i], 2);
-        offset += lengths[i];
-    }
+    image_length = put_header(image, counts, NULL);
+    at = section_at(image, CONTAINER_SECTION);
     for (size_t i = 0; i < FILES; i++) {
-        at = put(put(at, YASLAUREL_FILE, 1), draw() % YASLAUREL_ATOMS, 1);
-        at = put(put(at, draw() % YASLAUREL_RULES, 2), draw() % YASLAUREL_RULES, 2);
+        uint64_t atom = draw() % YASLAUREL_ATOMS, permit = draw() % YASLAUREL_RULES, run = draw() % YASLAUREL_RULES;
+        at = put_container(at, YASLAUREL_FILE, atom, permit, run);
     }
     for (size_t i = 0; i < PROCESSES; i++) {
-        at = put(put(at, YASLAUREL_PROCESS, 1), YASLAUREL_NO_ATOM, 1);
-        at = put(put(at, YASLAUREL_UNRESTRICTED, 2), YASLAUREL_UNRESTRICTED, 2);
+        at = put_other(at, YASLAUREL_PROCESS);
     }
     for (size_t i = 0; i < YASLAUREL_USERS; i++) {
-        at = put(at, draw() % YASLAUREL_RULES, 2);
+        at = put_user(at, draw() % YASLAUREL_RULES);
     }
     for (size_t i = 0; i < YASLAUREL_RULES; i++) {
-        at = put(put(at, i * YASLAUREL_RULE_MIXTURES, 2), YASLAUREL_RULE_MIXTURES, 2);
+        at = put_rule(at, i * YASLAUREL_RULE_MIXTURES, YASLAUREL_RULE_MIXTURES);
     }
     for (size_t i = 0; i < YASLAUREL_MIXTURES; i++) {
-        at = put(at, sparse ? (uint64_t)1 << draw() % 6 | (uint64_t)1 << draw() % 6 : draw(), YASLAUREL_MIXTURE_LENGTH);
+        at = put_mixture(at, sparse ? (uint64_t)1 << draw() % 6 | (uint64_t)1 << draw() % 6 : draw());
     }
-    image_length = (size_t)(at - image);
 }
 
 /* Random operations on the session, most of them good. */
