@@ -13,7 +13,8 @@
  *   2  some record was refused: the monitor has not followed it
  *   3  both
  *   4  the policy was refused
- *   5  a failure: wrong arguments, a file that could not be read, an output that could not be written
+ *   5  a failure: wrong arguments, a file that could not be read, an output that could not be written, an answer that the
+ *      header does not list
  */
 #include <inttypes.h>
 #include <stdio.h>
@@ -108,9 +109,12 @@ struct totals {
     uint64_t steps, alerts, refusals;
 };
 
-/* Judges the records of a chunk and prints what is not quiet. */
-static void judge(uint64_t *session, const uint8_t *records, size_t length, struct totals *totals,
-                  const struct names *names)
+/* Whether an answer is one of the refusals that the header lists. */
+static int is_refusal(uint32_t answer) { return yaslaurel_meaning(answer) != yaslaurel_meaning(YASLAUREL_ACCEPTED); }
+
+/* Judges the records of a chunk and prints what is not quiet. Whether it knew each answer, with a message if not. */
+static int judge(uint64_t *session, const uint8_t *records, size_t length, struct totals *totals,
+                 const struct names *names)
 {
     while (length > 0) {
         size_t taken = 0;
@@ -123,9 +127,12 @@ static void judge(uint64_t *session, const uint8_t *records, size_t length, stru
             printf("step %" PRIu64 ": container %" PRIu64 " now holds", totals->steps, receiver);
             print_sources(tag, names);
             printf("\n");
-        } else if (answer != YASLAUREL_QUIET) {
+        } else if (is_refusal(answer)) {
             totals->refusals++;
             printf("step %" PRIu64 ": refused %" PRIu32 ", %s\n", totals->steps, answer, yaslaurel_meaning(answer));
+        } else if (answer != YASLAUREL_QUIET) {
+            fprintf(stderr, "step %" PRIu64 ": unknown answer %" PRIu32 "\n", totals->steps, answer);
+            return 0;
         }
         /* The last record of a trace may be short. */
         size_t bytes = taken * YASLAUREL_RECORD_LENGTH;
@@ -133,6 +140,7 @@ static void judge(uint64_t *session, const uint8_t *records, size_t length, stru
         records += bytes;
         length -= bytes;
     }
+    return 1;
 }
 
 /* Judges a trace to its end, and prints the totals. The exit status. */
@@ -149,7 +157,9 @@ static int judge_trace(uint64_t *session, const char *path, FILE *trace, const s
             perror(path);
             return FAILED;
         }
-        judge(session, chunk, length, &totals, names);
+        if (!judge(session, chunk, length, &totals, names)) {
+            return FAILED;
+        }
     }
     printf("%" PRIu64 " steps, %" PRIu64 " alerts, %" PRIu64 " refused\n", totals.steps, totals.alerts, totals.refusals);
     return (totals.alerts > 0 ? ALERTS : QUIET) | (totals.refusals > 0 ? REFUSALS : QUIET);
@@ -176,12 +186,15 @@ int main(int argc, char **argv)
         return FAILED;
     }
 
-    int status = POLICY_REFUSED;
-    uint32_t refused = yaslaurel_session_start(policy, (size_t)policy_length, session, YASLAUREL_SESSION_LENGTH);
-    if (refused != YASLAUREL_ACCEPTED) {
-        printf("policy refused %" PRIu32 "\n", refused);
-    } else {
+    int status = FAILED;
+    uint32_t answer = yaslaurel_session_start(policy, (size_t)policy_length, session, YASLAUREL_SESSION_LENGTH);
+    if (answer == YASLAUREL_ACCEPTED) {
         status = judge_trace(session, argv[2], trace, &names);
+    } else if (is_refusal(answer)) {
+        printf("policy refused %" PRIu32 "\n", answer);
+        status = POLICY_REFUSED;
+    } else {
+        fprintf(stderr, "policy: unknown answer %" PRIu32 "\n", answer);
     }
     fclose(trace);
     if (fflush(stdout) != 0 || ferror(stdout)) {

@@ -57,13 +57,16 @@ impl Watch {
         self.steps += 1;
         let step = self.steps;
         match self.session.perform(operation) {
-            Ok(answer) if answer.verdict == Verdict::Alert => {
-                self.alerts += 1;
-                let holder = if operation.process() == answer.receiver { " and" } else { ", which" };
-                let sources = self.policy.sources_in(answer.tag);
-                println!("alert, step {step}: {process} {what}{holder} now holds {sources}");
-            }
-            Ok(_) => {}
+            Ok(answer) => match answer.verdict {
+                Verdict::Quiet => {}
+                Verdict::Alert => {
+                    self.alerts += 1;
+                    let holder = if operation.process() == answer.receiver { " and" } else { ", which" };
+                    let sources = self.policy.sources_in(answer.tag);
+                    println!("alert, step {step}: {process} {what}{holder} now holds {sources}");
+                }
+                unknown => return Err(format!("unknown answer {unknown:?}")),
+            },
             Err(refusal) => {
                 self.refusals += 1;
                 println!("{refusal}, step {step}: {process} {what}");

@@ -269,16 +269,15 @@ impl Recorder {
     fn perform(&mut self, operation: Operation) {
         let answer = self.monitor.perform(self.line, operation);
         let step = self.monitor.steps();
-        match answer {
-            Ok(answer) if answer.verdict == Verdict::Alert => {
-                let words = self.words(operation, Some(answer));
-                self.report.alert(step, &words);
-            }
-            Ok(_) => {}
-            Err(refusal) => {
-                let words = self.words(operation, None);
-                self.report.refusal(step, refusal.number(), &words);
-            }
+        let verdict = answer.map(|answer| answer.verdict);
+        if verdict == Ok(Verdict::Quiet) {
+            return;
+        }
+        let words = self.words(operation, answer.ok());
+        match verdict {
+            Ok(Verdict::Alert) => self.report.alert(step, &words),
+            Ok(unknown) => self.report.unknown(step, &format!("{unknown:?}"), &words),
+            Err(refusal) => self.report.refusal(step, refusal.number(), &words),
         }
     }
 

@@ -22,6 +22,7 @@ pub struct Report {
     alerts: u64,
     repeated: u64,
     refusals: u64,
+    unknown: u64,
     gaps: u64,
     told: HashSet<String>,
     /// When progress was last shown; nothing if it is not wanted.
@@ -33,7 +34,7 @@ impl Report {
     pub fn new(out: Box<dyn Write>, progress: bool) -> Report {
         let shown = (progress && io::stderr().is_terminal()).then(Instant::now);
         let told = HashSet::new();
-        Report { out, failure: None, alerts: 0, repeated: 0, refusals: 0, gaps: 0, told, shown }
+        Report { out, failure: None, alerts: 0, repeated: 0, refusals: 0, unknown: 0, gaps: 0, told, shown }
     }
 
     /// Prints a line. The first failure is kept for the end.
@@ -60,6 +61,12 @@ impl Report {
     pub fn refusal(&mut self, step: u64, number: u32, words: &str) {
         self.refusals += 1;
         self.line(&format!("refused with {number}, step {step}: {words}"));
+    }
+
+    /// An answer that this program does not know. The run has failed: nobody knows what the monitor did.
+    pub fn unknown(&mut self, step: u64, answer: &str, words: &str) {
+        self.unknown += 1;
+        self.line(&format!("unknown answer {answer}, step {step}: {words}"));
     }
 
     /// Something of the log that is not followed. What was told before is counted.
@@ -96,6 +103,9 @@ impl Report {
     }
 
     pub fn status(&self) -> u8 {
+        if self.unknown > 0 {
+            return status::FAILED;
+        }
         let alerts = if self.alerts > 0 { status::ALERTS } else { status::QUIET };
         let incomplete = if self.incomplete() { status::NOT_FOLLOWED } else { status::QUIET };
         alerts + incomplete

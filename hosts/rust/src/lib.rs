@@ -142,7 +142,8 @@ const _: () = {
 /// The refusal of a number that the library returned.
 #[inline]
 fn refusal(number: u32) -> Refusal {
-    Refusal::from_number(number).expect("the library's contract gives no other number")
+    Refusal::from_number(number)
+        .unwrap_or_else(|| panic!("unknown answer {number}: the library's contract gives none such"))
 }
 
 /// An image's length, or a refusal: no refusal of a function that writes an image is as large as a header is long.

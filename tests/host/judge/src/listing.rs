@@ -3,7 +3,7 @@
 use std::fmt::Write as _;
 
 use crate::numbers::{RECORD, SESSION};
-use crate::session::{start, step, ALERT, QUIET};
+use crate::session::{outcome, start, step, Outcome};
 
 /// "Words: read, write, append, exec, fork, file, volatile, other (unknown code)." "the listing's words are `end` and
 /// `delete`" (change request No. 4).
@@ -47,15 +47,15 @@ pub fn listing(policy: &[u8], trace: &[u8]) -> String {
         write!(text, "{records} {op} {p} {o} ").unwrap();
         // "Fields: step, operation, p, o, verdict, receiver, tag in 16 hexadecimal digits (small letters), or the
         // refusal number."
-        match answer.number {
-            QUIET => writeln!(text, "quiet {} {:016x}", answer.receiver, answer.tag).unwrap(),
-            ALERT => {
+        match outcome(answer.number) {
+            Outcome::Quiet => writeln!(text, "quiet {} {:016x}", answer.receiver, answer.tag).unwrap(),
+            Outcome::Alert => {
                 alerts += 1;
                 writeln!(text, "alert {} {:016x}", answer.receiver, answer.tag).unwrap();
             }
-            number => {
+            Outcome::Refused => {
                 refusals += 1;
-                writeln!(text, "refused {number}").unwrap();
+                writeln!(text, "refused {}", answer.number).unwrap();
             }
         }
     }

@@ -4,7 +4,7 @@ use std::collections::BTreeMap;
 use std::fmt::Write as _;
 
 use crate::numbers::{MONTH_TRACES, RECORD, SESSION, TRACE_RECORDS};
-use crate::session::{start, step, ALERT, QUIET};
+use crate::session::{outcome, start, step, Outcome};
 
 /// "19 when a trace has over 1,000,000 records".
 const TOO_LONG: u32 = 19;
@@ -26,14 +26,14 @@ fn figures(policy: &[u8], trace: &[u8]) -> Figures {
     // "Records are counted .. as in the watch program": "a short last record counts as a step"
     for record in trace.chunks(RECORD) {
         let answer = step(&mut session, record);
-        match answer.number {
-            QUIET => found.accepted += 1,
-            ALERT => {
+        match outcome(answer.number) {
+            Outcome::Quiet => found.accepted += 1,
+            Outcome::Alert => {
                 found.accepted += 1;
                 found.alerts += 1;
                 *found.containers.entry(answer.receiver).or_default() += 1;
             }
-            _ => found.refused += 1,
+            Outcome::Refused => found.refused += 1,
         }
     }
     found

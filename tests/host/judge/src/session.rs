@@ -19,6 +19,25 @@ pub struct Answer {
     pub tag: u64,
 }
 
+/// What the number of an answer stands for. Each match names every case, so that a further one is missed nowhere.
+#[derive(Clone, Copy, Debug, PartialEq, Eq)]
+pub enum Outcome {
+    Quiet,
+    Alert,
+    Refused,
+}
+
+/// The outcome of a number that an operation returned. The refusals are numbered 1 to 18; any other number is an error of the
+/// test's own.
+pub fn outcome(number: u32) -> Outcome {
+    match number {
+        QUIET => Outcome::Quiet,
+        ALERT => Outcome::Alert,
+        1..=18 => Outcome::Refused,
+        unknown => panic!("unknown answer {unknown}"),
+    }
+}
+
 /// "A refusal returns its number, zeros elsewhere".
 fn refused(number: u32) -> Answer {
     Answer { number, receiver: 0, tag: 0 }

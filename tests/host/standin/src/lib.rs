@@ -10,6 +10,7 @@ use std::slice::{from_raw_parts, from_raw_parts_mut};
 
 use faults::{planted, Fault};
 use judge::numbers::{user_row, HEADER, LONGEST_NORMAL, MIXTURES, RULES, UNRESTRICTED, USERS};
+use judge::session::{outcome, Outcome};
 use judge::withdrawals::Rows;
 use judge::{image, matrix, normal, session};
 
@@ -109,7 +110,8 @@ pub unsafe extern "C" fn yaslaurel_step(
     if planted(Fault::StepWritesBehind) && answer.number == 0 {
         *words.add(words_length) = 1;
     }
-    if answer.number == session::QUIET || answer.number == session::ALERT || planted(Fault::RefusedStepClearsAnswer) {
+    let left = outcome(answer.number) == Outcome::Refused && !planted(Fault::RefusedStepClearsAnswer);
+    if !left {
         *receiver = answer.receiver;
         *tag = answer.tag;
     }
@@ -134,9 +136,12 @@ pub unsafe extern "C" fn yaslaurel_run(
     if run.answer.number != 9 || planted(Fault::RefusedRunClearsCount) {
         *taken = run.taken;
     }
-    if run.answer.number == session::ALERT
-        || planted(Fault::QuietRunClearsAnswer) && run.answer.number == session::QUIET
-    {
+    let given = match outcome(run.answer.number) {
+        Outcome::Quiet => planted(Fault::QuietRunClearsAnswer),
+        Outcome::Alert => true,
+        Outcome::Refused => false,
+    };
+    if given {
         *receiver = run.answer.receiver;
         *tag = run.answer.tag;
     }

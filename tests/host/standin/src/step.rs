@@ -7,7 +7,7 @@ use judge::numbers::{
     RULE_MIXTURES, SESSION,
 };
 use judge::rules::{covers, holds, meet, running_atoms};
-use judge::session::{self, Answer, Record, Run, ALERT, QUIET};
+use judge::session::{self, outcome, Answer, Outcome, Record, Run, ALERT, QUIET};
 
 use crate::faults::{planted, Fault};
 
@@ -28,7 +28,12 @@ pub fn run(session: &mut [u64], records: &[u8]) -> Run {
         if refused(answer.number) && planted(Fault::RefusalUndoesRun) {
             session.copy_from_slice(&before);
         }
-        if refused(answer.number) || answer.number == ALERT && !planted(Fault::RunPastAlert) {
+        let goes_on = match outcome(answer.number) {
+            Outcome::Quiet => true,
+            Outcome::Alert => planted(Fault::RunPastAlert),
+            Outcome::Refused => false,
+        };
+        if !goes_on {
             return Run { answer, taken: taken - usize::from(planted(Fault::StopNotCounted)) };
         }
     }
@@ -54,7 +59,7 @@ pub fn step(session: &mut [u64], bytes: &[u8]) -> Answer {
 
 /// Whether a number is a refusal.
 fn refused(number: u32) -> bool {
-    number != QUIET && number != ALERT
+    outcome(number) == Outcome::Refused
 }
 
 fn refusal(number: u32) -> Option<Answer> {

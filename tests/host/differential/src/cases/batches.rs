@@ -1,6 +1,6 @@
 //! Batches of records, some of them short, by runs, on sessions of which some are damaged or of a wrong length.
 
-use judge::session;
+use judge::session::{self, outcome, Outcome};
 use yaslaurel::layout::{self, record};
 use yaslaurel::{ffi, SESSION_LENGTH};
 
@@ -174,8 +174,10 @@ fn run_once(bench: &mut Bench, rest: &[u8], c: &mut Counters) -> Result<session:
     c.add(ENDS, "took a short record", u64::from(expected.taken * record::LENGTH > rest.len()));
     // 9 leaves everything, and only an alert has receiver and tag.
     let taken = if number == 9 { TAKEN_BEFORE } else { expected.taken };
-    let alert = (expected.answer.receiver, expected.answer.tag);
-    let (receiver, tag) = if number == session::ALERT { alert } else { BEFORE };
+    let (receiver, tag) = match outcome(number) {
+        Outcome::Alert => (expected.answer.receiver, expected.answer.tag),
+        Outcome::Quiet | Outcome::Refused => BEFORE,
+    };
     let difference = differ("run", library, (number, taken, receiver, tag))
         .or_else(|| differ_at("session after the run", bench.session.content(), &bench.judge_session))
         .or_else(|| differ_at("the records themselves", bench.record.content(), rest))

@@ -3,7 +3,7 @@
 use std::fmt::Write as _;
 
 use judge::rules::normal;
-use judge::session;
+use judge::session::{self, outcome, Outcome};
 use yaslaurel::layout::image::{CONTAINERS, USERS};
 use yaslaurel::layout::record::{self, NO_USER};
 use yaslaurel::layout::session::{
@@ -113,9 +113,11 @@ pub fn step(bench: &mut Bench, record: &[u8], c: &mut Counters) -> Result<sessio
     let (number, receiver, tag) = library_step(&mut bench.session, &bench.record);
     let expected = session::step(&mut bench.judge_session, record);
     count(record, expected.number, &bench.judge_session, c);
-    let accepted = expected.number == session::QUIET || expected.number == session::ALERT;
-    // "changes no lent memory"
-    let numbers = if accepted { (expected.receiver, expected.tag) } else { BEFORE };
+    let numbers = match outcome(expected.number) {
+        Outcome::Quiet | Outcome::Alert => (expected.receiver, expected.tag),
+        // "changes no lent memory"
+        Outcome::Refused => BEFORE,
+    };
     let difference = differ("step", number, expected.number)
         .or_else(|| differ("receiver and tag", (receiver, tag), numbers))
         .or_else(|| differ_at("session after the step", bench.session.content(), &bench.judge_session))
@@ -128,8 +130,8 @@ pub fn step(bench: &mut Bench, record: &[u8], c: &mut Counters) -> Result<sessio
 fn count(record: &[u8], number: u32, after: &[u64], c: &mut Counters) {
     c.count(STEP, number);
     let code = record.first().map(|&code| u32::from(code));
-    match (number, code) {
-        (session::QUIET, Some(code)) => {
+    match (outcome(number), code) {
+        (Outcome::Quiet, Some(code)) => {
             c.count(QUIET, code);
             if code == 6 {
                 let process = &after[container(usize::from(record[record::PROCESS]))];
@@ -137,11 +139,11 @@ fn count(record: &[u8], number: u32, after: &[u64], c: &mut Counters) {
                 c.count(FILES, if nobody { "on nobody's behalf" } else { "on its user's behalf" });
             }
         }
-        (session::ALERT, Some(code)) => c.count(ALERT, code),
-        (refusal, Some(6)) => c.count(REFUSED_FILE, refusal),
-        (refusal, Some(8)) => c.count(REFUSED_END, refusal),
-        (refusal, Some(9)) => c.count(REFUSED_DELETE, refusal),
-        _ => {}
+        (Outcome::Alert, Some(code)) => c.count(ALERT, code),
+        (Outcome::Refused, Some(6)) => c.count(REFUSED_FILE, number),
+        (Outcome::Refused, Some(8)) => c.count(REFUSED_END, number),
+        (Outcome::Refused, Some(9)) => c.count(REFUSED_DELETE, number),
+        (_, None) | (Outcome::Refused, Some(_)) => {}
     }
 }
 

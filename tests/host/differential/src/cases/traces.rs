@@ -1,7 +1,7 @@
 //! Sessions from their start through a list of records.
 
 use judge::image;
-use judge::session::{self, Record};
+use judge::session::{self, outcome, Outcome, Record};
 use yaslaurel::layout::image::{CONTAINERS, UNRESTRICTED};
 use yaslaurel::{Refusal, Session, Verdict, SESSION_LENGTH};
 
@@ -101,9 +101,12 @@ impl Case for Listed {
                 Ok(answer) => answer,
                 Err(difference) => return Some(format!("record {}: {difference}", at + 1)),
             };
-            if answer.number == session::QUIET || answer.number == session::ALERT {
-                history.push(session::read_record(record).expect("the record was accepted"));
-                answers.push(answer);
+            match outcome(answer.number) {
+                Outcome::Quiet | Outcome::Alert => {
+                    history.push(session::read_record(record).expect("the record was accepted"));
+                    answers.push(answer);
+                }
+                Outcome::Refused => {}
             }
         }
         self.chains.then(|| judged_by_chains(&policy, &history, &answers, c)).flatten()

@@ -5,7 +5,7 @@ use std::collections::BTreeMap;
 use std::{env, fs};
 
 use judge::numbers::{MONTH_TRACES, RECORD, SESSION, TRACE_RECORDS};
-use judge::session::{start, step, ALERT, QUIET};
+use judge::session::{outcome, start, step, Outcome};
 
 // Each is a mistake that a reviewer would try. A new one goes to the end: the notes of changes name them by number.
 standin::faults! {
@@ -129,12 +129,18 @@ impl Month {
         let shortest = if planted(Fault::ShortRecordLeftOut) { RECORD } else { 1 };
         for record in trace.chunks(RECORD).filter(|record| record.len() >= shortest) {
             let answer = step(&mut self.session, record);
-            let accepted = answer.number == QUIET || answer.number == ALERT;
-            found.accepted += u64::from(accepted || planted(Fault::RefusedAccepted));
-            found.refused += u64::from(!accepted);
-            if answer.number == ALERT {
-                found.alerts += 1;
-                found.alert(if planted(Fault::AlertsAtProcess) { u64::from(record[2]) } else { answer.receiver }, 1);
+            match outcome(answer.number) {
+                Outcome::Quiet => found.accepted += 1,
+                Outcome::Alert => {
+                    found.accepted += 1;
+                    found.alerts += 1;
+                    let process = planted(Fault::AlertsAtProcess);
+                    found.alert(if process { u64::from(record[2]) } else { answer.receiver }, 1);
+                }
+                Outcome::Refused => {
+                    found.accepted += u64::from(planted(Fault::RefusedAccepted));
+                    found.refused += 1;
+                }
             }
         }
         found
