@@ -169,6 +169,12 @@ static size_t make_image(void)
     return length;
 }
 
+/* A field of a record: a little off, or at an end of its range. */
+static void damage_field(uint8_t *field)
+{
+    put16(field, percent(50) ? get16(field) + 1 : (size_t[]){0, 9, 65534, 65535}[below(4)]);
+}
+
 /* Breaks an image in a few places, or makes it any bytes. Its new length. */
 static size_t damage(size_t length)
 {
@@ -194,10 +200,8 @@ static size_t damage(size_t length)
         case 4:
         case 5:
         case 6:
-            /* A field of a record: a little off, or at an end of its range. */
             if (count > 0 && length >= at + size * count) {
-                uint8_t *field = image + at + size * below(count) + 2 * below(size / 2);
-                put16(field, percent(50) ? get16(field) + 1 : (size_t[]){0, 9, 65534, 65535}[below(4)]);
+                damage_field(image + at + size * below(count) + 2 * below(size / 2));
             }
             break;
         case 7:
@@ -317,6 +321,42 @@ static uint32_t step(uint64_t *words, size_t words_length, const uint8_t *record
     return yaslaurel_step(words, words_length, record, length, &numbers[0], &numbers[1]);
 }
 
+/* Changes a bit in a row that a record names: of its process, its object or, for an exec, its user. */
+static void damage_session(const uint8_t *record, unsigned code)
+{
+    size_t width = CONTAINER_ROW;
+    size_t row = width * record[percent(50) ? YASLAUREL_PROCESS_AT : YASLAUREL_OBJECT_AT];
+
+    if (code == 4 && percent(30)) {
+        width = YASLAUREL_USER_ROW;
+        row = YASLAUREL_USERS_AT + width * (record[YASLAUREL_USER_AT] % YASLAUREL_USERS);
+    }
+    session[row + below(width)] ^= (uint64_t)1 << below(64);
+}
+
+/* What an accepted record leaves in the lent session, whose answer is these numbers. The session is then that one. */
+static void check_accepted(const uint8_t *record, const uint64_t *numbers)
+{
+    const uint64_t *after = (const uint64_t *)(const void *)session_at.slice;
+    size_t row = CONTAINER_ROW * numbers[0];
+
+    require(!other_user(record), "a new file for another user is refused");
+    require(stayed(&session_at, WORD * SESSION), "memory beside the session stays");
+    require(numbers[0] == record[YASLAUREL_PROCESS_AT] || numbers[0] == record[YASLAUREL_OBJECT_AT],
+            "the receiver is p or o");
+    require(after[row + YASLAUREL_BEHALF_AT] == behalf_after(record, numbers[0]),
+            "an exec sets the receiver's user, a fork copies it, a new file or volatile has none, the others keep it");
+    require(after[row + YASLAUREL_TAG_AT] == numbers[1], "the tag is the receiver's");
+    for (size_t i = 0; record[YASLAUREL_CODE_AT] >= 8 && i < CONTAINER_ROW; i++) {
+        require(after[row + i] == 0, "a container that leaves leaves a free row");
+    }
+    memcpy(session + row, after + row, WORD * CONTAINER_ROW);
+    require(memcmp(session, after, WORD * SESSION) == 0, "the other rows stay");
+}
+
+/* Whether an answer is a refusal of a step, which are these numbers. */
+static int step_refused(uint32_t answer) { return answer == 7 || (answer >= 9 && answer <= 15) || answer == 18; }
+
 /* One step on the session as it stands, or after damage to it. */
 static void try_step(int damaged)
 {
@@ -332,13 +372,7 @@ static void try_step(int damaged)
         length = below(sizeof record);
     }
     if (damaged) {
-        size_t width = CONTAINER_ROW;
-        size_t row = width * record[percent(50) ? YASLAUREL_PROCESS_AT : YASLAUREL_OBJECT_AT];
-        if (code == 4 && percent(30)) {
-            width = YASLAUREL_USER_ROW;
-            row = YASLAUREL_USERS_AT + width * (record[YASLAUREL_USER_AT] % YASLAUREL_USERS);
-        }
-        session[row + below(width)] ^= (uint64_t)1 << below(64);
+        damage_session(record, code);
     }
     lend(&session_at, session, WORD * session_length);
     lend(&record_at, record, length);
@@ -349,32 +383,65 @@ static void try_step(int damaged)
     read_only(&record_at, 0);
 
     int accepted = answer == YASLAUREL_QUIET || answer == YASLAUREL_ALERT;
-    require(accepted || answer == 7 || (answer >= 9 && answer <= 15) || answer == 18,
-            "the step gives an answer or 7, 9 to 15, 18");
+    require(accepted || step_refused(answer), "the step gives an answer or 7, 9 to 15, 18");
     require((answer == 9) == (session_length != SESSION), "the step gives 9 for a session of wrong length alone");
     require(damaged || answer != 10, "a session that only start and step have written is not refused with 10");
     require(stayed(&record_at, 0), "the record stays");
     require(stayed(&numbers_at, accepted ? sizeof before : 0), "receiver and tag stay in a refusal");
-    steps[answer]++;
     require(answer != 18 || other_user(record), "18 is for a new file for another user alone");
-    if (!accepted) {
+    steps[answer]++;
+    if (accepted) {
+        check_accepted(record, numbers);
+    } else {
         require(stayed(&session_at, 0), "the session stays in a refusal");
-        return;
     }
-    require(!other_user(record), "a new file for another user is refused");
-    require(stayed(&session_at, WORD * SESSION), "memory beside the session stays");
-    require(numbers[0] == record[YASLAUREL_PROCESS_AT] || numbers[0] == record[YASLAUREL_OBJECT_AT],
-            "the receiver is p or o");
-    uint64_t *after = (uint64_t *)(void *)session_at.slice;
-    size_t row = CONTAINER_ROW * numbers[0];
-    require(after[row + YASLAUREL_BEHALF_AT] == behalf_after(record, numbers[0]),
-            "an exec sets the receiver's user, a fork copies it, a new file or volatile has none, the others keep it");
-    require(after[row + YASLAUREL_TAG_AT] == numbers[1], "the tag is the receiver's");
-    for (size_t i = 0; record[YASLAUREL_CODE_AT] >= 8 && i < CONTAINER_ROW; i++) {
-        require(after[row + i] == 0, "a container that leaves leaves a free row");
+}
+
+/* What a run comes to: its answer, how many records it takes, and the receiver and tag of its last one. */
+struct run {
+    uint32_t answer;
+    size_t taken;
+    uint64_t numbers[2];
+};
+
+/* The records step by step, on a session of the right length, up to the first that is not quiet. */
+static struct run run_by_steps(uint64_t *words, const uint8_t *records, size_t length)
+{
+    struct run run = {YASLAUREL_QUIET, 0, {77, 88}};
+
+    for (size_t at = 0; run.answer == YASLAUREL_QUIET && at < length; at += RECORD) {
+        size_t left = length - at;
+        run.answer = step(words, SESSION, records + at, left < RECORD ? left : RECORD, run.numbers);
+        run.taken++;
     }
-    memcpy(session + row, after + row, WORD * CONTAINER_ROW);
-    require(memcmp(session, after, WORD * SESSION) == 0, "the other rows stay");
+    return run;
+}
+
+/* Records for a batch on the session as it stands, the last of them short now and then. Their length. */
+static size_t make_batch(uint8_t *records)
+{
+    size_t count = below(percent(70) ? 6 : BATCH + 1), length = RECORD * count;
+
+    for (size_t i = 0; i < count; i++) {
+        make_record(records + RECORD * i);
+    }
+    return percent(10) ? length - below(length < RECORD ? length + 1 : RECORD) : length;
+}
+
+/* What a run leaves of the lent memory is what its records leave step by step, and 9 leaves everything. */
+static void check_run(const struct run *expected, const uint64_t *stepped, const uint64_t *numbers, size_t taken)
+{
+    int judged = expected->answer != 9, alert = expected->answer == YASLAUREL_ALERT;
+
+    require(stayed(&record_at, 0), "the records stay");
+    require(stayed(&numbers_at, alert ? 2 * WORD : 0), "receiver and tag stay but in an alert");
+    require(stayed(&taken_at, judged ? sizeof taken : 0), "9 leaves the count");
+    require(!judged || taken == expected->taken, "the run counts the records up to and with the one at which it stops");
+    require(!alert || (numbers[0] == expected->numbers[0] && numbers[1] == expected->numbers[1]),
+            "the run gives the alert's receiver and tag");
+    require(stayed(&session_at, judged ? WORD * SESSION : 0), "memory beside the session stays");
+    require(!judged || memcmp(session_at.slice, stepped, WORD * SESSION) == 0,
+            "the run leaves the session that its records leave");
 }
 
 /* A batch on the session as it stands: its answer, its count and what it leaves are those of its records step by step. */
@@ -382,29 +449,17 @@ static void try_run(int damaged)
 {
     static uint64_t stepped[SESSION + 8];
     uint8_t records[(BATCH + 1) * RECORD];
-    size_t count = below(percent(70) ? 6 : BATCH + 1), length = RECORD * count;
-    size_t session_length = percent(97) ? SESSION : below(SESSION + 8);
-    uint64_t before[2] = {77, 88}, received[2] = {77, 88};
-    size_t old_taken = 99, at = 0, steps_taken = 0;
-    uint32_t expected = session_length == SESSION ? YASLAUREL_QUIET : 9;
+    size_t session_length = percent(97) ? SESSION : below(SESSION + 8), length = make_batch(records), old_taken = 99;
+    uint64_t before[2] = {77, 88};
+    struct run expected = {9, 0, {77, 88}};
 
-    for (size_t i = 0; i < count; i++) {
-        make_record(records + RECORD * i);
-    }
-    if (percent(10)) {
-        length -= below(length < RECORD ? length + 1 : RECORD);
-    }
     if (damaged) {
         session[CONTAINER_ROW * below(20) + below(CONTAINER_ROW)] ^= (uint64_t)1 << below(64);
     }
     memcpy(stepped, session, sizeof session);
-    while (expected == YASLAUREL_QUIET && at < length) {
-        size_t left = length - at;
-        expected = step(stepped, SESSION, records + at, left < RECORD ? left : RECORD, received);
-        at += RECORD;
-        steps_taken++;
+    if (session_length == SESSION) {
+        expected = run_by_steps(stepped, records, length);
     }
-
     lend(&session_at, session, WORD * session_length);
     lend(&record_at, records, length);
     lend(&numbers_at, before, sizeof before);
@@ -415,27 +470,35 @@ static void try_run(int damaged)
     uint32_t answer = yaslaurel_run((uint64_t *)(void *)session_at.slice, session_length, record_at.slice, length,
                                     taken, &numbers[0], &numbers[1]);
     read_only(&record_at, 0);
-
-    require(answer == expected, "the run answers as the step does at which it stops, 9 first");
-    require(stayed(&record_at, 0), "the records stay");
+    require(answer == expected.answer, "the run answers as the step does at which it stops, 9 first");
     runs[answer]++;
-    require(stayed(&numbers_at, answer == YASLAUREL_ALERT ? sizeof before : 0),
-            "receiver and tag stay but in an alert");
-    require(stayed(&taken_at, answer == 9 ? 0 : sizeof old_taken), "9 leaves the count");
-    require(answer == 9 || *taken == steps_taken, "the run counts the records up to and with the one at which it stops");
-    require(answer != YASLAUREL_ALERT || (numbers[0] == received[0] && numbers[1] == received[1]),
-            "the run gives the alert's receiver and tag");
-    require(stayed(&session_at, answer == 9 ? 0 : WORD * SESSION), "memory beside the session stays");
-    require(answer == 9 || memcmp(session_at.slice, stepped, WORD * SESSION) == 0,
-            "the run leaves the session that its records leave");
-    if (answer != 9) {
-        memcpy(session, stepped, WORD * SESSION);
-    }
+    check_run(&expected, stepped, numbers, *taken);
+    memcpy(session, stepped, WORD * SESSION);
+}
+
+/* The verdict on the rows that are lent, and what it leaves. */
+static uint32_t try_verdict(size_t subjects, size_t writers, uint32_t objects)
+{
+    uint32_t before[3] = {7, 8, 9};
+
+    lend(&numbers_at, before, sizeof before);
+    uint32_t *numbers = (uint32_t *)(void *)numbers_at.slice;
+    uint32_t verdict = yaslaurel_matrix_verdict((const uint32_t *)(const void *)reads_at.slice, subjects,
+                                                (const uint32_t *)(const void *)writes_at.slice, writers, objects,
+                                                &numbers[0], &numbers[1], &numbers[2]);
+    require(verdict <= 1 || verdict == 8, "the verdict gives 0, 1 or 8");
+    require(stayed(&numbers_at, verdict == 8 ? 0 : sizeof before), "the three numbers stay in a refusal");
+    require(verdict != 0 || (numbers[0] == 0 && numbers[1] == 0 && numbers[2] == 0), "consistent gives zeros");
+    require(verdict != 1 ||
+                (numbers[0] >= 1 && numbers[1] < objects && numbers[2] < objects && numbers[1] != numbers[2]),
+            "the flow is between two objects");
+    verdicts[verdict]++;
+    return verdict;
 }
 
 static void try_matrix(void)
 {
-    uint32_t rows[24], before[3] = {7, 8, 9};
+    uint32_t rows[24];
     size_t subjects = percent(95) ? 1 + below(8) : below(12), writers = percent(97) ? subjects : below(12);
     size_t out_length = percent(95) ? OUTPUT : below(OUTPUT + 40);
     uint32_t objects = (uint32_t)(percent(90) ? 1 + below(32) : below(40));
@@ -447,29 +510,16 @@ static void try_matrix(void)
     lend(&reads_at, rows, 4 * subjects);
     lend(&writes_at, rows + 12, 4 * writers);
     lend(&out_at, blank, out_length);
-    lend(&numbers_at, before, sizeof before);
     read_only(&reads_at, 1);
     read_only(&writes_at, 1);
-    const uint32_t *reads = (const uint32_t *)(const void *)reads_at.slice;
-    const uint32_t *writes = (const uint32_t *)(const void *)writes_at.slice;
-    uint32_t *numbers = (uint32_t *)(void *)numbers_at.slice;
-    uint32_t verdict = yaslaurel_matrix_verdict(reads, subjects, writes, writers, objects, &numbers[0], &numbers[1],
-                                                &numbers[2]);
-    uint32_t length = yaslaurel_matrix_policy(reads, subjects, writes, writers, objects, out_at.slice, out_length);
+    uint32_t verdict = try_verdict(subjects, writers, objects);
+    uint32_t length = yaslaurel_matrix_policy((const uint32_t *)(const void *)reads_at.slice, subjects,
+                                              (const uint32_t *)(const void *)writes_at.slice, writers, objects,
+                                              out_at.slice, out_length);
     read_only(&reads_at, 0);
     read_only(&writes_at, 0);
-
-    verdicts[verdict < ANSWERS ? verdict : 0]++;
     policies[length < HEADER ? length : LENGTH]++;
-    require(verdict <= 1 || verdict == 8, "the verdict gives 0, 1 or 8");
     require(stayed(&reads_at, 0) && stayed(&writes_at, 0), "the rows stay");
-    require(stayed(&numbers_at, verdict == 8 ? 0 : sizeof before), "the three numbers stay in a refusal");
-    if (verdict == 0) {
-        require(numbers[0] == 0 && numbers[1] == 0 && numbers[2] == 0, "consistent gives zeros");
-    } else if (verdict == 1) {
-        require(numbers[0] >= 1 && numbers[1] < objects && numbers[2] < objects && numbers[1] != numbers[2],
-                "the flow is between two objects");
-    }
     require(length == 9 || length >= HEADER || length == 8, "the derived policy gives a length, 8 or 9");
     require((length == 9) == (out_length < OUTPUT), "the derived policy gives 9 for a short output");
     require(length == 9 || (length == 8) == (verdict == 8), "the derived policy refuses as the verdict does");
@@ -477,13 +527,10 @@ static void try_matrix(void)
     require(length < HEADER || yaslaurel_image_check(out_at.slice, length) == 0, "the derived policy is accepted");
 }
 
-/* A proposal: an old matrix, some of its rights that must stay, and some that are left; now and then other bits too. */
-static void try_proposal(void)
+/* The rows of a proposal: an old matrix, some of its rights that must stay, and some that are left; now and then other
+   bits too. */
+static void make_proposal(uint32_t rows[6][12], uint64_t mask)
 {
-    uint32_t rows[6][12], subjects = (uint32_t)(percent(95) ? 1 + below(8) : below(12));
-    uint32_t objects = (uint32_t)(percent(95) ? 1 + below(percent(50) ? 4 : 32) : below(40)), counts[3];
-    uint64_t mask = objects <= 32 ? ((uint64_t)1 << objects) - 1 : UINT32_MAX;
-    size_t lengths[6];
     int dense = percent(50), kept = percent(30);
 
     for (size_t i = 0; i < 12; i++) {
@@ -495,6 +542,15 @@ static void try_proposal(void)
             rows[2 + access][i] = percent(1) ? (uint32_t)draw() : (uint32_t)(left & draw() & draw());
         }
     }
+}
+
+static void try_proposal(void)
+{
+    uint32_t rows[6][12], counts[3];
+    size_t lengths[6], subjects = percent(95) ? 1 + below(8) : below(12);
+    uint32_t objects = (uint32_t)(percent(95) ? 1 + below(percent(50) ? 4 : 32) : below(40));
+
+    make_proposal(rows, objects <= 32 ? ((uint64_t)1 << objects) - 1 : UINT32_MAX);
     for (size_t i = 0; i < 6; i++) {
         lengths[i] = percent(99) ? subjects : below(12);
         lend(&rights_at[i], rows[i], 4 * lengths[i]);
@@ -513,11 +569,10 @@ static void try_proposal(void)
         stay = stay && stayed(&rights_at[i], 0);
         same = same && lengths[i] == lengths[0];
     }
-
-    proposals[answer < ANSWERS ? answer : 0]++;
     require(answer <= 4 || answer == 8, "the judgement gives 0 to 4 or 8");
     require(same || answer == 8, "differing counts give 8");
     require(stay, "the rows of three matrices stay");
+    proposals[answer]++;
 }
 
 static uint8_t text[YASLAUREL_TEXT_LIMIT + 300];
@@ -626,14 +681,9 @@ static int all_reached(int print)
     return all;
 }
 
-int main(int argc, char **argv)
+/* Memory for everything that is lent. */
+static void reserve_all(void)
 {
-    int counted = argc > 2 && strcmp(argv[1], "--rounds") == 0;
-    unsigned long limit = argc > 1 + counted ? strtoul(argv[1 + counted], NULL, 10) : 10;
-    time_t end = time(NULL) + (time_t)limit;
-    seed = argc > 2 + counted ? strtoull(argv[2 + counted], NULL, 10) : (uint64_t)time(NULL);
-    state = seed;
-    printf("seed %llu\n", (unsigned long long)seed);
     memset(blank, 0x5a, sizeof blank);
     reserve(&image_at, sizeof image);
     reserve(&out_at, OUTPUT + 40);
@@ -647,35 +697,57 @@ int main(int argc, char **argv)
     for (size_t i = 0; i < 6; i++) {
         reserve(&rights_at[i], 64);
     }
+}
 
+/* A session, if there is one: steps, batches, then both on damaged rows. */
+static void try_session(void)
+{
+    for (size_t count = below(30); count > 0; count--) {
+        try_step(0);
+    }
+    for (size_t count = below(4); count > 0; count--) {
+        try_run(0);
+    }
+    for (size_t count = below(4); count > 0; count--) {
+        try_step(1);
+    }
+    if (percent(30)) {
+        try_run(1);
+    }
+}
+
+static void try_all(void)
+{
+    size_t length = make_image();
+
+    rounds++;
+    if (percent(50)) {
+        length = damage(length);
+    }
+    if (try_image(length)) {
+        try_session();
+    }
+    try_matrix();
+    try_proposal();
+    try_profiles();
+    /* The next start finds anything at all. */
+    session[below(SESSION)] = draw();
+}
+
+int main(int argc, char **argv)
+{
+    int counted = argc > 2 && strcmp(argv[1], "--rounds") == 0;
+    unsigned long limit = argc > 1 + counted ? strtoul(argv[1 + counted], NULL, 10) : 10;
+    time_t end = time(NULL) + (time_t)limit;
+
+    seed = argc > 2 + counted ? strtoull(argv[2 + counted], NULL, 10) : (uint64_t)time(NULL);
+    state = seed;
+    printf("seed %llu\n", (unsigned long long)seed);
+    reserve_all();
     /* On a busy machine up to three times as long, until every answer was reached. */
     while (counted ? rounds < limit
                    : time(NULL) < end || (!all_reached(0) && time(NULL) < end + 2 * (time_t)limit)) {
-        size_t length = make_image();
-        rounds++;
-        if (percent(50)) {
-            length = damage(length);
-        }
-        if (try_image(length)) {
-            for (size_t count = below(30); count > 0; count--) {
-                try_step(0);
-            }
-            for (size_t count = below(4); count > 0; count--) {
-                try_run(0);
-            }
-            /* The last steps of a session are on damaged rows. */
-            for (size_t count = below(4); count > 0; count--) {
-                try_step(1);
-            }
-            if (percent(30)) {
-                try_run(1);
-            }
-        }
-        try_matrix();
-        try_proposal();
-        try_profiles();
-        /* The next start finds anything at all. */
-        session[below(SESSION)] = draw();
+        try_all();
     }
     int all = all_reached(1);
     printf("ok %lu rounds: no page beside a slice touched, every answer as promised\n", rounds);
