@@ -541,3 +541,12 @@ pub fn profiles_policy_into(text: &[u8], out: &mut [u8]) -> Result<usize, Refusa
     // SAFETY: both slices are valid for their lengths, and Rust keeps `out` apart from `text`.
     length(unsafe { ffi::yaslaurel_profiles_policy(text.as_ptr(), text.len(), out.as_mut_ptr(), out.len()) })
 }
+
+#[cfg(test)]
+mod tests {
+    #[test]
+    #[should_panic(expected = "unknown answer 257")]
+    fn an_answer_that_is_no_refusal_is_told() {
+        let _ = super::refusal(257);
+    }
+}
