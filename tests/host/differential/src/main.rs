@@ -112,7 +112,7 @@ fn main() -> ExitCode {
             break;
         }
     }
-    print!("{}", counters.table());
+    print!("reached:\n{}", counters.table());
     if score.failed == 0 && wanted.is_empty() {
         let needs = PARTS.iter().flat_map(|part| part.needs);
         let missing: Vec<String> = needs.flat_map(|need| counters.missing(need)).collect();
