@@ -24,7 +24,6 @@ macro_rules! faults {
             }
 
             /// The faults that a test must see, a line for each: its number, its part and what is wrong.
-            #[allow(dead_code)]
             pub fn list(test: &str) -> String {
                 let rows = [$((stringify!($part), &[$(stringify!($test)),+][..], $text),)+];
                 let seen = rows.iter().enumerate().filter(|(_, (_, tests, _))| tests.contains(&test));
