@@ -1,6 +1,6 @@
 //! The policy builder at its limits, and images that are read back.
 
-use yaslaurel::layout::image::LONGEST_NORMAL;
+use yaslaurel::layout::image::{CONTAINERS, HEADER, LONGEST_NORMAL, MIXTURES, PERMIT, RULES};
 use yaslaurel::{check, normalise, Mixture, Policy, PolicyError, Rule, Source};
 
 /// A rule of eight mixtures that no other number below 512 gives.
@@ -90,13 +90,13 @@ fn rules_that_mean_the_same_are_read_from_an_image_once() {
     }
     let once = policy.image();
     let mut apart = policy.image();
-    // Behind the header of 18 bytes: two containers of 6, one rule of 4, two mixtures of 8. A second rule is put behind the
-    // first, and the second container names it; the mixtures that it names are the first rule's.
-    let rules = 18 + 12;
-    apart.splice(rules + 4..rules + 4, [0, 0, 2, 0]);
-    apart[12] += 4;
-    apart[14] += 4;
-    apart[18 + 6 + 2] = 1;
+    // Behind the header: two containers, one rule, two mixtures. A second rule is put behind the first, and the second
+    // container names it; the mixtures that it names are the first rule's.
+    let behind = HEADER + 2 * CONTAINERS.record + RULES.record;
+    apart.splice(behind..behind, [0, 0, 2, 0]);
+    apart[RULES.length_at()] += RULES.record as u8;
+    apart[MIXTURES.offset_at()] += RULES.record as u8;
+    apart[HEADER + CONTAINERS.record + PERMIT] = 1;
     assert_eq!(check(&apart), Ok(()));
     assert_ne!(apart, once);
     let read = Policy::from_image(&apart).unwrap();
