@@ -47,14 +47,14 @@ impl Score {
     }
 }
 
-/// Runs one part up to its first disagreement.
+/// Runs one part up to its first disagreement, from a seed of its own that follows from the run's.
 fn run_part(part: &Part, seed: u64, cases: u64, bench: &mut Bench, counters: &mut Counters, score: &mut Score) {
     let begun = Instant::now();
     let mut r = Random::new(seed);
     for number in 1..=cases {
         let case = (part.make)(&mut r);
         if let Some(difference) = case.run(bench, counters) {
-            score.note(false, format_args!("{}: case {number} of seed {seed}: {difference}", part.name));
+            score.note(false, format_args!("{}: case {number}: {difference}", part.name));
             let (small, difference) = shrink::shrink(bench, case, difference, Duration::from_secs(5));
             println!("the smallest case found: {difference}");
             print!("{}", small.show());
