@@ -49,6 +49,8 @@ def main():
     total = None
     for line in lines:
         match line.split():
+            case ["step", "op", *_] | ["policy", "refused", _]:
+                continue
             case ["total", _, "alerts", alerts, "refused", refused]:
                 total = f"{alerts} alerts, {refused} refused"
             case [step, op, p, o, "alert", receiver, tag]:
@@ -58,8 +60,11 @@ def main():
             case [step, op, p, o, "refused", number]:
                 what = VERBS.get(op, op) if op == "end" and p == o else f"{VERBS.get(op, op)} {containers[o]}"
                 print(f"refused with {number}, step {step}: {containers[p]} {what}")
-            case [_, "end" | "delete", _, o, "quiet", _, _]:
-                containers.leave(o)
+            case [_, op, _, o, "quiet", _, _]:
+                if op in ("end", "delete"):
+                    containers.leave(o)
+            case _:
+                sys.exit(f"not a line of a listing: {line}")
     if total is None:
         sys.exit(f"not a whole listing: {lines[-1] if lines else 'it is empty'}")
     print(total)

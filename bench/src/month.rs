@@ -29,7 +29,8 @@ impl Figures {
                     figures.alerts += 1;
                     *figures.containers.entry(receiver).or_default() += 1;
                 }
-                _ => figures.refused += 1,
+                (number, ..) if number < ffi::ALERT => figures.refused += 1,
+                (number, ..) => panic!("no answer has the number {number}"),
             }
         }
         figures
