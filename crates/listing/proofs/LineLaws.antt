@@ -1,7 +1,7 @@
 -- The lines as their parts one behind the other, and their lengths. Theorems restates what the lines' lengths are at most.
 use Prim.Native.Nat.{ℕ, _+_, _≤_}
 use native.Mathlib.Omega.{arith}
-use mathlib.Core.Path.{_≡_, refl}
+use mathlib.Core.Path.{_≡_}
 use mathlib.Core.Bool.{Bool, true, false, cond}
 use mathlib.Core.List.{List, [], _∷_, _++_, append-assoc}
 use lib.Dec.{eqb}
@@ -14,8 +14,8 @@ use Rattle.answers.specs.declared.Answer.{Answer}
 use Rattle.answers.specs.declared.Answer.the-variants.{Given, Refused}
 use Rattle.listing.specs.Text.{decimalLimit, decimal}
 use Rattle.listing.specs.Lines.{space, newline, line, spaced, operationWord, verdictWord, answerWord, answerFields, heading, stepLine, shortLine, totalLine, policyLine}
-use Rattle.listing.specs.Buffer.{operationLimit, accessLimit, verdictLength, answerLimit, lineLimit}
-use Rattle.listing.proofs.TextLaws.{decimal-length, hexadecimal-length}
+use Rattle.listing.specs.Buffer.{wordLeast, operationLimit, verdictLimit, accessLimit, answerLimit, lineLimit}
+use Rattle.listing.proofs.TextLaws.{decimal-length, decimal-some, hexadecimal-length}
 
 -- ---- texts
 
@@ -55,25 +55,29 @@ total-text records alerts refused = simp append-assoc
 pub number-length : (n e : ℕ) → length (decimal n ++ (e ∷ [])) ≤ decimalLimit + 1
 number-length n e = simp length-append (omega (arith, decimal-length n))
 
+pub number-least : (n e : ℕ) → 2 ≤ length (decimal n ++ (e ∷ []))
+number-least n e = simp length-append (omega (arith, decimal-some n))
+
 cond-either : (P : List ℕ → Type 0) (b : Bool) (x y : List ℕ) → P x → P y → P (cond b x y)
 cond-either P true x y p q = p
 cond-either P false x y p q = q
 
-abbrev Word : List ℕ → Type 0
-Word w = (3 ≤ length w) × (length w ≤ operationLimit)
+-- a word of at most so many letters
+abbrev pub Bounded : ℕ → List ℕ → Type 0
+Bounded most w = (wordLeast ≤ length w) × (length w ≤ most)
 
-pub operation-bounds : (code : ℕ) → (3 ≤ length (operationWord code)) × (length (operationWord code) ≤ operationLimit)
+pub operation-bounds : (code : ℕ) → Bounded operationLimit (operationWord code)
 unfolding operationWord ascii
 operation-bounds code =
-    cond-either Word (eqb code 1) _ _ (omega arith, omega arith)
-    (cond-either Word (eqb code 2) _ _ (omega arith, omega arith)
-    (cond-either Word (eqb code 3) _ _ (omega arith, omega arith)
-    (cond-either Word (eqb code 4) _ _ (omega arith, omega arith)
-    (cond-either Word (eqb code 5) _ _ (omega arith, omega arith)
-    (cond-either Word (eqb code 6) _ _ (omega arith, omega arith)
-    (cond-either Word (eqb code 7) _ _ (omega arith, omega arith)
-    (cond-either Word (eqb code 8) _ _ (omega arith, omega arith)
-    (cond-either Word (eqb code 9) _ _ (omega arith, omega arith) (omega arith, omega arith)))))))))
+    cond-either (Bounded operationLimit) (eqb code 1) _ _ (omega arith, omega arith)
+    (cond-either (Bounded operationLimit) (eqb code 2) _ _ (omega arith, omega arith)
+    (cond-either (Bounded operationLimit) (eqb code 3) _ _ (omega arith, omega arith)
+    (cond-either (Bounded operationLimit) (eqb code 4) _ _ (omega arith, omega arith)
+    (cond-either (Bounded operationLimit) (eqb code 5) _ _ (omega arith, omega arith)
+    (cond-either (Bounded operationLimit) (eqb code 6) _ _ (omega arith, omega arith)
+    (cond-either (Bounded operationLimit) (eqb code 7) _ _ (omega arith, omega arith)
+    (cond-either (Bounded operationLimit) (eqb code 8) _ _ (omega arith, omega arith)
+    (cond-either (Bounded operationLimit) (eqb code 9) _ _ (omega arith, omega arith) (omega arith, omega arith)))))))))
 
 pub operation-length : (code : ℕ) → length (operationWord code ++ (space ∷ [])) ≤ operationLimit + 1
 operation-length code = simp length-append (omega (arith, operation-bounds code))
@@ -83,18 +87,20 @@ unfolding spaced
 access-length step code p o =
     simp length-append (omega (arith, decimal-length step, operation-bounds code, decimal-length p, decimal-length o))
 
-pub verdict-length : (v : Verdict) → length (verdictWord v ++ (space ∷ [])) ≡ verdictLength
+pub verdict-bounds : (v : Verdict) → Bounded verdictLimit (verdictWord v)
 unfolding verdictWord ascii
-verdict-length Quiet = refl
-verdict-length Alert = refl
+verdict-bounds Quiet = (omega arith, omega arith)
+verdict-bounds Alert = (omega arith, omega arith)
+
+pub verdict-length : (v : Verdict) → length (verdictWord v ++ (space ∷ [])) ≤ verdictLimit + 1
+verdict-length v = simp length-append (omega (arith, verdict-bounds v))
 
 pub answer-bounds : (x : Answer) → (2 ≤ length (line (answerWord x) (answerFields x))) × (length (line (answerWord x) (answerFields x)) ≤ answerLimit)
 unfolding answerWord answerFields line ascii
-answer-bounds (Given verdict received) =
-    let v : length (verdictWord verdict) ≡ 5 = omega (arith, length-append (verdictWord verdict) (space ∷ []), verdict-length verdict) in (
-      simp length-append (omega arith),
-      simp length-append (omega (arith, v, decimal-length (received .receiver), hexadecimal-length (received .tag))),
-    )
+answer-bounds (Given verdict received) = (
+  simp length-append (omega arith),
+  simp length-append (omega (arith, verdict-bounds verdict, decimal-length (received .receiver), hexadecimal-length (received .tag))),
+)
 answer-bounds (Refused number) = (simp length-append (omega arith), simp length-append (omega (arith, decimal-length number)))
 
 pub step-length : (step code p o : ℕ) (x : Answer) → length (stepLine step code p o x) ≤ lineLimit

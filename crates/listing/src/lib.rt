@@ -4,17 +4,14 @@
 ghost use mathlib.Core.Path.{_≡_};
 ghost use mathlib.Core.List.{[], _∷_, _++_};
 ghost use Prim.Native.Nat.{_+_, _≤_, _<_};
-ghost use lib.ListN.{length, take};
+ghost use lib.ListN.{length};
 ghost use Rattle.fields.specs.Bytes.{bytesOf};
 ghost use Rattle.fields.specs.Writing.{Wrote};
 ghost use Rattle.listing.specs.Text.{digits, decimalLimit, decimal, tagDigits, hexadecimal};
 ghost use Rattle.listing.specs.Lines.{space, newline, line, spaced, operationWord, verdictWord, answerWord, answerFields, heading, stepLine, shortLine, totalLine, policyLine};
-ghost use Rattle.listing.specs.Buffer.{WroteWithSpare, operationLimit, accessLimit, verdictLength, answerLimit, lineLimit};
+ghost use Rattle.listing.specs.Buffer.{WroteWithSpare, wordLeast, wordLimit, wordOf, lettersOf, Spells, operationLimit, accessLimit, answerLimit, lineLimit};
 use answers::Answer;
 use answers::Verdict;
-
-// The most bytes of a line.
-pub const LINE_LIMIT: usize = 116;
 
 // The code of the digit 0.
 const ZERO: u8 = 48;
@@ -25,9 +22,6 @@ const LETTERS: u64 = 39;
 pub const SPACE: u8 = 32;
 
 pub const NEWLINE: u8 = 10;
-
-// The bytes of a verdict's word with the space behind it.
-const VERDICT_LENGTH: usize = 6;
 
 // A text as it is given.
 pub fn put_text(out: &mut [u8], at: usize, text: &[u8]) -> usize
@@ -199,40 +193,58 @@ fn put_named(out: &mut [u8], at: usize, name: &[u8], n: u64, end: u8) -> usize
     put_number(out, next, n, end)
 }
 
-// An operation's word as the bytes of a number, the first letter lowest, with spaces behind it.
-fn operation_word(code: u64) -> u64
-    ensures { λ r. ⌜ take (length (operationWord code)) (bytesOf 8 r) ≡ operationWord code ⌝ }
+// A word of at most eight letters: the bytes of a number, the first letter lowest, and how many of them it has.
+struct Word {
+    letters: u64,
+    length: usize,
+}
+
+fn word_of(letters: u64, length: usize) -> Word
+    ensures { λ r. ⌜ r ≡ wordOf letters length ⌝ }
 {
-    match code {
-        1 => 0x2020202064616572,
-        2 => 0x2020206574697277,
-        3 => 0x2020646e65707061,
-        4 => 0x2020202063657865,
-        5 => 0x202020206b726f66,
-        6 => 0x20202020656c6966,
-        7 => 0x656c6974616c6f76,
-        8 => 0x2020202020646e65,
-        9 => 0x20206574656c6564,
-        _ => 0x202020726568746f,
+    Word {
+        letters: letters,
+        length: length,
     }
 }
 
-// How many letters the word has.
-fn operation_length(code: u64) -> usize
-    ensures { λ r. ⌜ r ≡ length (operationWord code) ⌝ }
+// An operation's word.
+fn operation_word(code: u64) -> Word
+    ensures { λ r. ⌜ Spells (operationWord code) r ⌝ }
 {
     match code {
-        1 => 4,
-        2 => 5,
-        3 => 6,
-        4 => 4,
-        5 => 4,
-        6 => 4,
-        7 => 8,
-        8 => 3,
-        9 => 6,
-        _ => 5,
+        1 => word_of(0x2020202064616572, 4),
+        2 => word_of(0x2020206574697277, 5),
+        3 => word_of(0x2020646e65707061, 6),
+        4 => word_of(0x2020202063657865, 4),
+        5 => word_of(0x202020206b726f66, 4),
+        6 => word_of(0x20202020656c6966, 4),
+        7 => word_of(0x656c6974616c6f76, 8),
+        8 => word_of(0x2020202020646e65, 3),
+        9 => word_of(0x20206574656c6564, 6),
+        _ => word_of(0x202020726568746f, 5),
     }
+}
+
+// A verdict's word.
+fn verdict_word(verdict: Verdict) -> Word
+    ensures { λ r. ⌜ Spells (verdictWord verdict) r ⌝ }
+{
+    match verdict {
+        Verdict::Quiet => word_of(0x2020207465697571, 5),
+        Verdict::Alert => word_of(0x2020207472656c61, 5),
+    }
+}
+
+// A word and the space behind it.
+fn put_word(out: &mut [u8], at: usize, word: Word) -> usize
+    requires { ⌜ (wordLeast ≤ word .length) × (word .length ≤ wordLimit) × (at + wordLimit < length (now out)) ⌝ }
+    ensures { λ r. ⌜ WroteWithSpare (lettersOf word ++ (space ∷ [])) 4 (now (out .entry)) (now (out .exit)) at r ⌝ }
+{
+    fields::put64(out, at, word.letters);
+    let next = at + word.length;
+    out[next] = SPACE;
+    next + 1
 }
 
 // An operation's word and the space behind it.
@@ -240,10 +252,7 @@ fn put_operation(out: &mut [u8], at: usize, code: u64) -> usize
     requires { ⌜ at + operationLimit < length (now out) ⌝ }
     ensures { λ r. ⌜ WroteWithSpare (operationWord code ++ (space ∷ [])) 4 (now (out .entry)) (now (out .exit)) at r ⌝ }
 {
-    fields::put64(out, at, operation_word(code));
-    let next = at + operation_length(code);
-    out[next] = SPACE;
-    next + 1
+    put_word(out, at, operation_word(code))
 }
 
 // A step's number and the space behind it.
@@ -280,24 +289,14 @@ fn put_access(out: &mut [u8], at: usize, step: u64, code: u64, p: u64, o: u64) -
     put_container_number(out, object, o)
 }
 
-// A verdict's word as the bytes of a number, the first letter lowest, with spaces behind it.
-fn verdict_word(verdict: Verdict) -> u64
-    ensures { λ r. ⌜ take verdictLength (bytesOf 8 r) ≡ verdictWord verdict ++ (space ∷ []) ⌝ }
-{
-    match verdict {
-        Verdict::Quiet => 0x2020207465697571,
-        Verdict::Alert => 0x2020207472656c61,
-    }
-}
-
 // A verdict's word, the receiver and its tag.
 fn put_verdict(out: &mut [u8], at: usize, verdict: Verdict, receiver: u64, tag: u64) -> usize
     requires { ⌜ at + answerLimit ≤ length (now out) ⌝ }
     ensures { λ r. ⌜ Wrote (line (verdictWord verdict) (decimal receiver ∷ hexadecimal tag ∷ [])) (now (out .entry)) (now (out .exit)) at r ⌝ }
 {
-    fields::put64(out, at, verdict_word(verdict));
-    let next = put_container_number(out, at + VERDICT_LENGTH, receiver);
-    put_tag(out, next, tag)
+    let to = put_word(out, at, verdict_word(verdict));
+    let end = put_container_number(out, to, receiver);
+    put_tag(out, end, tag)
 }
 
 // The fields of a step's line from the verdict on.

@@ -2,12 +2,11 @@
 use Prim.Native.Nat.{_+_, _≤_}
 use native.Mathlib.Omega.{arith}
 use mathlib.Core.List.{[], _∷_, _++_}
-use lib.ListN.{length, length-append}
+use lib.ListN.{length}
 use Rattle.listing.specs.Text.{decimal}
 use Rattle.listing.specs.Lines.{space, operationWord}
-use Rattle.listing.proofs.TextLaws.{decimal-some}
 use Rattle.listing.proofs.BufferLaws.{spare-join, spare-as}
-use Rattle.listing.proofs.LineLaws.{access-text, number-length, operation-length}
+use Rattle.listing.proofs.LineLaws.{access-text, number-length, number-least, operation-length}
 use borrow.Author.Needs.{needs}
 use Rattle.listing.proofs.put_access.Statement.{statement}
 use Rattle.listing.proofs.put_access.Tie as tie
@@ -32,7 +31,7 @@ returns c =
     let operation = c .before .before .before .before .before .before .before .before .before .before .put-operation in
     let subject = c .before .before .before .before .before .before .put-container-number in
     let object = c .before .before .put-container-number2 in
-    let p : 4 ≤ length (decimal (a .p) ++ (space ∷ [])) + 2 = omega (arith, length-append (decimal (a .p)) (space ∷ []), decimal-some (a .p)) in
+    let p : 4 ≤ length (decimal (a .p) ++ (space ∷ [])) + 2 = omega (arith, number-least (a .p) space) in
     let first = spare-join 4 (omega arith) (step .ensures) (operation .ensures) in
     let second = spare-join 2 p first (subject .ensures) in
     spare-as
