@@ -3,7 +3,7 @@ use Prim.Native.Nat.{ℕ, zero, suc, _+_, _<_}
 use native.Mathlib.Omega.{arith}
 use mathlib.Core.Path.{_≡_, refl, sym, ap, ap₂, _∙_}
 use mathlib.Core.Logic.{_↔_, _⊎_, inl, inr}
-use mathlib.Core.Bool.{Bool, true, false, cond, _&&_}
+use mathlib.Core.Bool.{Bool, true, false, cond, _&&_, _||_}
 use mathlib.Core.List.{List, [], _∷_}
 use mathlib.Core.Option.{Option, none, some}
 use lib.Dec.{eqb}
@@ -14,10 +14,9 @@ use Rattle.lists.proofs.Bools.{decide, clash, same-test, and-in, and-0, and-1}
 use Rattle.lists.proofs.Counting.{count-same, sum-same, sum-none, sum-add, sum-one}
 use Rattle.lists.proofs.Places.{some-inj, none-some}
 use Rattle.answers.specs.declared.Answer.{Answer}
-use Rattle.answers.specs.declared.Answer.the-variants.{Given, Refused}
-use Rattle.answers.specs.declared.Verdict.the-variants.{Quiet, Alert}
-use Rattle.answers.specs.Answers.{accepted, isAlert, isRefused, receiverOf, quiet, alert}
+use Rattle.answers.specs.Answers.{isQuiet, isAlert, isRefused, accepted, receiverOf, quiet, alert}
 use Rattle.answers.specs.Tallies.{countOf}
+use Rattle.answers.proofs.Cases.{one, one-case, accepted-cases, alert-accepted}
 use Rattle.rules.specs.Rules.{covers}
 use Rattle.image.specs.Limits.{containerLimit}
 use Rattle.image.specs.Policy.{Policy}
@@ -55,12 +54,25 @@ history-size h s (r ∷ rs) =
 
 -- ---- each answer is accepted or refused
 
+accepted-refused : (a : Answer) → one (accepted a) + one (isRefused a) ≡ 1
+accepted-refused a = rw (accepted-cases a) (by (isQuiet a) (isAlert a) (isRefused a) (one-case a))
+  where
+    by : (x y z : Bool) → one x + one y + one z ≡ 1 → one (x || y) + one z ≡ 1
+    by true true z e = absurd (omega arith)
+    by true false z e = omega arith
+    by false y z e = omega (arith, e)
+
 pub answers-split : (l : List Answer) → countOf accepted l + countOf isRefused l ≡ length l
 unfolding countOf
 answers-split [] = refl
-answers-split (Given Quiet e ∷ l) = omega (arith, answers-split l)
-answers-split (Given Alert e ∷ l) = omega (arith, answers-split l)
-answers-split (Refused n ∷ l) = omega (arith, answers-split l)
+answers-split (a ∷ l) = by (accepted a) (isRefused a) (accepted-refused a) (answers-split l)
+  where
+    by : (x y : Bool) → one x + one y ≡ 1 → countOf accepted l + countOf isRefused l ≡ length l
+        → cond x (suc (countOf accepted l)) (countOf accepted l) + cond y (suc (countOf isRefused l)) (countOf isRefused l) ≡ suc (length l)
+    by true true e h = absurd (omega arith)
+    by true false e h = omega arith
+    by false true e h = omega arith
+    by false false e h = absurd (omega arith)
 
 -- ---- the receiver of an alert
 
@@ -101,9 +113,11 @@ one-more f a l = by (f a)
 -- an alert is one of one container, any other answer of none
 alert-once : (n : ℕ) (a : Answer) → (isAlert a ≡ true → receiverOf a < n) → sumBelow (λ c. cond (alertAt c a) 1 0) n ≡ cond (isAlert a) 1 0
 unfolding alertAt
-alert-once n (Given Quiet e) h = sum-none (λ c. 0) n (λ c l. refl)
-alert-once n (Given Alert e) h = sum-one (e .receiver) n (h refl)
-alert-once n (Refused m) h = sum-none (λ c. 0) n (λ c l. refl)
+alert-once n a h = by (isAlert a) h
+  where
+    by : (b : Bool) → (b ≡ true → receiverOf a < n) → sumBelow (λ c. cond (b && eqb (receiverOf a) c) 1 0) n ≡ cond b 1 0
+    by true h = sum-one (receiverOf a) n (h refl)
+    by false h = sum-none (λ c. 0) n (λ c l. refl)
 
 pub alerts-summed : (s : List ℕ) (rs : List (List ℕ)) → countOf isAlert (runAnswers s rs) ≡ sumBelow (λ c. countOf (alertAt c) (runAnswers s rs)) containerLimit
 unfolding runAnswers stepOn

@@ -3,7 +3,7 @@ use Prim.Native.Nat.{ℕ, zero, suc, _+_, _%_, _^_, _<_}
 use native.Mathlib.Omega.{arith}
 use native.Mathlib.Decide.{ℕ-discrete}
 use mathlib.Core.Path.{_≡_, refl, sym, ap, ap₂, _∙_}
-use mathlib.Core.Bool.{cond}
+use mathlib.Core.Bool.{Bool, true, false, cond, _&&_}
 use mathlib.Core.List.{List, [], _∷_, _++_}
 use lib.Dec.{eqb}
 use lib.ListN.{length, getD, set, length-set}
@@ -11,12 +11,10 @@ use lib.Seq.{ext-getD, getD-set-same, getD-set-other}
 use borrow.Author.Tests.{eq-eqb, ne-eqb}
 use Rattle.image.specs.Limits.{containerLimit}
 use Rattle.answers.specs.declared.Answer.{Answer}
-use Rattle.answers.specs.declared.Answer.the-variants.{Given, Refused}
-use Rattle.answers.specs.declared.Verdict.the-variants.{Quiet, Alert}
+use Rattle.answers.specs.Answers.{isAlert, receiverOf}
 use Rattle.answers.specs.Tallies.{countOf}
-use Rattle.figures.specs.declared.Counts.{Counts}
-use Rattle.figures.specs.Figures.{Figures, alertAt, figuresOf, sumOf}
-use Rattle.figures.specs.Counters.{Counters, oneMore, alertAdded, counted, countedAll, valuesBelow, countersOf, figuresIn}
+use Rattle.figures.specs.Figures.{Figures, countLimit, testAt, alertAt, figuresOf, sumOf}
+use Rattle.figures.specs.Counters.{Counters, oneMore, countsWith, alertAdded, placesWith, counted, countedAll, valuesBelow, countersOf, figuresIn}
 use Rattle.figures.proofs.FigureLaws.{figures-append, sum-none-right, sum-assoc}
 
 -- ---- lists of values
@@ -46,11 +44,8 @@ values-list f n p l e =
 
 -- ---- counters
 
-pub counts-same : {c d : Counts} → c .records ≡ d .records → c .accepted ≡ d .accepted → c .alerts ≡ d .alerts → c .refused ≡ d .refused → c ≡ d
-counts-same r a l f = λ i. record { records = r i; accepted = a i; alerts = l i; refused = f i }
-
-pub counters-same : {k l : Counters} → k .counts ≡ l .counts → k .places ≡ l .places → k ≡ l
-counters-same c p = λ i. record { counts = c i; places = p i }
+counters-same : {k l : Counters} → k .records ≡ l .records → k .counts ≡ l .counts → k .places ≡ l .places → k ≡ l
+counters-same r c p = λ i. record { records = r i; counts = c i; places = p i }
 
 wrapped-more : (a : ℕ) → (a % 2 ^ 32 + 1) % 2 ^ 32 ≡ (a + 1) % 2 ^ 32
 wrapped-more a = omega arith
@@ -63,38 +58,52 @@ wrapped-none a = omega arith
 
 -- ---- one more answer
 
-module _ (f : Figures) where
-  -- the alerts of each container in 32 bits
-  abbrev kept : ℕ → ℕ
-  kept c = f .alertsAt c % 2 ^ 32
+-- numbers in 32 bits
+abbrev kept : (ℕ → ℕ) → ℕ → ℕ
+kept f k = f k % 2 ^ 32
 
-  places-more : (r : ℕ) → alertAdded (valuesBelow kept containerLimit) r ≡ valuesBelow (λ c. (f .alertsAt c + cond (eqb r c) 1 0) % 2 ^ 32) containerLimit
+module _ (f : ℕ → ℕ) where
+  places-more : (r : ℕ) → alertAdded (valuesBelow (kept f) containerLimit) r ≡ valuesBelow (λ c. (f c + cond (eqb r c) 1 0) % 2 ^ 32) containerLimit
   unfolding alertAdded
   places-more r =
-      values-list (λ c. (f .alertsAt c + cond (eqb r c) 1 0) % 2 ^ 32) containerLimit
-      (set (valuesBelow kept containerLimit) r (oneMore (getD (valuesBelow kept containerLimit) r 0)))
-      (length-set (valuesBelow kept containerLimit) r _ ∙ values-length kept containerLimit)
+      values-list (λ c. (f c + cond (eqb r c) 1 0) % 2 ^ 32) containerLimit
+      (set (valuesBelow (kept f) containerLimit) r (oneMore (getD (valuesBelow (kept f) containerLimit) r 0)))
+      (length-set (valuesBelow (kept f) containerLimit) r _ ∙ values-length (kept f) containerLimit)
       (λ c l. by c l (ℕ-discrete c r))
     where
       by : (c : ℕ) → c < containerLimit → Dec (c ≡ r)
-          → getD (set (valuesBelow kept containerLimit) r (oneMore (getD (valuesBelow kept containerLimit) r 0))) c 0 ≡ (f .alertsAt c + cond (eqb r c) 1 0) % 2 ^ 32
+          → getD (set (valuesBelow (kept f) containerLimit) r (oneMore (getD (valuesBelow (kept f) containerLimit) r 0))) c 0 ≡ (f c + cond (eqb r c) 1 0) % 2 ^ 32
       by c l (yes e) =
           rw (← e, eq-eqb c c refl)
-          (getD-set-same (valuesBelow kept containerLimit) c (oneMore (getD (valuesBelow kept containerLimit) c 0)) 0 (omega (arith, values-length kept containerLimit))
-          ∙ ap oneMore (values-at kept containerLimit c l) ∙ wrapped-more (f .alertsAt c))
+          (getD-set-same (valuesBelow (kept f) containerLimit) c (oneMore (getD (valuesBelow (kept f) containerLimit) c 0)) 0 (omega (arith, values-length (kept f) containerLimit))
+          ∙ ap oneMore (values-at (kept f) containerLimit c l) ∙ wrapped-more (f c))
       by c l (no n) =
           rw (ne-eqb r c (λ e. n (sym e)))
-          (getD-set-other (valuesBelow kept containerLimit) r c (oneMore (getD (valuesBelow kept containerLimit) r 0)) 0 n
-          ∙ values-at kept containerLimit c l ∙ wrapped-none (f .alertsAt c))
+          (getD-set-other (valuesBelow (kept f) containerLimit) r c (oneMore (getD (valuesBelow (kept f) containerLimit) r 0)) 0 n
+          ∙ values-at (kept f) containerLimit c l ∙ wrapped-none (f c))
 
-  places-none : valuesBelow kept containerLimit ≡ valuesBelow (λ c. (f .alertsAt c + 0) % 2 ^ 32) containerLimit
-  places-none = values-same kept (λ c. (f .alertsAt c + 0) % 2 ^ 32) containerLimit (λ c l. wrapped-none (f .alertsAt c))
+  places-one : (a : Answer) → placesWith (valuesBelow (kept f) containerLimit) a ≡ valuesBelow (λ c. (f c + countOf (alertAt c) (a ∷ [])) % 2 ^ 32) containerLimit
+  unfolding placesWith countOf alertAt
+  places-one a = by (isAlert a)
+    where
+      by : (b : Bool) → cond b (alertAdded (valuesBelow (kept f) containerLimit) (receiverOf a)) (valuesBelow (kept f) containerLimit)
+          ≡ valuesBelow (λ c. (f c + cond (b && eqb (receiverOf a) c) 1 0) % 2 ^ 32) containerLimit
+      by true = places-more (receiverOf a)
+      by false = values-same (kept f) (λ c. (f c + 0) % 2 ^ 32) containerLimit (λ c l. wrapped-none (f c))
 
-  counted-one : (a : Answer) → counted (countersOf f) a ≡ countersOf (sumOf f (figuresOf (a ∷ [])))
-  unfolding counted countersOf sumOf figuresOf countOf alertAt
-  counted-one (Given Quiet e) = counters-same (counts-same (omega arith) (omega arith) (omega arith) (omega arith)) places-none
-  counted-one (Given Alert e) = counters-same (counts-same (omega arith) (omega arith) (omega arith) (omega arith)) (places-more (e .receiver))
-  counted-one (Refused n) = counters-same (counts-same (omega arith) (omega arith) (omega arith) (omega arith)) places-none
+  counts-one : (a : Answer) → countsWith (valuesBelow (kept f) countLimit) a ≡ valuesBelow (λ k. (f k + countOf (testAt k) (a ∷ [])) % 2 ^ 32) countLimit
+  unfolding countsWith countOf
+  counts-one a =
+      values-same (λ k. cond (testAt k a) (oneMore (getD (valuesBelow (kept f) countLimit) k 0)) (getD (valuesBelow (kept f) countLimit) k 0))
+      (λ k. (f k + cond (testAt k a) 1 0) % 2 ^ 32) countLimit (λ k l. rw (values-at (kept f) countLimit k l) (by (f k) (testAt k a)))
+    where
+      by : (n : ℕ) (b : Bool) → cond b (oneMore (n % 2 ^ 32)) (n % 2 ^ 32) ≡ (n + cond b 1 0) % 2 ^ 32
+      by n true = wrapped-more n
+      by n false = wrapped-none n
+
+counted-one : (f : Figures) (a : Answer) → counted (countersOf f) a ≡ countersOf (sumOf f (figuresOf (a ∷ [])))
+unfolding counted countersOf sumOf figuresOf
+counted-one f a = counters-same (omega arith) (counts-one (f .counts) a) (places-one (f .alertsAt) a)
 
 -- ---- lists of answers
 
@@ -114,14 +123,13 @@ counted-from f (a ∷ l) =
 
 -- ---- the total
 
+values-summed : (f g : ℕ → ℕ) (n : ℕ)
+    → valuesBelow (λ k. (getD (valuesBelow (kept f) n) k 0 + getD (valuesBelow (kept g) n) k 0) % 2 ^ 32) n ≡ valuesBelow (λ k. (f k + g k) % 2 ^ 32) n
+values-summed f g n =
+    values-same (λ k. (getD (valuesBelow (kept f) n) k 0 + getD (valuesBelow (kept g) n) k 0) % 2 ^ 32) (λ k. (f k + g k) % 2 ^ 32) n
+    (λ k l. ap₂ (λ (x y : ℕ). (x + y) % 2 ^ 32) (values-at (kept f) n k l) (values-at (kept g) n k l) ∙ wrapped-sum (f k) (g k))
+
 pub summed-from : (f g : Figures) → countersOf (sumOf (figuresIn (countersOf f)) (figuresIn (countersOf g))) ≡ countersOf (sumOf f g)
 unfolding countersOf figuresIn sumOf
 summed-from f g =
-    counters-same
-    (counts-same (omega arith) (omega arith) (omega arith) (omega arith))
-    (values-same
-    (λ c. (getD (valuesBelow (kept f) containerLimit) c 0 + getD (valuesBelow (kept g) containerLimit) c 0) % 2 ^ 32)
-    (λ c. (f .alertsAt c + g .alertsAt c) % 2 ^ 32)
-    containerLimit
-    (λ c l. ap₂ (λ (m n : ℕ). (m + n) % 2 ^ 32) (values-at (kept f) containerLimit c l) (values-at (kept g) containerLimit c l)
-    ∙ wrapped-sum (f .alertsAt c) (g .alertsAt c)))
+    counters-same (omega arith) (values-summed (f .counts) (g .counts) countLimit) (values-summed (f .alertsAt) (g .alertsAt) containerLimit)

@@ -5,7 +5,7 @@ use mathlib.Core.Path.{_≡_, refl}
 use mathlib.Core.Bool.{cond}
 use mathlib.Core.List.{[], _∷_, _++_}
 use lib.Dec.{eqb}
-use lib.ListN.{replicate}
+use lib.ListN.{getD, replicate}
 use borrow.Author.Tests.{eq-eqb}
 use Rattle.fields.specs.Ascii.{ascii}
 use Rattle.answers.specs.Tallies.{countOf}
@@ -16,28 +16,28 @@ use Rattle.monitor.proofs.PaperListing.{image, read-image}
 use Rattle.listing.specs.Text.{digit, digits, decimalIn, decimal}
 use Rattle.listing.specs.Lines.{line}
 use Rattle.trace_listing.proofs.Examples.{traceBytes, given, answered}
-use Rattle.figures.specs.Figures.{Figures, alertAt, figuresOf, noFigures, sumOf, tooMany}
-use Rattle.figures.specs.Lines.{nameOf, rateFields, containerFields, alertFields, figureFields, figuresLine, traceLine, totalLine}
+use Rattle.figures.specs.Figures.{Figures, testAt, alertAt, figuresOf, noFigures, sumOf, tooMany}
+use Rattle.figures.specs.Lines.{nameOf, rateFields, containerFields, fieldsFrom, countFields, alertFields, figureFields, figuresLine, traceLine, totalLine}
 use Rattle.figures.specs.Months.{traceFigures, counting, traceLines, totalFigures, tracesText, monthText}
 
 -- ---- lines
 
 -- so many of each, alerts at containers 0, 7 and 255
 abbrev shown : ℕ → ℕ → ℕ → Figures
-shown a l f = record { records = a + f; accepted = a; alerts = l; refused = f; alertsAt = λ c. cond (eqb c 255) 1 (cond (eqb c 7) 12 (cond (eqb c 0) 3 0)) }
+shown a l f = record { records = a + f; counts = λ k. getD (a ∷ l ∷ f ∷ []) k 0; alertsAt = λ c. cond (eqb c 255) 1 (cond (eqb c 7) 12 (cond (eqb c 0) 3 0)) }
 
 -- 16 alerts of 301 accepted steps: 16,000 is 53 times 301 and 47; containers rise, those without an alert are left out
 pub containers-rise : traceLine 9 (shown 301 16 2) ≡ ascii "09.bin 301 16 2 53 47 0 3 7 12 255 1\n"
-unfolding traceLine tooMany figuresLine figureFields nameOf rateFields alertFields containerFields line decimal decimalIn digits digit ascii
+unfolding traceLine tooMany figuresLine figureFields nameOf rateFields alertFields countFields fieldsFrom containerFields line decimal decimalIn digits digit ascii
 containers-rise = refl
 
 pub no-step : traceLine 63 (figuresOf []) ≡ ascii "63.bin 0 0 0 none\n"
-unfolding traceLine tooMany figuresOf countOf figuresLine figureFields nameOf rateFields alertFields containerFields line decimal decimalIn digits digit ascii
+unfolding traceLine tooMany figuresOf testAt countOf figuresLine figureFields nameOf rateFields alertFields countFields fieldsFrom containerFields line decimal decimalIn digits digit ascii
 no-step = refl
 
 -- 1,000,000 records are shown, one more is 19
 pub longest : traceLine 0 (shown 999998 16 2) ≡ ascii "00.bin 999998 16 2 0 16000 0 3 7 12 255 1\n"
-unfolding traceLine tooMany figuresLine figureFields nameOf rateFields alertFields containerFields line decimal decimalIn digits digit ascii
+unfolding traceLine tooMany figuresLine figureFields nameOf rateFields alertFields countFields fieldsFrom containerFields line decimal decimalIn digits digit ascii
 longest = refl
 
 pub too-long : traceLine 0 (shown 999999 16 2) ≡ ascii "00.bin 19\n"
@@ -49,7 +49,7 @@ too-long = refl
 spelled : (traceLine 0 (figuresOf given) ++ (traceLine 1 (figuresOf given) ++ []))
     ++ totalLine (sumOf (counting (figuresOf given)) (sumOf (counting (figuresOf given)) noFigures))
     ≡ ascii "00.bin 5 1 1 200 0 1 1\n01.bin 5 1 1 200 0 1 1\ntotal 10 2 2 200 0 1 2\n"
-unfolding traceLine tooMany counting figuresOf countOf alertAt noFigures sumOf figuresLine figureFields totalLine nameOf rateFields alertFields containerFields line decimal decimalIn digits digit ascii
+unfolding traceLine tooMany counting figuresOf testAt countOf alertAt noFigures sumOf figuresLine figureFields totalLine nameOf rateFields alertFields countFields fieldsFrom containerFields line decimal decimalIn digits digit ascii
 spelled = refl
 
 pub month : monthText image (traceBytes ∷ traceBytes ∷ []) ≡ ascii "00.bin 5 1 1 200 0 1 1\n01.bin 5 1 1 200 0 1 1\ntotal 10 2 2 200 0 1 2\n"

@@ -1,15 +1,20 @@
 -- Figures of lists of answers one behind the other, and sums of figures.
 use Prim.Native.Nat.{ℕ, suc, _+_, _≤_}
 use native.Mathlib.Omega.{arith}
-use mathlib.Core.Path.{_≡_}
+use mathlib.Core.Path.{_≡_, ap}
 use mathlib.Core.Bool.{Bool, true, false, cond}
 use mathlib.Core.List.{List, [], _∷_, _++_}
-use lib.ListN.{length, length-append}
+use lib.ListN.{length, length-append, List·getD-eq-default}
 use Rattle.answers.specs.declared.Answer.{Answer}
-use Rattle.answers.specs.Answers as answers
-use Rattle.answers.specs.Answers.{isAlert, isRefused}
 use Rattle.answers.specs.Tallies.{countOf}
-use Rattle.figures.specs.Figures.{Figures, alertAt, figuresOf, noFigures, sumOf}
+use Rattle.figures.specs.Figures.{Figures, tests, countLimit, testAt, alertAt, figuresOf, noFigures, sumOf}
+
+-- ---- tests
+
+-- behind the last test no answer passes
+pub no-test : (k : ℕ) (a : Answer) → countLimit ≤ k → testAt k a ≡ false
+unfolding testAt
+no-test k a h = ap (λ (f : Answer → Bool). f a) (List·getD-eq-default tests (λ x. false) h)
 
 -- ---- lists one behind the other
 
@@ -38,9 +43,7 @@ unfolding figuresOf sumOf
 figures-append l m =
     λ i. record {
       records = length-append l m i;
-      accepted = count-append answers.accepted l m i;
-      alerts = count-append isAlert l m i;
-      refused = count-append isRefused l m i;
+      counts = λ k. count-append (testAt k) l m i;
       alertsAt = λ c. count-append (alertAt c) l m i;
     }
 
@@ -58,9 +61,7 @@ module _ (f : Figures) where
   sum-none-right =
       λ i. record {
         records = none-right (f .records) i;
-        accepted = none-right (f .accepted) i;
-        alerts = none-right (f .alerts) i;
-        refused = none-right (f .refused) i;
+        counts = λ k. none-right (f .counts k) i;
         alertsAt = λ c. none-right (f .alertsAt c) i;
       }
 
@@ -69,9 +70,7 @@ module _ (f : Figures) where
   sum-none-left =
       λ i. record {
         records = none-left (f .records) i;
-        accepted = none-left (f .accepted) i;
-        alerts = none-left (f .alerts) i;
-        refused = none-left (f .refused) i;
+        counts = λ k. none-left (f .counts k) i;
         alertsAt = λ c. none-left (f .alertsAt c) i;
       }
 
@@ -83,8 +82,6 @@ unfolding sumOf
 sum-assoc f g h =
     λ i. record {
       records = assoc (f .records) (g .records) (h .records) i;
-      accepted = assoc (f .accepted) (g .accepted) (h .accepted) i;
-      alerts = assoc (f .alerts) (g .alerts) (h .alerts) i;
-      refused = assoc (f .refused) (g .refused) (h .refused) i;
+      counts = λ k. assoc (f .counts k) (g .counts k) (h .counts k) i;
       alertsAt = λ c. assoc (f .alertsAt c) (g .alertsAt c) (h .alertsAt c) i;
     }

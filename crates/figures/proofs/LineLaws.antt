@@ -1,8 +1,9 @@
 -- The lines as a name and what stands behind it, and how long that is at most.
 use Prim.Native.Nat.{ℕ, zero, suc, _+_, _-_, _*_, _/_, _%_, _≤_, _<_}
 use native.Mathlib.Omega.{arith}
+use native.Mathlib.Nat.{mul-suc}
 use native.Mathlib.Numerals.{add-one}
-use mathlib.Core.Path.{_≡_, refl, sym, ap, ap₂, _∙_, subst}
+use mathlib.Core.Path.{_≡_, refl, sym, ap, _∙_, subst}
 use mathlib.Core.Bool.{Bool, true, false, cond}
 use mathlib.Core.List.{List, [], _∷_, _++_, append-assoc, append-nil}
 use lib.Dec.{eqb}
@@ -17,10 +18,10 @@ use Rattle.listing.specs.Text.{digits, decimal}
 use Rattle.listing.specs.Lines.{space, newline, line}
 use Rattle.listing.proofs.Theorems.{digit-code, decimal-fits}
 use Rattle.trace_listing.specs.Parts.{ListedText}
-use Rattle.figures.specs.Figures.{Figures, tooMany}
-use Rattle.figures.specs.Lines.{nameOf, rateFields, containerFields, alertFields, figureFields, figuresLine, traceLine, totalLine}
+use Rattle.figures.specs.Figures.{Figures, countLimit, acceptedIn, alertsIn, tooMany}
+use Rattle.figures.specs.Lines.{nameOf, rateFields, containerFields, fieldsFrom, countFields, alertFields, figureFields, figuresLine, traceLine, totalLine}
 use Rattle.figures.specs.Counters.{Counters, figuresIn}
-use Rattle.figures.specs.Buffer.{leading, placesText, figuresText, fieldLimit, placesLimit, figuresLimit}
+use Rattle.figures.specs.Buffer.{leading, countsText, placesText, figuresText, fieldLimit, countsLimit, placesLimit, figuresLimit}
 
 -- ---- fields with the space in front of each
 
@@ -58,11 +59,6 @@ pair-wrote : (m n : ℕ) {b w a : List ℕ} {at next end : ℕ} → at ≤ lengt
     → Wrote (leading (decimal m ∷ decimal n ∷ [])) b a at end
 pair-wrote m n h p q = wrote-as (sym (leading-append (decimal m ∷ []) (decimal n ∷ []))) (wrote-join h p q)
 
-pub counts-wrote : (l m n : ℕ) {b v w a : List ℕ} {at next more end : ℕ} → at ≤ length b → Wrote (leading (decimal l ∷ [])) b v at next
-    → Wrote (leading (decimal m ∷ [])) v w next more → Wrote (leading (decimal n ∷ [])) w a more end
-    → Wrote (leading (decimal l ∷ decimal m ∷ decimal n ∷ [])) b a at end
-counts-wrote l m n h p q r = wrote-as (sym (leading-append (decimal l ∷ decimal m ∷ []) (decimal n ∷ []))) (wrote-join h (pair-wrote l m h p q) r)
-
 -- a container without an alert has no fields, any other two
 pub container-none : (c n : ℕ) (b : List ℕ) (at : ℕ) → n ≡ 0 → Wrote (leading (containerFields c n)) b b at at
 unfolding containerFields leading
@@ -95,12 +91,6 @@ pair-length m n =
     ap length (leading-append (decimal m ∷ []) (decimal n ∷ [])) ∙ length-append (leading (decimal m ∷ [])) (leading (decimal n ∷ [])) in
     omega (arith, e, field-length m, field-length n)
 
-pub counts-length : (l m n : ℕ) → length (leading (decimal l ∷ decimal m ∷ decimal n ∷ [])) ≤ 3 * fieldLimit
-counts-length l m n =
-    let e : length (leading (decimal l ∷ decimal m ∷ decimal n ∷ [])) ≡ length (leading (decimal l ∷ [])) + length (leading (decimal m ∷ decimal n ∷ [])) =
-    ap length (leading-append (decimal l ∷ []) (decimal m ∷ decimal n ∷ [])) ∙ length-append (leading (decimal l ∷ [])) (leading (decimal m ∷ decimal n ∷ [])) in
-    omega (arith, e, field-length l, pair-length m n)
-
 pub container-length : (c n : ℕ) → length (leading (containerFields c n)) ≤ 2 * fieldLimit
 unfolding containerFields
 container-length c n = by (eqb n 0)
@@ -117,40 +107,52 @@ rate-length a n = by (eqb n 0)
     by true = unfold leading ascii in (omega arith)
     by false = pair-length (1000 * a / n) (1000 * a % n)
 
-pub places-length : (f : ℕ → ℕ) (c n : ℕ) → length (leading (alertFields f c n)) ≤ 2 * fieldLimit * n
+-- so many fields of each number
+fields-length : (fields : ℕ → List (List ℕ)) (w : ℕ) → ((k : ℕ) → length (leading (fields k)) ≤ w) → (k n : ℕ) → length (leading (fieldsFrom fields k n)) ≤ w * n
+unfolding fieldsFrom
+fields-length fields w wide k zero = unfold leading in (omega arith)
+fields-length fields w wide k (suc n) =
+    let e : length (leading (fields k ++ fieldsFrom fields (suc k) n)) ≡ length (leading (fields k)) + length (leading (fieldsFrom fields (suc k) n)) =
+    ap length (leading-append (fields k) (fieldsFrom fields (suc k) n)) ∙ length-append (leading (fields k)) (leading (fieldsFrom fields (suc k) n)) in
+    omega (arith, e, wide k, fields-length fields w wide (suc k) n, mul-suc w n)
+
+counts-length : (f : ℕ → ℕ) → length (leading (countFields f)) ≤ countsLimit
+unfolding countFields
+counts-length f = fields-length (λ k. decimal (f k) ∷ []) fieldLimit (λ k. field-length (f k)) 0 countLimit
+
+alerts-length : (f : ℕ → ℕ) → length (leading (alertFields f)) ≤ placesLimit
 unfolding alertFields
-places-length f c zero = unfold leading in (omega arith)
-places-length f c (suc n) =
-    let e : length (leading (containerFields c (f c) ++ alertFields f (suc c) n)) ≡ length (leading (containerFields c (f c))) + length (leading (alertFields f (suc c) n)) =
-    ap length (leading-append (containerFields c (f c)) (alertFields f (suc c) n)) ∙ length-append (leading (containerFields c (f c))) (leading (alertFields f (suc c) n)) in
-    omega (arith, e, container-length c (f c), places-length f (suc c) n)
+alerts-length f = fields-length (λ c. containerFields c (f c)) (2 * fieldLimit) (λ c. container-length c (f c)) 0 containerLimit
+
+pub counts-text-length : (counts : List ℕ) → length (countsText counts) ≤ countsLimit
+unfolding countsText
+counts-text-length counts = counts-length (λ k. getD counts k 0)
 
 pub places-text-length : (places : List ℕ) → length (placesText places) ≤ placesLimit
 unfolding placesText
-places-text-length places = places-length (λ c. getD places c 0) 0 containerLimit
+places-text-length places = alerts-length (λ c. getD places c 0)
 
 pub figures-length : (f : Figures) → length (figuresText f) ≤ figuresLimit
 unfolding figuresText figureFields
 figures-length f =
-    let counts : List (List ℕ) = decimal (f .accepted) ∷ decimal (f .alerts) ∷ decimal (f .refused) ∷ [] in
-    let rate : List (List ℕ) = rateFields (f .alerts) (f .accepted) in
-    let alerts : List (List ℕ) = alertFields (f .alertsAt) 0 containerLimit in
+    let counts : List (List ℕ) = countFields (f .counts) in
+    let rate : List (List ℕ) = rateFields (alertsIn f) (acceptedIn f) in
+    let alerts : List (List ℕ) = alertFields (f .alertsAt) in
     let e : length (leading (counts ++ (rate ++ alerts)) ++ (newline ∷ [])) ≡ (length (leading counts) + (length (leading rate) + length (leading alerts))) + 1 =
     rw (leading-append counts (rate ++ alerts), leading-append rate alerts) (simp length-append) in
-    omega (arith, e, counts-length (f .accepted) (f .alerts) (f .refused), rate-length (f .alerts) (f .accepted), places-length (f .alertsAt) 0 containerLimit)
+    omega (arith, e, counts-length (f .counts), rate-length (alertsIn f) (acceptedIn f), alerts-length (f .alertsAt))
 
 -- ---- whole lines
 
 -- counts, rate, containers and byte 10 are all that stands behind the name
 pub figures-text : (k : Counters)
-    → ((leading (decimal (k .counts .accepted) ∷ decimal (k .counts .alerts) ∷ decimal (k .counts .refused) ∷ []) ++ leading (rateFields (k .counts .alerts) (k .counts .accepted)))
-    ++ placesText (k .places)) ++ (newline ∷ [])
+    → ((countsText (k .counts) ++ leading (rateFields (getD (k .counts) 1 0) (getD (k .counts) 0 0))) ++ placesText (k .places)) ++ (newline ∷ [])
     ≡ figuresText (figuresIn k)
-unfolding figuresText figureFields figuresIn placesText
+unfolding figuresText figureFields figuresIn countsText placesText
 figures-text k =
-    let counts : List (List ℕ) = decimal (k .counts .accepted) ∷ decimal (k .counts .alerts) ∷ decimal (k .counts .refused) ∷ [] in
-    let rate : List (List ℕ) = rateFields (k .counts .alerts) (k .counts .accepted) in
-    let alerts : List (List ℕ) = alertFields (λ c. getD (k .places) c 0) 0 containerLimit in
+    let counts : List (List ℕ) = countFields (λ t. getD (k .counts) t 0) in
+    let rate : List (List ℕ) = rateFields (getD (k .counts) 1 0) (getD (k .counts) 0 0) in
+    let alerts : List (List ℕ) = alertFields (λ c. getD (k .places) c 0) in
     ap (λ (t : List ℕ). t ++ (newline ∷ []))
     (append-assoc (leading counts) (leading rate) (leading alerts)
     ∙ ap (λ (t : List ℕ). leading counts ++ t) (sym (leading-append rate alerts))
@@ -192,65 +194,73 @@ module _ (n : ℕ) (f : Figures) where
       short : length (leading (decimal traceLength ∷ []) ++ (newline ∷ [])) ≤ figuresLimit
       short = omega (arith, length-append (leading (decimal traceLength ∷ [])) (newline ∷ []), field-length traceLength)
 
--- ---- the loop over the containers
+-- ---- the loop over the fields of numbers
 
--- behind `at` the fields of the containers below c are written: `front` is their text, and there is room for the others
-pub record Placing (places before out : List ℕ) (at next c : ℕ) : Type 0 where
+-- behind `at` the fields of the numbers below k are written, at most w bytes of each: `front` is their text, and there is room for the
+-- others
+pub record Placing (fields : ℕ → List (List ℕ)) (w n : ℕ) (before out : List ℕ) (at next k : ℕ) : Type 0 where
   pub front : List ℕ
-  pub within : c ≤ containerLimit
+  pub within : k ≤ n
   pub long : length out ≡ length before
   pub begun : at ≤ length before
-  pub room : next + 2 * fieldLimit * (containerLimit - c) ≤ length out
+  pub room : next + w * (n - k) ≤ length out
   pub wrote : Wrote front before out at next
-  pub text : front ++ leading (alertFields (λ k. getD places k 0) c (containerLimit - c)) ≡ placesText places
+  pub text : front ++ leading (fieldsFrom fields k (n - k)) ≡ leading (fieldsFrom fields 0 n)
 
-pub placing-start : (places out : List ℕ) (at : ℕ) → at + placesLimit ≤ length out → Placing places out out at at 0
-unfolding placesText
-placing-start places out at r =
+pub placing-start : (fields : ℕ → List (List ℕ)) (w n : ℕ) (out : List ℕ) (at : ℕ) → at + w * n ≤ length out → Placing fields w n out out at at 0
+placing-start fields w n out at r =
+    let z : n - 0 ≡ n = omega arith in
     record {
       front = [];
       within = omega arith;
       long = refl;
       begun = omega arith;
-      room = omega arith;
+      room = rw z r;
       wrote = wrote-none at out;
-      text = refl;
+      text = rw z;
     }
 
-module _ (places before out : List ℕ) (at next c : ℕ) (h : Placing places before out at next c) (l : c < containerLimit) where
-  pub container-room : next + 2 * fieldLimit ≤ length out
-  container-room = omega (arith, h .room)
+module _ (fields : ℕ → List (List ℕ)) (w n : ℕ) (before out : List ℕ) (at next k : ℕ) (h : Placing fields w n before out at next k) (l : k < n) where
+  one-less : n - k ≡ suc (n - (k + 1))
+  one-less = omega arith
 
-  pub placing-next : (out′ : List ℕ) (next′ n : ℕ) → n ≡ getD places c 0 → Wrote (leading (containerFields c n)) out out′ next next′
-      → Placing places before out′ at next′ (c + 1)
-  placing-next out′ next′ n e w =
+  left : w * (n - k) ≡ w + w * (n - (k + 1))
+  left = ap (λ (i : ℕ). w * i) one-less ∙ mul-suc w (n - (k + 1)) ∙ omega arith
+
+  pub fields-room : next + w ≤ length out
+  fields-room = omega (arith, h .room, left)
+
+  pub placing-next : (out′ : List ℕ) (next′ : ℕ) → length (leading (fields k)) ≤ w → Wrote (leading (fields k)) out out′ next next′
+      → Placing fields w n before out′ at next′ (k + 1)
+  placing-next out′ next′ wide v =
+      let same : length out′ ≡ length out = wrote-length (omega (arith, fields-room)) v in
       record {
-        front = h .front ++ leading (containerFields c n);
+        front = h .front ++ leading (fields k);
         within = omega arith;
-        long = wrote-length (omega (arith, container-room, container-length c n)) w ∙ h .long;
+        long = same ∙ h .long;
         begun = h .begun;
-        room = omega (arith, h .room, w .ends, container-length c n, wrote-length (omega (arith, container-room, container-length c n)) w);
-        wrote = wrote-join (h .begun) (h .wrote) w;
+        room = omega (arith, h .room, left, v .ends, same);
+        wrote = wrote-join (h .begun) (h .wrote) v;
         text = further;
       }
     where
-      unfolded : (n : ℕ) → alertFields (λ k. getD places k 0) c (suc n) ≡ containerFields c (getD places c 0) ++ alertFields (λ k. getD places k 0) (suc c) n
-      unfolded n = unfold alertFields in refl
+      unfolded : (m : ℕ) → fieldsFrom fields k (suc m) ≡ fields k ++ fieldsFrom fields (suc k) m
+      unfolded m = unfold fieldsFrom in refl
 
-      further : (h .front ++ leading (containerFields c n)) ++ leading (alertFields (λ k. getD places k 0) (c + 1) (containerLimit - (c + 1))) ≡ placesText places
+      further : (h .front ++ leading (fields k)) ++ leading (fieldsFrom fields (k + 1) (n - (k + 1))) ≡ leading (fieldsFrom fields 0 n)
       further =
-          let z : containerLimit - c ≡ suc (containerLimit - (c + 1)) = omega arith in
-          append-assoc (h .front) (leading (containerFields c n)) (leading (alertFields (λ k. getD places k 0) (c + 1) (containerLimit - (c + 1))))
+          append-assoc (h .front) (leading (fields k)) (leading (fieldsFrom fields (k + 1) (n - (k + 1))))
           ∙ ap (λ (t : List ℕ). h .front ++ t)
-          (sym (leading-append (containerFields c n) (alertFields (λ k. getD places k 0) (c + 1) (containerLimit - (c + 1))))
-          ∙ ap₂ (λ (m d : ℕ). leading (containerFields c m ++ alertFields (λ k. getD places k 0) d (containerLimit - (c + 1)))) e (add-one c)
-          ∙ ap leading (sym (unfolded (containerLimit - (c + 1))) ∙ ap (alertFields (λ k. getD places k 0) c) (sym z)))
+          (sym (leading-append (fields k) (fieldsFrom fields (k + 1) (n - (k + 1))))
+          ∙ ap (λ (d : ℕ). leading (fields k ++ fieldsFrom fields d (n - (k + 1)))) (add-one k)
+          ∙ ap leading (sym (unfolded (n - (k + 1))) ∙ ap (fieldsFrom fields k) (sym one-less)))
           ∙ h .text
 
-pub placing-end : (places before out : List ℕ) (at next c : ℕ) → Placing places before out at next c → containerLimit ≤ c → Wrote (placesText places) before out at next
-placing-end places before out at next c h l =
-    let z : containerLimit - c ≡ 0 = omega arith in
+pub placing-end : (fields : ℕ → List (List ℕ)) (w n : ℕ) (before out : List ℕ) (at next k : ℕ) → Placing fields w n before out at next k → n ≤ k
+    → Wrote (leading (fieldsFrom fields 0 n)) before out at next
+placing-end fields w n before out at next k h l =
+    let z : n - k ≡ 0 = omega arith in
     wrote-as (sym (append-nil (h .front)) ∙ ap (λ (t : List ℕ). h .front ++ t) (sym (none z)) ∙ h .text) (h .wrote)
   where
-    none : containerLimit - c ≡ 0 → leading (alertFields (λ k. getD places k 0) c (containerLimit - c)) ≡ []
-    none z = rw z (unfold alertFields leading in refl)
+    none : n - k ≡ 0 → leading (fieldsFrom fields k (n - k)) ≡ []
+    none z = rw z (unfold fieldsFrom leading in refl)

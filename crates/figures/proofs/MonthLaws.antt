@@ -9,8 +9,6 @@ use lib.ListN.{length, length-append, length-map}
 use borrow.Author.Tests.{ltb-true, ltb-false, lt-ltb}
 use Rattle.fields.specs.Ascii.{ascii}
 use Rattle.answers.specs.declared.Answer.{Answer}
-use Rattle.answers.specs.Answers as answers
-use Rattle.answers.specs.Answers.{isAlert, isRefused}
 use Rattle.image.specs.Limits.{containerLimit}
 use Rattle.fields.proofs.RecordLaws.{cut-count}
 use Rattle.records.specs.Records.{recordLength}
@@ -18,11 +16,12 @@ use Rattle.records.specs.Traces.{traceRecords}
 use Rattle.records.proofs.TraceLaws.{records-append}
 use Rattle.monitor.specs.Runs.{runAnswers, runEffect}
 use Rattle.monitor.proofs.RunLaws.{runAnswers-append}
+use Rattle.listing.specs.Text.{decimal}
 use Rattle.trace_listing.proofs.CutLaws.{answers-length}
 use Rattle.trace_listing.specs.Listings.{partSession}
 use Rattle.trace_listing.specs.Parts.{WholeRecords, together}
-use Rattle.figures.specs.Figures.{Figures, recordLimit, alertAt, figuresOf, noFigures, sumOf, tooMany}
-use Rattle.figures.specs.Lines.{nameOf, containerFields, alertFields, figureFields, figuresLine, traceLine, totalLine}
+use Rattle.figures.specs.Figures.{Figures, countLimit, testAt, recordLimit, alertAt, figuresOf, noFigures, sumOf, tooMany}
+use Rattle.figures.specs.Lines.{nameOf, containerFields, fieldsFrom, countFields, alertFields, figureFields, figuresLine, traceLine, totalLine}
 use Rattle.figures.specs.Months.{traceFigures, counting, traceLines, totalFigures, traceLimit, tracesText}
 use Rattle.figures.specs.Counters.{Counters, countedAll, countersOf, figuresIn, noCounters, totalWith, partCounters, partsCounters, linesByParts, totalByParts, textByParts, InParts}
 use Rattle.figures.proofs.FigureLaws.{count-most, figures-append, sum-none-left, sum-none-right, sum-assoc}
@@ -63,28 +62,33 @@ parts-held s ps w = parts-counters noCounters s ps w ∙ trace-counters s (toget
 -- ---- figures that show as the same line
 
 pub record Agree (f g : Figures) : Type 0 where
-  pub accepted : f .accepted ≡ g .accepted
-  pub alerts : f .alerts ≡ g .alerts
-  pub refused : f .refused ≡ g .refused
+  pub counts : (k : ℕ) → k < countLimit → f .counts k ≡ g .counts k
   pub each : (c : ℕ) → c < containerLimit → f .alertsAt c ≡ g .alertsAt c
 
-alerts-agree : (f g : ℕ → ℕ) (c n : ℕ) → ((k : ℕ) → k < c + n → f k ≡ g k) → alertFields f c n ≡ alertFields g c n
+fields-agree : (f g : ℕ → List (List ℕ)) (k n : ℕ) → ((i : ℕ) → i < k + n → f i ≡ g i) → fieldsFrom f k n ≡ fieldsFrom g k n
+unfolding fieldsFrom
+fields-agree f g k zero e = refl
+fields-agree f g k (suc n) e = ap₂ (λ (x y : List (List ℕ)). x ++ y) (e k (omega arith)) (fields-agree f g (suc k) n (λ i l. e i (omega arith)))
+
+counts-agree : (f g : ℕ → ℕ) → ((k : ℕ) → k < countLimit → f k ≡ g k) → countFields f ≡ countFields g
+unfolding countFields
+counts-agree f g e =
+    fields-agree (λ k. decimal (f k) ∷ []) (λ k. decimal (g k) ∷ []) 0 countLimit (λ k l. ap (λ (n : ℕ). decimal n ∷ []) (e k (omega arith)))
+
+alerts-agree : (f g : ℕ → ℕ) → ((c : ℕ) → c < containerLimit → f c ≡ g c) → alertFields f ≡ alertFields g
 unfolding alertFields
-alerts-agree f g c zero e = refl
-alerts-agree f g c (suc n) e =
-    ap₂ (λ (m : ℕ) (fs : List (List ℕ)). containerFields c m ++ fs) (e c (omega arith)) (alerts-agree f g (suc c) n (λ k l. e k (omega arith)))
+alerts-agree f g e =
+    fields-agree (λ c. containerFields c (f c)) (λ c. containerFields c (g c)) 0 containerLimit (λ c l. ap (containerFields c) (e c (omega arith)))
 
 pub lines-agree : (name : List ℕ) (f g : Figures) → Agree f g → figuresLine name f ≡ figuresLine name g
 unfolding figuresLine figureFields
 lines-agree name f g h =
-    rw (h .accepted, h .alerts, h .refused, alerts-agree (f .alertsAt) (g .alertsAt) 0 containerLimit (λ k l. h .each k (omega arith)))
+    rw (counts-agree (f .counts) (g .counts) (h .counts), h .counts 0 (omega arith), h .counts 1 (omega arith), alerts-agree (f .alertsAt) (g .alertsAt) (h .each))
 
 -- ---- figures that stay within bits
 
 pub record Within (f : Figures) (n : ℕ) : Type 0 where
-  pub accepted : f .accepted ≤ n
-  pub alerts : f .alerts ≤ n
-  pub refused : f .refused ≤ n
+  pub counts : (k : ℕ) → f .counts k ≤ n
   pub each : (c : ℕ) → f .alertsAt c ≤ n
 
 small : (n m : ℕ) → n ≤ m → m < 2 ^ 32 → n % 2 ^ 32 ≡ n
@@ -94,40 +98,20 @@ pub held-agree : (f : Figures) (n : ℕ) → Within f n → n < 2 ^ 32 → Agree
 unfolding figuresIn countersOf
 held-agree f n w h =
     record {
-      accepted = small (f .accepted) n (w .accepted) h;
-      alerts = small (f .alerts) n (w .alerts) h;
-      refused = small (f .refused) n (w .refused) h;
+      counts = λ k l. values-at (λ i. f .counts i % 2 ^ 32) countLimit k l ∙ small (f .counts k) n (w .counts k) h;
       each = λ c l. values-at (λ k. f .alertsAt k % 2 ^ 32) containerLimit c l ∙ small (f .alertsAt c) n (w .each c) h;
     }
 
 answers-within : (l : List Answer) → Within (figuresOf l) (length l)
 unfolding figuresOf
-answers-within l =
-    record {
-      accepted = count-most answers.accepted l;
-      alerts = count-most isAlert l;
-      refused = count-most isRefused l;
-      each = λ c. count-most (alertAt c) l;
-    }
+answers-within l = record { counts = λ k. count-most (testAt k) l; each = λ c. count-most (alertAt c) l }
 
 within-more : (f : Figures) (m n : ℕ) → m ≤ n → Within f m → Within f n
-within-more f m n l w =
-    record {
-      accepted = omega (arith, w .accepted);
-      alerts = omega (arith, w .alerts);
-      refused = omega (arith, w .refused);
-      each = λ c. omega (arith, w .each c);
-    }
+within-more f m n l w = record { counts = λ k. omega (arith, w .counts k); each = λ c. omega (arith, w .each c) }
 
 sum-within : (f g : Figures) (m n : ℕ) → Within f m → Within g n → Within (sumOf f g) (m + n)
 unfolding sumOf
-sum-within f g m n w v =
-    record {
-      accepted = omega (arith, w .accepted, v .accepted);
-      alerts = omega (arith, w .alerts, v .alerts);
-      refused = omega (arith, w .refused, v .refused);
-      each = λ c. omega (arith, w .each c, v .each c);
-    }
+sum-within f g m n w v = record { counts = λ k. omega (arith, w .counts k, v .counts k); each = λ c. omega (arith, w .each c, v .each c) }
 
 -- ---- a trace
 
@@ -140,7 +124,7 @@ unfolding traceFigures figuresOf
 trace-within s t h =
     within-more (figuresOf (runAnswers s (traceRecords t))) (length (runAnswers s (traceRecords t))) recordLimit (few (length (runAnswers s (traceRecords t))) h) (answers-within (runAnswers s (traceRecords t)))
 
-records-held : (f : Figures) → f .records < 2 ^ 64 → countersOf f .counts .records ≡ f .records
+records-held : (f : Figures) → f .records < 2 ^ 64 → countersOf f .records ≡ f .records
 unfolding countersOf
 records-held f h = omega arith
 
@@ -169,7 +153,7 @@ total-held : (f : Figures) (s t : List ℕ) → traceFigures s t .records < 2 ^ 
 unfolding totalWith counting noFigures
 total-held f s t h = by (tooMany (traceFigures s t .records)) refl (ap tooMany (records-held (traceFigures s t) h))
   where
-    by : (b : Bool) → tooMany (traceFigures s t .records) ≡ b → tooMany (countersOf (traceFigures s t) .counts .records) ≡ tooMany (traceFigures s t .records)
+    by : (b : Bool) → tooMany (traceFigures s t .records) ≡ b → tooMany (countersOf (traceFigures s t) .records) ≡ tooMany (traceFigures s t .records)
         → totalWith (countersOf f) (countersOf (traceFigures s t)) ≡ countersOf (sumOf f (counting (traceFigures s t)))
     by true e r = rw (r, e, sum-none-right f)
     by false e r = rw (r, e) (summed-from f (traceFigures s t))
@@ -245,12 +229,12 @@ more-too-many : (m n : ℕ) → m ≤ n → tooMany m ≡ true → tooMany n ≡
 unfolding tooMany
 more-too-many m n l h = lt-ltb recordLimit n (omega (arith, ltb-true recordLimit m h))
 
-pub front-too-long : (n : ℕ) (s x y : List ℕ) → length x % recordLength ≡ 0 → length (x ++ y) < 2 ^ 64 → tooMany (partCounters noCounters s x .counts .records) ≡ true
+pub front-too-long : (n : ℕ) (s x y : List ℕ) → length x % recordLength ≡ 0 → length (x ++ y) < 2 ^ 64 → tooMany (partCounters noCounters s x .records) ≡ true
     → (traceLine n (figuresIn (partCounters noCounters s x)) ≡ traceLine n (traceFigures s (x ++ y))) × (counting (traceFigures s (x ++ y)) ≡ noFigures)
 unfolding counting
 front-too-long n s x y w h e =
     let few : traceFigures s x .records < 2 ^ 64 = records-few s x (omega (arith, length-append x y)) in
-    let many : tooMany (traceFigures s x .records) ≡ true = ap tooMany (sym (records-held (traceFigures s x) few) ∙ ap (λ (k : Counters). k .counts .records) (sym (trace-counters s x))) ∙ e in
+    let many : tooMany (traceFigures s x .records) ≡ true = ap tooMany (sym (records-held (traceFigures s x) few) ∙ ap (λ (k : Counters). k .records) (sym (trace-counters s x))) ∙ e in
     let more : tooMany (traceFigures s (x ++ y) .records) ≡ true = longer many in (
       ap (λ (k : Counters). traceLine n (figuresIn k)) (trace-counters s x) ∙ trace-line n s x few ∙ over n (traceFigures s x) (traceFigures s (x ++ y)) many more,
       rw more,

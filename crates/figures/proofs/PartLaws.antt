@@ -1,13 +1,12 @@
--- A part of a trace counted record by record: what is counted, and what is left of the part, is the whole of it. The alerts of each
--- container added to the total, one container after the other.
-use Prim.Native.Nat.{ℕ, _+_, _%_, _^_, _≤_, _<_}
+-- A part of a trace counted record by record: what is counted, and what is left of the part, is the whole of it. Numbers changed one
+-- after the other.
+use Prim.Native.Nat.{ℕ, _+_, _≤_, _<_}
 use native.Mathlib.Omega.{arith}
 use native.Mathlib.Decide.{ℕ-discrete}
 use mathlib.Core.Path.{_≡_, refl, ap, _∙_}
 use mathlib.Core.List.{List}
 use lib.ListN.{length, take, drop, getD, set, length-set}
 use lib.Seq.{getD-set-same, getD-set-other}
-use Rattle.image.specs.Limits.{containerLimit}
 use Rattle.answers.specs.declared.Answer.{Answer}
 use Rattle.records.specs.Records.{recordLength}
 use Rattle.records.specs.Traces.{traceRecords}
@@ -58,36 +57,32 @@ pub counting-end : (part : List ℕ) (k₀ : Counters) (s₀ s : List ℕ) (k : 
 unfolding countedAll runAnswers runEffect
 counting-end part k₀ s₀ s k at h l = (rw (no-record part at l) at (h .counts), rw (no-record part at l) at (h .leaves))
 
--- ---- the loop over the containers
+-- ---- the loop over numbers
 
--- the alerts of a container in two lists together
-abbrev pub both : List ℕ → List ℕ → ℕ → ℕ
-both p q c = (getD p c 0 + getD q c 0) % 2 ^ 32
+-- the numbers below k are changed, each by its own rule, the others are as they were
+pub record Changing (change : ℕ → ℕ → ℕ) (n : ℕ) (before now : List ℕ) (k : ℕ) : Type 0 where
+  pub within : k ≤ n
+  pub long : length now ≡ n
+  pub done : (i : ℕ) → i < k → getD now i 0 ≡ change i (getD before i 0)
+  pub rest : (i : ℕ) → k ≤ i → getD now i 0 ≡ getD before i 0
 
--- the places below c are summed, the others are as they were
-pub record Summing (p q now : List ℕ) (c : ℕ) : Type 0 where
-  pub within : c ≤ containerLimit
-  pub long : length now ≡ containerLimit
-  pub done : (k : ℕ) → k < c → getD now k 0 ≡ both p q k
-  pub rest : (k : ℕ) → c ≤ k → getD now k 0 ≡ getD p k 0
+pub changing-start : (change : ℕ → ℕ → ℕ) (n : ℕ) (before : List ℕ) → length before ≡ n → Changing change n before before 0
+changing-start change n before l = record { within = omega arith; long = l; done = λ i b. absurd (omega arith); rest = λ i b. refl }
 
-pub summing-start : (p q : List ℕ) → length p ≡ containerLimit → Summing p q p 0
-summing-start p q l = record { within = omega arith; long = l; done = λ k b. absurd (omega arith); rest = λ k b. refl }
-
-pub summing-next : (p q now : List ℕ) (c v : ℕ) → Summing p q now c → c < containerLimit → v ≡ (getD now c 0 + getD q c 0) % 2 ^ 32
-    → Summing p q (set now c v) (c + 1)
-summing-next p q now c v h l e =
+pub changing-next : (change : ℕ → ℕ → ℕ) (n : ℕ) (before now : List ℕ) (k v : ℕ) → Changing change n before now k → k < n → v ≡ change k (getD now k 0)
+    → Changing change n before (set now k v) (k + 1)
+changing-next change n before now k v h l e =
     record {
       within = omega arith;
-      long = length-set now c v ∙ h .long;
-      done = λ k b. by k b (ℕ-discrete k c);
-      rest = λ k b. getD-set-other now c k v 0 (λ z. absurd (omega arith)) ∙ h .rest k (omega arith);
+      long = length-set now k v ∙ h .long;
+      done = λ i b. by i b (ℕ-discrete i k);
+      rest = λ i b. getD-set-other now k i v 0 (λ z. absurd (omega arith)) ∙ h .rest i (omega arith);
     }
   where
-    by : (k : ℕ) → k < c + 1 → Dec (k ≡ c) → getD (set now c v) k 0 ≡ both p q k
-    by k b (yes z) =
-        rw z (getD-set-same now c v 0 (omega (arith, h .long)) ∙ e ∙ ap (λ (n : ℕ). (n + getD q c 0) % 2 ^ 32) (h .rest c (omega arith)))
-    by k b (no z) = getD-set-other now c k v 0 z ∙ h .done k (omega arith)
+    by : (i : ℕ) → i < k + 1 → Dec (i ≡ k) → getD (set now k v) i 0 ≡ change i (getD before i 0)
+    by i b (yes z) = rw z (getD-set-same now k v 0 (omega (arith, h .long)) ∙ e ∙ ap (change k) (h .rest k (omega arith)))
+    by i b (no z) = getD-set-other now k i v 0 z ∙ h .done i (omega arith)
 
-pub summing-end : (p q now : List ℕ) (c : ℕ) → Summing p q now c → containerLimit ≤ c → now ≡ valuesBelow (both p q) containerLimit
-summing-end p q now c h l = values-list (both p q) containerLimit now (h .long) (λ k b. h .done k (omega arith))
+pub changing-end : (change : ℕ → ℕ → ℕ) (n : ℕ) (before now : List ℕ) (k : ℕ) → Changing change n before now k → n ≤ k
+    → now ≡ valuesBelow (λ i. change i (getD before i 0)) n
+changing-end change n before now k h l = values-list (λ i. change i (getD before i 0)) n now (h .long) (λ i b. h .done i (omega arith))

@@ -14,7 +14,9 @@ use borrow.Author.Tests.{eq-eqb, ne-eqb}
 use Rattle.lists.specs.Counting.{countBelow, sumBelow}
 use Rattle.fields.specs.Ascii.{ascii}
 use Rattle.fields.specs.Bytes.{Bytes}
-use Rattle.answers.specs.Answers.{isAlert}
+use Rattle.answers.specs.declared.Answer.{Answer}
+use Rattle.answers.specs.Answers.{accepted, isAlert, isRefused}
+use Rattle.answers.specs.Tallies.{countOf}
 use Rattle.image.specs.Limits.{containerLimit}
 use Rattle.image.specs.Image.{checkOf, policyIn}
 use Rattle.session.specs.Session.{startOf}
@@ -28,8 +30,8 @@ use Rattle.listing.specs.Lines.{policyLine}
 use Rattle.trace_listing.specs.Listings.{partSession}
 use Rattle.trace_listing.specs.Parts.{together}
 use Rattle.trace_listing.proofs.CutLaws.{answers-length}
-use Rattle.figures.specs.Figures.{Figures, alertAt, figuresOf, noFigures, sumOf, tooMany}
-use Rattle.figures.specs.Lines.{rateFields, alertFields, figureFields, traceLine}
+use Rattle.figures.specs.Figures.{Figures, testAt, acceptedIn, alertsIn, refusedIn, alertAt, figuresOf, noFigures, sumOf, tooMany}
+use Rattle.figures.specs.Lines.{rateFields, fieldsFrom, countFields, alertFields, figureFields, traceLine}
 use Rattle.figures.specs.Months.{traceFigures, counting, totalFigures, traceLimit, monthText}
 use Rattle.figures.specs.Counters.{figuresIn, noCounters, partCounters, textByParts, InParts}
 use Rattle.figures.specs.Positions.{ForbiddenAt, ForbiddenInto}
@@ -37,12 +39,20 @@ use Rattle.figures.proofs.MonthLaws as months
 use Rattle.figures.proofs.MonthLaws.{text-parts, records-length}
 use Rattle.figures.proofs.AlertLaws.{history-size, answers-split, alerts-summed, count-exactly, alert-at, alert-into}
 
+-- ---- the counts of a list of answers
+
+-- by their names: the accepted, the alerts, the refused
+pub counts-told : (l : List Answer)
+    → (acceptedIn (figuresOf l) ≡ countOf accepted l) × (alertsIn (figuresOf l) ≡ countOf isAlert l) × (refusedIn (figuresOf l) ≡ countOf isRefused l)
+unfolding figuresOf testAt
+counts-told l = (refl, refl, refl)
+
 -- ---- the figures of a run: of any session and any records
 
 module _ (s : List ℕ) (rs : List (List ℕ)) where
   -- the accepted steps are those of the history
-  pub accepted-history : figuresOf (runAnswers s rs) .accepted ≡ size (historyIn rs (runAnswers s rs))
-  unfolding figuresOf historyIn
+  pub accepted-history : acceptedIn (figuresOf (runAnswers s rs)) ≡ size (historyIn rs (runAnswers s rs))
+  unfolding figuresOf testAt historyIn
   accepted-history = sym (history-size start s rs ∙ omega arith)
 
   -- each record is accepted or refused
@@ -50,13 +60,13 @@ module _ (s : List ℕ) (rs : List (List ℕ)) where
   unfolding figuresOf
   records-told = answers-length s rs
 
-  pub accepted-refused : figuresOf (runAnswers s rs) .accepted + figuresOf (runAnswers s rs) .refused ≡ length rs
-  unfolding figuresOf
+  pub accepted-refused : acceptedIn (figuresOf (runAnswers s rs)) + refusedIn (figuresOf (runAnswers s rs)) ≡ length rs
+  unfolding figuresOf testAt
   accepted-refused = answers-split (runAnswers s rs) ∙ answers-length s rs
 
   -- each alert is one container's
-  pub alerts-places : figuresOf (runAnswers s rs) .alerts ≡ sumBelow (figuresOf (runAnswers s rs) .alertsAt) containerLimit
-  unfolding figuresOf
+  pub alerts-places : alertsIn (figuresOf (runAnswers s rs)) ≡ sumBelow (figuresOf (runAnswers s rs) .alertsAt) containerLimit
+  unfolding figuresOf testAt
   alerts-places = alerts-summed s rs
 
 -- a trace has a record for each 8 bytes, and one for what is left
@@ -71,8 +81,8 @@ module _ (image : List ℕ) (bytes : Bytes image) (ok : checkOf image ≡ 0) (rs
   -- positions that passes exactly for them.
   pub alerts-exact : (t : ℕ → Bool)
       → ((n : ℕ) → n < length rs → (t n ≡ true) ↔ ForbiddenAt (startOf (policyIn image)) (policyIn image) rs n)
-      → figuresOf (runAnswers (startOf (policyIn image)) rs) .alerts ≡ countBelow t (length rs)
-  unfolding figuresOf
+      → alertsIn (figuresOf (runAnswers (startOf (policyIn image)) rs)) ≡ countBelow t (length rs)
+  unfolding figuresOf testAt
   alerts-exact t h =
       count-exactly isAlert (ForbiddenAt (startOf (policyIn image)) (policyIn image) rs) (runAnswers (startOf (policyIn image)) rs)
       (λ n a g. alert-at (startOf (policyIn image)) (policyIn image) (demand3 image bytes ok) rs n a g) t
@@ -109,22 +119,22 @@ total-without = months.total-without
 
 -- so that the accepted steps in total are the sizes of the histories that count, one after the other
 pub total-accepted : (s t : List ℕ) (ts : List (List ℕ)) → tooMany (traceFigures s t .records) ≡ false
-    → totalFigures s (t ∷ ts) .accepted ≡ size (historyIn (traceRecords t) (runAnswers s (traceRecords t))) + totalFigures s ts .accepted
+    → acceptedIn (totalFigures s (t ∷ ts)) ≡ size (historyIn (traceRecords t) (runAnswers s (traceRecords t))) + acceptedIn (totalFigures s ts)
 total-accepted s t ts h =
-    ap (λ (f : Figures). f .accepted) (total-next s t ts h)
-    ∙ unfold sumOf traceFigures in (ap (λ (n : ℕ). n + totalFigures s ts .accepted) (accepted-history s (traceRecords t)))
+    ap acceptedIn (total-next s t ts h)
+    ∙ unfold sumOf traceFigures in (ap (λ (n : ℕ). n + acceptedIn (totalFigures s ts)) (accepted-history s (traceRecords t)))
 
 pub total-alerts : (s t : List ℕ) (ts : List (List ℕ)) → tooMany (traceFigures s t .records) ≡ false
-    → totalFigures s (t ∷ ts) .alerts ≡ traceFigures s t .alerts + totalFigures s ts .alerts
-total-alerts s t ts h = ap (λ (f : Figures). f .alerts) (total-next s t ts h) ∙ unfold sumOf in refl
+    → alertsIn (totalFigures s (t ∷ ts)) ≡ alertsIn (traceFigures s t) + alertsIn (totalFigures s ts)
+total-alerts s t ts h = ap alertsIn (total-next s t ts h) ∙ unfold sumOf in refl
 
 -- ---- the rate
 
 -- the line of any figures shows the rate of their own counts: that of the total those of the total
 pub fields-shown : (f : Figures)
     → figureFields f
-    ≡ decimal (f .accepted) ∷ decimal (f .alerts) ∷ decimal (f .refused) ∷ (rateFields (f .alerts) (f .accepted) ++ alertFields (f .alertsAt) 0 containerLimit)
-unfolding figureFields
+    ≡ decimal (acceptedIn f) ∷ decimal (alertsIn f) ∷ decimal (refusedIn f) ∷ (rateFields (alertsIn f) (acceptedIn f) ++ alertFields (f .alertsAt))
+unfolding figureFields countFields fieldsFrom
 fields-shown f = refl
 
 -- without an accepted step it is `none`, else two fields, which are whole quotient and remainder
@@ -156,7 +166,7 @@ month-by-parts image traces w l ok =
     (text-parts (startOf (policyIn image)) traces w l)
 
 -- A trace need not be read further once it is too long: its line is the one of the whole, and it adds nothing.
-pub front-too-long : (n : ℕ) (s x y : List ℕ) → length x % recordLength ≡ 0 → length (x ++ y) < 2 ^ 64 → tooMany (partCounters noCounters s x .counts .records) ≡ true
+pub front-too-long : (n : ℕ) (s x y : List ℕ) → length x % recordLength ≡ 0 → length (x ++ y) < 2 ^ 64 → tooMany (partCounters noCounters s x .records) ≡ true
     → (traceLine n (figuresIn (partCounters noCounters s x)) ≡ traceLine n (traceFigures s (x ++ y))) × (counting (traceFigures s (x ++ y)) ≡ noFigures)
 front-too-long = months.front-too-long
 

@@ -5,17 +5,21 @@ use lib.ListN.{getD}
 use Rattle.image.specs.Limits.{containerLimit}
 use Rattle.listing.specs.Text.{decimalLimit}
 use Rattle.listing.specs.Lines.{space, newline}
-use Rattle.figures.specs.Figures.{Figures}
-use Rattle.figures.specs.Lines.{alertFields, figureFields}
+use Rattle.figures.specs.Figures.{Figures, countLimit}
+use Rattle.figures.specs.Lines.{countFields, alertFields, figureFields}
 
 -- fields with the space in front of each
 unfoldable pub leading : List (List ℕ) → List ℕ
 leading [] = []
 leading (f ∷ fs) = space ∷ (f ++ leading fs)
 
+-- the fields of the counts
+unfoldable pub countsText : List ℕ → List ℕ
+countsText counts = leading (countFields (λ k. getD counts k 0))
+
 -- the fields of the containers, by the alerts of each
 unfoldable pub placesText : List ℕ → List ℕ
-placesText places = leading (alertFields (λ c. getD places c 0) 0 containerLimit)
+placesText places = leading (alertFields (λ c. getD places c 0))
 
 -- all that stands behind the name
 unfoldable pub figuresText : Figures → List ℕ
@@ -25,10 +29,14 @@ figuresText f = leading (figureFields f) ++ (newline ∷ [])
 abbrev pub fieldLimit : ℕ
 fieldLimit = decimalLimit + 1
 
+-- of the counts
+abbrev pub countsLimit : ℕ
+countsLimit = fieldLimit * countLimit
+
 -- of the fields of the containers
 abbrev pub placesLimit : ℕ
 placesLimit = 2 * fieldLimit * containerLimit
 
 -- of what stands behind the name: counts, rate, containers, byte 10
 abbrev pub figuresLimit : ℕ
-figuresLimit = 3 * fieldLimit + 2 * fieldLimit + placesLimit + 1
+figuresLimit = countsLimit + 2 * fieldLimit + placesLimit + 1

@@ -5,48 +5,50 @@ use mathlib.Core.List.{List, [], _∷_, _++_}
 use lib.ListN.{length, getD, set}
 use Rattle.image.specs.Limits.{containerLimit}
 use Rattle.answers.specs.declared.Answer.{Answer}
-use Rattle.answers.specs.Answers as answers
-use Rattle.answers.specs.Answers.{isAlert, isRefused, receiverOf}
+use Rattle.answers.specs.Answers.{isAlert, receiverOf}
 use Rattle.answers.specs.Tallies.{more}
 use Rattle.records.specs.Traces.{traceRecords}
 use Rattle.monitor.specs.Runs.{runAnswers}
 use Rattle.trace_listing.specs.Listings.{partSession}
 use Rattle.trace_listing.specs.Parts.{WholeRecords, together}
-use Rattle.figures.specs.declared.Counts.{Counts}
-use Rattle.figures.specs.Figures.{Figures, noFigures, sumOf, tooMany}
+use Rattle.figures.specs.Figures.{Figures, countLimit, testAt, noFigures, sumOf, tooMany}
 use Rattle.figures.specs.Lines.{traceLine, totalLine}
 
 -- ---- counters
 
--- the counts, and the alerts of each container number
+-- the records, the counts, and the alerts of each container number
 pub record Counters : Type 0 where
-  pub counts : Counts
+  pub records : ℕ
+  pub counts : List ℕ
   pub places : List ℕ
 
-abbrev pub counters : Counts → List ℕ → Counters
-counters c p = record { counts = c; places = p }
+abbrev pub counters : ℕ → List ℕ → List ℕ → Counters
+counters r c p = record { records = r; counts = c; places = p }
+
+-- f 0 to f (n - 1)
+unfoldable pub valuesBelow : (ℕ → ℕ) → ℕ → List ℕ
+valuesBelow f zero = []
+valuesBelow f (suc n) = f 0 ∷ valuesBelow (λ k. f (suc k)) n
 
 -- one more, in 32 bits
 abbrev pub oneMore : ℕ → ℕ
 oneMore n = (n + 1) % 2 ^ 32
 
+-- one more in each count whose test the answer passes
+unfoldable pub countsWith : List ℕ → Answer → List ℕ
+countsWith counts a = valuesBelow (λ k. cond (testAt k a) (oneMore (getD counts k 0)) (getD counts k 0)) countLimit
+
 -- one more alert of container c
 unfoldable pub alertAdded : List ℕ → ℕ → List ℕ
 alertAdded places c = set places c (oneMore (getD places c 0))
 
+-- one more alert of its receiver, if the answer is an alert
+unfoldable pub placesWith : List ℕ → Answer → List ℕ
+placesWith places a = cond (isAlert a) (alertAdded places (receiverOf a)) places
+
 -- with one more answer
 unfoldable pub counted : Counters → Answer → Counters
-counted k a =
-    record {
-      counts =
-          record {
-            records = more (k .counts .records);
-            accepted = cond (answers.accepted a) (oneMore (k .counts .accepted)) (k .counts .accepted);
-            alerts = cond (isAlert a) (oneMore (k .counts .alerts)) (k .counts .alerts);
-            refused = cond (isRefused a) (oneMore (k .counts .refused)) (k .counts .refused);
-          };
-      places = cond (isAlert a) (alertAdded (k .places) (receiverOf a)) (k .places);
-    }
+counted k a = counters (more (k .records)) (countsWith (k .counts) a) (placesWith (k .places) a)
 
 -- with the answers one after the other
 unfoldable pub countedAll : Counters → List Answer → Counters
@@ -55,42 +57,25 @@ countedAll k (a ∷ l) = countedAll (counted k a) l
 
 -- ---- counters and figures
 
--- f 0 to f (n - 1)
-unfoldable pub valuesBelow : (ℕ → ℕ) → ℕ → List ℕ
-valuesBelow f zero = []
-valuesBelow f (suc n) = f 0 ∷ valuesBelow (λ k. f (suc k)) n
-
 -- counters that hold these figures, as far as their bits reach
 unfoldable pub countersOf : Figures → Counters
 countersOf f =
     record {
-      counts =
-          record {
-            records = f .records % 2 ^ 64;
-            accepted = f .accepted % 2 ^ 32;
-            alerts = f .alerts % 2 ^ 32;
-            refused = f .refused % 2 ^ 32;
-          };
+      records = f .records % 2 ^ 64;
+      counts = valuesBelow (λ k. f .counts k % 2 ^ 32) countLimit;
       places = valuesBelow (λ c. f .alertsAt c % 2 ^ 32) containerLimit;
     }
 
 -- the figures that counters hold
 unfoldable pub figuresIn : Counters → Figures
-figuresIn k =
-    record {
-      records = k .counts .records;
-      accepted = k .counts .accepted;
-      alerts = k .counts .alerts;
-      refused = k .counts .refused;
-      alertsAt = λ c. getD (k .places) c 0;
-    }
+figuresIn k = record { records = k .records; counts = λ t. getD (k .counts) t 0; alertsAt = λ c. getD (k .places) c 0 }
 
 unfoldable pub noCounters : Counters
 noCounters = countersOf noFigures
 
 -- the total's counters with those of a trace added, unless it is too long
 unfoldable pub totalWith : Counters → Counters → Counters
-totalWith t k = cond (tooMany (k .counts .records)) t (countersOf (sumOf (figuresIn t) (figuresIn k)))
+totalWith t k = cond (tooMany (k .records)) t (countersOf (sumOf (figuresIn t) (figuresIn k)))
 
 -- ---- a month part by part
 

@@ -1,21 +1,41 @@
 -- The figures of a list of answers, and sums of figures (change request No. 6).
 use Prim.Native.Nat.{ℕ, _+_}
-use mathlib.Core.Bool.{Bool, _&&_}
-use mathlib.Core.List.{List, []}
+use mathlib.Core.Bool.{Bool, false, _&&_}
+use mathlib.Core.List.{List, [], _∷_}
 use lib.Dec.{eqb, ltb}
-use lib.ListN.{length}
+use lib.ListN.{length, getD}
 use Rattle.answers.specs.declared.Answer.{Answer}
 use Rattle.answers.specs.Answers as answers
 use Rattle.answers.specs.Answers.{isAlert, isRefused, receiverOf}
 use Rattle.answers.specs.Tallies.{countOf}
 
--- "accepted steps, alerts, refused steps, .. number and alerts of each container number"; and the records
+-- "accepted steps, alerts, refused steps": what the answers are counted by, in the order in which the counts are shown
+abbrev pub tests : List (Answer → Bool)
+tests = answers.accepted ∷ isAlert ∷ isRefused ∷ []
+
+-- how many counts there are
+abbrev pub countLimit : ℕ
+countLimit = length tests
+
+-- the test of count k; behind the last no answer passes
+unfoldable pub testAt : ℕ → Answer → Bool
+testAt k = getD tests k (λ a. false)
+
+-- the records, the counts in the order of the tests, and "number and alerts of each container number"
 pub record Figures : Type 0 where
   pub records : ℕ
-  pub accepted : ℕ
-  pub alerts : ℕ
-  pub refused : ℕ
+  pub counts : ℕ → ℕ
   pub alertsAt : ℕ → ℕ
+
+-- the counts by their names, each at the place of its test
+abbrev pub acceptedIn : Figures → ℕ
+acceptedIn f = f .counts 0
+
+abbrev pub alertsIn : Figures → ℕ
+alertsIn f = f .counts 1
+
+abbrev pub refusedIn : Figures → ℕ
+refusedIn f = f .counts 2
 
 -- an alert whose receiver is container number c, whoever holds the number
 unfoldable pub alertAt : ℕ → Answer → Bool
@@ -25,9 +45,7 @@ unfoldable pub figuresOf : List Answer → Figures
 figuresOf given =
     record {
       records = length given;
-      accepted = countOf answers.accepted given;
-      alerts = countOf isAlert given;
-      refused = countOf isRefused given;
+      counts = λ k. countOf (testAt k) given;
       alertsAt = λ c. countOf (alertAt c) given;
     }
 
@@ -39,9 +57,7 @@ unfoldable pub sumOf : Figures → Figures → Figures
 sumOf f g =
     record {
       records = f .records + g .records;
-      accepted = f .accepted + g .accepted;
-      alerts = f .alerts + g .alerts;
-      refused = f .refused + g .refused;
+      counts = λ k. f .counts k + g .counts k;
       alertsAt = λ c. f .alertsAt c + g .alertsAt c;
     }
 

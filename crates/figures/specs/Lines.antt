@@ -8,7 +8,7 @@ use Rattle.answers.specs.Refusals.{traceLength}
 use Rattle.image.specs.Limits.{containerLimit}
 use Rattle.listing.specs.Text.{digits, decimal}
 use Rattle.listing.specs.Lines.{line}
-use Rattle.figures.specs.Figures.{Figures, tooMany}
+use Rattle.figures.specs.Figures.{Figures, countLimit, acceptedIn, alertsIn, tooMany}
 
 -- "named `00.bin` upward"
 unfoldable pub nameOf : ℕ → List ℕ
@@ -25,16 +25,22 @@ rateFields alerts accepted =
 unfoldable pub containerFields : ℕ → ℕ → List (List ℕ)
 containerFields c alerts = cond (eqb alerts 0) [] (decimal c ∷ decimal alerts ∷ [])
 
--- "rising": of n containers from number c on
-unfoldable pub alertFields : (ℕ → ℕ) → ℕ → ℕ → List (List ℕ)
-alertFields alertsAt c zero = []
-alertFields alertsAt c (suc n) = containerFields c (alertsAt c) ++ alertFields alertsAt (suc c) n
+-- the fields of n numbers from k on, one behind the other
+unfoldable pub fieldsFrom : (ℕ → List (List ℕ)) → ℕ → ℕ → List (List ℕ)
+fieldsFrom fields k zero = []
+fieldsFrom fields k (suc n) = fields k ++ fieldsFrom fields (suc k) n
+
+-- "accepted steps, alerts, refused steps"
+unfoldable pub countFields : (ℕ → ℕ) → List (List ℕ)
+countFields counts = fieldsFrom (λ k. decimal (counts k) ∷ []) 0 countLimit
+
+-- "rising"
+unfoldable pub alertFields : (ℕ → ℕ) → List (List ℕ)
+alertFields alertsAt = fieldsFrom (λ c. containerFields c (alertsAt c)) 0 containerLimit
 
 -- the fields behind the name
 unfoldable pub figureFields : Figures → List (List ℕ)
-figureFields f =
-    decimal (f .accepted) ∷ decimal (f .alerts) ∷ decimal (f .refused)
-    ∷ (rateFields (f .alerts) (f .accepted) ++ alertFields (f .alertsAt) 0 containerLimit)
+figureFields f = countFields (f .counts) ++ (rateFields (alertsIn f) (acceptedIn f) ++ alertFields (f .alertsAt))
 
 unfoldable pub figuresLine : List ℕ → Figures → List ℕ
 figuresLine name f = line name (figureFields f)

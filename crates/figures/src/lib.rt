@@ -1,21 +1,20 @@
 // The month's figures: the records of a trace counted by their answers, and the lines that show the counts (change request No. 6).
 ghost use mathlib.Core.Path.{_≡_};
+ghost use mathlib.Core.Bool.{cond};
 ghost use mathlib.Core.List.{[], _∷_, _++_};
-ghost use Prim.Native.Nat.{_+_, _*_, _%_, _^_, _≤_};
+ghost use Prim.Native.Nat.{ℕ, _+_, _*_, _%_, _^_, _≤_};
 ghost use lib.ListN.{length, getD};
 ghost use Rattle.answers.specs.Refusals.{traceLength};
 ghost use Rattle.listing.specs.Text.{decimal};
 ghost use Rattle.listing.specs.Lines.{newline};
-ghost use Rattle.image.specs.Limits.{containerLimit};
 ghost use Rattle.fields.specs.Writing.{Wrote};
 ghost use Rattle.trace_listing.specs.Listings.{partSession};
 ghost use Rattle.trace_listing.specs.Parts.{ListedText};
-ghost use Rattle.figures.specs.Figures.{tooMany};
+ghost use Rattle.figures.specs.Figures.{countLimit, testAt, tooMany};
 ghost use Rattle.figures.specs.Lines.{nameOf, rateFields, containerFields, traceLine, totalLine};
-ghost use Rattle.figures.specs.Counters.{counters, alertAdded, counted, figuresIn, noCounters, totalWith, valuesBelow, partCounters};
-ghost use Rattle.figures.specs.Buffer.{leading, placesText, figuresText, fieldLimit, placesLimit, figuresLimit};
+ghost use Rattle.figures.specs.Counters.{counters, oneMore, valuesBelow, countsWith, alertAdded, placesWith, counted, figuresIn, totalWith, partCounters};
+ghost use Rattle.figures.specs.Buffer.{leading, countsText, placesText, figuresText, fieldLimit, countsLimit, placesLimit, figuresLimit};
 use answers::Answer;
-use answers::Verdict;
 use image::CONTAINER_LIMIT;
 use listing::NEWLINE;
 use listing::SPACE;
@@ -35,31 +34,52 @@ pub const NAME_LENGTH: usize = 6;
 // The code of the digit 0.
 const ZERO: u8 = 48;
 
-// How many records there were, and how many of them were accepted, answered by an alert, and refused. The first count wraps at 2 to
-// the 64, the others at 2 to the 32.
-pub struct Counts {
-    pub records: u64,
-    pub accepted: u32,
-    pub alerts: u32,
-    pub refused: u32,
-}
+// The counts of a trace beside its records: of accepted steps, alerts and refused steps, in the order of the lines.
+pub const COUNT_LIMIT: usize = 3;
+
+// The places of two of them, of which the rate is made.
+const ACCEPTED: usize = 0;
+
+const ALERTS: usize = 1;
 
 // ---- counting
 
-// The counts before the first record.
-pub fn no_counts() -> Counts
-    ensures { λ r. ⌜ r ≡ noCounters .counts ⌝ }
+// The answer is counted at this place.
+fn passes(test: usize, answer: Answer) -> bool
+    ensures { λ r. ⌜ r ≡ testAt test answer ⌝ }
 {
-    Counts {
-        records: 0,
-        accepted: 0,
-        alerts: 0,
-        refused: 0,
+    match test {
+        0 => answers::is_accepted(answer),
+        1 => answers::is_alert(answer),
+        2 => answers::is_refused(answer),
+        _ => false,
+    }
+}
+
+// One more, or as many.
+fn counted_if(counts: bool, n: u32) -> u32
+    ensures { λ r. ⌜ r ≡ cond counts (oneMore n) n ⌝ }
+{
+    if counts {
+        return wrapping_add_u32(n, 1);
+    }
+    n
+}
+
+// One more answer, in each count that it passes the test of.
+fn add_counts(counts: &mut [u32], answer: Answer)
+    requires { ⌜ length (now counts) ≡ countLimit ⌝ }
+    ensures { λ _. ⌜ now (counts .exit) ≡ countsWith (now (counts .entry)) answer ⌝ }
+{
+    let mut test: usize = 0;
+    while test < COUNT_LIMIT {
+        counts[test] = counted_if(passes(test, answer), counts[test]);
+        test += 1;
     }
 }
 
 // One more alert of a container.
-fn add_alert(places: &mut [u32], c: usize)
+fn add_place(places: &mut [u32], c: usize)
     ensures { λ _. ⌜ now (places .exit) ≡ alertAdded (now (places .entry)) c ⌝ }
 {
     if c < places.len() {
@@ -67,91 +87,90 @@ fn add_alert(places: &mut [u32], c: usize)
     }
 }
 
-// One more record, which was answered so.
-fn add_answer(places: &mut [u32], counts: Counts, answer: Answer) -> Counts
-    ensures { λ r. ⌜ counters r (now (places .exit)) ≡ counted (counters counts (now (places .entry))) answer ⌝ }
+// One more alert of its receiver, if the answer is an alert.
+fn add_alert(places: &mut [u32], answer: Answer)
+    ensures { λ _. ⌜ now (places .exit) ≡ placesWith (now (places .entry)) answer ⌝ }
 {
-    let records = answers::more(counts.records);
+    if !answers::is_alert(answer) {
+        return;
+    }
     match answer {
-        Answer::Given(verdict, received) => match verdict {
-            Verdict::Quiet => Counts {
-                records: records,
-                accepted: wrapping_add_u32(counts.accepted, 1),
-                alerts: counts.alerts,
-                refused: counts.refused,
-            },
-            Verdict::Alert => {
-                add_alert(places, received.receiver);
-                Counts {
-                    records: records,
-                    accepted: wrapping_add_u32(counts.accepted, 1),
-                    alerts: wrapping_add_u32(counts.alerts, 1),
-                    refused: counts.refused,
-                }
-            }
-        },
-        Answer::Refused(_) => Counts {
-            records: records,
-            accepted: counts.accepted,
-            alerts: counts.alerts,
-            refused: wrapping_add_u32(counts.refused, 1),
-        },
+        Answer::Given(_, received) => add_place(places, received.receiver),
+        Answer::Refused(_) => {}
     }
 }
 
-// A part of a trace: each record run on the session, and counted behind those before it. Any bytes and any numbers are counted.
-pub fn add_part(part: &[u8], session: &mut [u64], places: &mut [u32], begun: Counts) -> Counts
-    ensures { λ r. ⌜ (counters r (now (places .exit)) ≡ partCounters (counters begun (now (places .entry))) (now (session .entry)) (now (part .entry))) × (now (session .exit) ≡ partSession (now (session .entry)) (now (part .entry))) ⌝ }
+// One more record, which was answered so: the records with it.
+fn add_answer(
+    counts: &mut [u32; COUNT_LIMIT],
+    places: &mut [u32],
+    records: u64,
+    answer: Answer,
+) -> u64
+    ensures { λ r. ⌜ counters r (now (counts .exit)) (now (places .exit)) ≡ counted (counters records (now (counts .entry)) (now (places .entry))) answer ⌝ }
 {
-    let mut counts = begun;
+    add_alert(places, answer);
+    add_counts(counts, answer);
+    answers::more(records)
+}
+
+// A part of a trace: each record run on the session, and counted behind those before it. Any bytes and any numbers are counted.
+pub fn add_part(
+    part: &[u8],
+    session: &mut [u64],
+    counts: &mut [u32; COUNT_LIMIT],
+    places: &mut [u32],
+    begun: u64,
+) -> u64
+    ensures { λ r. ⌜ (counters r (now (counts .exit)) (now (places .exit)) ≡ partCounters (counters begun (now (counts .entry)) (now (places .entry))) (now (session .entry)) (now (part .entry))) × (now (session .exit) ≡ partSession (now (session .entry)) (now (part .entry))) ⌝ }
+{
+    let mut records = begun;
     let mut at: usize = 0;
     while at < part.len() {
         let bytes = records::record_at(part, at);
         let answer = monitor::step(session, bytes);
-        counts = add_answer(places, counts, answer);
+        records = add_answer(counts, places, records, answer);
         at += bytes.len();
     }
-    counts
+    records
 }
 
 // A trace of so many records is too long: it is left out, and nothing of it need be read any more.
-pub fn too_long(counts: Counts) -> bool
-    ensures { λ r. ⌜ r ≡ tooMany (counts .records) ⌝ }
+pub fn too_long(records: u64) -> bool
+    ensures { λ r. ⌜ r ≡ tooMany records ⌝ }
 {
-    RECORD_LIMIT < counts.records
+    RECORD_LIMIT < records
 }
 
-// The alerts of each container added to those of the total.
-fn add_places(total: &mut [u32], places: &[u32])
-    requires { ⌜ (length (now total) ≡ containerLimit) × (length (now places) ≡ containerLimit) ⌝ }
-    ensures { λ _. ⌜ now (total .exit) ≡ valuesBelow (λ c. (getD (now (total .entry)) c 0 + getD (now (places .entry)) c 0) % 2 ^ 32) containerLimit ⌝ }
+// Each number added to its like.
+fn add_numbers(total: &mut [u32], numbers: &[u32])
+    requires { ⌜ length (now total) ≡ length (now numbers) ⌝ }
+    ensures { λ _. ⌜ now (total .exit) ≡ valuesBelow (λ k. (getD (now (total .entry)) k 0 + getD (now (numbers .entry)) k 0) % 2 ^ 32) (length (now (numbers .entry))) ⌝ }
 {
-    let mut c: usize = 0;
-    while c < CONTAINER_LIMIT {
-        total[c] = wrapping_add_u32(total[c], places[c]);
-        c += 1;
+    let mut k: usize = 0;
+    while k < numbers.len() {
+        total[k] = wrapping_add_u32(total[k], numbers[k]);
+        k += 1;
     }
 }
 
-// The counts of a trace added to those of the total, unless the trace is too long.
+// The counts of a trace added to those of the total, unless the trace is too long: the records in total.
 pub fn add_total(
+    totals: &mut [u32; COUNT_LIMIT],
     sums: &mut [u32; CONTAINER_LIMIT],
-    total: Counts,
+    total: u64,
+    counts: &[u32; COUNT_LIMIT],
     places: &[u32; CONTAINER_LIMIT],
-    counts: Counts,
-) -> Counts
-    ensures { λ r. ⌜ counters r (now (sums .exit)) ≡ totalWith (counters total (now (sums .entry))) (counters counts (now (places .entry))) ⌝ }
+    records: u64,
+) -> u64
+    ensures { λ r. ⌜ counters r (now (totals .exit)) (now (sums .exit)) ≡ totalWith (counters total (now (totals .entry)) (now (sums .entry))) (counters records (now (counts .entry)) (now (places .entry))) ⌝ }
 {
-    if too_long(counts) {
+    if too_long(records) {
         return total;
     }
-    add_places(sums, places);
-    Counts {
-        records: wrapping_add_u64(total.records, counts.records),
-        accepted: wrapping_add_u32(total.accepted, counts.accepted),
-        alerts: wrapping_add_u32(total.alerts, counts.alerts),
-        refused: wrapping_add_u32(total.refused, counts.refused),
-    }
+    add_numbers(totals, counts);
+    add_numbers(sums, places);
+    wrapping_add_u64(total, records)
 }
 
 // ---- the lines
@@ -174,14 +193,26 @@ fn put_field(out: &mut [u8], at: usize, n: u64) -> usize
     listing::put_long(out, at + 1, n)
 }
 
-// The counts of accepted steps, alerts and refused steps.
-fn put_counts(out: &mut [u8], at: usize, counts: Counts) -> usize
-    requires { ⌜ at + 3 * fieldLimit ≤ length (now out) ⌝ }
-    ensures { λ r. ⌜ Wrote (leading (decimal (counts .accepted) ∷ decimal (counts .alerts) ∷ decimal (counts .refused) ∷ [])) (now (out .entry)) (now (out .exit)) at r ⌝ }
+// A count behind another field.
+fn put_count(out: &mut [u8], at: usize, n: u32) -> usize
+    requires { ⌜ at + fieldLimit ≤ length (now out) ⌝ }
+    ensures { λ r. ⌜ Wrote (leading (decimal n ∷ [])) (now (out .entry)) (now (out .exit)) at r ⌝ }
 {
-    let alerts = put_field(out, at, counts.accepted as u64);
-    let refused = put_field(out, alerts, counts.alerts as u64);
-    put_field(out, refused, counts.refused as u64)
+    put_field(out, at, n as u64)
+}
+
+// The counts, in their order.
+fn put_counts(out: &mut [u8], at: usize, counts: &[u32; COUNT_LIMIT]) -> usize
+    requires { ⌜ at + countsLimit ≤ length (now out) ⌝ }
+    ensures { λ r. ⌜ Wrote (countsText (now (counts .entry))) (now (out .entry)) (now (out .exit)) at r ⌝ }
+{
+    let mut next = at;
+    let mut k: usize = 0;
+    while k < COUNT_LIMIT {
+        next = put_count(out, next, counts[k]);
+        k += 1;
+    }
+    next
 }
 
 // The rate: 1,000 times the alerts by the accepted steps, quotient and remainder, or `none`.
@@ -207,7 +238,7 @@ fn put_container(out: &mut [u8], at: usize, c: usize, alerts: u32) -> usize
         return at;
     }
     let next = put_field(out, at, c as u64);
-    put_field(out, next, alerts as u64)
+    put_count(out, next, alerts)
 }
 
 // Number and alerts of each container that alerted, rising.
@@ -225,12 +256,17 @@ fn put_places(out: &mut [u8], at: usize, places: &[u32; CONTAINER_LIMIT]) -> usi
 }
 
 // All that stands behind the name.
-fn put_figures(out: &mut [u8], at: usize, counts: Counts, places: &[u32; CONTAINER_LIMIT]) -> usize
+fn put_figures(
+    out: &mut [u8],
+    at: usize,
+    counts: &[u32; COUNT_LIMIT],
+    places: &[u32; CONTAINER_LIMIT],
+) -> usize
     requires { ⌜ at + figuresLimit ≤ length (now out) ⌝ }
-    ensures { λ r. ⌜ Wrote (figuresText (figuresIn (counters counts (now (places .entry))))) (now (out .entry)) (now (out .exit)) at r ⌝ }
+    ensures { λ r. ⌜ ((records : ℕ) → Wrote (figuresText (figuresIn (counters records (now (counts .entry)) (now (places .entry))))) (now (out .entry)) (now (out .exit)) at r) ⌝ }
 {
     let rate = put_counts(out, at, counts);
-    let alerts = put_rate(out, rate, counts.alerts, counts.accepted);
+    let alerts = put_rate(out, rate, counts[ALERTS], counts[ACCEPTED]);
     let end = put_places(out, alerts, places);
     out[end] = NEWLINE;
     end + 1
@@ -250,14 +286,15 @@ fn put_too_long(out: &mut [u8], at: usize) -> usize
 pub fn put_trace(
     out: &mut [u8; BUFFER_SIZE],
     n: usize,
-    counts: Counts,
+    records: u64,
+    counts: &[u32; COUNT_LIMIT],
     places: &[u32; CONTAINER_LIMIT],
 ) -> usize
-    ensures { λ r. ⌜ ListedText (traceLine n (figuresIn (counters counts (now (places .entry))))) (now (out .entry)) (now (out .exit)) r ⌝ }
+    ensures { λ r. ⌜ ListedText (traceLine n (figuresIn (counters records (now (counts .entry)) (now (places .entry))))) (now (out .entry)) (now (out .exit)) r ⌝ }
 {
     let name = trace_name(n);
     let next = listing::put_text(out, 0, &name);
-    if too_long(counts) {
+    if too_long(records) {
         return put_too_long(out, next);
     }
     put_figures(out, next, counts, places)
@@ -266,10 +303,10 @@ pub fn put_trace(
 // The last line.
 pub fn put_total(
     out: &mut [u8; BUFFER_SIZE],
-    counts: Counts,
+    counts: &[u32; COUNT_LIMIT],
     places: &[u32; CONTAINER_LIMIT],
 ) -> usize
-    ensures { λ r. ⌜ ListedText (totalLine (figuresIn (counters counts (now (places .entry))))) (now (out .entry)) (now (out .exit)) r ⌝ }
+    ensures { λ r. ⌜ ((records : ℕ) → ListedText (totalLine (figuresIn (counters records (now (counts .entry)) (now (places .entry))))) (now (out .entry)) (now (out .exit)) r) ⌝ }
 {
     let next = listing::put_text(out, 0, b"total");
     put_figures(out, next, counts, places)

@@ -1,7 +1,7 @@
 // The month program: the figures of up to 64 traces, `00.bin` upward, each in a new session started from `policy.bin`, and of all of
 // them in total (change request No. 6). The files are in the working folder. The text is `monthText` of them: its lines are those of
 // `figures`, and the loops here read, count and write. What fails outside is told on standard error, and there is then no total line.
-use figures::Counts;
+use figures::COUNT_LIMIT;
 use figures::TRACE_LIMIT;
 use image::CONTAINER_LIMIT;
 use session::SESSION_LENGTH;
@@ -13,39 +13,45 @@ const POLICY_ROOM: usize = image::IMAGE_LIMIT + 1;
 // The bytes of a part of a trace: 8,192 whole records.
 const PART_SIZE: usize = 65536;
 
-// The counts so far, and whether all went well.
+// The records so far, and whether all went well.
 pub struct Progress {
     pub good: bool,
-    pub counts: Counts,
+    pub records: u64,
 }
 
 // A trace in parts of whole records, only the last of which may end short, counted to its end or until it is too long. Nothing says
 // that a file ends, so the turns are counted down, from more than any file has.
-fn add_file(fd: i32, name: &[u8], session: &mut [u64], places: &mut [u32]) -> Progress {
+fn add_file(
+    fd: i32,
+    name: &[u8],
+    session: &mut [u64],
+    counts: &mut [u32; COUNT_LIMIT],
+    places: &mut [u32],
+) -> Progress {
     let mut part = [0u8; PART_SIZE];
-    let mut counts = figures::no_counts();
+    let mut records: u64 = 0;
     let mut turns = u64::MAX;
     while turns > 0 {
         turns -= 1;
         let got = files::read_part(fd, name, &mut part);
         let n = got.size;
-        counts = figures::add_part(&part[..n], session, places, counts);
+        records = figures::add_part(&part[..n], session, counts, places, records);
         if got.last {
             return Progress {
                 good: got.good,
-                counts: counts,
+                records: records,
             };
         }
-        if figures::too_long(counts) {
+        if figures::too_long(records) {
             return Progress {
                 good: true,
-                counts: counts,
+                records: records,
             };
         }
     }
     Progress {
         good: false,
-        counts: counts,
+        records: records,
     }
 }
 
@@ -56,23 +62,25 @@ fn show_trace(
     name: &[u8],
     policy: &[u8],
     session: &mut [u64],
+    totals: &mut [u32; COUNT_LIMIT],
     sums: &mut [u32; CONTAINER_LIMIT],
-    total: Counts,
+    total: u64,
     out: &mut [u8; BUFFER_SIZE],
 ) -> Progress {
+    let mut counts = [0u32; COUNT_LIMIT];
     let mut places = [0u32; CONTAINER_LIMIT];
     session::start(policy, session);
-    let run = add_file(fd, name, session, &mut places);
+    let run = add_file(fd, name, session, &mut counts, &mut places);
     if !run.good {
         return run;
     }
-    let counts = run.counts;
-    let end = figures::put_trace(out, n, counts, &places);
+    let records = run.records;
+    let end = figures::put_trace(out, n, records, &counts, &places);
     let written = files::write_front(out, end);
-    let summed = figures::add_total(sums, total, &places, counts);
+    let summed = figures::add_total(totals, sums, total, &counts, &places, records);
     Progress {
         good: written.good,
-        counts: summed,
+        records: summed,
     }
 }
 
@@ -80,18 +88,19 @@ fn show_trace(
 fn show_traces(
     policy: &[u8],
     session: &mut [u64],
+    totals: &mut [u32; COUNT_LIMIT],
     sums: &mut [u32; CONTAINER_LIMIT],
     out: &mut [u8; BUFFER_SIZE],
 ) -> Progress {
-    let mut total = figures::no_counts();
+    let mut total: u64 = 0;
     let mut n: usize = 0;
     while n < TRACE_LIMIT {
         let name = figures::trace_name(n);
         match files::open(&name) {
             files::Opened::File(fd) => {
-                let shown = show_trace(n, fd, &name, policy, session, sums, total, out);
+                let shown = show_trace(n, fd, &name, policy, session, totals, sums, total, out);
                 libc::close(fd);
-                total = shown.counts;
+                total = shown.records;
                 if !shown.good {
                     return shown;
                 }
@@ -99,13 +108,13 @@ fn show_traces(
             files::Opened::Missing => {
                 return Progress {
                     good: true,
-                    counts: total,
+                    records: total,
                 };
             }
             files::Opened::Failed => {
                 return Progress {
                     good: false,
-                    counts: total,
+                    records: total,
                 };
             }
         }
@@ -113,18 +122,19 @@ fn show_traces(
     }
     Progress {
         good: true,
-        counts: total,
+        records: total,
     }
 }
 
 // The lines of the traces and the total line, as far as all goes well.
 fn show_month(policy: &[u8], session: &mut [u64], out: &mut [u8; BUFFER_SIZE]) {
+    let mut totals = [0u32; COUNT_LIMIT];
     let mut sums = [0u32; CONTAINER_LIMIT];
-    let run = show_traces(policy, session, &mut sums, out);
+    let run = show_traces(policy, session, &mut totals, &mut sums, out);
     if !run.good {
         return;
     }
-    let end = figures::put_total(out, run.counts, &sums);
+    let end = figures::put_total(out, &totals, &sums);
     files::write_front(out, end);
 }
 

@@ -1,28 +1,42 @@
--- `figures::add_alert`. One place is set; a number that is no container changes none.
-use mathlib.Core.Path.{sym}
-use lib.Seq.{set-out}
-use Rattle.figures.specs.Counters.{alertAdded}
+-- `figures::add_alert`. No other answer is an alert of a container.
+use mathlib.Core.Path.{_≡_, sym, ap, _∙_}
+use mathlib.Core.Bool.{true}
+use borrow.Author.Tests.{not-true, not-false}
+use Rattle.answers.specs.declared.Answer.{Answer}
+use Rattle.answers.specs.Answers.{isAlert, receiverOf}
+use Rattle.figures.specs.Counters.{alertAdded, placesWith}
 use borrow.Author.Needs.{needs}
 use Rattle.figures.proofs.add_alert.Statement.{statement}
 use Rattle.figures.proofs.add_alert.Tie as tie
 
 returns : tie.Need-returns
-unfolding alertAdded
-returns c = rw (c .wrapping-add-u32 .ensures)
+unfolding placesWith
+returns c = rw (sym (c .before .is-alert .ensures) ∙ not-true _ (c .if1 .taken))
 
 returns-2 : tie.Need-returns-2
-unfolding alertAdded
-returns-2 c = let a = c .before .before .args in sym (set-out (a .places .now) (a .c) _ (c .if1 .left))
+unfolding placesWith
+returns-2 c =
+    let a = c .before .before .before .before .before .before .before .before .before .before .args in
+    let e : isAlert (a .answer) ≡ true =
+    sym (c .before .before .before .before .before .before .before .before .is-alert .ensures)
+    ∙ not-false _ (c .before .before .before .before .before .before .before .if1 .left) in
+    rw e
+    (c .before .before .add-place .ensures
+    ∙ ap (λ (x : Answer). alertAdded (a .places .now) (receiverOf x)) (sym (c .before .before .before .before .before .answer .given .1)))
+
+returns-3 : tie.Need-returns-3
+unfolding placesWith
+returns-3 c = rw (c .enum-told .given .1)
 
 pub add-alert-spec : {M : Type 1} → statement M
 add-alert-spec =
     tie.close
     (tie.spec
-    (λ c. search needs)
+    (λ c κs. search needs)
+    returns
     (λ c. search needs)
     (λ c κs. search needs)
     (λ c. search needs)
     (λ c. search needs)
-    (λ c. search needs)
-    returns
-    returns-2)
+    returns-2
+    returns-3)

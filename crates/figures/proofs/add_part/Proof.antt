@@ -10,24 +10,24 @@ use Rattle.figures.proofs.add_part.Statement.{statement}
 use Rattle.figures.proofs.add_part.Tie as tie
 
 abbrev Inv-loop : tie.InvT-loop
-Inv-loop part session₀ places₀ counts₀ at₀ session places counts at = Counting part (counters counts₀ places₀) session₀ session (counters counts places) at
+Inv-loop part session₀ counts₀ places₀ begun records₀ at₀ session counts places records at = Counting part (counters records₀ counts₀ places₀) session₀ session (counters records counts places) at
 
 abbrev μ-loop : tie.MeasureT-loop
-μ-loop part session₀ places₀ counts₀ at₀ session places counts at = length part - at
+μ-loop part session₀ counts₀ places₀ begun records₀ at₀ session counts places records at = length part - at
 
 loop-holds : tie.Need-loop-holds Inv-loop μ-loop
 loop-holds c = counting-start _ _ _
 
 add-at : tie.Need-add-at Inv-loop μ-loop
-add-at c = omega (arith, record-length _ _ _ (c .before .before .before .before .before .before .before .before .before .loop-test .taken) (c .before .before .before .before .before .before .before .before .record-at .ensures))
+add-at c = omega (arith, record-length _ _ _ (c .before .before .before .before .before .before .before .before .before .before .loop-test .taken) (c .before .before .before .before .before .before .before .before .before .record-at .ensures))
 
 loop-less : tie.Need-loop-less Inv-loop μ-loop
-loop-less c = omega (arith, record-length _ _ _ (c .before .before .before .before .before .before .before .before .before .loop-test .taken) (c .before .before .before .before .before .before .before .before .record-at .ensures))
+loop-less c = omega (arith, record-length _ _ _ (c .before .before .before .before .before .before .before .before .before .before .loop-test .taken) (c .before .before .before .before .before .before .before .before .before .record-at .ensures))
 
 loop-again : tie.Need-loop-again Inv-loop μ-loop
 loop-again c =
-    counting-next _ _ _ _ _ _ (c .before .before .before .before .before .before .before .before .before .before .loop .inv) (c .before .before .before .before .before .before .before .before .before .loop-test .taken) _ _ _ _
-    (c .before .before .before .before .before .before .before .before .record-at .ensures) (c .before .before .before .before .before .before .step .ensures .0) (c .before .before .before .before .before .before .step .ensures .1)
+    counting-next _ _ _ _ _ _ (c .before .before .before .before .before .before .before .before .before .before .before .loop .inv) (c .before .before .before .before .before .before .before .before .before .before .loop-test .taken) _ _ _ _
+    (c .before .before .before .before .before .before .before .before .before .record-at .ensures) (c .before .before .before .before .before .before .before .step .ensures .0) (c .before .before .before .before .before .before .before .step .ensures .1)
     (c .before .before .add-answer .ensures) (search needs) (search needs)
 
 returns : tie.Need-returns Inv-loop μ-loop

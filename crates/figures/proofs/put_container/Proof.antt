@@ -10,14 +10,14 @@ use Rattle.figures.proofs.put_container.Tie as tie
 returns : tie.Need-returns
 returns c = container-none _ _ _ _ (c .if1 .taken)
 
-put-field-requires-2 : tie.Need-put-field-requires-2
-put-field-requires-2 c κs = let a = c .before .before .before .before .before .before .before .args in omega (arith, field-length (a .c), c .before .before .before .put-field .ensures .ends)
+put-count-requires : tie.Need-put-count-requires
+put-count-requires c κs = let a = c .before .before .before .before .before .before .before .args in omega (arith, field-length (a .c), c .before .before .before .put-field .ensures .ends)
 
 returns-2 : tie.Need-returns-2
 returns-2 c =
     let a = c .before .before .before .before .before .before .before .before .before .before .args in
     let h : a .at ≤ length (a .out .now) = omega arith in
-    container-some (a .c) (a .alerts) h (c .before .before .before .before .before .before .before .before .if1 .left) (c .before .before .before .before .before .before .put-field .ensures) (c .before .before .put-field2 .ensures)
+    container-some (a .c) (a .alerts) h (c .before .before .before .before .before .before .before .before .if1 .left) (c .before .before .before .before .before .before .put-field .ensures) (c .before .before .put-count .ensures)
 
 pub put-container-spec : {M : Type 1} → statement M
 put-container-spec =
@@ -25,6 +25,6 @@ put-container-spec =
     (tie.spec
     returns
     (λ c κs. search needs)
-    put-field-requires-2
+    put-count-requires
     (λ c. search needs)
     returns-2)

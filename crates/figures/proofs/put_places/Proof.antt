@@ -1,32 +1,36 @@
 -- `figures::put_places`. Invariant: the fields of the containers below c are written (`Placing`).
-use Prim.Native.Nat.{_-_}
-use mathlib.Core.Path.{refl}
+use Prim.Native.Nat.{_-_, _*_}
+use lib.ListN.{getD}
 use Rattle.image.specs.Limits.{containerLimit}
-use Rattle.figures.proofs.LineLaws.{Placing, placing-start, container-room, placing-next, placing-end}
+use Rattle.figures.specs.Lines.{containerFields, alertFields}
+use Rattle.figures.specs.Buffer.{placesText, fieldLimit}
+use Rattle.figures.proofs.LineLaws.{container-length, Placing, placing-start, fields-room, placing-next, placing-end}
 use borrow.Author.Needs.{needs}
 use Rattle.figures.proofs.put_places.Statement.{statement}
 use Rattle.figures.proofs.put_places.Tie as tie
 
 abbrev Inv-loop : tie.InvT-loop
-Inv-loop out₀ at places next₀ c₀ out next c = Placing places out₀ out at next c
+Inv-loop out₀ at places next₀ c₀ out next c = Placing (λ i. containerFields i (getD places i 0)) (2 * fieldLimit) containerLimit out₀ out at next c
 
 abbrev μ-loop : tie.MeasureT-loop
 μ-loop out₀ at places next₀ c₀ out next c = containerLimit - c
 
 loop-holds : tie.Need-loop-holds Inv-loop μ-loop
-loop-holds c = placing-start _ _ _ (c .before .pre)
+loop-holds c = placing-start _ _ _ _ _ (c .before .pre)
 
 put-container-requires : tie.Need-put-container-requires Inv-loop μ-loop
-put-container-requires c κs = container-room _ _ _ _ _ _ (c .before .before .before .loop .inv) (c .before .before .loop-test .taken)
+put-container-requires c κs = fields-room _ _ _ _ _ _ _ _ (c .before .before .before .loop .inv) (c .before .before .loop-test .taken)
 
 loop-again : tie.Need-loop-again Inv-loop μ-loop
-loop-again c = placing-next _ _ _ _ _ _ (c .before .before .before .before .before .before .loop .inv) (c .before .before .before .before .before .loop-test .taken) _ _ _ refl (c .before .before .put-container .ensures)
+loop-again c =
+    placing-next _ _ _ _ _ _ _ _ (c .before .before .before .before .before .before .loop .inv) (c .before .before .before .before .before .loop-test .taken) _ _ (container-length _ _) (c .before .before .put-container .ensures)
 
 same-length : tie.Need-same-length Inv-loop μ-loop
 same-length c = c .before .loop .inv .long
 
 returns : tie.Need-returns Inv-loop μ-loop
-returns c = placing-end _ _ _ _ _ _ (c .before .loop .inv) (c .loop-test .left)
+unfolding placesText alertFields
+returns c = placing-end _ _ _ _ _ _ _ _ (c .before .loop .inv) (c .loop-test .left)
 
 pub put-places-spec : {M : Type 1} → statement M
 put-places-spec =

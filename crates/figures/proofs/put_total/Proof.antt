@@ -1,5 +1,6 @@
 -- `figures::put_total`. A text and the figures, one behind the other (`total-listed`).
 use Rattle.fields.specs.Ascii.{ascii}
+use Rattle.figures.specs.Counters.{counters, figuresIn}
 use Rattle.figures.proofs.LineLaws.{total-listed}
 use borrow.Author.Needs.{needs}
 use Rattle.figures.proofs.put_total.Statement.{statement}
@@ -7,7 +8,9 @@ use Rattle.figures.proofs.put_total.Tie as tie
 
 returns : tie.Need-returns
 unfolding ascii
-returns c = total-listed _ (c .before .before .put-text .ensures) (c .put-figures .ensures)
+returns c records =
+    let a = c .before .before .before .before .before .args in
+    total-listed (figuresIn (counters records (a .counts .now) (a .places .now))) (c .before .before .put-text .ensures) (c .put-figures .ensures records)
 
 pub put-total-spec : {M : Type 1} → statement M
 put-total-spec =

@@ -7,10 +7,10 @@ use Rattle.month.proofs.add_file.Statement.{statement}
 use Rattle.month.proofs.add_file.Tie as tie
 
 abbrev Inv-loop : tie.InvT-loop
-Inv-loop fd name session₀ places₀ part₀ counts₀ turns₀ session places part counts turns = (length session ≡ length session₀) × (length places ≡ length places₀) × (length part ≡ 65536)
+Inv-loop fd name session₀ counts₀ places₀ part₀ records₀ turns₀ session counts places part records turns = (length session ≡ length session₀) × (length places ≡ length places₀) × (length part ≡ 65536)
 
 abbrev μ-loop : tie.MeasureT-loop
-μ-loop fd name session₀ places₀ part₀ counts₀ turns₀ session places part counts turns = turns
+μ-loop fd name session₀ counts₀ places₀ part₀ records₀ turns₀ session counts places part records turns = turns
 
 slice-aggregate-add-part : tie.Need-slice-aggregate-add-part Inv-loop μ-loop
 slice-aggregate-add-part c = simp length-take (omega arith)
@@ -21,7 +21,6 @@ add-file-spec =
     (tie.spec
     Inv-loop
     μ-loop
-    (λ c κs. search needs)
     (λ c. search needs)
     (λ c. search needs)
     (λ c. search needs)

@@ -8,10 +8,10 @@ use Rattle.month.proofs.show_traces.Statement.{statement}
 use Rattle.month.proofs.show_traces.Tie as tie
 
 abbrev Inv-loop : tie.InvT-loop
-Inv-loop policy session₀ sums₀ out₀ total₀ n₀ session sums out total n = length session ≡ length session₀
+Inv-loop policy session₀ totals₀ sums₀ out₀ total₀ n₀ session totals sums out total n = length session ≡ length session₀
 
 abbrev μ-loop : tie.MeasureT-loop
-μ-loop policy session₀ sums₀ out₀ total₀ n₀ session sums out total n = traceLimit - n
+μ-loop policy session₀ totals₀ sums₀ out₀ total₀ n₀ session totals sums out total n = traceLimit - n
 
 pub show-traces-spec : {M : Type 1} → statement M
 show-traces-spec =
@@ -19,7 +19,6 @@ show-traces-spec =
     (tie.spec
     Inv-loop
     μ-loop
-    (λ c κs. search needs)
     (λ c. search needs)
     (λ c κs. search needs)
     (λ c. search needs)
