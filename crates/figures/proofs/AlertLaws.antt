@@ -27,7 +27,6 @@ use Rattle.records.specs.Records.{stepOf}
 use Rattle.operations.specs.View.{view}
 use Rattle.monitor.specs.Steps.{stepAsked, stepAnswer, stepEffect}
 use Rattle.monitor.specs.Runs.{stepOn, runAnswers, historyBehind}
-use Rattle.answers.proofs.Cases.{alert-accepted}
 use Rattle.monitor.proofs.Theorems.{answer-accepted, answer-judged, answer-new, accepted-spelled}
 use Rattle.monitor.proofs.StepLaws.{step-receiver}
 use Rattle.figures.specs.Figures.{alertAt}
