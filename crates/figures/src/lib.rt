@@ -124,14 +124,17 @@ pub fn add_part(
 ) -> u64
     ensures { λ r. ⌜ (counters r (now (counts .exit)) (now (places .exit)) ≡ partCounters (counters begun (now (counts .entry)) (now (places .entry))) (now (session .entry)) (now (part .entry))) × (now (session .exit) ≡ partSession (now (session .entry)) (now (part .entry))) ⌝ }
 {
+    // A copy, which the compiler keeps in registers.
+    let mut kept = *counts;
     let mut records = begun;
     let mut at: usize = 0;
     while at < part.len() {
         let bytes = records::record_at(part, at);
         let answer = monitor::step(session, bytes);
-        records = add_answer(counts, places, records, answer);
+        records = add_answer(&mut kept, places, records, answer);
         at += bytes.len();
     }
+    *counts = kept;
     records
 }
 
