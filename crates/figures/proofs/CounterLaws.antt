@@ -14,7 +14,7 @@ use Rattle.answers.specs.declared.Answer.{Answer}
 use Rattle.answers.specs.Answers.{isAlert, receiverOf}
 use Rattle.answers.specs.Tallies.{countOf}
 use Rattle.figures.specs.Figures.{Figures, countLimit, testAt, alertAt, figuresOf, sumOf}
-use Rattle.figures.specs.Counters.{Counters, oneMore, countsWith, alertAdded, placesWith, counted, countedAll, valuesBelow, countersOf, figuresIn}
+use Rattle.figures.specs.Counters.{Counters, oneMore, oneAdded, countsWith, placesWith, counted, countedAll, valuesBelow, countersOf, figuresIn}
 use Rattle.figures.proofs.FigureLaws.{figures-append, sum-none-right, sum-assoc}
 
 -- ---- lists of values
@@ -63,8 +63,8 @@ abbrev kept : (ℕ → ℕ) → ℕ → ℕ
 kept f k = f k % 2 ^ 32
 
 module _ (f : ℕ → ℕ) where
-  places-more : (r : ℕ) → alertAdded (valuesBelow (kept f) containerLimit) r ≡ valuesBelow (λ c. (f c + cond (eqb r c) 1 0) % 2 ^ 32) containerLimit
-  unfolding alertAdded
+  places-more : (r : ℕ) → oneAdded (valuesBelow (kept f) containerLimit) r ≡ valuesBelow (λ c. (f c + cond (eqb r c) 1 0) % 2 ^ 32) containerLimit
+  unfolding oneAdded
   places-more r =
       values-list (λ c. (f c + cond (eqb r c) 1 0) % 2 ^ 32) containerLimit
       (set (valuesBelow (kept f) containerLimit) r (oneMore (getD (valuesBelow (kept f) containerLimit) r 0)))
@@ -86,7 +86,7 @@ module _ (f : ℕ → ℕ) where
   unfolding placesWith countOf alertAt
   places-one a = by (isAlert a)
     where
-      by : (b : Bool) → cond b (alertAdded (valuesBelow (kept f) containerLimit) (receiverOf a)) (valuesBelow (kept f) containerLimit)
+      by : (b : Bool) → cond b (oneAdded (valuesBelow (kept f) containerLimit) (receiverOf a)) (valuesBelow (kept f) containerLimit)
           ≡ valuesBelow (λ c. (f c + cond (b && eqb (receiverOf a) c) 1 0) % 2 ^ 32) containerLimit
       by true = places-more (receiverOf a)
       by false = values-same (kept f) (λ c. (f c + 0) % 2 ^ 32) containerLimit (λ c l. wrapped-none (f c))

@@ -3,10 +3,11 @@
 use Prim.Native.Nat.{ℕ, _+_, _≤_, _<_}
 use native.Mathlib.Omega.{arith}
 use native.Mathlib.Decide.{ℕ-discrete}
-use mathlib.Core.Path.{_≡_, refl, ap, _∙_}
+use mathlib.Core.Path.{_≡_, refl, sym, ap, _∙_, subst}
+use mathlib.Core.Bool.{Bool, true, false, cond}
 use mathlib.Core.List.{List}
 use lib.ListN.{length, take, drop, getD, set, length-set}
-use lib.Seq.{getD-set-same, getD-set-other}
+use lib.Seq.{getD-set-same, getD-set-other, set-getD}
 use Rattle.answers.specs.declared.Answer.{Answer}
 use Rattle.records.specs.Records.{recordLength}
 use Rattle.records.specs.Traces.{traceRecords}
@@ -14,7 +15,8 @@ use Rattle.records.proofs.TraceLaws.{next-record, no-record, record-length}
 use Rattle.monitor.specs.Steps.{stepAnswer, stepEffect}
 use Rattle.monitor.specs.Runs.{stepOn, runAnswers, runEffect}
 use Rattle.trace_listing.specs.Listings.{partSession}
-use Rattle.figures.specs.Counters.{Counters, counted, countedAll, valuesBelow, partCounters}
+use Rattle.figures.specs.Figures.{countLimit, testAt}
+use Rattle.figures.specs.Counters.{Counters, valuesBelow, oneMore, oneAdded, counted, countedAll, partCounters}
 use Rattle.figures.proofs.CounterLaws.{values-list}
 
 -- ---- the loop over the records of a part
@@ -82,6 +84,17 @@ changing-next change n before now k v h l e =
     by : (i : ℕ) → i < k + 1 → Dec (i ≡ k) → getD (set now k v) i 0 ≡ change i (getD before i 0)
     by i b (yes z) = rw z (getD-set-same now k v 0 (omega (arith, h .long)) ∙ e ∙ ap (change k) (h .rest k (omega arith)))
     by i b (no z) = getD-set-other now k i v 0 z ∙ h .done i (omega arith)
+
+-- the counts, by the tests of an answer
+pub counts-next : (a : Answer) (before now after : List ℕ) (k : ℕ) → Changing (λ i n. cond (testAt i a) (oneMore n) n) countLimit before now k → k < countLimit
+    → after ≡ cond (testAt k a) (oneAdded now k) now → Changing (λ i n. cond (testAt i a) (oneMore n) n) countLimit before after (k + 1)
+counts-next a before now after k h l e =
+    subst (λ (x : List ℕ). Changing (λ i n. cond (testAt i a) (oneMore n) n) countLimit before x (k + 1)) (sym (e ∙ by (testAt k a)))
+    (changing-next (λ i n. cond (testAt i a) (oneMore n) n) countLimit before now k _ h l refl)
+  where
+    by : (b : Bool) → cond b (oneAdded now k) now ≡ set now k (cond b (oneMore (getD now k 0)) (getD now k 0))
+    by true = unfold oneAdded in refl
+    by false = sym (set-getD now k 0)
 
 pub changing-end : (change : ℕ → ℕ → ℕ) (n : ℕ) (before now : List ℕ) (k : ℕ) → Changing change n before now k → n ≤ k
     → now ≡ valuesBelow (λ i. change i (getD before i 0)) n

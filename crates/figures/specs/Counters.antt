@@ -34,17 +34,17 @@ valuesBelow f (suc n) = f 0 ∷ valuesBelow (λ k. f (suc k)) n
 abbrev pub oneMore : ℕ → ℕ
 oneMore n = (n + 1) % 2 ^ 32
 
+-- one more at place k
+unfoldable pub oneAdded : List ℕ → ℕ → List ℕ
+oneAdded numbers k = set numbers k (oneMore (getD numbers k 0))
+
 -- one more in each count whose test the answer passes
 unfoldable pub countsWith : List ℕ → Answer → List ℕ
 countsWith counts a = valuesBelow (λ k. cond (testAt k a) (oneMore (getD counts k 0)) (getD counts k 0)) countLimit
 
--- one more alert of container c
-unfoldable pub alertAdded : List ℕ → ℕ → List ℕ
-alertAdded places c = set places c (oneMore (getD places c 0))
-
 -- one more alert of its receiver, if the answer is an alert
 unfoldable pub placesWith : List ℕ → Answer → List ℕ
-placesWith places a = cond (isAlert a) (alertAdded places (receiverOf a)) places
+placesWith places a = cond (isAlert a) (oneAdded places (receiverOf a)) places
 
 -- with one more answer
 unfoldable pub counted : Counters → Answer → Counters

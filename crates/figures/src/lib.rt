@@ -12,7 +12,7 @@ ghost use Rattle.trace_listing.specs.Listings.{partSession};
 ghost use Rattle.trace_listing.specs.Parts.{ListedText};
 ghost use Rattle.figures.specs.Figures.{countLimit, testAt, tooMany};
 ghost use Rattle.figures.specs.Lines.{nameOf, rateFields, containerFields, traceLine, totalLine};
-ghost use Rattle.figures.specs.Counters.{counters, oneMore, valuesBelow, countsWith, alertAdded, placesWith, counted, figuresIn, totalWith, partCounters};
+ghost use Rattle.figures.specs.Counters.{counters, valuesBelow, oneAdded, countsWith, placesWith, counted, figuresIn, totalWith, partCounters};
 ghost use Rattle.figures.specs.Buffer.{leading, countsText, placesText, figuresText, fieldLimit, countsLimit, placesLimit, figuresLimit};
 use answers::Answer;
 use image::CONTAINER_LIMIT;
@@ -56,14 +56,22 @@ fn passes(test: usize, answer: Answer) -> bool
     }
 }
 
-// One more, or as many.
-fn counted_if(counts: bool, n: u32) -> u32
-    ensures { λ r. ⌜ r ≡ cond counts (oneMore n) n ⌝ }
+// One more at a place.
+fn add_one(numbers: &mut [u32], k: usize)
+    ensures { λ _. ⌜ now (numbers .exit) ≡ oneAdded (now (numbers .entry)) k ⌝ }
 {
-    if counts {
-        return wrapping_add_u32(n, 1);
+    if k < numbers.len() {
+        numbers[k] = wrapping_add_u32(numbers[k], 1);
     }
-    n
+}
+
+// One more in the count of this test, if the answer passes it.
+fn add_count(counts: &mut [u32], test: usize, answer: Answer)
+    ensures { λ _. ⌜ now (counts .exit) ≡ cond (testAt test answer) (oneAdded (now (counts .entry)) test) (now (counts .entry)) ⌝ }
+{
+    if passes(test, answer) {
+        add_one(counts, test);
+    }
 }
 
 // One more answer, in each count that it passes the test of.
@@ -73,17 +81,8 @@ fn add_counts(counts: &mut [u32], answer: Answer)
 {
     let mut test: usize = 0;
     while test < COUNT_LIMIT {
-        counts[test] = counted_if(passes(test, answer), counts[test]);
+        add_count(counts, test, answer);
         test += 1;
-    }
-}
-
-// One more alert of a container.
-fn add_place(places: &mut [u32], c: usize)
-    ensures { λ _. ⌜ now (places .exit) ≡ alertAdded (now (places .entry)) c ⌝ }
-{
-    if c < places.len() {
-        places[c] = wrapping_add_u32(places[c], 1);
     }
 }
 
@@ -95,7 +94,7 @@ fn add_alert(places: &mut [u32], answer: Answer)
         return;
     }
     match answer {
-        Answer::Given(_, received) => add_place(places, received.receiver),
+        Answer::Given(_, received) => add_one(places, received.receiver),
         Answer::Refused(_) => {}
     }
 }
@@ -109,8 +108,8 @@ fn add_answer(
 ) -> u64
     ensures { λ r. ⌜ counters r (now (counts .exit)) (now (places .exit)) ≡ counted (counters records (now (counts .entry)) (now (places .entry))) answer ⌝ }
 {
-    add_alert(places, answer);
     add_counts(counts, answer);
+    add_alert(places, answer);
     answers::more(records)
 }
 
@@ -124,17 +123,14 @@ pub fn add_part(
 ) -> u64
     ensures { λ r. ⌜ (counters r (now (counts .exit)) (now (places .exit)) ≡ partCounters (counters begun (now (counts .entry)) (now (places .entry))) (now (session .entry)) (now (part .entry))) × (now (session .exit) ≡ partSession (now (session .entry)) (now (part .entry))) ⌝ }
 {
-    // A copy, which the compiler keeps in registers.
-    let mut kept = *counts;
     let mut records = begun;
     let mut at: usize = 0;
     while at < part.len() {
         let bytes = records::record_at(part, at);
         let answer = monitor::step(session, bytes);
-        records = add_answer(&mut kept, places, records, answer);
+        records = add_answer(counts, places, records, answer);
         at += bytes.len();
     }
-    *counts = kept;
     records
 }
 

@@ -4,7 +4,7 @@ use mathlib.Core.Bool.{true}
 use borrow.Author.Tests.{not-true, not-false}
 use Rattle.answers.specs.declared.Answer.{Answer}
 use Rattle.answers.specs.Answers.{isAlert, receiverOf}
-use Rattle.figures.specs.Counters.{alertAdded, placesWith}
+use Rattle.figures.specs.Counters.{oneAdded, placesWith}
 use borrow.Author.Needs.{needs}
 use Rattle.figures.proofs.add_alert.Statement.{statement}
 use Rattle.figures.proofs.add_alert.Tie as tie
@@ -21,8 +21,8 @@ returns-2 c =
     sym (c .before .before .before .before .before .before .before .before .is-alert .ensures)
     ∙ not-false _ (c .before .before .before .before .before .before .before .if1 .left) in
     rw e
-    (c .before .before .add-place .ensures
-    ∙ ap (λ (x : Answer). alertAdded (a .places .now) (receiverOf x)) (sym (c .before .before .before .before .before .answer .given .1)))
+    (c .before .before .add-one .ensures
+    ∙ ap (λ (x : Answer). oneAdded (a .places .now) (receiverOf x)) (sym (c .before .before .before .before .before .answer .given .1)))
 
 returns-3 : tie.Need-returns-3
 unfolding placesWith

@@ -1,4 +1,4 @@
--- `figures::add_answer`. The alert, the counts and the records, each by its own function.
+-- `figures::add_answer`. The counts, the alert and the records, each by its own function.
 use Rattle.figures.specs.Counters.{counted}
 use borrow.Author.Needs.{needs}
 use Rattle.figures.proofs.add_answer.Statement.{statement}
@@ -6,7 +6,7 @@ use Rattle.figures.proofs.add_answer.Tie as tie
 
 returns : tie.Need-returns
 unfolding counted
-returns c = rw (c .before .add-counts .ensures, c .before .before .before .before .before .add-alert .ensures, c .more .ensures)
+returns c = rw (c .before .before .before .before .before .add-counts .ensures, c .before .before .before .add-alert .ensures, c .more .ensures)
 
 pub add-answer-spec : {M : Type 1} → statement M
 add-answer-spec =

@@ -1,11 +1,10 @@
 -- `figures::add_counts`. Invariant: the counts below the test are changed (`Changing`).
 use Prim.Native.Nat.{_-_}
-use mathlib.Core.Path.{sym, ap, _∙_}
-use mathlib.Core.Bool.{Bool, cond}
-use lib.ListN.{getD}
+use mathlib.Core.Path.{sym, _∙_}
+use mathlib.Core.Bool.{cond}
 use Rattle.figures.specs.Figures.{countLimit, testAt}
 use Rattle.figures.specs.Counters.{oneMore, countsWith}
-use Rattle.figures.proofs.PartLaws.{Changing, changing-start, changing-next, changing-end}
+use Rattle.figures.proofs.PartLaws.{Changing, changing-start, counts-next, changing-end}
 use borrow.Author.Needs.{needs}
 use Rattle.figures.proofs.add_counts.Statement.{statement}
 use Rattle.figures.proofs.add_counts.Tie as tie
@@ -21,10 +20,8 @@ loop-holds c = changing-start _ _ _ (c .before .pre)
 
 loop-again : tie.Need-loop-again Inv-loop μ-loop
 loop-again c =
-    let l = c .before .before .before .before .loop in
-    changing-next _ _ _ _ _ _ (l .inv) (c .before .before .before .loop-test .taken)
-    (c .counted-if .ensures
-    ∙ ap (λ (b : Bool). cond b (oneMore (getD (l .counts) (l .test) 0)) (getD (l .counts) (l .test) 0)) (c .before .before .passes .ensures))
+    let l = c .before .before .before .before .before .loop in
+    counts-next (c .before .before .before .before .before .before .before .args .answer) _ (l .counts) _ (l .test) (l .inv) (c .before .before .before .before .loop-test .taken) (c .before .before .add-count .ensures)
 
 same-length : tie.Need-same-length Inv-loop μ-loop
 same-length c = c .before .loop .inv .long ∙ sym (c .before .before .before .pre)
@@ -41,11 +38,6 @@ add-counts-spec =
     μ-loop
     loop-holds
     (λ c κs. search needs)
-    (λ c. search needs)
-    (λ c. search needs)
-    (λ c κs. search needs)
-    (λ c. search needs)
-    (λ c. search needs)
     (λ c. search needs)
     (λ c. search needs)
     loop-again

@@ -10,10 +10,10 @@ use Rattle.figures.proofs.add_part.Statement.{statement}
 use Rattle.figures.proofs.add_part.Tie as tie
 
 abbrev Inv-loop : tie.InvT-loop
-Inv-loop part session₀ counts places₀ begun kept₀ records₀ at₀ session places kept records at = Counting part (counters records₀ kept₀ places₀) session₀ session (counters records kept places) at
+Inv-loop part session₀ counts₀ places₀ begun records₀ at₀ session counts places records at = Counting part (counters records₀ counts₀ places₀) session₀ session (counters records counts places) at
 
 abbrev μ-loop : tie.MeasureT-loop
-μ-loop part session₀ counts places₀ begun kept₀ records₀ at₀ session places kept records at = length part - at
+μ-loop part session₀ counts₀ places₀ begun records₀ at₀ session counts places records at = length part - at
 
 loop-holds : tie.Need-loop-holds Inv-loop μ-loop
 loop-holds c = counting-start _ _ _
