@@ -4,7 +4,7 @@
 -- and any length.
 use Prim.Native.Nat.{ℕ, suc, _*_, _<_}
 use native.Mathlib.Omega.{arith}
-use mathlib.Core.Path.{_≡_, sym, ap, _∙_}
+use mathlib.Core.Path.{_≡_, refl, sym, ap, _∙_}
 use mathlib.Core.Logic.{_↔_, _≢_}
 use mathlib.Core.Bool.{true, false, cond}
 use mathlib.Core.List.{List, [], _∷_, _++_}
@@ -22,18 +22,18 @@ use Rattle.answers.specs.Answers.{quiet, alert, refused, isQuiet, isAlert, isRe
 use Rattle.answers.proofs.Cases.{given-accepted, alert-number, accepted-number}
 use Rattle.rules.specs.Sets.{atom}
 use Rattle.rules.specs.Rules.{covers}
-use Rattle.image.specs.Limits.{containerLimit, userLimit, isFree}
+use Rattle.image.specs.Limits.{containerLimit, userLimit, isFree, isFile, isStore}
 use Rattle.image.specs.Image.{checkOf, policyIn}
 use Rattle.session.specs.Limits.{sessionLength}
 use Rattle.session.specs.Rows.{rowWords, containerRowGood, userRowGood, containerRow, userRow}
 use Rattle.session.specs.Session.{startOf, startAnswer, startEffect, sessionLengthGood}
 use Rattle.image.proofs.Decode.{accepted-sound}
 use Rattle.session.proofs.Canonical.{effect-start}
-use Rattle.chains.specs.History.{Step, newFile, History, receiver}
+use Rattle.chains.specs.History.{Step, read, write, append, exec, fork, newFile, newVolatile, end, delete, History, receiver}
 use Rattle.chains.specs.Chains.{Governs, Reaches, Forbidden}
 use Rattle.chains.specs.Behalf.{onBehalf}
 use Rattle.chains.specs.Demand.{judged, historyOf, Demand3, TagTold, TakenAnew}
-use Rattle.chains.specs.Table.{entry, processGood, kindGood, freeGood, userGood, behalfFits, meetGood, earlyConditions, tableConditions}
+use Rattle.chains.specs.Table.{State, fitsNeed, entry, processGood, objectGood, kindGood, freeGood, userGood, behalfFits, meetGood, earlyConditions, tableConditions}
 use Rattle.chains.proofs.KindLaws.{process-used}
 use Rattle.chains.proofs.Theorems as chains
 use Rattle.records.specs.Records.{recordLength, recordGood, stepOf}
@@ -255,6 +255,55 @@ module _ (s r : List ℕ) where
   -- what is not refused is accepted
   pub answer-accepted : (accepted (stepAnswer s r) ≡ true) ↔ (refusalOf s r ≡ 0)
   answer-accepted = (accepted-zero s r, λ e. given-accepted (stepAnswer s r) (answered s r e))
+
+-- ---- what 12 and 13 ask of the object o, code by code: of any rows ("Operations", the column "o"; 8 and 9: change request No. 4)
+
+module _ (σ : State) (p o : ℕ) where
+  -- 1, 2, 3: 12 unless o is a file or a volatile
+  pub object-read : (kindGood σ (read p o) ≡ isStore (σ .row o .kind)) × (freeGood σ (read p o) ≡ true)
+  unfolding kindGood freeGood objectGood fitsNeed entry
+  object-read = (refl, refl)
+
+  pub object-write : (kindGood σ (write p o) ≡ isStore (σ .row o .kind)) × (freeGood σ (write p o) ≡ true)
+  unfolding kindGood freeGood objectGood fitsNeed entry
+  object-write = (refl, refl)
+
+  pub object-append : (kindGood σ (append p o) ≡ isStore (σ .row o .kind)) × (freeGood σ (append p o) ≡ true)
+  unfolding kindGood freeGood objectGood fitsNeed entry
+  object-append = (refl, refl)
+
+  -- 4: 12 unless o is a file
+  pub object-exec : (u : ℕ) → (kindGood σ (exec p o u) ≡ isFile (σ .row o .kind)) × (freeGood σ (exec p o u) ≡ true)
+  unfolding kindGood freeGood objectGood fitsNeed entry
+  object-exec u = (refl, refl)
+
+  -- 5, 6, 7: 13 unless the row of o is free
+  pub object-fork : (kindGood σ (fork p o) ≡ true) × (freeGood σ (fork p o) ≡ isFree (σ .row o .kind))
+  unfolding kindGood freeGood objectGood fitsNeed entry
+  object-fork = (refl, refl)
+
+  pub object-file : (u : ℕ) → (kindGood σ (newFile p o u) ≡ true) × (freeGood σ (newFile p o u) ≡ isFree (σ .row o .kind))
+  unfolding kindGood freeGood objectGood fitsNeed entry
+  object-file u = (refl, refl)
+
+  pub object-volatile : (kindGood σ (newVolatile p o) ≡ true) × (freeGood σ (newVolatile p o) ≡ isFree (σ .row o .kind))
+  unfolding kindGood freeGood objectGood fitsNeed entry
+  object-volatile = (refl, refl)
+
+  -- 9: 12 unless o is a file or a volatile
+  pub object-delete : (kindGood σ (delete p o) ≡ isStore (σ .row o .kind)) × (freeGood σ (delete p o) ≡ true)
+  unfolding kindGood freeGood objectGood fitsNeed entry
+  object-delete = (refl, refl)
+
+-- 8: no more than 11 asks of p, so that 12 and 13 are never given
+pub object-end : (σ : State) (p : ℕ) → (kindGood σ (end p) ≡ processGood σ (end p)) × (freeGood σ (end p) ≡ true)
+unfolding kindGood freeGood objectGood fitsNeed entry processGood
+object-end σ p = (refl, refl)
+
+pub end-never-12 : (s r : List ℕ) (p : ℕ) → stepAsked r ≡ end p → refusalOf s r ≢ wrongKind
+end-never-12 s r p e h =
+    let k = refused-12 s r .0 h .1 .1 .1 in
+    clash (object-end (view s) p .0 ∙ ap (processGood (view s)) (sym e) ∙ k .0) (ap (kindGood (view s)) (sym e) ∙ k .1)
 
 -- ---- the session stays as the paper's section "Session" says
 
