@@ -3,6 +3,7 @@ pub mod Theorems
 pub mod StepLaws
 pub mod AnswerLaws
 pub mod BehalfLaws
+pub mod UserLaws
 pub mod StartView
 pub mod RunLaws
 pub mod DemandLaws

@@ -3,7 +3,8 @@ use Prim.Native.Nat.{ℕ, zero, suc, _≤_, _<_}
 use native.Mathlib.Omega.{arith}
 use native.Mathlib.Decide.{decLt}
 use mathlib.Core.Path.{_≡_, refl, sym, ap, _∙_}
-use mathlib.Core.Bool.{cond}
+use mathlib.Core.Logic.{_↔_}
+use mathlib.Core.Bool.{true, cond}
 use mathlib.Core.List.{List, [], _∷_}
 use mathlib.Core.Option.{none, some}
 use lib.ListN.{length, getD, getElem?}
@@ -16,7 +17,8 @@ use Rattle.rule_words.specs.Words.{ruleOf}
 use Rattle.session.specs.Session.{startOf}
 use Rattle.session.proofs.RowLaws.{user-words, user-declared, undeclared-not}
 use Rattle.session.proofs.StartLaws.{start-length, start-said, start-free, start-user, start-user-short, start-undeclared, start-rows-good, start-users-good}
-use Rattle.chains.specs.Table.{freeRow, startRowOf, begin}
+use Rattle.chains.specs.Table.{freeRow, isSome, startRowOf, begin}
+use Rattle.lists.proofs.Bools.{clash}
 use Rattle.lists.proofs.Places.{mapped, mapped-at}
 use Rattle.chains.proofs.TableLaws.{same-state}
 use Rattle.operations.specs.View.{view}
@@ -100,3 +102,11 @@ module _ (P : Policy) (ok : Sound P) where
 
   pub start-view : view (startOf P) ≡ begin P
   start-view = same-state (view (startOf P)) (begin P) begun-row begun-user
+
+  -- a user has a rule exactly if the policy declares it
+  pub begun-declared : (u : ℕ) → (isSome (begin P .user u) ≡ true) ↔ (u < length (P .users))
+  begun-declared u = by (decLt u (length (P .users)))
+    where
+      by : Dec (u < length (P .users)) → (isSome (begin P .user u) ≡ true) ↔ (u < length (P .users))
+      by (yes h) = rw (rule-at u, at-in (P .users) u 0 h) (λ e. h, λ l. refl)
+      by (no h) = rw (rule-past u (omega arith)) (λ e. clash e refl, λ l. absurd (h l))

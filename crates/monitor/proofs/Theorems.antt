@@ -8,7 +8,7 @@ use mathlib.Core.Path.{_≡_, refl, sym, ap, _∙_}
 use mathlib.Core.Logic.{_↔_, _≢_}
 use mathlib.Core.Bool.{true, false, cond}
 use mathlib.Core.List.{List, [], _∷_, _++_}
-use mathlib.Core.Option.{some}
+use mathlib.Core.Option.{Option, some}
 use lib.ListN.{length, take, drop, getElem?}
 use borrow.Author.Tests.{eqb-true, eq-eqb}
 use Rattle.lists.specs.Lists.{elem, every}
@@ -24,7 +24,8 @@ use Rattle.rules.specs.Sets.{atom}
 use Rattle.rules.specs.Rules.{covers}
 use Rattle.image.specs.Limits.{containerLimit, userLimit, isFree, isFile, isStore}
 use Rattle.image.specs.Image.{checkOf, policyIn}
-use Rattle.session.specs.Limits.{sessionLength}
+use Rattle.image.specs.Normal.{meaning}
+use Rattle.session.specs.Limits.{sessionLength, nobody}
 use Rattle.session.specs.Rows.{rowWords, containerRowGood, userRowGood, containerRow, userRow}
 use Rattle.session.specs.Session.{startOf, startAnswer, startEffect, sessionLengthGood}
 use Rattle.image.proofs.Decode.{accepted-sound}
@@ -33,7 +34,7 @@ use Rattle.chains.specs.History.{Step, read, write, append, exec, fork, newFile
 use Rattle.chains.specs.Chains.{Governs, Reaches, Forbidden}
 use Rattle.chains.specs.Behalf.{onBehalf}
 use Rattle.chains.specs.Demand.{judged, historyOf, Demand3, TagTold, TakenAnew}
-use Rattle.chains.specs.Table.{State, fitsNeed, entry, processGood, objectGood, kindGood, freeGood, userGood, behalfFits, meetGood, earlyConditions, tableConditions}
+use Rattle.chains.specs.Table.{State, fitsNeed, entry, isSome, processGood, objectGood, kindGood, freeGood, userGood, behalfFits, meetGood, earlyConditions, tableConditions, begin}
 use Rattle.chains.proofs.KindLaws.{process-used}
 use Rattle.chains.proofs.Theorems as chains
 use Rattle.records.specs.Records.{recordLength, recordGood, stepOf}
@@ -49,7 +50,8 @@ use Rattle.monitor.proofs.StepLaws.{numbers, refused-at, refused-answer
 use Rattle.monitor.proofs.AnswerLaws as answers
 use Rattle.monitor.proofs.AnswerLaws.{verdict-judged, new-quiet}
 use Rattle.monitor.proofs.BehalfLaws.{Other, behalf-fails, other-same, process-named}
-use Rattle.monitor.proofs.StartView.{start-valid, start-view}
+use Rattle.monitor.proofs.StartView.{start-valid, start-view, begun-declared}
+use Rattle.monitor.proofs.UserLaws.{Users, reached-recorded}
 use Rattle.monitor.proofs.RunLaws.{valid-run, never-10, runEffect-append}
 use Rattle.monitor.proofs.DemandLaws.{alert-at, tag-at, alert-last}
 use Rattle.monitor.proofs.StopLaws.{stopped, all-quiet, quiet-stop, length-run, ran-good, ran-alert, number-9, number-0, number-256, answers-split, effect-split}
@@ -386,6 +388,42 @@ module _ (image : List ℕ) (bytes : Bytes image) (ok : checkOf image ≡ 0) (rs
               ),
             ),
           )
+
+module _ (image : List ℕ) (bytes : Bytes image) (ok : checkOf image ≡ 0) (rs : List (List ℕ)) where
+  recorded : Users (begin (policyIn image) .user) (view (runEffect (startOf (policyIn image)) rs))
+  recorded = reached-recorded (policyIn image) (accepted-sound image bytes ok) rs
+
+  -- Whatever is run, the users of a session are those of the policy, each with its rule in normal form.
+  pub user-rules-told : (u : ℕ) → view (runEffect (startOf (policyIn image)) rs) .user u ≡ getElem? (meaning (policyIn image) .users) u
+  unfolding begin
+  user-rules-told u = ap (λ (f : ℕ → Option (List ℕ)). f u) (recorded .stay)
+
+  -- So 14 asks of a user that it is below the number of users that the policy declares.
+  pub declared-exactly : (u : ℕ) → (isSome (view (runEffect (startOf (policyIn image)) rs) .user u) ≡ true) ↔ (u < length (policyIn image .users))
+  declared-exactly u = rw (recorded .stay) (begun-declared (policyIn image) (accepted-sound image bytes ok) u)
+
+  -- And a user that is recorded is a declared one: the 21st number of a row in use is nobody, or such a user.
+  pub behalf-declared : (c : ℕ) → isFree (view (runEffect (startOf (policyIn image)) rs) .row c .kind) ≡ false
+      → (view (runEffect (startOf (policyIn image)) rs) .row c .behalf ≢ nobody)
+      ↔ (view (runEffect (startOf (policyIn image)) rs) .row c .behalf < length (policyIn image .users))
+  behalf-declared c used = (
+    λ n. declared-exactly (view (runEffect (startOf (policyIn image)) rs) .row c .behalf) .0 (recorded .named c used n),
+    λ l e. omega (arith, accepted-sound image bytes ok .fewUsers, l, e),
+  )
+
+-- The same from the session as the start left it, if the start did not refuse.
+module _ (image lent : List ℕ) (bytes : Bytes image) (ok : startAnswer image lent ≡ 0) (rs : List (List ℕ)) where
+  pub behalf-told-started : (c : ℕ) → isFree (view (runEffect (startEffect image lent) rs) .row c .kind) ≡ false
+      → view (runEffect (startEffect image lent) rs) .row c .behalf ≡ onBehalf (historyOf stepOn stepOf (startEffect image lent) rs) c
+  behalf-told-started = rw (effect-start image lent ok .1) (behalf-told image bytes (effect-start image lent ok .0) rs)
+
+  pub declared-exactly-started : (u : ℕ) → (isSome (view (runEffect (startEffect image lent) rs) .user u) ≡ true) ↔ (u < length (policyIn image .users))
+  declared-exactly-started = rw (effect-start image lent ok .1) (declared-exactly image bytes (effect-start image lent ok .0) rs)
+
+  pub behalf-declared-started : (c : ℕ) → isFree (view (runEffect (startEffect image lent) rs) .row c .kind) ≡ false
+      → (view (runEffect (startEffect image lent) rs) .row c .behalf ≢ nobody)
+      ↔ (view (runEffect (startEffect image lent) rs) .row c .behalf < length (policyIn image .users))
+  behalf-declared-started = rw (effect-start image lent ok .1) (behalf-declared image bytes (effect-start image lent ok .0) rs)
 
 -- ---- what one step changes: of any session and any record
 
