@@ -1,11 +1,11 @@
 -- When a new file is refused by 18. Theorems states it of the history.
 use Prim.Native.Nat.{ℕ}
 use mathlib.Core.Path.{_≡_, refl, sym, subst, ap, _∙_}
-use mathlib.Core.Logic.{_↔_, _≢_}
+use mathlib.Core.Logic.{_⊎_, inl, inr, ⊎-elim, _↔_, _≢_}
 use mathlib.Core.Bool.{Bool, true, false, _||_}
 use lib.Dec.{eqb}
-use borrow.Author.Tests.{eq-eqb, ne-eqb}
-use Rattle.lists.proofs.Bools.{clash, or-0, or-1}
+use borrow.Author.Tests.{eqb-true, eq-eqb, ne-eqb}
+use Rattle.lists.proofs.Bools.{clash, or-0, or-1, or-cases}
 use Rattle.lists.proofs.Places.{some-inj}
 use Rattle.image.specs.Limits.{isProcess}
 use Rattle.session.specs.Limits.{nobody}
@@ -26,6 +26,13 @@ isNewFile (newFile p o u) = true
 isNewFile (newVolatile p o) = false
 isNewFile (end p) = false
 isNewFile (delete p o) = false
+
+-- a number that 18 lets pass for the user u
+pub behalf-either : (b u : ℕ) → ((eqb b nobody || eqb b u) ≡ true) ↔ ((b ≡ nobody) ⊎ (b ≡ u))
+behalf-either b u = (
+  λ e. ⊎-elim (λ z. inl (eqb-true b nobody z)) (λ z. inr (eqb-true b u z)) (or-cases (eqb b nobody) e),
+  λ x. ⊎-elim (λ z. or-0 (eqb b nobody) (eqb b u) (eq-eqb b nobody z)) (λ z. or-1 (eqb b nobody) (eqb b u) (eq-eqb b u z)) x,
+)
 
 module _ (σ : State) where
   abbrev pub behalf : ℕ → ℕ

@@ -1,8 +1,11 @@
--- Theorems is the file to read: what is proved of the monitor. The others prove it.
+-- Theorems is the file to read: what is proved of the monitor; Leaving has the numbers that an end or a delete leaves. The others
+-- prove it.
 pub mod Theorems
+pub mod Leaving
 pub mod StepLaws
 pub mod AnswerLaws
 pub mod BehalfLaws
+pub mod LeavingLaws
 pub mod UserLaws
 pub mod StartView
 pub mod RunLaws

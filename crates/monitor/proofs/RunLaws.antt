@@ -17,13 +17,13 @@ use Rattle.answers.specs.Refusals.{row}
 use Rattle.lists.specs.Conditions.{FailsFirst, numbersOf, numberAt}
 use Rattle.records.specs.declared.Request.{Request}
 use Rattle.records.specs.Codes.{codeAt}
-use Rattle.records.specs.Records.{requestIn, stepIn, stepOf, Asked}
+use Rattle.records.specs.Records.{requestIn, stepIn, recordGood, stepOf, Asked}
 use Rattle.records.proofs.CodeLaws.{Entered, entered}
 use Rattle.records.proofs.RecordLaws.{asked}
 use Rattle.operations.specs.View.{view}
 use Rattle.operations.specs.Effects.{userNamedGood, rowsGood, sessionConditions}
 use Rattle.operations.proofs.PlacedRows.{Valid}
-use Rattle.monitor.specs.Steps.{stepAsked, stepConditions, refusalOf}
+use Rattle.monitor.specs.Steps.{stepAsked, stepConditions, refusalOf, stepEffect}
 use Rattle.monitor.specs.Runs.{stepOn, runAnswers, runEffect, historyBehind, historyIn}
 use Rattle.monitor.proofs.StepLaws.{refused-at, faithful}
 
@@ -46,6 +46,11 @@ valid-rows s v q a =
     user-row true h = h refl
     user-row false h = refl
 
+-- the rows that a record names
+pub record-rows : (s : List ℕ) → Valid s → (r : List ℕ) → recordGood r ≡ true → rowsGood s (stepAsked r) ≡ true
+unfolding stepAsked
+record-rows s v r g = valid-rows s v (requestIn r) (asked r g)
+
 pub never-10 : (s : List ℕ) → Valid s → (r : List ℕ) → refusalOf s r ≢ row
 never-10 s v r e = by (refused-at s r 2 (omega arith) .0 (e ∙ number))
   where
@@ -53,7 +58,7 @@ never-10 s v r e = by (refused-at s r 2 (omega arith) .0 (e ∙ number))
     number = unfold numberAt numbersOf stepConditions sessionConditions in refl
 
     by : FailsFirst (stepConditions s r) 2 → ⊥
-    by = unfold stepConditions sessionConditions stepAsked in (λ h. clash (valid-rows s v (requestIn r) (asked r (h .1 .0))) (h .1 .1))
+    by = unfold stepConditions sessionConditions in (λ h. clash (record-rows s v r (h .1 .0)) (h .1 .1))
 
 -- ---- histories
 
@@ -85,6 +90,10 @@ runEffect-append s [] rs = refl
 runEffect-append s (q ∷ qs) rs = runEffect-append (stepOn s q .0) qs rs
 
 -- ---- one more record
+
+pub run-last : (s : List ℕ) (rs : List (List ℕ)) (r : List ℕ) → runEffect s (rs ++ (r ∷ [])) ≡ stepEffect (runEffect s rs) r
+unfolding runEffect stepOn
+run-last s rs r = runEffect-append s rs (r ∷ [])
 
 pub answer-last : (s : List ℕ) (rs : List (List ℕ)) (r : List ℕ) → getElem? (answers stepOn s (rs ++ (r ∷ []))) (length rs) ≡ some (stepOn (runEffect s rs) r .1)
 unfolding runEffect

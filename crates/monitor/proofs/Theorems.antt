@@ -310,7 +310,7 @@ end-never-12 s r p e h =
 -- ---- the session stays as the paper's section "Session" says
 
 module _ (image : List ℕ) (bytes : Bytes image) (ok : checkOf image ≡ 0) (rs : List (List ℕ)) where
-  reached : Valid (runEffect (startOf (policyIn image)) rs)
+  pub reached : Valid (runEffect (startOf (policyIn image)) rs)
   reached = valid-run (startOf (policyIn image)) (start-valid (policyIn image) (accepted-sound image bytes ok)) rs
 
   pub reached-length : length (runEffect (startOf (policyIn image)) rs) ≡ sessionLength
