@@ -10,13 +10,14 @@ use lib.ListN.{length, getD, List·getD-eq-default}
 use borrow.Author.Tests.{not-true, not-false}
 use Rattle.rules.specs.Sets.{holds}
 use Rattle.lists.proofs.Bools.{and-in, and-0, and-1, decide, clash, refuted}
-use Rattle.matrix.specs.Flows.{has, rowsWithin, Matrix}
+use Rattle.matrix.specs.Flows.{has, rowsWithin, Matrix, wellFormed}
 use Rattle.lists.specs.Counting.{someBelow, leastBelow}
-use Rattle.matrix.specs.Verdicts.{consistent, firstSource, firstTarget}
+use Rattle.matrix.specs.Verdicts.{consistent, firstSource, firstTarget, ConsistencyValues, matrixVerdict}
 use Rattle.matrix.specs.Rows.{bitAt}
 use Rattle.matrix.proofs.BitLaws.{has-above}
 use Rattle.lists.proofs.Below.{Least, none-at, least-some, Miss, all-at, all-in, all-miss}
 use Rattle.matrix.proofs.GoodLaws.{good-parts}
+use Rattle.matrix.proofs.VerdictLaws.{verdict-consistent, verdict-inconsistent}
 use Rattle.matrix.proofs.FlowLaws.{rows-exact, pair-flow, flow-inconsistent, consistent-granted}
 use Rattle.withdrawals.specs.Judgements.{rowsHeld, noneAdded, allKept, staysConsistent, withdrawn, withRight, readNeeded, writeNeeded, subjectNeeded, minimal}
 use Rattle.withdrawals.specs.Rights.{Comparable, Among, SomeBeyond, NoneAdded, SomeAdded, AllKept, SomeLost, AllGranted, SomeUngranted, EachNeeded, SomeReturns}
@@ -143,6 +144,14 @@ all-kept required proposed = both-held (proposed .reads) (required .reads) (prop
 pub stays-consistent : (m : Matrix) → (staysConsistent m ≡ true) ↔ AllGranted (m .reads) (m .writes) (m .objects)
 unfolding staysConsistent
 stays-consistent m = consistent-granted (m .reads) (m .writes) (m .objects)
+
+pub stays-verdict : (m : Matrix) → wellFormed m ≡ true → (staysConsistent m ≡ true) ↔ (matrixVerdict (m .reads) (m .writes) (m .objects) .number ≡ 0)
+unfolding staysConsistent wellFormed
+stays-verdict m g = (λ h. ap (λ (v : ConsistencyValues). v .number) (verdict-consistent (m .reads) (m .writes) (m .objects) g h), by (consistent (m .reads) (m .writes) (m .objects)) refl)
+  where
+    by : (b : Bool) → consistent (m .reads) (m .writes) (m .objects) ≡ b → matrixVerdict (m .reads) (m .writes) (m .objects) .number ≡ 0 → b ≡ true
+    by true c e = refl
+    by false c e = absurd (omega (arith, e, ap (λ (v : ConsistencyValues). v .number) (verdict-inconsistent (m .reads) (m .writes) (m .objects) g c)))
 
 -- ---- 4
 

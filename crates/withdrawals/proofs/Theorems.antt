@@ -4,7 +4,7 @@ use native.Mathlib.Omega.{arith}
 use mathlib.Core.Path.{_≡_, refl}
 use mathlib.Core.Bool.{Bool, true, false, _&&_, _||_}
 use mathlib.Core.List.{List, [], _∷_}
-use mathlib.Core.Logic.{_↔_}
+use mathlib.Core.Logic.{inl, inr, _↔_, _≢_}
 use lib.Dec.{eqb}
 use lib.ListN.{length}
 use Rattle.lists.specs.Lists.{elem}
@@ -12,18 +12,18 @@ use Rattle.lists.specs.Conditions.{Condition, numbersOf, numberAt, numbersGood}
 use Rattle.lists.proofs.Conditions.{given-exactly, given-none, given-among}
 use Rattle.lists.proofs.Bools.{refuted, clash}
 use Rattle.answers.specs.Refusals.{matrix}
-use Rattle.matrix.specs.Flows.{granted, Matrix}
-use Rattle.matrix.specs.Verdicts.{consistent}
+use Rattle.matrix.specs.Flows.{granted, Matrix, wellFormed}
+use Rattle.matrix.specs.Verdicts.{consistent, matrixVerdict}
 use Rattle.matrix.specs.Rows.{bitAt}
-use Rattle.withdrawals.specs.Judgements.{withRight, comparable, judgementConditions, judgementOf, judgementNumber}
+use Rattle.withdrawals.specs.Judgements.{withRight, comparable, staysConsistent, judgementConditions, judgementOf, judgementNumber}
 use Rattle.withdrawals.specs.declared.Judgement.{Judgement}
-use Rattle.withdrawals.specs.Rights.{Comparable, NoneAdded, SomeAdded, AllKept, SomeLost, AllGranted, SomeUngranted, EachNeeded, SomeReturns}
+use Rattle.withdrawals.specs.Rights.{Comparable, SomeBeyond, NoneAdded, SomeAdded, AllKept, SomeLost, AllGranted, SomeUngranted, EachNeeded, SomeReturns}
 use Rattle.withdrawals.specs.Returns.{withFlows, staysClosed}
 use Rattle.withdrawals.proofs.TransitiveLaws as transitive
 use Rattle.withdrawals.proofs.RightLaws as rights
 use Rattle.withdrawals.proofs.JudgeLaws.{comparable-parts, parts-comparable}
 use Rattle.withdrawals.proofs.JudgeLaws as judgements
-use Rattle.withdrawals.proofs.ConditionLaws.{none-added, some-added, all-kept, some-lost, stays-consistent, not-consistent, each-needed, some-returns}
+use Rattle.withdrawals.proofs.ConditionLaws.{none-added, some-added, all-kept, some-lost, stays-consistent, stays-verdict, not-consistent, each-needed, some-returns}
 
 -- ---- consistency without a closure
 
@@ -41,6 +41,11 @@ pub returns-transitive : (f : ℕ → ℕ → Bool) (n sources targets : ℕ) �
     (staysClosed f n sources targets ≡ true)
     ↔ ((a b c : ℕ) → a < n → b < n → c < n → withFlows f sources targets a b ≡ true → withFlows f sources targets b c ≡ true → withFlows f sources targets a c ≡ true)
 returns-transitive = transitive.stays-transitive
+
+-- the third condition holds exactly if the verdict on the proposal, by itself, is 0
+pub consistent-verdict : (proposed : Matrix) → wellFormed proposed ≡ true →
+    (staysConsistent proposed ≡ true) ↔ (matrixVerdict (proposed .reads) (proposed .writes) (proposed .objects) .number ≡ 0)
+consistent-verdict = stays-verdict
 
 -- ---- a right put back alone
 
@@ -134,3 +139,31 @@ module _ (old required proposed : Matrix) where
 -- an answer is known by its number: what fixes the number fixes the case
 pub numbers-apart : (i j : Judgement) → judgementNumber i ≡ judgementNumber j → i ≡ j
 numbers-apart = judgements.numbers-apart
+
+-- ---- a proposal that withdraws nothing
+
+-- no right is one that the same rows lack
+none-beyond : (rows : List ℕ) → SomeBeyond rows rows → ⊥
+none-beyond rows u = clash (u .there) (u .lacking)
+
+module _ (old required : Matrix) where
+  -- it is accepted exactly if the old matrix has all that must stay, and each of its composed flows is granted
+  pub unchanged-accepted : (judgementOf old required old ≡ 0)
+      ↔ (Comparable old required old × (AllKept required old × AllGranted (old .reads) (old .writes) (old .objects)))
+  unchanged-accepted = (
+    λ e. let h = accepted old required old .0 e in (h .0, (h .1 .1 .0, h .1 .1 .1 .0)),
+    λ h. accepted old required old .1
+        (h .0, (((λ s k e. e), (λ s k e. e)), (h .1 .0, (h .1 .1, ((λ s k p q. clash p q), (λ s k p q. clash p q)))))),
+  )
+
+  -- no right is added and none returns: neither 1 nor 4 is given
+  pub unchanged-never : (judgementOf old required old ≢ 1) × (judgementOf old required old ≢ 4)
+  unchanged-never = ((λ e. added (fails-1 old required old .0 e .1)), (λ e. returned (fails-4 old required old .0 e .1 .1 .1 .1)))
+    where
+      added : SomeAdded old old → ⊥
+      added (inl u) = none-beyond (old .reads) u
+      added (inr u) = none-beyond (old .writes) u
+
+      returned : SomeReturns old old → ⊥
+      returned (inl u) = none-beyond (old .reads) (u .right)
+      returned (inr u) = none-beyond (old .writes) (u .right)
