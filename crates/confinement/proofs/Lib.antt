@@ -5,6 +5,7 @@ pub mod Examples
 pub mod ProfileLaws
 pub mod MixtureLaws
 pub mod PathLaws
+pub mod PathOrder
 pub mod PolicyLaws
 pub mod BitLaws
 pub mod TableLaws

@@ -71,7 +71,7 @@ unfolding positionBy
 position-first q ns = rw (same-refl q)
 
 -- a new path stands behind the others
-position-new : (q : List ℕ) (ns : List (List ℕ)) → known q ns ≡ false → position q (ns ++ (q ∷ [])) ≡ length ns
+pub position-new : (q : List ℕ) (ns : List (List ℕ)) → known q ns ≡ false → position q (ns ++ (q ∷ [])) ≡ length ns
 unfolding positionBy knownBy
 position-new q [] h = position-first q []
 position-new q (x ∷ ns) h = by (sameList q x) refl h (position-new q ns)

@@ -1,12 +1,12 @@
 -- What is proved of the policy that profiles stand for, stated in full. The proofs are in the files that are cited.
 use Prim.Native.Nat.{ℕ, _+_, _≤_, _<_}
-use mathlib.Core.Path.{_≡_, refl, sym, _∙_}
+use mathlib.Core.Path.{_≡_, refl, sym, ap, _∙_}
 use mathlib.Core.Logic.{_⊎_, _↔_}
 use native.Mathlib.Decide.{ℕ-discrete}
 use native.Mathlib.Omega.{arith}
 use lib.Dec.{leb}
 use mathlib.Core.Bool.{true, false}
-use mathlib.Core.List.{List, [], _∷_, _++_}
+use mathlib.Core.List.{List, [], _∷_, _++_, List·Memᴰ}
 use lib.ListN.{length, getD, take}
 use borrow.Author.Tests.{le-leb}
 use Rattle.rules.specs.Sets.{atom}
@@ -16,7 +16,7 @@ use Rattle.image.specs.Limits.{headerSize, outputBound}
 use Rattle.image.specs.Policy.{unrestrictedRule, Sound}
 use Rattle.image.specs.Image.{policyIn, checkOf}
 use Rattle.image.specs.Normal.{meaning, normalPolicy, normalImage}
-use Rattle.lists.specs.Lists.{every, elem, known}
+use Rattle.lists.specs.Lists.{every, elem, known, position}
 use Rattle.lists.proofs.Bools.{and-in}
 use Rattle.lists.specs.Conditions.{Condition, firstFailed, numbersOf, numberAt, numbersGood}
 use Rattle.lists.proofs.Conditions.{given-exactly, given-none, given-among}
@@ -24,12 +24,14 @@ use Rattle.answers.specs.Refusals.{lentLength, profileText, profileLimit}
 use Rattle.normaliser.proofs.AnswerLaws.{through, refused-answer, answer-number, answer-front}
 use Rattle.normaliser.proofs.WriterLaws.{normal-long, normal-short}
 use Rattle.profiles.specs.Profiles.{Profile}
-use Rattle.profiles.specs.Texts.{textGood}
-use Rattle.confinement.specs.Confinement.{pathsOf, someOf, reading, executing, modesOn, runMixture, rulesOf, profilePolicy}
+use Rattle.profiles.specs.Texts.{Differ, textGood}
+use Rattle.confinement.specs.Confinement.{namesOf, pathsOf, someOf, reading, executing, modesOn, runMixture, rulesOf, profilePolicy}
 use Rattle.confinement.specs.Images.{profilesIn, limitsGood, profileConditions, profileImage, profileAnswer, profileEffect}
+use Rattle.confinement.specs.Sentences.{Names}
 use Rattle.confinement.proofs.PolicyLaws as policy
 use Rattle.confinement.proofs.ProfileLaws as profile
 use Rattle.confinement.proofs.MixtureLaws as mixture
+use Rattle.confinement.proofs.PathOrder as order
 use Rattle.confinement.proofs.PathLaws.{profiles-known, paths-distinct}
 use Rattle.confinement.proofs.ProfileLaws.{filePlaces, processPlace}
 
@@ -82,6 +84,22 @@ module _ (text out : List ℕ) where
   pub derive-written : firstFailed cs ≡ 0 → take (profileAnswer text out) (profileEffect text out) ≡ profileImage text
   unfolding profileAnswer profileEffect
   derive-written e = answer-front (firstFailed cs) (profileImage text) out e
+
+-- ---- the paths: a path's place among them is its atom
+
+module _ (ps : List Profile) where
+  -- those that a profile names, its own or that of a line, and no other
+  pub paths-exactly : (q : List ℕ) → (known q (pathsOf ps) ≡ true) ↔ ((p : Profile) × List·Memᴰ p ps × Names p q)
+  paths-exactly = order.paths-exactly ps
+
+  -- none stands twice
+  pub paths-once : Differ (pathsOf ps)
+  paths-once i j l m e = omega (arith, paths-distinct ps .placed i (omega arith), paths-distinct ps .placed j m, ap (λ (q : List ℕ). position q (pathsOf ps)) e)
+
+  -- in order of first appearance: one stands before another exactly if it is named first
+  pub paths-order : (j k : ℕ) → j < length (pathsOf ps) → k < length (pathsOf ps)
+      → (j < k) ↔ (position (getD (pathsOf ps) j []) (namesOf ps) < position (getD (pathsOf ps) k []) (namesOf ps))
+  paths-order = order.paths-order ps
 
 -- ---- the policy
 
