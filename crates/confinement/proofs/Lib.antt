@@ -6,6 +6,8 @@ pub mod ProfileLaws
 pub mod MixtureLaws
 pub mod PathLaws
 pub mod PathOrder
+pub mod LineModes
+pub mod RuleWords
 pub mod PolicyLaws
 pub mod BitLaws
 pub mod TableLaws

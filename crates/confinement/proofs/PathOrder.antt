@@ -107,7 +107,7 @@ unfolding knownBy
 known-member q [] h = clash h refl
 known-member q (x ∷ ns) h = ⊎-elim (λ p. List·Memᴰ·head (same-eq q x p)) (λ p. List·Memᴰ·tail (known-member q ns p)) (or-cases (sameList q x) h)
 
-member-known : (q : List ℕ) (ns : List (List ℕ)) → List·Memᴰ q ns → known q ns ≡ true
+pub member-known : (q : List ℕ) (ns : List (List ℕ)) → List·Memᴰ q ns → known q ns ≡ true
 unfolding knownBy
 member-known q [] m = absurd (List·Memᴰ·not-nil m)
 member-known q (x ∷ ns) m =

@@ -1,37 +1,42 @@
 -- What is proved of the policy that profiles stand for, stated in full. The proofs are in the files that are cited.
-use Prim.Native.Nat.{ℕ, _+_, _≤_, _<_}
+use Prim.Native.Nat.{ℕ, _+_, _*_, _^_, _≤_, _<_}
 use mathlib.Core.Path.{_≡_, refl, sym, ap, _∙_}
 use mathlib.Core.Logic.{_⊎_, _↔_}
 use native.Mathlib.Decide.{ℕ-discrete}
 use native.Mathlib.Omega.{arith}
-use lib.Dec.{leb}
+use lib.Dec.{leb, ltb}
 use mathlib.Core.Bool.{true, false}
 use mathlib.Core.List.{List, [], _∷_, _++_, List·Memᴰ}
 use lib.ListN.{length, getD, take}
-use borrow.Author.Tests.{le-leb}
+use borrow.Author.Tests.{le-leb, ltb-true}
 use Rattle.rules.specs.Sets.{atom}
+use Rattle.rules.specs.Rules.{covers}
 use Rattle.rules.specs.Answers.{dataWidth}
 use Rattle.fields.specs.Bytes.{Bytes}
-use Rattle.image.specs.Limits.{headerSize, outputBound}
+use Rattle.image.specs.Limits.{fileKind, headerSize, outputBound}
 use Rattle.image.specs.Policy.{unrestrictedRule, Sound}
 use Rattle.image.specs.Image.{policyIn, checkOf}
-use Rattle.image.specs.Normal.{meaning, normalPolicy, normalImage}
+use Rattle.image.specs.Normal.{Meaning, meaning, normalPolicy, normalImage}
 use Rattle.lists.specs.Lists.{every, elem, known, position}
 use Rattle.lists.proofs.Bools.{and-in}
+use Rattle.lists.proofs.Every.{every-elem}
 use Rattle.lists.specs.Conditions.{Condition, firstFailed, numbersOf, numberAt, numbersGood}
 use Rattle.lists.proofs.Conditions.{given-exactly, given-none, given-among}
 use Rattle.answers.specs.Refusals.{lentLength, profileText, profileLimit}
-use Rattle.normaliser.proofs.AnswerLaws.{through, refused-answer, answer-number, answer-front}
+use Rattle.normaliser.proofs.AnswerLaws.{through, refused-answer, answer-number, answer-length, answer-front}
 use Rattle.normaliser.proofs.WriterLaws.{normal-long, normal-short}
-use Rattle.profiles.specs.Profiles.{Profile}
-use Rattle.profiles.specs.Texts.{Differ, textGood}
-use Rattle.confinement.specs.Confinement.{namesOf, pathsOf, someOf, reading, executing, modesOn, runMixture, rulesOf, profilePolicy}
+use Rattle.profiles.specs.Profiles.{Mode, Entry, Profile}
+use Rattle.profiles.specs.Texts.{Differ, profiledOnce, textGood}
+use Rattle.confinement.specs.Confinement.{namesOf, pathsOf, someOf, reading, executing, writing, unconfined, inheriting, confined, modesOn, runMixture, rulesOf, profilePolicy}
 use Rattle.confinement.specs.Images.{profilesIn, limitsGood, profileConditions, profileImage, profileAnswer, profileEffect}
-use Rattle.confinement.specs.Sentences.{Names}
+use Rattle.confinement.specs.Sentences.{Names, MayHold, SomeWith, NoneWith, Unprofiled}
 use Rattle.confinement.proofs.PolicyLaws as policy
 use Rattle.confinement.proofs.ProfileLaws as profile
 use Rattle.confinement.proofs.MixtureLaws as mixture
+use Rattle.confinement.proofs.LineWalks as walks
 use Rattle.confinement.proofs.PathOrder as order
+use Rattle.confinement.proofs.LineModes as lines
+use Rattle.confinement.proofs.RuleWords as words
 use Rattle.confinement.proofs.PathLaws.{profiles-known, paths-distinct}
 use Rattle.confinement.proofs.ProfileLaws.{filePlaces, processPlace}
 
@@ -41,15 +46,16 @@ module _ (text out : List ℕ) where
   abbrev cs : List Condition
   cs = profileConditions text out
 
+  long : firstFailed cs ≡ 0 → headerSize ≤ length (profileImage text)
+  unfolding profileImage
+  long e = normal-long (profilePolicy (profilesIn text)) (policy.profile-sound (profilesIn text) (unfold profileConditions numbersGood numbersOf elem in (given-none cs refl .0 e .1 .1)))
+
   derive-number : (k : ℕ) → 0 < k → k < headerSize → (profileAnswer text out ≡ k) ↔ (firstFailed cs ≡ k)
   unfolding profileAnswer
   derive-number k p l = by (ℕ-discrete (firstFailed cs) 0)
     where
       by : Dec (firstFailed cs ≡ 0) → (profileAnswer text out ≡ k) ↔ (firstFailed cs ≡ k)
-      by (yes z) = answer-number (profileImage text) (unfold profileImage in normal-long (profilePolicy (profilesIn text)) (policy.profile-sound (profilesIn text) (accepted z))) (firstFailed cs) k p l
-        where
-          accepted : firstFailed cs ≡ 0 → limitsGood (profilesIn text) ≡ true
-          accepted e = unfold profileConditions numbersGood numbersOf elem in (given-none cs refl .0 e .1 .1)
+      by (yes z) = answer-number (profileImage text) (long z) (firstFailed cs) k p l
       by (no d) =
           let e = refused-answer (firstFailed cs) (profileImage text) out d in
           ((λ h. sym e ∙ h), (λ h. e ∙ h))
@@ -80,10 +86,26 @@ module _ (text out : List ℕ) where
   unfolding profileConditions numbersOf
   derive-among = given-among cs
 
+  -- nothing is refused exactly if the answer is at least the header's length: it is the image's length then
+  pub derive-length : (headerSize ≤ profileAnswer text out) ↔ (firstFailed cs ≡ 0)
+  unfolding profileAnswer
+  derive-length = by (ℕ-discrete (firstFailed cs) 0)
+    where
+      small : firstFailed cs < headerSize
+      small = ltb-true (firstFailed cs) headerSize (every-elem (λ n. ltb n headerSize) (0 ∷ lentLength ∷ profileText ∷ profileLimit ∷ []) (firstFailed cs) (unfold every in refl) derive-among)
+
+      by : Dec (firstFailed cs ≡ 0) → (headerSize ≤ profileAnswer text out) ↔ (firstFailed cs ≡ 0)
+      by (yes z) = answer-length (profileImage text) (long z) (firstFailed cs) small
+      by (no d) = ((λ h. absurd (omega (arith, refused-answer (firstFailed cs) (profileImage text) out d, small))), (λ e. absurd (d e)))
+
   -- what it then leaves at the front of the output is the image
   pub derive-written : firstFailed cs ≡ 0 → take (profileAnswer text out) (profileEffect text out) ≡ profileImage text
   unfolding profileAnswer profileEffect
   derive-written e = answer-front (firstFailed cs) (profileImage text) out e
+
+-- a text that is not refused by 16 profiles no path twice
+pub text-once : (text : List ℕ) → textGood text ≡ true → profiledOnce (profilesIn text) ≡ true
+text-once = walks.good-once
 
 -- ---- the paths: a path's place among them is its atom
 
@@ -136,6 +158,13 @@ module _ (ps : List Profile) (good : limitsGood ps ≡ true) where
   pub profile-short : length (normalImage (profilePolicy ps)) ≤ outputBound
   profile-short = normal-short (profilePolicy ps) profile-sound
 
+-- ---- which modes a program has on a path
+
+-- "a path's lines within a profile add up": one of the wanted modes exactly if one of its lines of that path has one of them
+pub lines-add-up : (p : Profile) (wanted : List Mode) (q : List ℕ) → (someOf wanted (modesOn p q) ≡ true)
+    ↔ ((e : Entry) × List·Memᴰ e (p .entries) × (q ≡ e .path) × ((m : Mode) × List·Memᴰ m (e .modes) × List·Memᴰ m wanted))
+lines-add-up = lines.lines-tell
+
 -- ---- what a run mixture says
 
 -- each program of a text has its path among the paths
@@ -159,3 +188,63 @@ module _ (ps : List Profile) (good : limitsGood ps ≡ true) (p : Profile) (own 
 pub run-none : (ps : List Profile) (p : Profile) → known (p .path) (pathsOf ps) ≡ true → (i : ℕ)
     → ((k : ℕ) → k < length (pathsOf ps) → (i ≡ k → ⊥) × (i ≡ dataWidth + k → ⊥)) → atom (runMixture (pathsOf ps) p) i ≡ 0
 run-none ps p own i h = mixture.run-none (pathsOf ps) p own i h
+
+-- all of it in one: the atoms of a run mixture
+pub run-atoms : (ps : List Profile) → limitsGood ps ≡ true → (p : Profile) → known (p .path) (pathsOf ps) ≡ true → (i : ℕ)
+    → (atom (runMixture (pathsOf ps) p) i ≡ 1) ↔ MayHold (pathsOf ps) p i
+run-atoms ps good p own i = words.run-atoms (pathsOf ps) (policy.few-paths ps good) (paths-distinct ps) p own i
+
+-- ---- what the two rules of the k-th path say
+
+module _ (ps : List Profile) (good : limitsGood ps ≡ true) (k : ℕ) (l : k < length (pathsOf ps)) where
+  abbrev named : List ℕ
+  named = getD (pathsOf ps) k []
+
+  -- its permit rule and its run rule
+  abbrev permitRule : List ℕ
+  permitRule = getD (rulesOf ps) (2 * k) []
+
+  abbrev runRule : List ℕ
+  runRule = getD (rulesOf ps) (2 * k + 1) []
+
+  -- "Each path becomes a file with the next atom in order of first appearance": it has the atom k, and these two rules, in the policy
+  -- that is written
+  pub file-means : getD (meaning (normalPolicy (profilePolicy ps)) .places) k processPlace
+      ≡ record { kind = fileKind; atom = k; permit = permitRule; run = runRule }
+  file-means = ap (λ (m : Meaning). getD (m .places) k processPlace) (profile-means ps good) ∙ words.file-at ps good k l
+
+  -- "for each program with w or a on it, that program's run mixture with the file's atom added": a tag is covered exactly if ONE program
+  -- with w or a on it has all the tag's other atoms in its run mixture
+  pub permit-written : SomeWith ps writing named → (t : ℕ) → (covers permitRule t ≡ true)
+      ↔ ((p : Profile) × List·Memᴰ p ps × (someOf writing (modesOn p named) ≡ true) × ((i : ℕ) → atom t i ≡ 1 → (i ≡ k) ⊎ MayHold (pathsOf ps) p i))
+  permit-written = words.permit-written ps good k l
+
+  -- "with none, its own atom"
+  pub permit-unwritten : NoneWith ps writing named → permitRule ≡ 2 ^ k ∷ []
+  permit-unwritten = words.permit-unwritten ps good k l
+
+  -- "that mixture is a profiled path's run rule": it covers what has all its atoms in that program's run mixture
+  pub run-profiled : profiledOnce ps ≡ true → (p : Profile) → List·Memᴰ p ps → named ≡ p .path → runRule ≡ runMixture (pathsOf ps) p ∷ []
+  run-profiled = words.run-profiled ps good k l
+
+  pub run-profiled-covers : profiledOnce ps ≡ true → (p : Profile) → List·Memᴰ p ps → named ≡ p .path → (t : ℕ)
+      → (covers runRule t ≡ true) ↔ ((i : ℕ) → atom t i ≡ 1 → MayHold (pathsOf ps) p i)
+  run-profiled-covers = words.run-profiled-covers ps good k l
+
+  -- "A path without a profile is unrestricted to run if some ux or Ux names it"
+  pub run-unconfined : Unprofiled ps named → SomeWith ps unconfined named → runRule ≡ unrestrictedRule
+  run-unconfined = words.run-unconfined ps good k l
+
+  -- "else takes the run mixtures of programs naming it by ix": a tag is covered exactly if ONE of these has all its atoms in its run mixture
+  pub run-inherited : Unprofiled ps named → NoneWith ps unconfined named → SomeWith ps inheriting named → (t : ℕ)
+      → (covers runRule t ≡ true)
+      ↔ ((p : Profile) × List·Memᴰ p ps × (someOf inheriting (modesOn p named) ≡ true) × ((i : ℕ) → atom t i ≡ 1 → MayHold (pathsOf ps) p i))
+  run-inherited = words.run-inherited ps good k l
+
+  -- "else has no mixture if px or Px names it"
+  pub run-confined : Unprofiled ps named → NoneWith ps unconfined named → NoneWith ps inheriting named → SomeWith ps confined named → runRule ≡ []
+  run-confined = words.run-confined ps good k l
+
+  -- "else is unrestricted"
+  pub run-unnamed : Unprofiled ps named → NoneWith ps unconfined named → NoneWith ps inheriting named → NoneWith ps confined named → runRule ≡ unrestrictedRule
+  run-unnamed = words.run-unnamed ps good k l
