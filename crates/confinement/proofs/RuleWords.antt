@@ -14,9 +14,9 @@ use Rattle.lists.proofs.Bools.{and-0, and-1, or-0, or-1, or-cases, or-none, cla
 use Rattle.lists.proofs.Same.{same-refl, same-eq}
 use Rattle.lists.proofs.Every.{every-0, every-1}
 use Rattle.rules.specs.Sets.{atom, holds}
-use Rattle.rules.specs.Rules.{covers, normal, sort, unheldIn, distinct}
-use Rattle.rules.specs.Answers.{dataWidth}
-use Rattle.rules.proofs.SetLaws.{atom-le, atoms-holds, holds-has, single-same, single-other, or-has}
+use Rattle.rules.specs.Rules.{covers, normal, sort, unheldIn, distinct, unrestricted}
+use Rattle.rules.specs.Answers.{dataWidth, tagWidth}
+use Rattle.rules.proofs.SetLaws.{atom-le, atoms-holds, holds-has, holds-all, single-same, single-other, or-has}
 use Rattle.rules.proofs.RuleLaws.{covers-normal}
 use Rattle.rules.proofs.MeetAll.{normal-one}
 use Rattle.image.specs.Limits.{fileKind}
@@ -135,6 +135,15 @@ single-is k i = ((λ h. by h (ℕ-discrete i k)), (λ e. ap (atom (2 ^ k)) e ∙
 one-covers : (m t : ℕ) → covers (m ∷ []) t ≡ holds m t
 unfolding covers
 one-covers m t = or-none (holds m t)
+
+-- by the mixture of all atoms, and by none
+pub all-covered : (t : ℕ) → t < 2 ^ tagWidth → covers unrestrictedRule t ≡ true
+unfolding unrestrictedRule unrestricted
+all-covered t l = one-covers (2 ^ tagWidth - 1) t ∙ holds-all tagWidth t l
+
+pub none-covered : (t : ℕ) → covers [] t ≡ false
+unfolding covers
+none-covered t = refl
 
 -- the mixtures of programs: ONE of them holds it
 module _ (f : Profile → ℕ) (t : ℕ) where

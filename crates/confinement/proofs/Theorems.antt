@@ -11,7 +11,7 @@ use lib.ListN.{length, getD, take}
 use borrow.Author.Tests.{le-leb, ltb-true}
 use Rattle.rules.specs.Sets.{atom}
 use Rattle.rules.specs.Rules.{covers}
-use Rattle.rules.specs.Answers.{dataWidth}
+use Rattle.rules.specs.Answers.{dataWidth, tagWidth}
 use Rattle.fields.specs.Bytes.{Bytes}
 use Rattle.image.specs.Limits.{fileKind, headerSize, outputBound}
 use Rattle.image.specs.Policy.{unrestrictedRule, Sound}
@@ -248,3 +248,10 @@ module _ (ps : List Profile) (good : limitsGood ps ≡ true) (k : ℕ) (l : k < 
   -- "else is unrestricted"
   pub run-unnamed : Unprofiled ps named → NoneWith ps unconfined named → NoneWith ps inheriting named → NoneWith ps confined named → runRule ≡ unrestrictedRule
   run-unnamed = words.run-unnamed ps good k l
+
+-- the unrestricted rule covers every tag, the rule without a mixture none
+pub run-all : (t : ℕ) → t < 2 ^ tagWidth → covers unrestrictedRule t ≡ true
+run-all = words.all-covered
+
+pub run-nothing : (t : ℕ) → covers [] t ≡ false
+run-nothing = words.none-covered
