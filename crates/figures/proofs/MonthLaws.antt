@@ -36,7 +36,7 @@ figures-cut s x y h =
     ∙ ap figuresOf (runAnswers-append s (traceRecords x) (traceRecords y))
     ∙ figures-append (runAnswers s (traceRecords x)) (runAnswers (runEffect s (traceRecords x)) (traceRecords y))
 
-part-cut : (k : Counters) (s x y : List ℕ) → length x % recordLength ≡ 0 → partCounters k s (x ++ y) ≡ partCounters (partCounters k s x) (partSession s x) y
+pub part-cut : (k : Counters) (s x y : List ℕ) → length x % recordLength ≡ 0 → partCounters k s (x ++ y) ≡ partCounters (partCounters k s x) (partSession s x) y
 unfolding partCounters partSession
 part-cut k s x y h =
     ap (λ (rs : List (List ℕ)). countedAll k (runAnswers s rs)) (records-append x y h)
@@ -115,7 +115,7 @@ sum-within f g m n w v = record { counts = λ k. omega (arith, w .counts k, v .c
 
 -- ---- a trace
 
-few : (n : ℕ) → tooMany n ≡ false → n ≤ recordLimit
+pub few : (n : ℕ) → tooMany n ≡ false → n ≤ recordLimit
 unfolding tooMany
 few n h = ltb-false recordLimit n h
 
@@ -124,7 +124,7 @@ unfolding traceFigures figuresOf
 trace-within s t h =
     within-more (figuresOf (runAnswers s (traceRecords t))) (length (runAnswers s (traceRecords t))) recordLimit (few (length (runAnswers s (traceRecords t))) h) (answers-within (runAnswers s (traceRecords t)))
 
-records-held : (f : Figures) → f .records < 2 ^ 64 → countersOf f .records ≡ f .records
+pub records-held : (f : Figures) → f .records < 2 ^ 64 → countersOf f .records ≡ f .records
 unfolding countersOf
 records-held f h = omega arith
 
@@ -148,7 +148,7 @@ trace-line n s t h = by (tooMany (traceFigures s t .records)) refl (ap tooMany r
 -- ---- the total
 
 -- a trace's counters added to the total's: what they hold
-total-held : (f : Figures) (s t : List ℕ) → traceFigures s t .records < 2 ^ 64
+pub total-held : (f : Figures) (s t : List ℕ) → traceFigures s t .records < 2 ^ 64
     → totalWith (countersOf f) (countersOf (traceFigures s t)) ≡ countersOf (sumOf f (counting (traceFigures s t)))
 unfolding totalWith counting noFigures
 total-held f s t h = by (tooMany (traceFigures s t .records)) refl (ap tooMany (records-held (traceFigures s t) h))
@@ -183,7 +183,7 @@ pub records-length : (t : List ℕ) → length (traceRecords t) ≡ (length t + 
 unfolding traceRecords
 records-length t = cut-count recordLength ((length t + (recordLength - 1)) / recordLength) t
 
-records-few : (s t : List ℕ) → length t < 2 ^ 64 → traceFigures s t .records < 2 ^ 64
+pub records-few : (s t : List ℕ) → length t < 2 ^ 64 → traceFigures s t .records < 2 ^ 64
 unfolding traceFigures figuresOf
 records-few s t h = omega (arith, answers-length s (traceRecords t), records-length t)
 
@@ -205,7 +205,7 @@ total-parts f s (t ∷ ts) w =
     ∙ total-parts (sumOf f (counting (traceFigures s (together t)))) s ts (w .2)
     ∙ ap countersOf (sum-assoc f (counting (traceFigures s (together t))) (totalFigures s (map together ts)))
 
-total-line : (f g : Figures) → Agree f g → totalLine f ≡ totalLine g
+pub total-line : (f g : Figures) → Agree f g → totalLine f ≡ totalLine g
 unfolding totalLine
 total-line f g h = lines-agree (ascii "total") f g h
 
@@ -221,11 +221,11 @@ text-parts s ts w l =
 
 -- ---- a trace that is too long from its front on
 
-records-cut : (s x y : List ℕ) → length x % recordLength ≡ 0 → traceFigures s (x ++ y) .records ≡ traceFigures s x .records + traceFigures (partSession s x) y .records
+pub records-cut : (s x y : List ℕ) → length x % recordLength ≡ 0 → traceFigures s (x ++ y) .records ≡ traceFigures s x .records + traceFigures (partSession s x) y .records
 unfolding sumOf
 records-cut s x y w = ap (λ (f : Figures). f .records) (figures-cut s x y w)
 
-more-too-many : (m n : ℕ) → m ≤ n → tooMany m ≡ true → tooMany n ≡ true
+pub more-too-many : (m n : ℕ) → m ≤ n → tooMany m ≡ true → tooMany n ≡ true
 unfolding tooMany
 more-too-many m n l h = lt-ltb recordLimit n (omega (arith, ltb-true recordLimit m h))
 

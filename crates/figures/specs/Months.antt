@@ -1,11 +1,14 @@
 -- The text of a month: every byte that the program prints (change request No. 6).
-use Prim.Native.Nat.{ℕ, suc}
-use mathlib.Core.Bool.{cond}
+use Prim.Native.Nat.{ℕ, suc, _%_}
+use mathlib.Core.Path.{_≡_}
+use mathlib.Core.Bool.{true, cond}
+use mathlib.Core.Logic.{_⊎_}
 use mathlib.Core.List.{List, [], _∷_, _++_}
 use lib.Dec.{eqb}
-use lib.ListN.{take}
+use lib.ListN.{length, take}
 use Rattle.image.specs.Image.{checkOf, policyIn}
 use Rattle.session.specs.Session.{startOf}
+use Rattle.records.specs.Records.{recordLength}
 use Rattle.records.specs.Traces.{traceRecords}
 use Rattle.monitor.specs.Runs.{runAnswers}
 use Rattle.listing.specs.Lines.{policyLine}
@@ -42,3 +45,19 @@ tracesText s traces = traceLines 0 s traces ++ totalLine (totalFigures s traces)
 unfoldable pub monthText : List ℕ → List (List ℕ) → List ℕ
 monthText image traces =
     cond (eqb (checkOf image) 0) (tracesText (startOf (policyIn image)) (take traceLimit traces)) (policyLine (checkOf image))
+
+-- ---- traces of which only a front was read
+
+-- a front of whole records that is too long already
+pub record TooLongFront (s front trace : List ℕ) : Type 0 where
+  pub rest : List ℕ
+  pub is : trace ≡ front ++ rest
+  pub whole : length front % recordLength ≡ 0
+  pub many : tooMany (traceFigures s front .records) ≡ true
+
+-- what was read of each trace: all of it, or such a front
+abbrev pub FrontsOf : List ℕ → List (List ℕ) → List (List ℕ) → Type 0
+FrontsOf s [] [] = Unit {0}
+FrontsOf s [] (t ∷ ts) = ⊥
+FrontsOf s (x ∷ xs) [] = ⊥
+FrontsOf s (x ∷ xs) (t ∷ ts) = ((t ≡ x) ⊎ TooLongFront s x t) × FrontsOf s xs ts

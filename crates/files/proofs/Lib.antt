@@ -1,2 +1,2 @@
--- How many bytes a call moved.
-pub mod MoveLaws
+-- Calls one behind the other.
+pub mod CallLaws

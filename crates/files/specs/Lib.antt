@@ -1,2 +1,2 @@
--- What the contracts of this crate cite: a number of bytes within a buffer.
-pub mod Moves
+-- What the contracts of this crate cite: what the system was asked and how it answered.
+pub mod Calls

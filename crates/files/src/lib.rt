@@ -1,11 +1,15 @@
 // Files and standard output for the programs: what fails outside is told on standard error, in one line with the file's name and
-// the system's text, and never passes for a complete result. No contract can say which bytes the system reads or writes.
+// the system's text, and never passes for a complete result. What the system took and gave is stated by `write_some`, `read_some`, `open`,
+// `tell` and `tell_error`, which are to be believed (specs/Calls.antt); everything else is proved from these. The counts of the bytes moved are lent,
+// so that no call is forgotten.
 ghost use mathlib.Core.Path.{_≡_};
-ghost use Prim.Native.Nat.{_-_, _≤_};
+ghost use mathlib.Core.Bool.{true, false};
+ghost use Prim.Native.Nat.{_≤_};
 ghost use lib.ListN.{length, take};
-ghost use Rattle.files.specs.Moves.{Within, Took, Held};
+ghost use Rattle.files.specs.Calls.{Told, DoneOrTold, Handed, OpenedAs, WroteSome, ReadSome, OpenedFile, PartRead, FileLoaded};
 use libc::STDERR_FILENO;
 use libc::STDOUT_FILENO;
+use std::num::wrapping_add_u64;
 
 // How a call that moves bytes went: so many were moved, none yet and it is to be tried again, or it failed.
 pub enum Move {
@@ -14,9 +18,41 @@ pub enum Move {
     Failed,
 }
 
+// ---- standard error
+
+// A text on standard error.
+fn tell(text: &[u8])
+    ensures { λ _. ⌜ Told ⌝ }
+{
+    io::write_all(STDERR_FILENO, text);
+}
+
+// More turns than any run has are spent.
+pub fn tell_spent(name: &[u8])
+    ensures { λ _. ⌜ Told ⌝ }
+{
+    tell(name);
+    tell(b": tried too often\n");
+}
+
+fn tell_output_spent()
+    ensures { λ _. ⌜ Told ⌝ }
+{
+    tell_spent(b"standard output");
+}
+
+// What the system says of the call that failed last.
+fn tell_error(name: &[u8])
+    ensures { λ _. ⌜ Told ⌝ }
+{
+    os::fail(name);
+}
+
 // Whether a call on this file that failed is to be tried again: a signal came, or it would wait, and then another process runs
 // first. Any other failure is told.
-fn passing(name: &[u8]) -> bool {
+fn passing(name: &[u8]) -> bool
+    ensures { λ r. ⌜ (r ≡ false → Told) ⌝ }
+{
     let error = os::errno();
     if error == libc::EINTR {
         return true;
@@ -25,24 +61,24 @@ fn passing(name: &[u8]) -> bool {
         libc::sched_yield();
         return true;
     }
-    os::fail(name);
+    tell_error(name);
     false
 }
 
 // ---- standard output
 
-// One write of the bytes from a place on. A write that takes nothing has failed.
-fn write_some(bytes: &[u8], from: usize) -> Move
-    requires { ⌜ from ≤ length (now bytes) ⌝ }
-    ensures { λ r. ⌜ Within r (length (now (bytes .entry)) - from) ⌝ }
+// One write of the bytes. A write that takes nothing has failed.
+fn write_some(bytes: &[u8], sent: &mut u64) -> Move
+    ensures { λ r. ⌜ WroteSome r (now (bytes .entry)) (now (sent .entry)) (now (sent .exit)) ⌝ }
 {
-    let rest = &bytes[from..];
-    let got = libc::write(STDOUT_FILENO, rest);
+    let got = libc::write(STDOUT_FILENO, bytes);
     if got > 0 {
-        return Move::Moved(io::count(got, rest));
+        let n = io::count(got, bytes);
+        *sent = wrapping_add_u64(*sent, n as u64);
+        return Move::Moved(n);
     }
     if got == 0 {
-        io::write_all(STDERR_FILENO, b"standard output: nothing was taken\n");
+        tell(b"standard output: nothing was taken\n");
         return Move::Failed;
     }
     if passing(b"standard output") {
@@ -51,54 +87,40 @@ fn write_some(bytes: &[u8], from: usize) -> Move
     Move::Failed
 }
 
-// How many bytes standard output took, and whether these are all.
-pub struct Written {
-    pub good: bool,
-    pub taken: usize,
-}
-
-// All of the bytes on standard output, or the failure was told. Nothing says how often a write must be tried again, so the
+// All of the bytes on standard output: true, or the failure was told. Nothing says how often a write must be tried again, so the
 // turns are counted down, from more than any run has.
-fn write_whole(bytes: &[u8]) -> Written
-    ensures { λ r. ⌜ Took r (length (now (bytes .entry))) ⌝ }
+pub fn write_whole(bytes: &[u8], sent: &mut u64) -> bool
+    ensures { λ r. ⌜ DoneOrTold r (Handed (now (bytes .entry)) (now (sent .entry)) (now (sent .exit))) ⌝ }
 {
     let mut done: usize = 0;
     let mut turns = u64::MAX;
     while turns > 0 {
         if done == bytes.len() {
-            return Written {
-                good: true,
-                taken: done,
-            };
+            return true;
         }
         turns -= 1;
-        match write_some(bytes, done) {
+        match write_some(&bytes[done..], sent) {
             Move::Moved(n) => {
                 done += n;
             }
             Move::Again => {}
             Move::Failed => {
-                return Written {
-                    good: false,
-                    taken: done,
-                };
+                return false;
             }
         }
     }
-    Written {
-        good: done == bytes.len(),
-        taken: done,
-    }
+    tell_output_spent();
+    false
 }
 
-// The first bytes of a buffer, all of it where `end` lies behind it, or the failure was told.
-pub fn write_front(out: &[u8], end: usize) -> Written
-    ensures { λ r. ⌜ Took r (length (take end (now (out .entry)))) ⌝ }
+// The first bytes of a buffer, all of it where `end` lies behind it: true, or the failure was told.
+pub fn write_front(out: &[u8], end: usize, sent: &mut u64) -> bool
+    ensures { λ r. ⌜ DoneOrTold r (Handed (take end (now (out .entry))) (now (sent .entry)) (now (sent .exit))) ⌝ }
 {
     if end < out.len() {
-        return write_whole(&out[..end]);
+        return write_whole(&out[..end], sent);
     }
-    write_whole(out)
+    write_whole(out, sent)
 }
 
 // ---- files
@@ -112,7 +134,7 @@ pub enum Opened {
 
 // The file opened for reading. Only a missing one is missing: any other failure is told.
 pub fn open(name: &[u8]) -> Opened
-    ensures { λ r. ⌜ Held r ⌝ }
+    ensures { λ r. ⌜ OpenedFile r (now (name .entry)) ⌝ }
 {
     let fd = os::open_read(name);
     if fd >= 0 {
@@ -121,19 +143,20 @@ pub fn open(name: &[u8]) -> Opened
     if os::errno() == libc::ENOENT {
         return Opened::Missing;
     }
-    os::fail(name);
+    tell_error(name);
     Opened::Failed
 }
 
-// One read into the buffer from a place on.
-fn read_some(fd: i32, name: &[u8], buf: &mut [u8], from: usize) -> Move
-    requires { ⌜ from ≤ length (now buf) ⌝ }
-    ensures { λ r. ⌜ Within r (length (now (buf .entry)) - from) ⌝ }
+// One read into the buffer.
+fn read_some(fd: i32, name: &[u8], buf: &mut [u8], place: &mut u64) -> Move
+    requires { ⌜ OpenedAs (now name) fd ⌝ }
+    ensures { λ r. ⌜ ReadSome r (now (name .entry)) (now (buf .exit)) (now (place .entry)) (now (place .exit)) ⌝ }
 {
-    let rest: &mut [u8] = &mut buf[from..];
-    let got = libc::read(fd, rest);
+    let got = libc::read(fd, buf);
     if got >= 0 {
-        return Move::Moved(io::count(got, rest));
+        let n = io::count(got, buf);
+        *place = wrapping_add_u64(*place, n as u64);
+        return Move::Moved(n);
     }
     if passing(name) {
         return Move::Again;
@@ -150,7 +173,7 @@ pub struct Part {
 
 // Nothing, since a file could not be read.
 fn unread() -> Part
-    ensures { λ r. ⌜ r .size ≡ 0 ⌝ }
+    ensures { λ r. ⌜ (r .good ≡ false) × (r .size ≡ 0) × (r .last ≡ true) ⌝ }
 {
     Part {
         good: false,
@@ -161,8 +184,9 @@ fn unread() -> Part
 
 // The next bytes of a file, until the buffer is full or the file ends. A failure is told under the file's name. The turns are
 // counted down as in a write.
-pub fn read_part(fd: i32, name: &[u8], buf: &mut [u8]) -> Part
-    ensures { λ r. ⌜ r .size ≤ length (now (buf .exit)) ⌝ }
+pub fn read_part(fd: i32, name: &[u8], buf: &mut [u8], place: &mut u64) -> Part
+    requires { ⌜ OpenedAs (now name) fd ⌝ }
+    ensures { λ r. ⌜ PartRead (now (name .entry)) r (now (buf .exit)) (now (place .entry)) (now (place .exit)) ⌝ }
 {
     let mut done: usize = 0;
     let mut turns = u64::MAX;
@@ -175,7 +199,7 @@ pub fn read_part(fd: i32, name: &[u8], buf: &mut [u8]) -> Part
             };
         }
         turns -= 1;
-        match read_some(fd, name, buf, done) {
+        match read_some(fd, name, &mut buf[done..], place) {
             Move::Moved(n) => {
                 if n == 0 {
                     return Part {
@@ -192,16 +216,18 @@ pub fn read_part(fd: i32, name: &[u8], buf: &mut [u8]) -> Part
             }
         }
     }
+    tell_spent(name);
     unread()
 }
 
 // The first bytes of a file, as many as the buffer holds: none where it is missing.
 pub fn load(name: &[u8], buf: &mut [u8]) -> Part
-    ensures { λ r. ⌜ r .size ≤ length (now (buf .exit)) ⌝ }
+    ensures { λ r. ⌜ (r .size ≤ length (now (buf .exit))) × DoneOrTold (r .good) (FileLoaded (now (name .entry)) (take (r .size) (now (buf .exit))) (length (now (buf .exit)))) ⌝ }
 {
+    let mut place: u64 = 0;
     match open(name) {
         Opened::File(fd) => {
-            let part = read_part(fd, name, buf);
+            let part = read_part(fd, name, buf, &mut place);
             libc::close(fd);
             part
         }

@@ -1,6 +1,16 @@
 // The month program: the figures of up to 64 traces, `00.bin` upward, each in a new session started from `policy.bin`, and of all of
 // them in total (change request No. 6). The files are in the working folder. The text is `monthText` of them: its lines are those of
 // `figures`, and the loops here read, count and write. What fails outside is told on standard error, and there is then no total line.
+// `sent` counts the bytes handed to standard output.
+ghost use mathlib.Core.Path.{_≡_};
+ghost use lib.ListN.{length};
+ghost use Rattle.image.specs.Image.{checkOf, policyIn};
+ghost use Rattle.session.specs.Limits.{sessionLength};
+ghost use Rattle.session.specs.Session.{startOf};
+ghost use Rattle.listing.specs.Lines.{policyLine};
+ghost use Rattle.figures.specs.Counters.{counters, noCounters};
+ghost use Rattle.files.specs.Calls.{DoneOrTold, OpenedAs, Handed};
+ghost use Rattle.month.specs.Runs.{TraceCounted, TraceShown, TracesShown, MonthOf, MonthShown};
 use figures::COUNT_LIMIT;
 use figures::TRACE_LIMIT;
 use image::CONTAINER_LIMIT;
@@ -27,13 +37,17 @@ fn add_file(
     session: &mut [u64],
     counts: &mut [u32; COUNT_LIMIT],
     places: &mut [u32],
-) -> Progress {
+) -> Progress
+    requires { ⌜ OpenedAs (now name) fd × (now counts ≡ noCounters .counts) × (now places ≡ noCounters .places) ⌝ }
+    ensures { λ r. ⌜ DoneOrTold (r .good) (TraceCounted (now (name .entry)) (now (session .entry)) (counters (r .records) (now (counts .exit)) (now (places .exit)))) ⌝ }
+{
     let mut part = [0u8; PART_SIZE];
     let mut records: u64 = 0;
+    let mut place: u64 = 0;
     let mut turns = u64::MAX;
     while turns > 0 {
         turns -= 1;
-        let got = files::read_part(fd, name, &mut part);
+        let got = files::read_part(fd, name, &mut part, &mut place);
         let n = got.size;
         records = figures::add_part(&part[..n], session, counts, places, records);
         if got.last {
@@ -49,6 +63,7 @@ fn add_file(
             };
         }
     }
+    files::tell_spent(name);
     Progress {
         good: false,
         records: records,
@@ -66,7 +81,11 @@ fn show_trace(
     sums: &mut [u32; CONTAINER_LIMIT],
     total: u64,
     out: &mut [u8; BUFFER_SIZE],
-) -> Progress {
+    sent: &mut u64,
+) -> Progress
+    requires { ⌜ OpenedAs (now name) fd × (checkOf (now policy) ≡ 0) × (length (now session) ≡ sessionLength) ⌝ }
+    ensures { λ r. ⌜ DoneOrTold (r .good) (TraceShown n (now (name .entry)) (startOf (policyIn (now (policy .entry)))) (counters total (now (totals .entry)) (now (sums .entry))) (counters (r .records) (now (totals .exit)) (now (sums .exit))) (now (sent .entry)) (now (sent .exit))) ⌝ }
+{
     let mut counts = [0u32; COUNT_LIMIT];
     let mut places = [0u32; CONTAINER_LIMIT];
     session::start(policy, session);
@@ -76,10 +95,10 @@ fn show_trace(
     }
     let records = run.records;
     let end = figures::put_trace(out, n, records, &counts, &places);
-    let written = files::write_front(out, end);
+    let written = files::write_front(out, end, sent);
     let summed = figures::add_total(totals, sums, total, &counts, &places, records);
     Progress {
-        good: written.good,
+        good: written,
         records: summed,
     }
 }
@@ -91,14 +110,29 @@ fn show_traces(
     totals: &mut [u32; COUNT_LIMIT],
     sums: &mut [u32; CONTAINER_LIMIT],
     out: &mut [u8; BUFFER_SIZE],
-) -> Progress {
+    sent: &mut u64,
+) -> Progress
+    requires { ⌜ (checkOf (now policy) ≡ 0) × (length (now session) ≡ sessionLength) × (now totals ≡ noCounters .counts) × (now sums ≡ noCounters .places) ⌝ }
+    ensures { λ r. ⌜ DoneOrTold (r .good) (TracesShown (startOf (policyIn (now (policy .entry)))) (counters (r .records) (now (totals .exit)) (now (sums .exit))) (now (sent .entry)) (now (sent .exit))) ⌝ }
+{
     let mut total: u64 = 0;
     let mut n: usize = 0;
     while n < TRACE_LIMIT {
         let name = figures::trace_name(n);
         match files::open(&name) {
             files::Opened::File(fd) => {
-                let shown = show_trace(n, fd, &name, policy, session, totals, sums, total, out);
+                let shown = show_trace(
+                    n,
+                    fd,
+                    &name,
+                    policy,
+                    session,
+                    totals,
+                    sums,
+                    total,
+                    out,
+                    sent,
+                );
                 libc::close(fd);
                 total = shown.records;
                 if !shown.good {
@@ -126,38 +160,55 @@ fn show_traces(
     }
 }
 
-// The lines of the traces and the total line, as far as all goes well.
-fn show_month(policy: &[u8], session: &mut [u64], out: &mut [u8; BUFFER_SIZE]) {
+// The lines of the traces and the total line, as far as all goes well: true if it does.
+fn show_month(
+    policy: &[u8],
+    session: &mut [u64],
+    out: &mut [u8; BUFFER_SIZE],
+    sent: &mut u64,
+) -> bool
+    requires { ⌜ (checkOf (now policy) ≡ 0) × (length (now session) ≡ sessionLength) ⌝ }
+    ensures { λ r. ⌜ DoneOrTold r (MonthOf (startOf (policyIn (now (policy .entry)))) (now (sent .entry)) (now (sent .exit))) ⌝ }
+{
     let mut totals = [0u32; COUNT_LIMIT];
     let mut sums = [0u32; CONTAINER_LIMIT];
-    let run = show_traces(policy, session, &mut totals, &mut sums, out);
+    let run = show_traces(policy, session, &mut totals, &mut sums, out, sent);
     if !run.good {
-        return;
+        return false;
     }
     let end = figures::put_total(out, &totals, &sums);
-    files::write_front(out, end);
+    files::write_front(out, end, sent)
 }
 
 // The one line of a refused policy.
-fn refuse(refusal: u32, out: &mut [u8; BUFFER_SIZE]) {
+fn refuse(refusal: u32, out: &mut [u8; BUFFER_SIZE], sent: &mut u64) -> bool
+    ensures { λ r. ⌜ DoneOrTold r (Handed (policyLine refusal) (now (sent .entry)) (now (sent .exit))) ⌝ }
+{
     let end = trace_listing::list_refused(out, refusal);
-    files::write_front(out, end);
+    files::write_front(out, end, sent)
 }
 
-fn main() {
+// The whole program: true if all went well.
+fn show_all(sent: &mut u64) -> bool
+    ensures { λ r. ⌜ DoneOrTold r (MonthShown (now (sent .entry)) (now (sent .exit))) ⌝ }
+{
     let mut out = [0u8; BUFFER_SIZE];
     // The session's buffer, which each start fills.
     let mut session = [0u64; SESSION_LENGTH];
     let mut policy = [0u8; POLICY_ROOM];
     let loaded = files::load(b"policy.bin", &mut policy);
     if !loaded.good {
-        return;
+        return false;
     }
     let n = loaded.size;
     let refusal = image::check(&policy[..n]);
     if refusal != 0 {
-        refuse(refusal, &mut out);
-        return;
+        return refuse(refusal, &mut out, sent);
     }
-    show_month(&policy[..n], &mut session, &mut out);
+    show_month(&policy[..n], &mut session, &mut out, sent)
+}
+
+fn main() {
+    let mut sent: u64 = 0;
+    show_all(&mut sent);
 }

@@ -7,6 +7,7 @@ use mathlib.Core.List.{List, [], _++_, append-assoc, append-nil}
 use lib.Dec.{eqb}
 use borrow.Author.Tests.{eq-eqb, ne-eqb}
 use lib.ListN.{length, take, drop, length-take, length-drop}
+use lib.Seq.{take-at}
 use Rattle.answers.specs.declared.Answer.{Answer}
 use Rattle.answers.specs.declared.Tally.{Tally}
 use Rattle.answers.specs.Tallies.{more, countedAll}
@@ -139,3 +140,10 @@ listing-end part t₀ s₀ before s out run at h l =
 
 pub line-listed : {text before after : List ℕ} {end : ℕ} → length text ≤ lineLimit → Wrote text before after 0 end → ListedText text before after end
 line-listed l h = record { front = h; room = omega (arith, h .ends) }
+
+-- the front of the buffer up to the end is the text
+pub listed-front : (text before after : List ℕ) (end : ℕ) → ListedText text before after end → take end after ≡ text
+unfolding Rattle.fields.specs.Writing.overwritten
+listed-front text before after end h =
+    let e : length text ≡ end = omega (arith, h .front .ends) in
+    ap (λ (l : List ℕ). take end l) (h .front .buffer) ∙ take-at text (drop (0 + length text) before) end e

@@ -1,16 +1,84 @@
--- `watch::list_file`. Invariant: the lengths of session and part; the turns count down.
-use mathlib.Core.Path.{_≡_}
-use lib.ListN.{length}
+-- `watch::list_file`. Invariant: what is read is run, counted and its lines handed on (`Between`); the turns count down.
+use Rattle.files.proofs.CallLaws.{failed}
+use borrow.Author.Tests.{not-true, not-false}
+use mathlib.Core.Path.{refl}
+use Rattle.watch.proofs.RunLaws.{Between, between-start, between-next, trace-listed}
 use borrow.Author.Needs.{needs}
-use Rattle.trace_listing.specs.Parts.{partLimit}
 use Rattle.watch.proofs.list_file.Statement.{statement}
 use Rattle.watch.proofs.list_file.Tie as tie
 
 abbrev Inv-loop : tie.InvT-loop
-Inv-loop fd name session₀ out₀ part₀ tally₀ turns₀ session out part tally turns = (length session ≡ length session₀) × (length part ≡ partLimit)
+Inv-loop fd name session₀ out₀ sent₀ part₀ tally₀ place₀ turns₀ session out sent part tally place turns = Between name session₀ sent₀ session part tally place sent
 
 abbrev μ-loop : tie.MeasureT-loop
-μ-loop fd name session₀ out₀ part₀ tally₀ turns₀ session out part tally turns = turns
+μ-loop fd name session₀ out₀ sent₀ part₀ tally₀ place₀ turns₀ session out sent part tally place turns = turns
+
+no-tally-requires : tie.Need-no-tally-requires Inv-loop μ-loop
+no-tally-requires c κs = search needs
+
+loop-holds : tie.Need-loop-holds Inv-loop μ-loop
+loop-holds c = between-start _ _ _ _ _ (c .no-tally .ensures) refl
+
+sub-turns : tie.Need-sub-turns Inv-loop μ-loop
+sub-turns c = search needs
+
+slice-aggregate-read-part : tie.Need-slice-aggregate-read-part Inv-loop μ-loop
+slice-aggregate-read-part c = search needs
+
+read-part-requires : tie.Need-read-part-requires Inv-loop μ-loop
+read-part-requires c κs = search (needs, c .before .before .before .before .before .before .before .pre)
+
+list-part-requires : tie.Need-list-part-requires Inv-loop μ-loop
+list-part-requires c κs = search needs
+
+write-front-requires : tie.Need-write-front-requires Inv-loop μ-loop
+write-front-requires c κs = search needs
+
+same-length : tie.Need-same-length Inv-loop μ-loop
+same-length c = search needs
+
+returns : tie.Need-returns Inv-loop μ-loop
+returns c = failed (c .before .write-front .ensures .told (not-true _ (c .if1 .taken)))
+
+same-length-2 : tie.Need-same-length-2 Inv-loop μ-loop
+same-length-2 c = search needs
+
+returns-2 : tie.Need-returns-2 Inv-loop μ-loop
+returns-2 c = record {
+  done =
+      trace-listed _ _ _ _ _ _ _ _
+      (c .before .before .before .before .before .before .before .before .before .before .before .before .before .before .before .before .before .before .loop .inv)
+      _ _ _
+      (c .before .before .before .before .before .before .before .before .before .before .before .before .before .before .read-part .ensures)
+      _ _ _ _
+      (c .before .before .before .before .before .before .before .before .before .list-part .ensures)
+      _
+      (c .before .before .write-front .ensures .done (not-false _ (c .before .if1 .left)))
+      (c .if2 .taken);
+  told = c .before .before .before .before .before .before .before .before .before .before .before .before .before .before .read-part .ensures .told;
+}
+
+loop-less : tie.Need-loop-less Inv-loop μ-loop
+loop-less c = search needs
+
+loop-again : tie.Need-loop-again Inv-loop μ-loop
+loop-again c =
+    between-next _ _ _ _ _ _ _ _
+    (c .before .before .before .before .before .before .before .before .before .before .before .before .before .before .before .before .before .before .loop .inv)
+    _ _ _
+    (c .before .before .before .before .before .before .before .before .before .before .before .before .before .before .read-part .ensures)
+    _ _ _ _
+    (c .before .before .before .before .before .before .before .before .before .list-part .ensures)
+    _
+    (c .before .before .write-front .ensures .done (not-false _ (c .before .if1 .left)))
+    (c .if2 .left)
+    (c .before .before .before .before .before .before .before .before .before .list-part .kept .1 .1 .0)
+
+same-length-3 : tie.Need-same-length-3 Inv-loop μ-loop
+same-length-3 c = search needs
+
+returns-3 : tie.Need-returns-3 Inv-loop μ-loop
+returns-3 c = failed (c .tell-spent .ensures)
 
 pub list-file-spec : {M : Type 1} → statement M
 list-file-spec =
@@ -18,18 +86,19 @@ list-file-spec =
     (tie.spec
     Inv-loop
     μ-loop
+    no-tally-requires
+    loop-holds
+    sub-turns
+    slice-aggregate-read-part
+    read-part-requires
+    list-part-requires
+    write-front-requires
+    same-length
+    returns
+    same-length-2
+    returns-2
+    loop-less
+    loop-again
     (λ c κs. search needs)
-    (λ c. search needs)
-    (λ c. search needs)
-    (λ c. search needs)
-    (λ c κs. search needs)
-    (λ c κs. search needs)
-    (λ c κs. search needs)
-    (λ c. search needs)
-    (λ c. search needs)
-    (λ c. search needs)
-    (λ c. search needs)
-    (λ c. search needs)
-    (λ c. search needs)
-    (λ c. search needs)
-    (λ c. search needs))
+    same-length-3
+    returns-3)

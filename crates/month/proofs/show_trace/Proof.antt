@@ -1,0 +1,48 @@
+-- `month::show_trace`. A new session, its counts, its line, its sum.
+use Rattle.month.proofs.RunLaws.{trace-shown}
+use Rattle.files.specs.Calls.{handed-as}
+use Rattle.files.proofs.CallLaws.{told-as, done-as}
+use Rattle.trace_listing.proofs.PartLaws.{listed-front}
+use Rattle.figures.specs.Counters.{noCounters, countersOf, valuesBelow}
+use Rattle.figures.specs.Figures.{noFigures, figuresOf}
+use Rattle.answers.specs.Tallies.{countOf}
+use borrow.Author.Tests.{not-true, not-false}
+use mathlib.Core.Path.{refl}
+use borrow.Author.Needs.{needs}
+use Rattle.month.proofs.show_trace.Statement.{statement}
+use Rattle.month.proofs.show_trace.Tie as tie
+
+add-file-requires : tie.Need-add-file-requires
+unfolding noCounters countersOf valuesBelow noFigures figuresOf countOf
+add-file-requires c κs = (search (needs, c .before .before .before .before .before .before .before .before .before .before .pre .0), refl, refl)
+
+returns : tie.Need-returns
+returns c = told-as (not-true _ (c .if1 .taken)) (c .before .before .before .before .before .add-file .ensures .told (not-true _ (c .if1 .taken)))
+
+returns-2 : tie.Need-returns-2
+returns-2 c =
+    done-as
+    (λ w.
+    trace-shown _ _ _ _ _ _ _ _ _ _
+    (c .before .before .before .before .before .before .before .before .before .before .before .before .before .before .before .before .before .before .before .before .before .before .before .before .before .before .before .before .before .pre .1)
+    (c .before .before .before .before .before .before .before .before .before .before .before .before .before .before .before .before .before .before .before .before .before .before .before .before .before .before .before .before .before .pre .2)
+    (c .before .before .before .before .before .before .before .before .before .before .before .before .before .before .before .before .before .before .before .before .before .before .before .before .start .ensures .1)
+    (c .before .before .before .before .before .before .before .before .before .before .before .before .before .before .before .before .before .before .add-file .ensures .done (not-false _ (c .before .before .before .before .before .before .before .before .before .before .before .before .before .if1 .left)))
+    (handed-as (listed-front _ _ _ _ (c .before .before .before .before .before .before .before .before .before .put-trace .ensures)) w)
+    (c .add-total .ensures))
+    (c .before .before .before .before .before .write-front .ensures)
+
+pub show-trace-spec : {M : Type 1} → statement M
+show-trace-spec =
+    tie.close
+    (tie.spec
+    (λ c κs. search needs)
+    (λ c. search needs)
+    add-file-requires
+    (λ c. search needs)
+    returns
+    (λ c κs. search needs)
+    (λ c κs. search needs)
+    (λ c κs. search needs)
+    (λ c. search needs)
+    returns-2)
