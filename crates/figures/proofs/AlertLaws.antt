@@ -1,7 +1,7 @@
 -- Figures of a run: its history, the receivers of its alerts, and the positions of those.
 use Prim.Native.Nat.{ℕ, zero, suc, _+_, _<_}
 use native.Mathlib.Omega.{arith}
-use mathlib.Core.Path.{_≡_, refl, sym, ap, ap₂, _∙_}
+use mathlib.Core.Path.{_≡_, refl, sym, ap, ap₂, subst, _∙_}
 use mathlib.Core.Logic.{_↔_, _⊎_, inl, inr}
 use mathlib.Core.Bool.{Bool, true, false, cond, _&&_, _||_}
 use mathlib.Core.List.{List, [], _∷_}
@@ -10,8 +10,8 @@ use lib.Dec.{eqb}
 use lib.ListN.{length, getElem?}
 use borrow.Author.Tests.{eqb-true, eq-eqb}
 use Rattle.lists.specs.Counting.{countBelow, sumBelow}
-use Rattle.lists.proofs.Bools.{decide, clash, same-test, and-in, and-0, and-1}
-use Rattle.lists.proofs.Counting.{count-same, sum-same, sum-none, sum-add, sum-one}
+use Rattle.lists.proofs.Bools.{decide, clash, and-in, and-0, and-1}
+use Rattle.lists.proofs.Counting.{sum-same, sum-none, sum-add, sum-one}
 use Rattle.lists.proofs.Places.{some-inj, none-some}
 use Rattle.answers.specs.declared.Answer.{Answer}
 use Rattle.answers.specs.Answers.{isQuiet, isAlert, isRefused, accepted, receiverOf, quiet, alert}
@@ -149,14 +149,13 @@ there [] n h = absurd (omega arith)
 there (a ∷ l) zero h = (a, refl)
 there (a ∷ l) (suc n) h = there l n (omega arith)
 
--- a test that passes exactly where the answers pass one
-pub count-exactly : (f : Answer → Bool) (Q : ℕ → Type 0) (l : List Answer) → ((n : ℕ) (a : Answer) → getElem? l n ≡ some a → (f a ≡ true) ↔ Q n)
-    → (t : ℕ → Bool) → ((n : ℕ) → n < length l → (t n ≡ true) ↔ Q n) → countOf f l ≡ countBelow t (length l)
-count-exactly f Q l e t h =
-    count-places f l ∙ count-same (λ n. passes f (getElem? l n)) t (length l) (λ n b. at n b (there l n b))
+-- a test of positions that passes exactly where the answers pass one, and how many pass
+pub count-told : (f : Answer → Bool) (Q : ℕ → Type 0) (l : List Answer) → ((n : ℕ) (a : Answer) → getElem? l n ≡ some a → (f a ≡ true) ↔ Q n)
+    → (t : ℕ → Bool) × ((n : ℕ) → n < length l → (t n ≡ true) ↔ Q n) × (countOf f l ≡ countBelow t (length l))
+count-told f Q l e = (λ n. passes f (getElem? l n), λ n b. at n (there l n b), count-places f l)
   where
-    at : (n : ℕ) → n < length l → (a : Answer) × (getElem? l n ≡ some a) → passes f (getElem? l n) ≡ t n
-    at n b (a, g) = rw g (same-test (f a) (t n) (λ x. h n b .1 (e n a g .0 x)) (λ x. e n a g .1 (h n b .0 x)))
+    at : (n : ℕ) → (a : Answer) × (getElem? l n ≡ some a) → (passes f (getElem? l n) ≡ true) ↔ Q n
+    at n (a, g) = subst (λ (x : Option Answer). (passes f x ≡ true) ↔ Q n) (sym g) (e n a g)
 
 -- the answer at a position is that of its record, on some session
 answer-at : (s : List ℕ) (rs : List (List ℕ)) (n : ℕ) (a : Answer) → getElem? (runAnswers s rs) n ≡ some a

@@ -6,4 +6,6 @@ pub mod CounterLaws
 pub mod LineLaws
 pub mod PartLaws
 pub mod MonthLaws
+pub mod ReadLaws
+pub mod LongLaws
 pub mod AlertLaws

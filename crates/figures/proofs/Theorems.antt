@@ -5,18 +5,21 @@ use Prim.Native.Nat.{ℕ, zero, suc, _+_, _-_, _*_, _/_, _%_, _^_, _≤_, _<_}
 use native.Mathlib.Omega.{arith}
 use native.Mathlib.Nat.{mod-lt, div-add-mod}
 use mathlib.Core.Path.{_≡_, refl, sym, ap, _∙_}
-use mathlib.Core.Logic.{_↔_, _≢_}
+use mathlib.Core.Logic.{_⊎_, inl, inr, _↔_, _≢_}
 use mathlib.Core.Bool.{Bool, true, false}
 use mathlib.Core.List.{List, [], _∷_, _++_, map}
 use lib.ListN.{length, take, length-map}
 use lib.Seq.{take-all, take-take}
 use borrow.Author.Tests.{eq-eqb, ne-eqb}
+use Rattle.lists.proofs.Bools.{decide}
 use Rattle.lists.specs.Counting.{countBelow, sumBelow}
 use Rattle.fields.specs.Ascii.{ascii}
 use Rattle.fields.specs.Bytes.{Bytes}
 use Rattle.answers.specs.declared.Answer.{Answer}
 use Rattle.answers.specs.Answers.{accepted, isAlert, isRefused}
-use Rattle.answers.specs.Tallies.{countOf}
+use Rattle.answers.specs.Refusals.{traceLength}
+use Rattle.answers.specs.Tallies.{noTally, countOf}
+use Rattle.answers.proofs.Theorems.{tally-counts}
 use Rattle.image.specs.Limits.{containerLimit}
 use Rattle.image.specs.Image.{checkOf, policyIn}
 use Rattle.session.specs.Session.{startOf}
@@ -26,18 +29,21 @@ use Rattle.records.specs.Traces.{traceRecords}
 use Rattle.monitor.specs.Runs.{runAnswers, historyIn}
 use Rattle.monitor.proofs.Theorems.{demand3}
 use Rattle.listing.specs.Text.{decimal}
-use Rattle.listing.specs.Lines.{policyLine}
-use Rattle.trace_listing.specs.Listings.{partSession}
+use Rattle.listing.specs.Lines as watched
+use Rattle.listing.specs.Lines.{line, policyLine}
+use Rattle.trace_listing.specs.Listings.{partTally, partSession, totalOf}
 use Rattle.trace_listing.specs.Parts.{together}
 use Rattle.trace_listing.proofs.CutLaws.{answers-length}
-use Rattle.figures.specs.Figures.{Figures, testAt, acceptedIn, alertsIn, refusedIn, alertAt, figuresOf, noFigures, sumOf, tooMany}
-use Rattle.figures.specs.Lines.{rateFields, fieldsFrom, countFields, alertFields, figureFields, traceLine}
-use Rattle.figures.specs.Months.{traceFigures, counting, totalFigures, traceLimit, monthText}
+use Rattle.figures.specs.Figures.{Figures, testAt, acceptedIn, alertsIn, refusedIn, alertAt, figuresOf, noFigures, sumOf, recordLimit, tooMany}
+use Rattle.figures.specs.Lines.{nameOf, rateFields, fieldsFrom, countFields, alertFields, figureFields, traceLine}
+use Rattle.figures.specs.Months.{traceFigures, counting, totalFigures, traceLimit, monthText, FrontsOf}
+use Rattle.figures.proofs.ReadLaws.{fronts-text}
 use Rattle.figures.specs.Counters.{figuresIn, noCounters, partCounters, textByParts, InParts}
 use Rattle.figures.specs.Positions.{ForbiddenAt, ForbiddenInto}
 use Rattle.figures.proofs.MonthLaws as months
 use Rattle.figures.proofs.MonthLaws.{text-parts, records-length}
-use Rattle.figures.proofs.AlertLaws.{history-size, answers-split, alerts-summed, count-exactly, alert-at, alert-into}
+use Rattle.figures.proofs.AlertLaws.{history-size, answers-split, alerts-summed, count-told, alert-at, alert-into}
+use Rattle.figures.proofs.LongLaws.{many-records, long-line, figures-line-apart}
 
 -- ---- the counts of a list of answers
 
@@ -77,28 +83,52 @@ records-counted s t = records-told s (traceRecords t) ∙ records-length t
 -- ---- demand 3 in the figures
 
 module _ (image : List ℕ) (bytes : Bytes image) (ok : checkOf image ≡ 0) (rs : List (List ℕ)) where
-  -- The alerts are the accepted and judged steps whose receiver is forbidden what it holds: what counting gives by any test of
-  -- positions that passes exactly for them.
+  -- The alerts are the accepted and judged steps whose receiver is forbidden what it holds: there is a test of positions that passes
+  -- exactly for them, and so many pass.
   pub alerts-exact : (t : ℕ → Bool)
-      → ((n : ℕ) → n < length rs → (t n ≡ true) ↔ ForbiddenAt (startOf (policyIn image)) (policyIn image) rs n)
-      → alertsIn (figuresOf (runAnswers (startOf (policyIn image)) rs)) ≡ countBelow t (length rs)
+      × ((n : ℕ) → n < length rs → (t n ≡ true) ↔ ForbiddenAt (startOf (policyIn image)) (policyIn image) rs n)
+      × (alertsIn (figuresOf (runAnswers (startOf (policyIn image)) rs)) ≡ countBelow t (length rs))
   unfolding figuresOf testAt
-  alerts-exact t h =
-      count-exactly isAlert (ForbiddenAt (startOf (policyIn image)) (policyIn image) rs) (runAnswers (startOf (policyIn image)) rs)
-      (λ n a g. alert-at (startOf (policyIn image)) (policyIn image) (demand3 image bytes ok) rs n a g) t
-      (λ n b. h n (omega (arith, answers-length (startOf (policyIn image)) rs)))
-      ∙ ap (countBelow t) (answers-length (startOf (policyIn image)) rs)
+  alerts-exact =
+      let s : List ℕ = startOf (policyIn image) in
+      let x = count-told isAlert (ForbiddenAt s (policyIn image) rs) (runAnswers s rs) (λ n a g. alert-at s (policyIn image) (demand3 image bytes ok) rs n a g) in
+      (x .0, λ n b. x .1 n (omega (arith, answers-length s rs)), x .2 ∙ ap (countBelow (x .0)) (answers-length s rs))
 
   -- and those of a container are those that it receives
-  pub alerts-exact-at : (c : ℕ) (t : ℕ → Bool)
-      → ((n : ℕ) → n < length rs → (t n ≡ true) ↔ ForbiddenInto (startOf (policyIn image)) (policyIn image) rs c n)
-      → figuresOf (runAnswers (startOf (policyIn image)) rs) .alertsAt c ≡ countBelow t (length rs)
+  pub alerts-exact-at : (c : ℕ) → (t : ℕ → Bool)
+      × ((n : ℕ) → n < length rs → (t n ≡ true) ↔ ForbiddenInto (startOf (policyIn image)) (policyIn image) rs c n)
+      × (figuresOf (runAnswers (startOf (policyIn image)) rs) .alertsAt c ≡ countBelow t (length rs))
   unfolding figuresOf
-  alerts-exact-at c t h =
-      count-exactly (alertAt c) (ForbiddenInto (startOf (policyIn image)) (policyIn image) rs c) (runAnswers (startOf (policyIn image)) rs)
-      (λ n a g. alert-into (startOf (policyIn image)) (policyIn image) (demand3 image bytes ok) rs n a g c) t
-      (λ n b. h n (omega (arith, answers-length (startOf (policyIn image)) rs)))
-      ∙ ap (countBelow t) (answers-length (startOf (policyIn image)) rs)
+  alerts-exact-at c =
+      let s : List ℕ = startOf (policyIn image) in
+      let x = count-told (alertAt c) (ForbiddenInto s (policyIn image) rs c) (runAnswers s rs) (λ n a g. alert-into s (policyIn image) (demand3 image bytes ok) rs n a g c) in
+      (x .0, λ n b. x .1 n (omega (arith, answers-length s rs)), x .2 ∙ ap (countBelow (x .0)) (answers-length s rs))
+
+-- ---- 19
+
+-- "19 when a trace has over 1,000,000 records; .. only its name and 19 are printed.", and never else: the line of a trace is its name
+-- and 19 exactly if it has so many records
+pub too-long-exactly : (n : ℕ) (s t : List ℕ) → (traceLine n (traceFigures s t) ≡ line (nameOf n) (decimal traceLength ∷ [])) ↔ (recordLimit < length (traceRecords t))
+too-long-exactly n s t = (λ e. by e (decide (tooMany (traceFigures s t .records))), back)
+  where
+    by : traceLine n (traceFigures s t) ≡ line (nameOf n) (decimal traceLength ∷ []) → (tooMany (traceFigures s t .records) ≡ true) ⊎ (tooMany (traceFigures s t .records) ≡ false)
+        → recordLimit < length (traceRecords t)
+    by e (inl k) = many-records s t .0 k
+    by e (inr k) = absurd (figures-line-apart n (traceFigures s t) k e)
+
+    back : recordLimit < length (traceRecords t) → traceLine n (traceFigures s t) ≡ line (nameOf n) (decimal traceLength ∷ [])
+    back h = long-line n (traceFigures s t) (many-records s t .1 h)
+
+-- ---- the watch program
+
+-- the total line of the watch program has the records, alerts and refused steps of the month's figures
+pub total-watched : (s t : List ℕ) → length t < 2 ^ 64
+    → totalOf (partTally noTally s t) ≡ watched.totalLine (traceFigures s t .records) (alertsIn (traceFigures s t)) (refusedIn (traceFigures s t))
+unfolding totalOf partTally traceFigures figuresOf testAt
+total-watched s t h =
+    let l : length (runAnswers s (traceRecords t)) < 2 ^ 64 = omega (arith, answers-length s (traceRecords t), records-length t) in
+    let k = tally-counts (runAnswers s (traceRecords t)) l in
+    rw (k .0, k .1, k .2)
 
 -- ---- a trace in parts
 
@@ -169,6 +199,11 @@ month-by-parts image traces w l ok =
 pub front-too-long : (n : ℕ) (s x y : List ℕ) → length x % recordLength ≡ 0 → length (x ++ y) < 2 ^ 64 → tooMany (partCounters noCounters s x .records) ≡ true
     → (traceLine n (figuresIn (partCounters noCounters s x)) ≡ traceLine n (traceFigures s (x ++ y))) × (counting (traceFigures s (x ++ y)) ≡ noFigures)
 front-too-long = months.front-too-long
+
+-- So of a whole month: where of each trace all was read, or a front of whole records that is too long already, what was read shows as
+-- the whole traces do.
+pub month-of-fronts : (image : List ℕ) (fronts traces : List (List ℕ)) → FrontsOf (startOf (policyIn image)) fronts traces → monthText image fronts ≡ monthText image traces
+month-of-fronts = fronts-text
 
 -- A refused policy has its one line, whatever the traces; a trace behind the 64th is never shown.
 pub month-refused : (image : List ℕ) (traces : List (List ℕ)) → checkOf image ≢ 0 → monthText image traces ≡ policyLine (checkOf image)
