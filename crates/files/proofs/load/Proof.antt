@@ -9,12 +9,6 @@ use borrow.Author.Needs.{needs}
 use Rattle.files.proofs.load.Statement.{statement}
 use Rattle.files.proofs.load.Tie as tie
 
-open-requires : tie.Need-open-requires
-open-requires c κs = search needs
-
-enum-known-fd : tie.Need-enum-known-fd
-enum-known-fd c = search needs
-
 read-part-requires : tie.Need-read-part-requires
 read-part-requires c κs =
     let h : OpenedAs
@@ -25,21 +19,6 @@ read-part-requires c κs =
     (c .before .before .before .before .before .«open» .ensures)
     in search
     (needs, h)
-
-close-requires : tie.Need-close-requires
-close-requires c κs = search needs
-
-enum-told : tie.Need-enum-told
-enum-told c = search needs
-
-enum-told-2 : tie.Need-enum-told-2
-enum-told-2 c = search needs
-
-unread-requires : tie.Need-unread-requires
-unread-requires c κs = search needs
-
-same-length : tie.Need-same-length
-same-length c = search needs
 
 returns : tie.Need-returns
 returns c = (c .before .before .before .read-part .ensures .within, loaded-part _ _ _ _ (c .before .before .before .read-part .ensures))
@@ -54,14 +33,14 @@ pub load-spec : {M : Type 1} → statement M
 load-spec =
     tie.close
     (tie.spec
-    open-requires
-    enum-known-fd
+    (λ c κs. search needs)
+    (λ c. search needs)
     read-part-requires
-    close-requires
-    enum-told
-    enum-told-2
-    unread-requires
-    same-length
+    (λ c κs. search needs)
+    (λ c. search needs)
+    (λ c. search needs)
+    (λ c κs. search needs)
+    (λ c. search needs)
     returns
     returns-2
     returns-3)

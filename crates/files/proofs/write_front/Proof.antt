@@ -13,14 +13,8 @@ use Rattle.files.proofs.write_front.Tie as tie
 slice-aggregate-write-whole : tie.Need-slice-aggregate-write-whole
 slice-aggregate-write-whole c = let start = c .before .before .before in omega (arith, length-take (start .args .end) (start .args .out .now))
 
-write-whole-requires : tie.Need-write-whole-requires
-write-whole-requires c κs = search needs
-
 returns : tie.Need-returns
 returns c = c .write-whole .ensures
-
-write-whole-requires-2 : tie.Need-write-whole-requires-2
-write-whole-requires-2 c κs = search needs
 
 returns-2 : tie.Need-returns-2
 returns-2 c = done-as (handed-as (sym (take-all (c .before .before .before .before .args .end) (now (c .before .before .before .before .args .out)) (c .before .before .if1 .left)))) (c .write-whole2 .ensures)
@@ -30,7 +24,7 @@ write-front-spec =
     tie.close
     (tie.spec
     slice-aggregate-write-whole
-    write-whole-requires
+    (λ c κs. search needs)
     returns
-    write-whole-requires-2
+    (λ c κs. search needs)
     returns-2)

@@ -10,29 +10,11 @@ use borrow.Author.Needs.{needs}
 use Rattle.month.proofs.show_all.Statement.{statement}
 use Rattle.month.proofs.show_all.Tie as tie
 
-slice-aggregate-load : tie.Need-slice-aggregate-load
-slice-aggregate-load c = search needs
-
-slice-aggregate-load-2 : tie.Need-slice-aggregate-load-2
-slice-aggregate-load-2 c = search needs
-
-load-requires : tie.Need-load-requires
-load-requires c κs = search needs
-
 returns : tie.Need-returns
 returns c = failed (c .before .before .before .load .ensures .1 .told (not-true _ (c .if1 .taken)))
 
-array-share-prefix-policy : tie.Need-array-share-prefix-policy
-array-share-prefix-policy c = search needs
-
 slice-aggregate-check : tie.Need-slice-aggregate-check
 slice-aggregate-check c = simp length-take (omega arith)
-
-check-requires : tie.Need-check-requires
-check-requires c κs = search needs
-
-refuse-requires : tie.Need-refuse-requires
-refuse-requires c κs = search needs
 
 returns-2 : tie.Need-returns-2
 unfolding ascii
@@ -46,14 +28,8 @@ returns-2 c = done-as
     (c .before .before .before .if2 .taken))
     (c .refuse .ensures)
 
-array-share-prefix-policy-2 : tie.Need-array-share-prefix-policy-2
-array-share-prefix-policy-2 c = search needs
-
 slice-aggregate-show-month : tie.Need-slice-aggregate-show-month
 slice-aggregate-show-month c = simp length-take (omega arith)
-
-slice-aggregate-show-month-2 : tie.Need-slice-aggregate-show-month-2
-slice-aggregate-show-month-2 c = search needs
 
 show-month-requires : tie.Need-show-month-requires
 show-month-requires c κs = (sym (c .before .before .before .before .before .check .ensures) ∙ c .before .before .before .before .if2 .left, refl)
@@ -74,17 +50,17 @@ pub show-all-spec : {M : Type 1} → statement M
 show-all-spec =
     tie.close
     (tie.spec
-    slice-aggregate-load
-    slice-aggregate-load-2
-    load-requires
+    (λ c. search needs)
+    (λ c. search needs)
+    (λ c κs. search needs)
     returns
-    array-share-prefix-policy
+    (λ c. search needs)
     slice-aggregate-check
-    check-requires
-    refuse-requires
+    (λ c κs. search needs)
+    (λ c κs. search needs)
     returns-2
-    array-share-prefix-policy-2
+    (λ c. search needs)
     slice-aggregate-show-month
-    slice-aggregate-show-month-2
+    (λ c. search needs)
     show-month-requires
     returns-3)

@@ -13,35 +13,14 @@ Inv-loop fd name session₀ out₀ sent₀ part₀ tally₀ place₀ turns₀ se
 abbrev μ-loop : tie.MeasureT-loop
 μ-loop fd name session₀ out₀ sent₀ part₀ tally₀ place₀ turns₀ session out sent part tally place turns = turns
 
-no-tally-requires : tie.Need-no-tally-requires Inv-loop μ-loop
-no-tally-requires c κs = search needs
-
 loop-holds : tie.Need-loop-holds Inv-loop μ-loop
 loop-holds c = between-start _ _ _ _ _ (c .no-tally .ensures) refl
-
-sub-turns : tie.Need-sub-turns Inv-loop μ-loop
-sub-turns c = search needs
-
-slice-aggregate-read-part : tie.Need-slice-aggregate-read-part Inv-loop μ-loop
-slice-aggregate-read-part c = search needs
 
 read-part-requires : tie.Need-read-part-requires Inv-loop μ-loop
 read-part-requires c κs = search (needs, c .before .before .before .before .before .before .before .pre)
 
-list-part-requires : tie.Need-list-part-requires Inv-loop μ-loop
-list-part-requires c κs = search needs
-
-write-front-requires : tie.Need-write-front-requires Inv-loop μ-loop
-write-front-requires c κs = search needs
-
-same-length : tie.Need-same-length Inv-loop μ-loop
-same-length c = search needs
-
 returns : tie.Need-returns Inv-loop μ-loop
 returns c = failed (c .before .write-front .ensures .told (not-true _ (c .if1 .taken)))
-
-same-length-2 : tie.Need-same-length-2 Inv-loop μ-loop
-same-length-2 c = search needs
 
 returns-2 : tie.Need-returns-2 Inv-loop μ-loop
 returns-2 c = record {
@@ -58,9 +37,6 @@ returns-2 c = record {
   told = c .before .before .before .before .before .before .before .before .before .before .before .before .before .before .read-part .ensures .told;
 }
 
-loop-less : tie.Need-loop-less Inv-loop μ-loop
-loop-less c = search needs
-
 loop-again : tie.Need-loop-again Inv-loop μ-loop
 loop-again c =
     between-next _ _ _ _ _ _ _ _
@@ -74,9 +50,6 @@ loop-again c =
     (c .if2 .left)
     (c .before .before .before .before .before .before .before .before .before .list-part .kept .1 .1 .0)
 
-same-length-3 : tie.Need-same-length-3 Inv-loop μ-loop
-same-length-3 c = search needs
-
 returns-3 : tie.Need-returns-3 Inv-loop μ-loop
 returns-3 c = failed (c .tell-spent .ensures)
 
@@ -86,19 +59,19 @@ list-file-spec =
     (tie.spec
     Inv-loop
     μ-loop
-    no-tally-requires
+    (λ c κs. search needs)
     loop-holds
-    sub-turns
-    slice-aggregate-read-part
+    (λ c. search needs)
+    (λ c. search needs)
     read-part-requires
-    list-part-requires
-    write-front-requires
-    same-length
+    (λ c κs. search needs)
+    (λ c κs. search needs)
+    (λ c. search needs)
     returns
-    same-length-2
+    (λ c. search needs)
     returns-2
-    loop-less
+    (λ c. search needs)
     loop-again
     (λ c κs. search needs)
-    same-length-3
+    (λ c. search needs)
     returns-3)

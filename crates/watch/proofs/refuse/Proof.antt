@@ -6,14 +6,8 @@ use borrow.Author.Needs.{needs}
 use Rattle.watch.proofs.refuse.Statement.{statement}
 use Rattle.watch.proofs.refuse.Tie as tie
 
-list-refused-requires : tie.Need-list-refused-requires
-list-refused-requires c κs = search needs
-
-write-front-requires : tie.Need-write-front-requires
-write-front-requires c κs = search needs
-
 returns : tie.Need-returns
 returns c = done-as (handed-as (listed-front _ _ _ _ (c .before .before .before .before .list-refused .ensures))) (c .write-front .ensures)
 
 pub refuse-spec : {M : Type 1} → statement M
-refuse-spec = tie.close (tie.spec list-refused-requires write-front-requires returns)
+refuse-spec = tie.close (tie.spec (λ c κs. search needs) (λ c κs. search needs) returns)

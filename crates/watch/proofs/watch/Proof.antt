@@ -10,35 +10,11 @@ use borrow.Author.Needs.{needs}
 use Rattle.watch.proofs.watch.Statement.{statement}
 use Rattle.watch.proofs.watch.Tie as tie
 
-list-heading-requires : tie.Need-list-heading-requires
-list-heading-requires c κs = search needs
-
-write-front-requires : tie.Need-write-front-requires
-write-front-requires c κs = search needs
-
 returns : tie.Need-returns
 returns c = failed (c .before .write-front .ensures .told (not-true _ (c .if1 .taken)))
 
-slice-aggregate-list-trace : tie.Need-slice-aggregate-list-trace
-slice-aggregate-list-trace c = search needs
-
-list-trace-requires : tie.Need-list-trace-requires
-list-trace-requires c κs = search needs
-
-same-length : tie.Need-same-length
-same-length c = search needs
-
 returns-2 : tie.Need-returns-2
 returns-2 c = failed (c .before .before .before .before .list-trace .ensures .told (not-true _ (c .if2 .taken)))
-
-list-total-requires : tie.Need-list-total-requires
-list-total-requires c κs = search needs
-
-write-front-requires-2 : tie.Need-write-front-requires-2
-write-front-requires-2 c κs = search needs
-
-same-length-2 : tie.Need-same-length-2
-same-length-2 c = search needs
 
 returns-3 : tie.Need-returns-3
 unfolding ascii
@@ -55,14 +31,14 @@ pub watch-spec : {M : Type 1} → statement M
 watch-spec =
     tie.close
     (tie.spec
-    list-heading-requires
-    write-front-requires
+    (λ c κs. search needs)
+    (λ c κs. search needs)
     returns
-    slice-aggregate-list-trace
-    list-trace-requires
-    same-length
+    (λ c. search needs)
+    (λ c κs. search needs)
+    (λ c. search needs)
     returns-2
-    list-total-requires
-    write-front-requires-2
-    same-length-2
+    (λ c κs. search needs)
+    (λ c κs. search needs)
+    (λ c. search needs)
     returns-3)
