@@ -1,18 +1,27 @@
-# make demo            runs the watch program on the demonstration in demo/, and names its alerts
-# make profiles-demo   turns the profiles in demo/profiles into a policy, and names the alerts of a session from it
-# make month           runs the month program on the five days in crates/month/data, and draws their alerts
-# make night           watches eight commands of one night under strace, and names the alert
-# make test            everything that can fail, as the gate runs it
-# make policy          builds the program `policy` for operators, and prints where it is
-# make record          builds the program `record`, which watches real programs, and prints where it is
-# make lib             target/lib: libyaslaurel.a, yaslaurel.h, yaslaurel.pc, FORMATS.md and manual pages, for hosts in C and Rust
-# make install         these where a distribution has them, with the Rust crate and the example host: PREFIX=/usr/local,
-#                      LIBDIR=PREFIX/lib, staged under DESTDIR
-# make install-programs  the programs `policy` and `record`, in PREFIX/bin
-# make uninstall       removes all these, under the same names
-# make covering        target/staticlib/libcovering.a, the cover test alone, which the bench and a host test measure
-# make bench           ratios against Rust, in one run
-.PHONY: demo profiles-demo month night test policy record lib install install-programs uninstall covering bench
+# Watch, and write policies (analysts, operators)
+#   make try               seconds: compiles the watch program, not proved, and shows the demo's listing and alerts
+#   make demo              minutes, once: proves and builds the watch program, and shows the same
+#   make month             proves and builds the month program, prints the figures of five days and draws their alerts
+#   make policy            builds the program `policy`, which makes, checks and shows policies, and prints where it is
+#   make record            builds the program `record`, which watches real programs, and prints where it is
+#   make night             watches eight commands of a shell script under strace, and names the alert
+#   make profiles-demo     turns the profiles in demo/profiles into a policy, and names the alerts of a session from it
+#
+# Embed it (makers of platforms, in C or Rust)
+#   make lib               proves and builds target/lib: libyaslaurel.a, header, pkg-config file, FORMATS.md, manual pages
+#   make install           these where a distribution has them, with the Rust crate and an example host: PREFIX=/usr/local,
+#                          LIBDIR=PREFIX/lib, staged under DESTDIR
+#   make install-programs  the programs `policy` and `record`, in PREFIX/bin
+#   make uninstall         removes all these, under the same names
+#
+# Change it (contributors)
+#   make setup             installs what is missing by apt, as root: tools/needed.txt lists it
+#   make test              everything that can fail, as the gate runs it; as root it begins with make setup
+#   make bench             ratios against Rust, in one run
+#   make covering          the cover test alone, which the bench and a host test measure
+
+.DEFAULT_GOAL = help
+.PHONY: help try demo month policy record night profiles-demo lib install install-programs uninstall setup test bench covering
 
 PREFIX = /usr/local
 BINDIR = $(PREFIX)/bin
@@ -31,20 +40,18 @@ VERSION = $(shell sed -nE 's/^.define YASLAUREL_VERSION_(MAJOR|MINOR|PATCH) ([0-
 pkgconfig = sed -e 's|@PREFIX@|$(1)|' -e 's|@INCLUDEDIR@|$(2)|' -e 's|@LIBDIR@|$(3)|' -e 's|@VERSION@|$(VERSION)|' \
 	include/yaslaurel.pc.in
 
+# What stands at the head of this file.
+help:
+	@sed -n -e '/^$$/q' -e 's/^# \{0,1\}//p' Makefile
+
+try:
+	@demo/try
+
 demo:
 	@demo/run
 
-profiles-demo:
-	@demo/profiles/run
-
-night:
-	@demo/night/run
-
 month:
 	@demo/month/run
-
-test:
-	./.ci/run
 
 policy:
 	@hosts/build policy
@@ -52,17 +59,25 @@ policy:
 record:
 	@hosts/build record
 
-# Proved and built again where a source, a definition or a proof has changed.
-target/lib/libyaslaurel.a: crates.txt $(shell find crates -name '*.rt' -o -name '*.antt')
-	rt staticlib capi
-	mkdir -p target/lib
-	cp target/staticlib/libcapi.a $@
+night:
+	@demo/night/run
+
+profiles-demo:
+	@demo/profiles/run
+
+# The crate of the library's functions, and those that it stands on: proved and built again where a source, a definition or a proof
+# of one of them has changed.
+CRATES = capi $(shell sed -n 's/^capi://p' crates.txt)
+target/lib/libyaslaurel.a: crates.txt $(shell find $(CRATES:%=crates/%) -name '*.rt' -o -name '*.antt')
+	@tools/prove --archive capi
+	@mkdir -p target/lib
+	@cp target/staticlib/libcapi.a $@
 
 lib: target/lib/libyaslaurel.a
-	cp include/yaslaurel.h docs/FORMATS.md target/lib/
-	$(call pkgconfig,$${pcfiledir},$${prefix},$${prefix}) > target/lib/yaslaurel.pc
-	rm -rf target/lib/man
-	hosts/python/pages.py include/yaslaurel.h target/lib/man/man3
+	@cp include/yaslaurel.h docs/FORMATS.md target/lib/
+	@$(call pkgconfig,$${pcfiledir},$${prefix},$${prefix}) > target/lib/yaslaurel.pc
+	@rm -rf target/lib/man
+	@hosts/python/pages.py include/yaslaurel.h target/lib/man/man3
 
 install: lib
 	$(INSTALL) -d $(DESTDIR)$(INCLUDEDIR) $(DESTDIR)$(LIBDIR)/pkgconfig $(DESTDIR)$(MANDIR)/man3 $(DESTDIR)$(DOCDIR)/examples
@@ -89,8 +104,14 @@ uninstall:
 	rm -f $(addprefix $(DESTDIR)$(CRATEDIR)/,Cargo.toml build.rs $(CRATE_SOURCES))
 	-rmdir --ignore-fail-on-non-empty $(addprefix $(DESTDIR),$(DOCDIR)/examples $(DOCDIR) $(CRATEDIR)/src $(CRATEDIR) $(dir $(CRATEDIR)))
 
+setup:
+	@tools/setup
+
+test:
+	@./.ci/run
+
 covering:
-	rt staticlib covering
+	@tools/prove --archive covering
 
 bench: lib covering
 	bench/run

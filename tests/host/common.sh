@@ -1,4 +1,4 @@
-# Shared by the host tests: where the library is, and the counts of the last line. Source it from the repository root.
+# Shared by the host tests: where the library is, and (tests/counts.sh) the counts of the last line. Source it from the repository root.
 #
 # The library is libyaslaurel.a in the folder that YASLAUREL_LIB names (target/lib by default). With --self as the first
 # argument of a test the stand-in takes its place: the judge behind the library's interface.
@@ -7,44 +7,12 @@ standin=$root/target/standin
 library=${YASLAUREL_LIB:-$root/target/lib}
 case $library in /*) ;; *) library=$root/$library ;; esac
 libraries=()
-passed=0
-failed=0
-
-# note STATUS TEXT: counts one check, good if the status is 0.
-note() {
-    if [ "$1" -eq 0 ]; then
-        echo "ok $2"
-        passed=$((passed + 1))
-    else
-        echo "FAILED $2"
-        failed=$((failed + 1))
-    fi
-}
+. tests/counts.sh
 
 # must STATUS TEXT: a check without which the rest of the test means nothing.
 must() {
     note "$1" "$2"
     [ "$1" -eq 0 ] || finish
-}
-
-# add_counts LOG: adds the last `N passed, M failed` of a log; a log without one counts as a failure.
-add_counts() {
-    local line
-    line=$(grep -E '^[0-9]+ passed, [0-9]+ failed$' "$1" | tail -n 1)
-    if [ -z "$line" ]; then
-        note 1 "a last line \`N passed, M failed\`"
-        return
-    fi
-    set -- $line
-    passed=$((passed + $1))
-    failed=$((failed + $3))
-}
-
-# finish: the last line, and the exit status.
-finish() {
-    echo "$passed passed, $failed failed"
-    [ "$failed" -eq 0 ]
-    exit
 }
 
 # use_standin: builds the stand-in and takes it for the library.
