@@ -4,4 +4,7 @@ pub mod MonitorLaws
 pub mod StartLaws
 pub mod RecordLaws
 pub mod WriterLaws
+pub mod ExchangeLaws
+pub mod PermitLaws
+pub mod SilenceLaws
 pub mod Theorems

@@ -32,7 +32,7 @@ use Rattle.silence.proofs.SourceLaws.{carries}
 abbrev pub Mixed : List ℕ → List ℕ → ℕ → ℕ → Type 0
 Mixed reads writes b m = (m ≡ 2 ^ b) ⊎ ((s : ℕ) × (s < length reads) × (has (getD writes s 0) b ≡ true) × (m ≡ bitOr (getD reads s 0) (2 ^ b)))
 
-writer-mixed : (reads writes : List ℕ) (b m : ℕ) → elem m (writerMixtures reads writes b) ≡ true
+pub writer-mixed : (reads writes : List ℕ) (b m : ℕ) → elem m (writerMixtures reads writes b) ≡ true
     → (s : ℕ) × (s < length reads) × (has (getD writes s 0) b ≡ true) × (m ≡ bitOr (getD reads s 0) (2 ^ b))
 unfolding writerMixtures elem
 writer-mixed [] writes b m h = clash h refl
