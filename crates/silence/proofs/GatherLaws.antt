@@ -205,7 +205,7 @@ module _ (reads writes : List ℕ) (n : ℕ) (even : length writes ≡ length re
 
 -- ---- an object whose permit rule does not cover its sources has a writer
 
-writer : (reads writes : List ℕ) (b m : ℕ) (r : List ℕ) → length writes ≡ length reads → writerMixtures reads writes b ≡ m ∷ r → (s : ℕ) × (s < length reads) × (has (getD writes s 0) b ≡ true)
+pub writer : (reads writes : List ℕ) (b m : ℕ) (r : List ℕ) → length writes ≡ length reads → writerMixtures reads writes b ≡ m ∷ r → (s : ℕ) × (s < length reads) × (has (getD writes s 0) b ≡ true)
 unfolding writerMixtures
 writer [] writes b m r e h = absurd (omega (arith, ap length h))
 writer (x ∷ reads) [] b m r e h = absurd (omega arith)
@@ -244,7 +244,7 @@ module _ (reads writes : List ℕ) (n : ℕ) (even : length writes ≡ length re
       let e : b ≡ c = unwritten-step b c h g in
       unwritten a b (subst (λ (y : ℕ). writerMixtures reads writes y ≡ []) (sym e) h) p ∙ e
 
-  alone-quiet : (b : ℕ) → b < n → writerMixtures reads writes b ≡ [] → quietObject reads writes n b ≡ true
+  pub alone-quiet : (b : ℕ) → b < n → writerMixtures reads writes b ≡ [] → quietObject reads writes n b ≡ true
   unfolding quietObject permitOf sourcesOf
   alone-quiet b l h = rw h (unfold orAlone covers in (or-0 (holds (2 ^ b) (bitsOf (λ a. composed reads writes n a b) n)) false (atoms-holds (2 ^ b) _ (λ k. on k (ℕ-discrete (atom (bitsOf (λ a. composed reads writes n a b) n) k) 1) (decLt k n)))))
     where

@@ -7,4 +7,5 @@ pub mod WriterLaws
 pub mod ExchangeLaws
 pub mod PermitLaws
 pub mod SilenceLaws
+pub mod SessionLaws
 pub mod Theorems

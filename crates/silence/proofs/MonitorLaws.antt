@@ -7,6 +7,7 @@ use mathlib.Core.Bool.{Bool, true, false, not, _&&_}
 use mathlib.Core.List.{List, [], _∷_, _++_}
 use mathlib.Core.Option.{Option, none, some}
 use lib.ListN.{length}
+use borrow.Author.Tests.{not-true}
 use Rattle.lists.specs.Lists.{every}
 use Rattle.lists.specs.Conditions.{firstFailed}
 use Rattle.lists.proofs.Bools.{and-in, and-0, and-1, clash, decide}
@@ -80,6 +81,16 @@ module _ {S R : Type 0} (op : S → R → S × Answer) (stepOf : R → Option St
       and-in (ap (λ (x : Answer). not (isAlert x)) (does σ v H r t e a .told) ∙ quiet-answer (view σ) H t a (stays-quiet reads writes n even few (view σ) H q t a))
       (quiet-run q (op σ r .0) (F .stays σ r v) (does-next σ v H r t e a) rs A)
 
+  -- what every answer passes, the last one does
+  pub every-last : (f : Answer → Bool) (σ : S) (front : List R) (r : R) → every f (answers op σ (front ++ (r ∷ []))) ≡ true → f (op (after op σ front) r .1) ≡ true
+  unfolding every
+  every-last f σ [] r h = and-0 (f (op σ r .1)) true h
+  every-last f σ (q ∷ front) r h = every-last f (op σ q .0) front r (and-1 (f (op σ q .1)) h)
+
+  pub quiet-last : (σ : S) (front : List R) (r : R) → noAlert (answers op σ (front ++ (r ∷ []))) ≡ true → isAlert (op (after op σ front) r .1) ≡ false
+  unfolding noAlert
+  quiet-last σ front r h = not-true (isAlert (op (after op σ front) r .1)) (every-last (λ a. not (isAlert a)) σ front r h)
+
   -- ---- not silent: a list whose last record alerts
 
   pub record Alerting (σ : S) : Type 0 where
@@ -136,15 +147,6 @@ module _ {S R : Type 0} (op : S → R → S × Answer) (stepOf : R → Option St
               (last-allowed reads writes n even few b lb q) (last-alerts reads writes n even few b lb q (view σ) H O);
         }
 
-    last-told : (σ : S) (front : List R) (r : R) → isAlert (op (after op σ front) r .1) ≡ true → noAlert (answers op σ (front ++ (r ∷ []))) ≡ true → ⊥
-    unfolding noAlert every
-    last-told σ [] r a h = clash a (not-true-false (isAlert (op σ r .1)) (and-0 (not (isAlert (op σ r .1))) true h))
-      where
-        not-true-false : (x : Bool) → not x ≡ true → x ≡ false
-        not-true-false true e = sym e
-        not-true-false false e = refl
-    last-told σ (q ∷ front) r a h = last-told (op σ q .0) front r a (and-1 (not (isAlert (op σ q .1))) h)
-
     -- not silent: allowed records of which the last alerts
     pub not-silent-alerts : (σ : S) → Valid σ → Holding reads writes n (view σ) → Owning reads writes n even few (view σ) → silent reads writes n ≡ false → Alerting σ
     unfolding silent
@@ -160,4 +162,4 @@ module _ {S R : Type 0} (op : S → R → S × Answer) (stepOf : R → Option St
 
         from : ((rs : List R) → AllAllowed stepOf reads writes n rs → noAlert (answers op σ rs) ≡ true) → (silent reads writes n ≡ true) ⊎ (silent reads writes n ≡ false) → silent reads writes n ≡ true
         from h (inl e) = e
-        from h (inr e) = let k : Alerting σ = not-silent-alerts σ v H O e in absurd (last-told σ (k .front) (k .last) (k .alert) (h (k .front ++ (k .last ∷ [])) (k .allowed)))
+        from h (inr e) = let k : Alerting σ = not-silent-alerts σ v H O e in clash (k .alert) (quiet-last σ (k .front) (k .last) (h (k .front ++ (k .last ∷ [])) (k .allowed)))

@@ -31,7 +31,7 @@ module _ (reads writes : List ℕ) (b tag : ℕ) where
   unfolding covers
   alone-first m r e h =
       let z : (s : ℕ) × (s < length reads) × (has (getD writes s 0) b ≡ true) × (m ≡ bitOr (getD reads s 0) (2 ^ b)) =
-          writer-mixed reads writes b m (rw e (unfold elem in or-0 (eqb m m) (elem m r) (eq-eqb m m refl))) in
+      writer-mixed reads writes b m (rw e (unfold elem in or-0 (eqb m m) (elem m r) (eq-eqb m m refl))) in
       or-0 (holds m tag) (covers r tag) (holds-trans m (2 ^ b) tag (subst (λ (x : ℕ). holds x (2 ^ b) ≡ true) (sym (z .3)) (or-holds (getD reads (z .0) 0) b)) h)
 
   -- the rule covers what a writer's mixture holds, or the object alone

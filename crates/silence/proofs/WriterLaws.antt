@@ -27,6 +27,7 @@ use Rattle.matrix.proofs.BitLaws.{atom-has, has-atom, bits-has, bits-above}
 use Rattle.derivation.specs.Derived.{writerMixtures, orAlone, permitOf}
 use Rattle.silence.specs.Silent.{sourcesOf, quietObject, silent}
 use Rattle.silence.proofs.SourceLaws.{carries}
+use Rattle.silence.proofs.GatherLaws.{writer, alone-quiet}
 
 -- a mixture of the permit rule is that of one writer, or the object alone
 abbrev pub Mixed : List ℕ → List ℕ → ℕ → ℕ → Type 0
@@ -78,6 +79,59 @@ module _ (reads writes : List ℕ) (n b : ℕ) (lb : b < n) where
       by m f (inl e) = inl (λ a c. single a (ℕ-discrete a b) (subst (λ (x : ℕ). atom x a ≡ 1) e (f a c)))
       by m f (inr (s, l, w, e)) =
           inr (s, l, w, λ a c. ⊎-elim (λ h. inr (atom-has (getD reads s 0) a h)) (λ h. inl (single a (ℕ-discrete a b) h)) (or-has (getD reads s 0) (2 ^ b) a .0 (subst (λ (x : ℕ). atom x a ≡ 1) e (f a c))))
+
+-- the mixture of a writer is in the permit rule
+mixture-in : (reads writes : List ℕ) (b s : ℕ) → s < length reads → length writes ≡ length reads → has (getD writes s 0) b ≡ true
+    → elem (bitOr (getD reads s 0) (2 ^ b)) (writerMixtures reads writes b) ≡ true
+unfolding writerMixtures
+mixture-in [] writes b s l e w = absurd (omega arith)
+mixture-in (x ∷ reads) [] b s l e w = absurd (omega arith)
+mixture-in (x ∷ reads) (y ∷ writes) b zero l e w = rw w (unfold elem in (or-0 (eqb (bitOr x (2 ^ b)) (bitOr x (2 ^ b))) (elem (bitOr x (2 ^ b)) (writerMixtures reads writes b)) (eq-eqb (bitOr x (2 ^ b)) (bitOr x (2 ^ b)) refl)))
+mixture-in (x ∷ reads) (y ∷ writes) b (suc s) l e w = by (has y b) (mixture-in reads writes b s (omega arith) (omega arith) w)
+  where
+    by : (t : Bool) → elem (bitOr (getD reads s 0) (2 ^ b)) (writerMixtures reads writes b) ≡ true
+        → elem (bitOr (getD reads s 0) (2 ^ b)) (cond t (bitOr x (2 ^ b) ∷ writerMixtures reads writes b) (writerMixtures reads writes b)) ≡ true
+    by true h = unfold elem in (or-1 (eqb (bitOr (getD reads s 0) (2 ^ b)) (bitOr x (2 ^ b))) (elem (bitOr (getD reads s 0) (2 ^ b)) (writerMixtures reads writes b)) h)
+    by false h = h
+
+in-alone : (b m : ℕ) (ms : List ℕ) → elem m ms ≡ true → elem m (orAlone b ms) ≡ true
+unfolding orAlone elem
+in-alone b m [] h = clash h refl
+in-alone b m (x ∷ ms) h = h
+
+-- a writer of b that reads every other object with a composed flow into b
+abbrev pub ReadsSources : List ℕ → List ℕ → ℕ → ℕ → Type 0
+ReadsSources reads writes n b =
+    (s : ℕ) × (s < length reads) × (has (getD writes s 0) b ≡ true) × ((a : ℕ) → Composed reads writes n a b → (a ≡ b) ⊎ (has (getD reads s 0) a ≡ true))
+
+module _ (reads writes : List ℕ) (n b : ℕ) (even : length writes ≡ length reads) (lb : b < n) where
+  source-out : (a : ℕ) → atom (sourcesOf reads writes n b) a ≡ 1 → Composed reads writes n a b
+  unfolding sourcesOf
+  source-out a e = on (decLt a n)
+    where
+      on : Dec (a < n) → Composed reads writes n a b
+      on (yes l) = composed-path reads writes n a b l lb .0 (sym (bits-has (λ k. composed reads writes n k b) n a l) ∙ atom-has (bitsOf (λ k. composed reads writes n k b) n) a e)
+      on (no l) = clash (atom-has (bitsOf (λ k. composed reads writes n k b) n) a e) (bits-above (λ k. composed reads writes n k b) n a (omega arith))
+
+  reads-quiet : ReadsSources reads writes n b → quietObject reads writes n b ≡ true
+  unfolding quietObject permitOf
+  reads-quiet (s, l, w, f) =
+      covers-in (orAlone b (writerMixtures reads writes b)) (sourcesOf reads writes n b) (bitOr (getD reads s 0) (2 ^ b))
+      (in-alone b (bitOr (getD reads s 0) (2 ^ b)) (writerMixtures reads writes b) (mixture-in reads writes b s l even w))
+      (λ k e. or-has (getD reads s 0) (2 ^ b) k .1 (⊎-elim (λ q. inr (subst (λ (x : ℕ). atom (2 ^ b) x ≡ 1) (sym q) (single-same b))) (λ q. inl (has-atom (getD reads s 0) k q)) (f k (source-out k e))))
+
+  -- an object is quiet exactly if, where it has a writer, one reads every other source
+  pub quiet-exactly : (quietObject reads writes n b ≡ true)
+      ↔ ((s : ℕ) → s < length reads → has (getD writes s 0) b ≡ true → ReadsSources reads writes n b)
+  quiet-exactly = (λ q s l w. to s l w (quiet-words reads writes n b lb q), λ f. from f (writerMixtures reads writes b) refl)
+    where
+      to : (s : ℕ) → s < length reads → has (getD writes s 0) b ≡ true → ((a : ℕ) → Composed reads writes n a b → a ≡ b) ⊎ ReadsSources reads writes n b → ReadsSources reads writes n b
+      to s l w (inl f) = (s, l, w, λ a c. inl (f a c))
+      to s l w (inr z) = z
+
+      from : ((s : ℕ) → s < length reads → has (getD writes s 0) b ≡ true → ReadsSources reads writes n b) → (ms : List ℕ) → writerMixtures reads writes b ≡ ms → quietObject reads writes n b ≡ true
+      from f [] e = alone-quiet reads writes n even b lb e
+      from f (m ∷ r) e = let z = writer reads writes b m r even e in reads-quiet (f (z .0) (z .1) (z .2))
 
 -- silent is stronger than consistent
 pub silent-consistent : (reads writes : List ℕ) (n : ℕ) → length writes ≡ length reads → silent reads writes n ≡ true → consistent reads writes n ≡ true
