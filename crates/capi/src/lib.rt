@@ -8,6 +8,7 @@ ghost use Rattle.monitor.specs.Stops.{ran, ranEffect};
 ghost use Rattle.normaliser.specs.Normaliser.{normalAnswer, normalEffect};
 ghost use Rattle.matrix.specs.Verdicts.{matrixVerdict};
 ghost use Rattle.matrix.specs.Flows.{matrixOf};
+ghost use Rattle.silence.specs.Silent.{matrixSilence};
 ghost use Rattle.withdrawals.specs.Judgements.{judgementOf};
 ghost use Rattle.derivation.specs.Derived.{derivedAnswer, derivedEffect};
 ghost use Rattle.confinement.specs.Images.{profileAnswer, profileEffect};
@@ -146,6 +147,15 @@ pub extern "C" fn yaslaurel_matrix_verdict(
             INCONSISTENT
         }
     }
+}
+
+// 1 if the matrix is silent, 0 if it is not, else 8.
+#[no_mangle]
+pub extern "C" fn yaslaurel_matrix_silent(reads: &[u32], writes: &[u32], objects: u32) -> u32
+    ensures { λ r. ⌜ r ≡ matrixSilence (now (reads .entry)) (now (writes .entry)) objects ⌝ }
+{
+    let silence = silence::silent(reads, writes, objects);
+    silence::silence_number(silence)
 }
 
 // 0 if the proposal to withdraw rights is accepted, else the first condition that fails, 1 to 4, or 8. The old matrix, the rights that
