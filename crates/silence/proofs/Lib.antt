@@ -9,3 +9,4 @@ pub mod PermitLaws
 pub mod SilenceLaws
 pub mod SessionLaws
 pub mod Theorems
+pub mod Examples
