@@ -1,7 +1,7 @@
 -- Checked examples of silent and of what it is not, each by computation.
-use Prim.Native.Nat.{ℕ, suc, _+_, _^_}
+use Prim.Native.Nat.{ℕ, _+_, _^_}
 use mathlib.Core.Path.{_≡_, refl, ap, _∙_}
-use mathlib.Core.Bool.{Bool, true, false}
+use mathlib.Core.Bool.{true}
 use mathlib.Core.List.{List, [], _∷_, _++_, map}
 use lib.Bits.{bitOr}
 use lib.ListN.{replicate}
@@ -10,9 +10,9 @@ use Rattle.rules.specs.Sets.{atom, holds, dataOf, runningOf}
 use Rattle.rules.specs.Rules.{covers, distinct, heldIn, unheldIn, insert, sort, normal, intersections, meet, unrestricted}
 use Rattle.lists.specs.Lists.{elem, sameList, every}
 use Rattle.lists.specs.Conditions.{firstFailed}
-use Rattle.lists.specs.Counting.{someBelow, allBelow, leastBelow, countBelow, sumBelow}
+use Rattle.lists.specs.Counting.{someBelow, allBelow}
 use Rattle.rules.specs.Answers.{padded}
-use Rattle.answers.specs.Answers.{quiet, alert, isAlert}
+use Rattle.answers.specs.Answers.{quiet, alert}
 use Rattle.image.specs.Limits.{isFree, isFile, isVolatile, isProcess, isStore, fileKind, processKind, noAtom, usedKind}
 use Rattle.fields.specs.Bytes.{numberIn, bytesOf, field}
 use Rattle.image.specs.Policy.{Policy, unrestrictedRule}

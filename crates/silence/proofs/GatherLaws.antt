@@ -3,37 +3,35 @@ use Prim.Native.Nat.{ℕ, zero, suc, _+_, _^_, _≤_, _<_}
 use native.Mathlib.Omega.{arith}
 use native.Mathlib.Decide.{ℕ-discrete, decLt}
 use mathlib.Core.Path.{_≡_, refl, sym, subst, ap, _∙_}
-use mathlib.Core.Logic.{_⊎_, inl, inr, _≢_, ⊎-elim}
-use mathlib.Core.Bool.{Bool, true, false, not, cond, _&&_, _||_}
+use mathlib.Core.Logic.{_⊎_, inl, inr}
+use mathlib.Core.Bool.{Bool, true, false, cond}
 use mathlib.Core.List.{List, [], _∷_, _++_}
-use mathlib.Core.Option.{none, some}
+use mathlib.Core.Option.{some}
 use lib.Bits.{bitOr}
 use lib.Dec.{eqb}
 use lib.ListN.{length, getD}
-use borrow.Author.Tests.{eqb-true, eqb-false, eq-eqb, ne-eqb}
-use Rattle.lists.specs.Conditions.{firstFailed}
-use Rattle.lists.proofs.Bools.{and-in, and-0, and-1, or-0, or-1, or-cases, clash, decide, refuted}
+use borrow.Author.Tests.{eqb-true, eq-eqb, ne-eqb}
+use Rattle.lists.proofs.Bools.{or-0, or-cases, clash, decide, refuted}
 use Rattle.rules.specs.Sets.{atom, holds, dataOf}
 use Rattle.rules.specs.Rules.{covers, normal}
 use Rattle.rules.specs.Answers.{dataWidth}
 use Rattle.rules.proofs.SetLaws.{atom-le, atoms-holds, single-same, or-has, data-has}
 use Rattle.rules.proofs.RuleLaws.{covers-normal, covers-part}
 use Rattle.session.specs.Rows.{Row}
-use Rattle.answers.specs.Answers.{isAlert}
 use Rattle.matrix.specs.Rows.{bitsOf}
-use Rattle.matrix.specs.Flows.{has, subjectCarries, granted, Path, step, onward, Composed, composed}
+use Rattle.matrix.specs.Flows.{has, subjectCarries, granted, step, onward, Composed, composed}
 use Rattle.matrix.proofs.PathLaws.{path-source, path-target}
 use Rattle.matrix.proofs.FlowLaws.{composed-path}
-use Rattle.matrix.proofs.BitLaws.{atom-has, has-atom, bits-has, bits-above}
+use Rattle.matrix.proofs.BitLaws.{atom-has, bits-has, bits-above}
 use Rattle.derivation.specs.Derived.{writerMixtures, orAlone, permitOf}
-use Rattle.chains.specs.History.{Step, read, write, append, receiver}
-use Rattle.chains.specs.Demand.{judged, after}
-use Rattle.chains.specs.Table.{State, readRow, writeRow, appendRow, entry, tableConditions, alerts, placed, operate}
+use Rattle.chains.specs.History.{Step, read, append, receiver}
+use Rattle.chains.specs.Demand.{after}
+use Rattle.chains.specs.Table.{State, readRow, appendRow, entry, alerts, placed, operate}
 use Rattle.chains.proofs.TableLaws.{operate-done}
 use Rattle.answers.specs.declared.Answer.{Answer}
 use Rattle.silence.specs.Silent.{sourcesOf, quietObject}
-use Rattle.silence.specs.Sessions.{Allowed, mayRead, mayWrite, mayAppend, AllAllowed}
-use Rattle.silence.proofs.SourceLaws.{Holding, ObjectRow, SubjectRow, passes, holds-on, carried}
+use Rattle.silence.specs.Sessions.{Allowed, mayRead, mayAppend, AllAllowed}
+use Rattle.silence.proofs.SourceLaws.{Holding, passes, holds-on, carried}
 
 -- whatever a container held, it holds
 abbrev pub Grown : State → State → Type 0

@@ -1,11 +1,10 @@
 -- Silent, of every monitor that follows the table and refuses nothing that the table allows.
-use Prim.Native.Nat.{ℕ, zero, suc, _+_, _≤_, _<_}
-use native.Mathlib.Omega.{arith}
+use Prim.Native.Nat.{ℕ, _+_, _≤_, _<_}
 use mathlib.Core.Path.{_≡_, refl, sym, subst, ap, _∙_}
 use mathlib.Core.Logic.{_⊎_, inl, inr, _↔_}
-use mathlib.Core.Bool.{Bool, true, false, not, _&&_}
+use mathlib.Core.Bool.{Bool, true, false, not}
 use mathlib.Core.List.{List, [], _∷_, _++_}
-use mathlib.Core.Option.{Option, none, some}
+use mathlib.Core.Option.{Option, some}
 use lib.ListN.{length}
 use borrow.Author.Tests.{not-true}
 use Rattle.lists.specs.Lists.{every}
@@ -26,7 +25,7 @@ use Rattle.chains.proofs.VerdictLaws.{verdict-alert, verdict-quiet, verdict-giv
 use Rattle.silence.specs.Silent.{quietObject, silent}
 use Rattle.silence.specs.Sessions.{Allowed, AllAllowed, noAlert}
 use Rattle.silence.proofs.SourceLaws.{Holding, passes, stays-quiet}
-use Rattle.silence.proofs.GatherLaws.{Owning, next, firstSteps, lastStep, gathered, last-allowed, all-allowed, gathered-holding, last-alerts}
+use Rattle.silence.proofs.GatherLaws.{Owning, next, firstSteps, lastStep, last-allowed, all-allowed, gathered-holding, last-alerts}
 
 -- a step that is not refused is accepted
 verdict-accepted : (t : Step) (w : Row) → accepted (verdict t w) ≡ true

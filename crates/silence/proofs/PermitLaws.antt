@@ -1,5 +1,5 @@
 -- A tag against the permit rule of an object, writer by writer (`permits`).
-use Prim.Native.Nat.{ℕ, _+_, _*_, _/_, _%_, _^_, _≤_, _<_}
+use Prim.Native.Nat.{ℕ, _+_, _/_, _%_, _^_, _≤_, _<_}
 use mathlib.Core.Path.{_≡_, refl, sym, subst, ap, _∙_}
 use mathlib.Core.Bool.{Bool, true, false, cond, _||_}
 use mathlib.Core.List.{List, [], _∷_}
@@ -11,13 +11,12 @@ use lib.ListN.{length, getD, drop, drop-of-length-le}
 use lib.Seq.{drop-cons}
 use borrow.Author.Tests.{eq-eqb}
 use Rattle.lists.specs.Lists.{elem}
-use Rattle.lists.proofs.Bools.{or-0, or-none, same-test}
+use Rattle.lists.proofs.Bools.{or-0, or-none}
 use Rattle.rules.specs.Sets.{holds}
 use Rattle.rules.specs.Rules.{covers}
 use Rattle.rules.proofs.SetLaws.{atom-or, atoms-holds, holds-trans, holds-is, holds-not}
 use Rattle.matrix.specs.Flows.{has}
-use Rattle.matrix.specs.Limits.{objectLimit}
-use Rattle.matrix.proofs.BitLaws.{has-is, has-not, one-bit}
+use Rattle.matrix.proofs.BitLaws.{has-is, has-not}
 use Rattle.derivation.specs.Derived.{writerMixtures, orAlone, permitOf}
 use Rattle.silence.proofs.WriterLaws.{writer-mixed}
 

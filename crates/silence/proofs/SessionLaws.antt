@@ -1,11 +1,10 @@
 -- The session that the derived policy starts, and the records that spell allowed steps.
-use Prim.Native.Nat.{ℕ, _+_, _<_}
+use Prim.Native.Nat.{ℕ, _+_}
 use native.Mathlib.Omega.{arith}
 use mathlib.Core.Path.{_≡_, refl, sym, subst, ap, _∙_}
 use mathlib.Core.Bool.{true, false}
 use mathlib.Core.List.{List, [], _∷_, _++_}
 use mathlib.Core.Option.{Option, some}
-use lib.ListN.{length}
 use Rattle.lists.specs.Conditions.{firstFailed}
 use Rattle.lists.proofs.Places.{some-inj}
 use Rattle.answers.specs.declared.Answer.{Answer}

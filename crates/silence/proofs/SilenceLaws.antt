@@ -1,19 +1,16 @@
 -- The answer from its parts, and each of its numbers.
-use Prim.Native.Nat.{ℕ, zero, suc}
-use mathlib.Core.Path.{_≡_, refl, sym, subst, ap, _∙_}
+use Prim.Native.Nat.{ℕ}
+use mathlib.Core.Path.{_≡_, refl}
 use mathlib.Core.Bool.{Bool, true, false, cond}
 use mathlib.Core.Logic.{_⊎_, inl, inr, _↔_}
 use mathlib.Core.List.{List, [], _∷_}
 use native.Mathlib.Omega.{arith}
 use Rattle.lists.specs.Lists.{elem}
-use Rattle.lists.specs.Conditions.{firstFailed}
-use Rattle.lists.proofs.Bools.{decide, clash}
+use Rattle.lists.proofs.Bools.{decide}
 use Rattle.answers.specs.Refusals.{matrix}
 use Rattle.matrix.specs.Flows.{matrixGood}
-use Rattle.matrix.specs.Verdicts.{matrixConditions}
 use Rattle.matrix.proofs.Theorems.{refused-8, refused-none}
-use Rattle.silence.specs.declared.Silence.{Silence}
-use Rattle.silence.specs.declared.Silence.the-variants.{Refused, Silent, NotSilent}
+use Rattle.silence.specs.declared.Silence.the-variants.{Silent, NotSilent}
 use Rattle.silence.specs.Silent.{silent, silenceNumber, silenceOf, unlessRefused, matrixSilence}
 
 module _ (reads writes : List ℕ) (n : ℕ) where

@@ -1,20 +1,18 @@
 -- What the rows of a session from the derived policy hold as long as the accesses are allowed.
 use Prim.Native.Nat.{ℕ, zero, suc, _+_, _-_, _^_, _≤_, _<_}
 use native.Mathlib.Omega.{arith}
-use native.Mathlib.Decide.{ℕ-discrete, decLt}
+use native.Mathlib.Decide.{ℕ-discrete}
 use mathlib.Core.Path.{_≡_, refl, sym, subst, ap, _∙_}
-use mathlib.Core.Logic.{_⊎_, inl, inr, _≢_, ⊎-elim}
-use mathlib.Core.Bool.{Bool, true, false, not, cond, _&&_, _||_}
+use mathlib.Core.Logic.{_⊎_, inl, inr, ⊎-elim}
+use mathlib.Core.Bool.{Bool, true, false, cond, _&&_}
 use mathlib.Core.List.{List, [], _∷_}
-use mathlib.Core.Option.{none, some}
-use lib.Bits.{bitOr}
 use lib.Pow.{pow-lt}
 use lib.Dec.{eqb}
 use lib.ListN.{length, getD}
-use borrow.Author.Tests.{eqb-true, eqb-false, eq-eqb, ne-eqb}
+use borrow.Author.Tests.{eq-eqb, ne-eqb}
 use Rattle.lists.specs.Lists.{every}
 use Rattle.lists.specs.Conditions.{firstFailed}
-use Rattle.lists.proofs.Bools.{and-in, and-0, and-1, or-0, or-1, or-cases, clash, decide}
+use Rattle.lists.proofs.Bools.{and-in, and-0, and-1, or-0, or-1, or-cases, clash}
 use Rattle.rules.specs.Sets.{atom, holds, dataOf}
 use Rattle.rules.specs.Rules.{covers, normal, meet, unrestricted}
 use Rattle.rules.specs.Answers.{dataWidth, tagWidth}
@@ -25,15 +23,15 @@ use Rattle.image.specs.Policy.{unrestrictedRule}
 use Rattle.image.proofs.WrittenMeaning.{normal-unrestricted}
 use Rattle.session.specs.Rows.{Row}
 use Rattle.matrix.specs.Rows.{bitsOf}
-use Rattle.matrix.specs.Flows.{has, subjectCarries, granted, Path, step, onward, Composed, composed}
-use Rattle.matrix.proofs.PathLaws.{path-source, path-target}
+use Rattle.matrix.specs.Flows.{has, subjectCarries, granted, onward, Composed, composed}
+use Rattle.matrix.proofs.PathLaws.{path-source}
 use Rattle.matrix.proofs.FlowLaws.{composed-path}
-use Rattle.matrix.proofs.BitLaws.{atom-has, has-atom, bits-has, bits-above}
+use Rattle.matrix.proofs.BitLaws.{has-atom, bits-has}
 use Rattle.derivation.specs.Derived.{permitOf}
 use Rattle.chains.specs.History.{Step, read, write, append, receiver}
 use Rattle.chains.specs.Demand.{judged}
-use Rattle.chains.specs.Table.{State, readRow, writeRow, appendRow, entry, Need, store, fitsNeed, processGood, objectGood, kindGood, freeGood, userGood, behalfFits, fits, meetGood, earlyConditions, tableConditions, alerts, placed}
-use Rattle.silence.specs.Silent.{sourcesOf, quietObject, silent}
+use Rattle.chains.specs.Table.{State, readRow, writeRow, appendRow, entry, fitsNeed, processGood, objectGood, kindGood, freeGood, userGood, behalfFits, fits, meetGood, earlyConditions, tableConditions, alerts, placed}
+use Rattle.silence.specs.Silent.{sourcesOf, quietObject}
 use Rattle.silence.specs.Sessions.{Allowed, mayRead, mayWrite, mayAppend}
 
 -- ---- the row of an object, and of a subject

@@ -1,30 +1,28 @@
 -- The session that the derived policy starts.
-use Prim.Native.Nat.{ℕ, zero, suc, _+_, _-_, _^_, _≤_, _<_}
+use Prim.Native.Nat.{ℕ, zero, suc, _+_, _-_, _^_, _<_}
 use native.Mathlib.Omega.{arith}
 use mathlib.Core.Path.{_≡_, refl, sym, subst, ap, _∙_}
-use mathlib.Core.Bool.{true, false, cond}
-use mathlib.Core.List.{List, [], _∷_, _++_, map}
-use mathlib.Core.Option.{Option, none, some}
+use mathlib.Core.Bool.{true}
+use mathlib.Core.List.{List, _++_, map}
+use mathlib.Core.Option.{some}
 use lib.Dec.{eqb}
-use lib.ListN.{length, getElem?, replicate, getD}
+use lib.ListN.{length, getElem?, replicate}
 use native.Mathlib.Decide.{ℕ-discrete}
 use native.Mathlib.Nat.{zero-div}
 use borrow.Author.Tests.{eq-eqb, ne-eqb}
 use Rattle.lists.proofs.Bools.{or-0}
 use Rattle.rules.specs.Sets.{atom}
-use Rattle.rules.specs.Rules.{normal}
-use Rattle.rules.specs.Answers.{dataWidth}
-use Rattle.rules.proofs.SetLaws.{atom-le, single-same, single-other}
-use Rattle.image.specs.Limits.{fileKind, processKind, noAtom}
-use Rattle.image.specs.Policy.{Policy, unrestrictedRule}
-use Rattle.image.specs.Normal.{Place, Meaning, meaning, normalPolicy}
+use Rattle.rules.proofs.SetLaws.{single-same, single-other}
+use Rattle.image.specs.Limits.{noAtom}
+use Rattle.image.specs.Policy.{Policy}
+use Rattle.image.specs.Normal.{Place, Meaning, normalPolicy}
 use Rattle.session.specs.Rows.{Row}
 use Rattle.session.specs.Session.{startRow, startTag}
-use Rattle.matrix.specs.Flows.{has, granted, Path, step, Composed, matrixGood}
-use Rattle.matrix.proofs.GoodLaws.{Good, good-parts}
-use Rattle.derivation.specs.Derived.{permitOf, countFrom, derivedPolicy}
-use Rattle.derivation.proofs.DerivedLaws.{filePlace, processPlace, derived-means, count-length}
-use Rattle.chains.specs.Table.{State, startRowOf, begin}
+use Rattle.matrix.specs.Flows.{granted, step, Composed}
+use Rattle.matrix.proofs.GoodLaws.{Good}
+use Rattle.derivation.specs.Derived.{countFrom, derivedPolicy}
+use Rattle.derivation.proofs.DerivedLaws.{filePlace, processPlace, derived-means}
+use Rattle.chains.specs.Table.{startRowOf, begin}
 use Rattle.silence.proofs.SourceLaws.{Holding, ObjectRow, SubjectRow}
 use Rattle.silence.proofs.GatherLaws.{Owning}
 

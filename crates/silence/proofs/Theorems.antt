@@ -1,9 +1,8 @@
 -- SILENT (change request No. 8): what is proved of it, stated in full, of every matrix that is not refused. The definitions are in specs/
 -- of this crate (silent, allowed accesses), of crates matrix (composed flows) and derivation (permit rules, the derived image). A session
 -- is a list of numbers, an image or a record a list of bytes.
-use Prim.Native.Nat.{ℕ, _<_}
-use native.Mathlib.Omega.{arith}
-use mathlib.Core.Path.{_≡_, refl, sym, subst, ap, _∙_}
+use Prim.Native.Nat.{ℕ, _≤_, _<_}
+use mathlib.Core.Path.{_≡_, refl, sym, subst}
 use mathlib.Core.Logic.{_⊎_, inl, inr, _↔_}
 use mathlib.Core.Bool.{true, false}
 use mathlib.Core.List.{List, [], _∷_, _++_}
@@ -20,6 +19,7 @@ use Rattle.session.specs.Limits.{sessionLength}
 use Rattle.session.specs.Session.{startOf, startAnswer, startEffect}
 use Rattle.session.proofs.Canonical.{effect-start}
 use Rattle.session.proofs.Theorems.{start-accepted}
+use Rattle.matrix.specs.Limits.{objectLimit}
 use Rattle.matrix.specs.Flows.{has, matrixGood, Composed}
 use Rattle.matrix.specs.Verdicts.{consistent}
 use Rattle.derivation.specs.Derived.{derivedImage}
@@ -38,7 +38,7 @@ use Rattle.monitor.proofs.StepLaws.{faithful}
 use Rattle.monitor.proofs.DemandLaws.{alert-last}
 use Rattle.monitor.proofs.Theorems.{length-good}
 use Rattle.silence.specs.Silent.{quietObject, silent, matrixSilence}
-use Rattle.silence.specs.Sessions.{Allowed, AllAllowed, noAlert}
+use Rattle.silence.specs.Sessions.{AllAllowed, noAlert}
 use Rattle.silence.proofs.RecordLaws.{accepts, spelled-good}
 use Rattle.silence.proofs.SessionLaws.{g, valid, holding, owning, begun-holding, begun-owning, derived-demand, spell, table-gives, allowed-last, allowed-judged}
 use Rattle.silence.proofs.MonitorLaws as monitors
@@ -50,33 +50,39 @@ module _ (reads writes : List ℕ) (objects : ℕ) (good : matrixGood reads writ
   abbrev pub P : Policy
   P = policyIn (derivedImage reads writes objects)
 
+  abbrev even : length writes ≡ length reads
+  even = g reads writes objects good .even
+
+  abbrev few : objects ≤ objectLimit
+  few = g reads writes objects good .few
+
   -- ---- sessions of accesses that the matrix allows
 
   -- Each record that the matrix allows is accepted, wherever it stands.
   pub allowed-accepted : (rs : List (List ℕ)) → AllAllowed stepOf reads writes objects rs → every accepted (runAnswers (startOf P) rs) ≡ true
   unfolding runAnswers
-  allowed-accepted rs A = monitors.all-accepted stepOn stepOf view Valid faithful accepts reads writes objects (g reads writes objects good .even) (g reads writes objects good .few) (startOf P) (valid reads writes objects good) (holding reads writes objects good) rs A
+  allowed-accepted rs A = monitors.all-accepted stepOn stepOf view Valid faithful accepts reads writes objects even few (startOf P) (valid reads writes objects good) (holding reads writes objects good) rs A
 
   -- SILENT exactly when no session from the derived policy, of accesses that the matrix allows, raises an alert.
   pub silent-exactly : (silent reads writes objects ≡ true)
       ↔ ((rs : List (List ℕ)) → AllAllowed stepOf reads writes objects rs → noAlert (runAnswers (startOf P) rs) ≡ true)
   unfolding runAnswers
-  silent-exactly = monitors.silent-exactly stepOn stepOf view Valid faithful accepts reads writes objects (g reads writes objects good .even) (g reads writes objects good .few) (spell reads writes objects good) (startOf P) (valid reads writes objects good) (holding reads writes objects good) (owning reads writes objects good)
+  silent-exactly = monitors.silent-exactly stepOn stepOf view Valid faithful accepts reads writes objects even few (spell reads writes objects good) (startOf P) (valid reads writes objects good) (holding reads writes objects good) (owning reads writes objects good)
 
   -- Not silent: there are allowed records of which the last is answered by an alert.
   pub not-silent-alerts : silent reads writes objects ≡ false
       → (rs : List (List ℕ)) × (r : List ℕ) × AllAllowed stepOf reads writes objects (rs ++ (r ∷ [])) × (isAlert (stepAnswer (runEffect (startOf P) rs) r) ≡ true)
   unfolding runEffect
   not-silent-alerts e =
-      let k : monitors.Alerting stepOn stepOf view Valid faithful accepts reads writes objects (g reads writes objects good .even) (g reads writes objects good .few) (startOf P) =
-      monitors.not-silent-alerts stepOn stepOf view Valid faithful accepts reads writes objects (g reads writes objects good .even) (g reads writes objects good .few) (spell reads writes objects good) (startOf P) (valid reads writes objects good) (holding reads writes objects good) (owning reads writes objects good) e in
+      let k : monitors.Alerting stepOn stepOf view Valid faithful accepts reads writes objects even few (startOf P) =
+      monitors.not-silent-alerts stepOn stepOf view Valid faithful accepts reads writes objects even few (spell reads writes objects good) (startOf P) (valid reads writes objects good) (holding reads writes objects good) (owning reads writes objects good) e in
       (k .front, k .last, k .allowed, unfold stepOn in (k .alert))
 
   -- The same of the table itself, on steps.
   pub table-silent : (silent reads writes objects ≡ true)
       ↔ ((ts : List Step) → AllAllowed some reads writes objects ts → noAlert (answers operate (begin P) ts) ≡ true)
   table-silent =
-      monitors.silent-exactly operate some (λ σ. σ) (λ σ. Unit {0}) itself (λ σ r t v e z. table-gives σ r t e z) reads writes objects (g reads writes objects good .even) (g reads writes objects good .few) (λ t a. (t, refl)) (begin P) tt
+      monitors.silent-exactly operate some (λ σ. σ) (λ σ. Unit {0}) itself (λ σ r t v e z. table-gives σ r t e z) reads writes objects even few (λ t a. (t, refl)) (begin P) tt
       (begun-holding reads writes objects good) (begun-owning reads writes objects good)
 
   -- ---- the same from the session as the start left it, whatever stood there; it refuses the derived image for the session's length alone
@@ -98,7 +104,7 @@ module _ (reads writes : List ℕ) (objects : ℕ) (good : matrixGood reads writ
     last-accepted : accepted (stepAnswer (runEffect (startOf P) rs) r) ≡ true
     last-accepted =
         unfold runEffect stepOn in
-        (monitors.every-last stepOn stepOf view Valid faithful accepts reads writes objects (g reads writes objects good .even) (g reads writes objects good .few) accepted (startOf P) rs r (unfold runAnswers in (allowed-accepted (rs ++ (r ∷ [])) A)))
+        (monitors.every-last stepOn stepOf view Valid faithful accepts reads writes objects even few accepted (startOf P) rs r (unfold runAnswers in (allowed-accepted (rs ++ (r ∷ [])) A)))
 
     last-judged : judged (stepAsked r) ≡ true
     last-judged =
@@ -119,7 +125,7 @@ module _ (reads writes : List ℕ) (objects : ℕ) (good : matrixGood reads writ
       to e rs r A f = clash (last-forbidden rs r A .1 f) quiet
         where
           quiet : isAlert (stepAnswer (runEffect (startOf P) rs) r) ≡ false
-          quiet = unfold runEffect stepOn in (monitors.quiet-last stepOn stepOf view Valid faithful accepts reads writes objects (g reads writes objects good .even) (g reads writes objects good .few) (startOf P) rs r (unfold runAnswers in (silent-exactly .0 e (rs ++ (r ∷ [])) A)))
+          quiet = unfold runEffect stepOn in (monitors.quiet-last stepOn stepOf view Valid faithful accepts reads writes objects even few (startOf P) rs r (unfold runAnswers in (silent-exactly .0 e (rs ++ (r ∷ [])) A)))
 
       from : ((rs : List (List ℕ)) (r : List ℕ) → AllAllowed stepOf reads writes objects (rs ++ (r ∷ []))
           → ¬ Forbidden P (historyIn (rs ++ (r ∷ [])) (runAnswers (startOf P) (rs ++ (r ∷ [])))) (receiver (stepAsked r)))
@@ -140,11 +146,11 @@ module _ (reads writes : List ℕ) (objects : ℕ) (good : matrixGood reads writ
       ↔ ((s : ℕ) → s < length reads → has (getD writes s 0) b ≡ true
       → (w : ℕ) × (w < length reads) × (has (getD writes w 0) b ≡ true)
       × ((a : ℕ) → Composed reads writes objects a b → (a ≡ b) ⊎ (has (getD reads w 0) a ≡ true)))
-  quiet-words b l = writers.quiet-exactly reads writes objects b (g reads writes objects good .even) l
+  quiet-words b l = writers.quiet-exactly reads writes objects b even l
 
   -- "Consistent is too weak": silent is the stronger of the two
   pub silent-consistent : silent reads writes objects ≡ true → consistent reads writes objects ≡ true
-  silent-consistent = writers.silent-consistent reads writes objects (g reads writes objects good .even)
+  silent-consistent = writers.silent-consistent reads writes objects even
 
 -- ---- the answer: each of its numbers exactly, and no other
 

@@ -1,22 +1,20 @@
 -- Silent in plain words: an object that is written has one writer that reads every other object with a composed flow into it.
-use Prim.Native.Nat.{ℕ, zero, suc, _+_, _^_, _≤_, _<_}
+use Prim.Native.Nat.{ℕ, zero, suc, _^_, _<_}
 use native.Mathlib.Omega.{arith}
 use native.Mathlib.Decide.{ℕ-discrete, decLt}
-use mathlib.Core.Path.{_≡_, refl, sym, subst, ap, _∙_}
+use mathlib.Core.Path.{_≡_, refl, sym, subst, _∙_}
 use mathlib.Core.Logic.{_⊎_, inl, inr, _↔_, ⊎-elim}
-use mathlib.Core.Bool.{Bool, true, false, cond, _&&_, _||_}
+use mathlib.Core.Bool.{Bool, true, false, cond}
 use mathlib.Core.List.{List, [], _∷_}
 use lib.Bits.{bitOr}
 use lib.Dec.{eqb}
 use lib.ListN.{length, getD}
 use borrow.Author.Tests.{eqb-true, eq-eqb}
 use Rattle.lists.specs.Lists.{elem}
-use Rattle.lists.proofs.Bools.{and-in, or-0, or-1, or-cases, clash}
+use Rattle.lists.proofs.Bools.{or-0, or-1, or-cases, clash}
 use Rattle.lists.proofs.Below.{all-at}
-use Rattle.rules.specs.Sets.{atom, holds}
-use Rattle.rules.specs.Rules.{covers}
-use Rattle.rules.proofs.SetLaws.{atom-le, holds-has, single-other, or-has, single-same}
-use Rattle.rules.proofs.RuleLaws.{Largest, largest, covers-by}
+use Rattle.rules.specs.Sets.{atom}
+use Rattle.rules.proofs.SetLaws.{single-other, or-has, single-same}
 use Rattle.chains.proofs.Exact.{covers-out, covers-in}
 use Rattle.matrix.specs.Rows.{bitsOf}
 use Rattle.matrix.specs.Flows.{has, granted, Composed, composed, subjectCarries}

@@ -1,6 +1,5 @@
 -- The invariant: what is left of the writers, or the object alone, decides.
 use borrow.Author.Needs.{needs}
-use native.Mathlib.Omega.{arith}
 use Prim.Native.Nat.{_-_}
 use lib.ListN.{length}
 use Rattle.matrix.proofs.BitLaws.{one-bit}
