@@ -1,10 +1,13 @@
--- What a host may rely on from one call to another: the bytes that `yaslaurel_image_normalise` leaves at the front of the output and
--- the numbers that `yaslaurel_session_start` leaves in the session (the paper, "Normal image"). The crates that are called have the rest.
+-- What a host may rely on from one call to another: the bytes that `yaslaurel_image_normalise` and `yaslaurel_matrix_policy` leave at the
+-- front of the output and the numbers that `yaslaurel_session_start` leaves in the session (the paper, "Normal image"; change request
+-- No. 8). The crates that are called have the rest.
 use Prim.Native.Nat.{ℕ, _≤_}
 use mathlib.Core.Path.{_≡_}
 use mathlib.Core.Logic.{_↔_}
+use mathlib.Core.Bool.{true}
 use mathlib.Core.List.{List}
 use lib.ListN.{length, take}
+use borrow.Author.Tests.{le-leb}
 use Rattle.fields.specs.Bytes.{Bytes}
 use Rattle.image.specs.Limits.{outputBound}
 use Rattle.image.specs.Image.{checkOf}
@@ -13,6 +16,14 @@ use Rattle.normaliser.proofs.Theorems.{normal-written, normal-fixed}
 use Rattle.session.specs.Limits.{sessionLength}
 use Rattle.session.specs.Session.{startEffect}
 use Rattle.session.proofs.Theorems.{canonical-effect, normal-effect}
+use Rattle.matrix.specs.Flows.{matrixGood}
+use Rattle.derivation.specs.Derived.{derivedAnswer, derivedEffect}
+use Rattle.derivation.proofs.Theorems.{derive-accepted, derive-written}
+use Rattle.records.specs.Records.{stepOf}
+use Rattle.monitor.specs.Runs.{runAnswers}
+use Rattle.silence.specs.Silent.{matrixSilence}
+use Rattle.silence.specs.Sessions.{AllAllowed, noAlert}
+use Rattle.silence.proofs.Theorems.{derived-starts, silent-started, silence-1}
 
 -- the bytes that are left, as many as the answer says
 abbrev pub normalised : List ℕ → List ℕ → List ℕ
@@ -33,3 +44,18 @@ normalised-starts i s out b e l o = rw (normal-written i out o e) (normal-effect
 pub normalised-again : (i out out′ : List ℕ) → Bytes i → outputBound ≤ length out → outputBound ≤ length out′ → checkOf i ≡ 0
     → normalised (normalised i out) out′ ≡ normalised i out
 normalised-again = normal-fixed
+
+-- the derived policy's bytes, as many as the answer says
+abbrev pub derived : List ℕ → List ℕ → ℕ → List ℕ → List ℕ
+derived reads writes objects out = take (derivedAnswer reads writes objects out) (derivedEffect reads writes objects out)
+
+-- a matrix that is not refused is answered 1 exactly when, on the session that those bytes start, no list of records that it allows
+-- raises an alert
+pub silent-exactly : (reads writes : List ℕ) (objects : ℕ) (out s : List ℕ) → matrixGood reads writes objects ≡ true
+    → outputBound ≤ length out → length s ≡ sessionLength
+    → (matrixSilence reads writes objects ≡ 1)
+    ↔ ((rs : List (List ℕ)) → AllAllowed stepOf reads writes objects rs → noAlert (runAnswers (startEffect (derived reads writes objects out) s) rs) ≡ true)
+silent-exactly reads writes objects out s g o l =
+    rw (derive-written reads writes objects out (derive-accepted reads writes objects out .1 (le-leb outputBound (length out) o, g)))
+    (let e = silent-started reads writes objects g s (derived-starts reads writes objects g s .1 l) in
+    (λ n. e .0 (silence-1 reads writes objects .0 n .1), λ h. silence-1 reads writes objects .1 (g, e .1 h)))

@@ -1,10 +1,11 @@
 -- The session that the derived policy starts, and the records that spell allowed steps.
-use Prim.Native.Nat.{ℕ, _+_}
+use Prim.Native.Nat.{ℕ, _+_, _<_}
 use native.Mathlib.Omega.{arith}
 use mathlib.Core.Path.{_≡_, refl, sym, subst, ap, _∙_}
 use mathlib.Core.Bool.{true, false}
 use mathlib.Core.List.{List, [], _∷_, _++_}
 use mathlib.Core.Option.{Option, some}
+use lib.ListN.{length, getD}
 use Rattle.lists.specs.Conditions.{firstFailed}
 use Rattle.lists.proofs.Places.{some-inj}
 use Rattle.answers.specs.declared.Answer.{Answer}
@@ -14,11 +15,11 @@ use Rattle.image.specs.Image.{policyIn}
 use Rattle.image.specs.Normal.{meaning, normalPolicy}
 use Rattle.image.proofs.WrittenMeaning.{meaning-encodable, policy-sound}
 use Rattle.session.specs.Session.{startOf}
-use Rattle.matrix.specs.Flows.{matrixGood}
+use Rattle.matrix.specs.Flows.{has, matrixGood}
 use Rattle.matrix.proofs.GoodLaws.{Good, good-parts}
 use Rattle.derivation.specs.Derived.{derivedPolicy, derivedImage}
 use Rattle.derivation.proofs.Theorems.{derived-read, derived-sound}
-use Rattle.chains.specs.History.{Step, read, write, append}
+use Rattle.chains.specs.History.{Step, read, write, append, exec, fork, newFile, newVolatile, end, delete}
 use Rattle.chains.specs.Demand.{judged, Demand3}
 use Rattle.chains.specs.Table.{State, entry, tableConditions, begin, operate}
 use Rattle.chains.proofs.TableLaws.{operate-done}
@@ -47,6 +48,32 @@ pub allowed-last : {R : Type 0} (spelt : R → Option Step) (reads writes : List
     → AllAllowed spelt reads writes objects (rs ++ (r ∷ [])) → (t : Step) × (spelt r ≡ some t) × Allowed reads writes objects t
 allowed-last spelt reads writes objects [] r (a, A) = a
 allowed-last spelt reads writes objects (q ∷ rs) r (a, A) = allowed-last spelt reads writes objects rs r A
+
+-- what an allowed step asks: the right of the subject to the object, a write right for writes and appends; no other step is allowed
+abbrev pub RightTo : List ℕ → ℕ → ℕ → ℕ → ℕ → Type 0
+RightTo rows subjects objects p k = (s : ℕ) × (p ≡ objects + s) × (s < subjects) × (k < objects) × (has (getD rows s 0) k ≡ true)
+
+abbrev pub Rights : List ℕ → List ℕ → ℕ → Step → Type 0
+Rights reads writes objects (read p o) = RightTo reads (length reads) objects p o
+Rights reads writes objects (write p o) = RightTo writes (length reads) objects p o
+Rights reads writes objects (append p o) = RightTo writes (length reads) objects p o
+Rights reads writes objects (exec p o u) = ⊥
+Rights reads writes objects (fork p o) = ⊥
+Rights reads writes objects (newFile p o u) = ⊥
+Rights reads writes objects (newVolatile p o) = ⊥
+Rights reads writes objects (end p) = ⊥
+Rights reads writes objects (delete p o) = ⊥
+
+pub allowed-rights : (reads writes : List ℕ) (objects : ℕ) (t : Step) → Allowed reads writes objects t → Rights reads writes objects t
+allowed-rights reads writes objects (read p o) (mayRead {s} {k} l m h) = (s, refl, l, m, h)
+allowed-rights reads writes objects (write p o) (mayWrite {s} {k} l m h) = (s, refl, l, m, h)
+allowed-rights reads writes objects (append p o) (mayAppend {s} {k} l m h) = (s, refl, l, m, h)
+
+-- the subject's number tells the subject
+pub right-of : (rows : List ℕ) (subjects objects s k : ℕ) → RightTo rows subjects objects (objects + s) k → has (getD rows s 0) k ≡ true
+right-of rows subjects objects s k (i, e, l, m, h) =
+    let q : i ≡ s = omega (arith, e) in
+    subst (λ (x : ℕ). has (getD rows x 0) k ≡ true) q h
 
 -- each is judged
 pub allowed-judged : (reads writes : List ℕ) (objects : ℕ) (t : Step) → Allowed reads writes objects t → judged t ≡ true

@@ -1,7 +1,7 @@
 -- SILENT (change request No. 8): what is proved of it, stated in full, of every matrix that is not refused. The definitions are in specs/
 -- of this crate (silent, allowed accesses), of crates matrix (composed flows) and derivation (permit rules, the derived image). A session
 -- is a list of numbers, an image or a record a list of bytes.
-use Prim.Native.Nat.{ℕ, _≤_, _<_}
+use Prim.Native.Nat.{ℕ, _+_, _≤_, _<_}
 use mathlib.Core.Path.{_≡_, refl, sym, subst}
 use mathlib.Core.Logic.{_⊎_, inl, inr, _↔_}
 use mathlib.Core.Bool.{true, false}
@@ -24,7 +24,7 @@ use Rattle.matrix.specs.Flows.{has, matrixGood, Composed}
 use Rattle.matrix.specs.Verdicts.{consistent}
 use Rattle.derivation.specs.Derived.{derivedImage}
 use Rattle.derivation.proofs.Theorems.{derived-read}
-use Rattle.chains.specs.History.{Step, receiver}
+use Rattle.chains.specs.History.{Step, read, write, append, receiver}
 use Rattle.chains.specs.Chains.{Forbidden}
 use Rattle.chains.specs.Demand.{answers, judged}
 use Rattle.chains.specs.Table.{begin, operate}
@@ -38,12 +38,24 @@ use Rattle.monitor.proofs.StepLaws.{faithful}
 use Rattle.monitor.proofs.DemandLaws.{alert-last}
 use Rattle.monitor.proofs.Theorems.{length-good}
 use Rattle.silence.specs.Silent.{quietObject, silent, matrixSilence}
-use Rattle.silence.specs.Sessions.{AllAllowed, noAlert}
+use Rattle.silence.specs.Sessions.{Allowed, mayRead, mayWrite, mayAppend, AllAllowed, noAlert}
 use Rattle.silence.proofs.RecordLaws.{accepts, spelled-good}
-use Rattle.silence.proofs.SessionLaws.{g, valid, holding, owning, begun-holding, begun-owning, derived-demand, spell, table-gives, allowed-last, allowed-judged}
+use Rattle.silence.proofs.SessionLaws.{g, valid, holding, owning, begun-holding, begun-owning, derived-demand, spell, table-gives, allowed-last, allowed-rights, right-of, allowed-judged}
 use Rattle.silence.proofs.MonitorLaws as monitors
 use Rattle.silence.proofs.WriterLaws as writers
 use Rattle.silence.proofs.SilenceLaws as numbers
+
+-- ---- which accesses the matrix allows subject s, container objects + s, to object k: for writes and appends it is the write right
+
+module _ (reads writes : List ℕ) (objects s k : ℕ) (ls : s < length reads) (lk : k < objects) where
+  pub allowed-read : Allowed reads writes objects (read (objects + s) k) ↔ (has (getD reads s 0) k ≡ true)
+  allowed-read = (λ a. right-of reads (length reads) objects s k (allowed-rights reads writes objects (read (objects + s) k) a), λ h. mayRead ls lk h)
+
+  pub allowed-write : Allowed reads writes objects (write (objects + s) k) ↔ (has (getD writes s 0) k ≡ true)
+  allowed-write = (λ a. right-of writes (length reads) objects s k (allowed-rights reads writes objects (write (objects + s) k) a), λ h. mayWrite ls lk h)
+
+  pub allowed-append : Allowed reads writes objects (append (objects + s) k) ↔ (has (getD writes s 0) k ≡ true)
+  allowed-append = (λ a. right-of writes (length reads) objects s k (allowed-rights reads writes objects (append (objects + s) k) a), λ h. mayAppend ls lk h)
 
 module _ (reads writes : List ℕ) (objects : ℕ) (good : matrixGood reads writes objects ≡ true) where
   -- the derived policy, as its image spells it
