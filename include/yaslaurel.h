@@ -29,15 +29,16 @@
  * Every function that judges or writes returns one number.
  *
  *   0          accepted; for yaslaurel_step and yaslaurel_run: quiet; for yaslaurel_matrix_verdict: consistent
- *   1          yaslaurel_matrix_verdict alone: not consistent
+ *   1          yaslaurel_matrix_verdict alone: not consistent; yaslaurel_matrix_silent alone: silent, and its 0 is not
+ *              silent
  *   1 to 4     yaslaurel_matrix_judge alone: the first condition that fails
  *   a length   YASLAUREL_HEADER_LENGTH or more: of the image written, from the three functions that write one
  *   256        yaslaurel_step and yaslaurel_run alone: alert
  *   1 to 18    otherwise: refused, with the number of the first condition that fails, in the order below; 18 is a refusal
  *              from yaslaurel_step and yaslaurel_run alone, which give no length
  *
- * yaslaurel_meaning has a text for each refusal, yaslaurel_verdict_meaning and yaslaurel_judgement_meaning for the
- * answers of these two functions, whose 1 to 4 are no refusals.
+ * yaslaurel_meaning has a text for each refusal, yaslaurel_verdict_meaning, yaslaurel_silence_meaning and
+ * yaslaurel_judgement_meaning for the answers of these three functions, whose 0 to 4 are no refusals.
  *
  * REFUSALS
  *
@@ -221,6 +222,8 @@
 #define YASLAUREL_ALERT 256u
 #define YASLAUREL_CONSISTENT 0u
 #define YASLAUREL_NOT_CONSISTENT 1u
+#define YASLAUREL_NOT_SILENT 0u
+#define YASLAUREL_SILENT 1u
 
 /* Answers of yaslaurel_matrix_judge that are neither 0 nor a refusal: the first condition that fails. */
 #define YASLAUREL_RIGHT_ADDED 1u
@@ -260,6 +263,7 @@
 #define YASLAUREL_STEP_STACK 1536u
 #define YASLAUREL_RUN_STACK 1536u
 #define YASLAUREL_MATRIX_VERDICT_STACK 256u
+#define YASLAUREL_MATRIX_SILENT_STACK 256u
 #define YASLAUREL_MATRIX_JUDGE_STACK 384u
 #define YASLAUREL_MATRIX_POLICY_STACK 12288u
 #define YASLAUREL_PROFILES_POLICY_STACK 36864u
@@ -344,6 +348,18 @@ uint32_t yaslaurel_matrix_verdict(const uint32_t *reads, size_t reads_len, const
                                   uint32_t objects, uint32_t *count, uint32_t *source, uint32_t *target);
 
 /*
+ * Tells whether an access matrix is silent. It is if no session from its derived policy (yaslaurel_matrix_policy), of reads,
+ * writes and appends that the matrix allows, raises an alert; a write right allows writes and appends. The matrix is as for
+ * yaslaurel_matrix_verdict. A silent matrix is consistent; a consistent one need not be silent, since two subjects can mix
+ * in one object what each of them may write there.
+ *
+ * Returns 1 silent, 0 not silent. Else 8.
+ */
+YASLAUREL_MUST_USE
+uint32_t yaslaurel_matrix_silent(const uint32_t *reads, size_t reads_len, const uint32_t *writes, size_t writes_len,
+                                 uint32_t objects);
+
+/*
  * Judges a proposal to withdraw rights of an access matrix. It is lent the old matrix, the rights that must stay as a
  * second one, and the proposed matrix, each as for yaslaurel_matrix_verdict. The conditions: 1 the proposal has no right
  * that the old matrix lacks; 2 it keeps all that must stay; 3 it is consistent; 4 it becomes inconsistent if any single
@@ -415,8 +431,8 @@ static inline void yaslaurel_record(uint32_t code, uint32_t p, uint32_t o, uint3
 }
 
 /*
- * Tells what a refusal means. Not for the answers of yaslaurel_matrix_verdict and yaslaurel_matrix_judge, whose 1 to 4 are
- * no refusals, and not for a length.
+ * Tells what a refusal means. Not for the answers of yaslaurel_matrix_verdict, yaslaurel_matrix_silent and
+ * yaslaurel_matrix_judge, whose 0 to 4 are no refusals, and not for a length.
  *
  * Returns a constant text of a few words, "no refusal" for 0 and every number over 18.
  */
@@ -462,6 +478,25 @@ static inline const char *yaslaurel_verdict_meaning(uint32_t answer)
         return yaslaurel_meaning(answer);
     default:
         return "no answer of yaslaurel_matrix_verdict";
+    }
+}
+
+/*
+ * Tells what an answer of yaslaurel_matrix_silent means.
+ *
+ * Returns a constant text of a few words, that of the refusal for 8.
+ */
+static inline const char *yaslaurel_silence_meaning(uint32_t answer)
+{
+    switch (answer) {
+    case YASLAUREL_NOT_SILENT:
+        return "not silent";
+    case YASLAUREL_SILENT:
+        return "silent";
+    case YASLAUREL_REFUSED_MATRIX:
+        return yaslaurel_meaning(answer);
+    default:
+        return "no answer of yaslaurel_matrix_silent";
     }
 }
 

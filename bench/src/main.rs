@@ -38,8 +38,12 @@ const ROUNDS: usize = 31;
 
 /// A line of a table.
 fn line(name: &str, outcome: &Outcome) {
+    line_of(name, outcome, ["judge", "natural", "tuned"]);
+}
+
+fn line_of(name: &str, outcome: &Outcome, columns: [&str; 3]) {
     print!("| {name} | {:.1} |", outcome.nanoseconds);
-    for column in ["judge", "natural", "tuned"] {
+    for column in columns {
         match outcome.ratios.iter().find(|(name, _)| *name == column) {
             Some((_, ratio)) => print!(" {ratio:.2} |"),
             None => print!(" |"),
@@ -49,7 +53,12 @@ fn line(name: &str, outcome: &Outcome) {
 }
 
 fn head(title: &str, first: &str) {
-    println!("\n## {title}\n\n| {first} | library ns | to judge | to natural | to tuned |\n|---|---|---|---|---|");
+    head_of(title, first, ["judge", "natural", "tuned"]);
+}
+
+fn head_of(title: &str, first: &str, columns: [&str; 3]) {
+    let [one, two, three] = columns;
+    println!("\n## {title}\n\n| {first} | library ns | to {one} | to {two} | to {three} |\n|---|---|---|---|---|");
 }
 
 type Step = fn(&mut [u64], &[u8]) -> (u32, u64, u64);
@@ -371,6 +380,7 @@ fn matrices() {
         );
         line(name, &outcome);
     }
+    silences(&list);
     head("Derived policy", "matrix");
     for (name, reads, writes, objects) in &list {
         let mut outs = vec![vec![0u8; OUTPUT_LENGTH]; 2];
@@ -386,6 +396,34 @@ fn matrices() {
         );
         line(name, &outcome);
         assert_eq!(outs[0], outs[1], "the derived policies are equal");
+    }
+}
+
+/// Whether matrices are silent, also beside the library's own verdict on them.
+fn silences(list: &[(String, Vec<u32>, Vec<u32>, u32)]) {
+    let columns = ["judge", "natural", "verdict"];
+    head_of("Silent matrix", "matrix", columns);
+    let all = ("8 subjects, 32 objects, every right".to_string(), vec![u32::MAX; 8], vec![u32::MAX; 8], 32);
+    for (name, reads, writes, objects) in list.iter().chain([&all]) {
+        let library = move || u64::from(yaslaurel::matrix_silent(reads, writes, *objects).expect("a matrix"));
+        let expected = library();
+        let outcome = on_image(
+            &[],
+            2_000,
+            vec![
+                ("library", Box::new(move |_| library())),
+                ("judge", Box::new(move |_| u64::from(judge::matrix::silent(reads, writes, *objects)))),
+                ("natural", Box::new(move |_| u64::from(plain::silent(reads, writes, *objects)))),
+                (
+                    "verdict",
+                    Box::new(move |_| {
+                        let verdict = std::hint::black_box(yaslaurel::matrix_verdict(reads, writes, *objects));
+                        expected + u64::from(verdict.is_err())
+                    }),
+                ),
+            ],
+        );
+        line_of(&format!("{name}: {}", if expected == 1 { "silent" } else { "not silent" }), &outcome, columns);
     }
 }
 

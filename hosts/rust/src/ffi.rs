@@ -41,6 +41,13 @@ extern "C" {
         source: *mut u32,
         target: *mut u32,
     ) -> u32;
+    pub fn yaslaurel_matrix_silent(
+        reads: *const u32,
+        reads_len: usize,
+        writes: *const u32,
+        writes_len: usize,
+        objects: u32,
+    ) -> u32;
     pub fn yaslaurel_matrix_judge(
         old_reads: *const u32,
         old_reads_len: usize,

@@ -452,6 +452,45 @@ pub fn matrix_verdict(reads: &[u32], writes: &[u32], objects: u32) -> Result<Mat
     }
 }
 
+/// Whether an access matrix is silent: no session from its derived policy, of reads, writes and appends that the matrix
+/// allows (a write right allows both of the latter), raises an alert. A silent matrix is consistent. A consistent one need
+/// not be silent, since two subjects can mix in one object what each of them may write there:
+///
+/// ```
+/// use yaslaurel::{matrix_policy, matrix_silent, matrix_verdict, MatrixVerdict, Operation, Refusal, Session, Verdict};
+/// let (reads, writes) = ([0b001, 0b100], [0b010, 0b010]);
+/// assert_eq!(matrix_verdict(&reads, &writes, 3), Ok(MatrixVerdict::Consistent));
+/// assert_eq!(matrix_silent(&reads, &writes, 3), Ok(false));
+/// // The accesses that sound: containers 3 and 4 are the subjects.
+/// let mut session = Session::start(&matrix_policy(&reads, &writes, 3)?)?;
+/// for process in [3, 4] {
+///     let object = if process == 3 { 0 } else { 2 };
+///     assert_eq!(session.perform(Operation::Read { process, object })?.verdict, Verdict::Quiet);
+/// }
+/// assert_eq!(session.perform(Operation::Append { process: 3, object: 1 })?.verdict, Verdict::Quiet);
+/// let answer = session.perform(Operation::Append { process: 4, object: 1 })?;
+/// assert_eq!((answer.verdict, answer.tag), (Verdict::Alert, 0b111));
+/// // One subject alone cannot.
+/// assert_eq!(matrix_silent(&reads[..1], &writes[..1], 3), Ok(true));
+/// assert_eq!(matrix_silent(&[], &[], 3), Err(Refusal::Matrix));
+/// # Ok::<(), Refusal>(())
+/// ```
+///
+/// # Errors
+///
+/// [`Refusal::Matrix`].
+pub fn matrix_silent(reads: &[u32], writes: &[u32], objects: u32) -> Result<bool, Refusal> {
+    // SAFETY: the slices are valid and aligned for their lengths.
+    let number = unsafe {
+        ffi::yaslaurel_matrix_silent(reads.as_ptr(), reads.len(), writes.as_ptr(), writes.len(), objects)
+    };
+    match number {
+        0 => Ok(false),
+        1 => Ok(true),
+        number => Err(refusal(number)),
+    }
+}
+
 /// The policy image that an access matrix stands for.
 ///
 /// ```

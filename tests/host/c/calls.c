@@ -188,6 +188,7 @@ static void nulls(void)
     check(run(yaslaurel_words(NULL), 0, yaslaurel_bytes(NULL), 0) == 9, "run: nulls");
     check(verdict(yaslaurel_rows(NULL), 0, yaslaurel_rows(NULL), 0, 4) == 8,
           "verdict: null rows");
+    check(yaslaurel_matrix_silent(yaslaurel_rows(NULL), 0, yaslaurel_rows(NULL), 0, 4) == 8, "silent: null rows");
     check(yaslaurel_matrix_policy(yaslaurel_rows(NULL), 0, yaslaurel_rows(NULL), 0, 4, out, OUTPUT) == 8,
           "matrix policy: null rows");
     check(yaslaurel_matrix_judge(yaslaurel_rows(NULL), 0, yaslaurel_rows(NULL), 0, 4, yaslaurel_rows(NULL), 0,
@@ -212,6 +213,35 @@ static void matrix_example(void)
     mark_session();
     check(yaslaurel_session_start(out, 110, session, SESSION) == 0, "the derived policy starts a session");
     check(session[SESSION] == before[SESSION], "the start leaves the number behind the session");
+}
+
+/* Matrices that tell silent from what it might be mistaken for, 1 silent or 0 not; the verdict on each. */
+static void silent_examples(void)
+{
+    static const struct {
+        uint32_t reads[3], writes[3];
+        size_t subjects;
+        uint32_t objects, consistent, silent;
+        const char *text;
+    } list[] = {
+        {{1, 4}, {2, 2}, 2, 3, 0, 0, "silent: two writers mix what each alone may write"},
+        {{5, 3, 2}, {1, 2, 10}, 3, 4, 1, 0, "silent: the paper's matrix is not"},
+        {{3, 5, 6}, {8, 8, 8}, 3, 4, 0, 0, "silent: each pair of sources has a writer, all three have none"},
+        {{1, 2}, {2, 4}, 2, 3, 1, 0, "silent: a flow by way of another object"},
+        {{1, 4}, {2, 0}, 2, 3, 0, 1, "silent: one writer that reads every source"},
+        {{7}, {0}, 1, 3, 0, 1, "silent: objects that nobody writes"},
+        {{4, 1}, {1, 2}, 2, 3, 1, 0, "silent: sources two objects back"},
+    };
+
+    for (size_t i = 0; i < sizeof list / sizeof list[0]; i++) {
+        size_t n = list[i].subjects;
+        check(verdict(list[i].reads, n, list[i].writes, n, list[i].objects) == list[i].consistent &&
+                  yaslaurel_matrix_silent(list[i].reads, n, list[i].writes, n, list[i].objects) == list[i].silent,
+              list[i].text);
+    }
+    check(yaslaurel_matrix_silent(reads, 3, writes, 2, 4) == 8, "silent: row counts differ");
+    check(yaslaurel_matrix_silent(reads, 3, writes, 3, 2) == 8, "silent: a bit beyond the objects");
+    check(yaslaurel_matrix_silent(reads, 3, writes, 3, 33) == 8, "silent: too many objects");
 }
 
 /* The paper's trace, behind one byte: the records lie at odd addresses. */
@@ -499,6 +529,8 @@ static int random_matrices(uint64_t *seed, int round)
     uint32_t objects = 4 * (draw(seed) % 9);
     uint32_t answer = verdict(rows, subjects, rows + 5, subjects, objects);
     int good = answer <= 1 || answer == 8;
+    uint32_t silent = yaslaurel_matrix_silent(rows, subjects, rows + 5, subjects, objects);
+    good = good && (silent <= 1 || silent == 8) && (silent == 8) == (answer == 8) && (silent != 1 || answer == 0);
     answer = yaslaurel_matrix_judge(rows, subjects, rows + 5, subjects, objects, rows + 1, subjects % 5, rows + 4,
                                     subjects % 5, objects, rows + 2, subjects, rows + 3, subjects, objects);
     return good && (answer <= 4 || answer == 8);
@@ -641,24 +673,28 @@ static void refusal_meanings(void)
           "meaning: the texts stand under their numbers");
 }
 
-/* The verdict's 1 and the judgement's 1 to 4 have texts other than the refusals'. */
+/* The verdict's 1, silent's 1 and the judgement's 1 to 4 have texts other than the refusals'. */
 static void answer_meanings(void)
 {
     static const char *const verdicts[] = {"consistent", "not consistent"};
+    static const char *const silences[] = {"not silent", "silent"};
     static const char *const judgements[] = {"accepted", "the proposal has a right that the old matrix lacks",
                                              "a right that must stay is withdrawn", "the proposal is not consistent",
                                              "a right that was withdrawn may be put back"};
 
     for (uint32_t i = 0; i < 2; i++) {
         check(strcmp(yaslaurel_verdict_meaning(i), verdicts[i]) == 0, "meaning: of a verdict");
+        check(strcmp(yaslaurel_silence_meaning(i), silences[i]) == 0, "meaning: of silence");
     }
     for (uint32_t i = 0; i < 5; i++) {
         check(strcmp(yaslaurel_judgement_meaning(i), judgements[i]) == 0, "meaning: of a judgement");
     }
     check(strcmp(yaslaurel_verdict_meaning(8), yaslaurel_meaning(8)) == 0 &&
+              strcmp(yaslaurel_silence_meaning(8), yaslaurel_meaning(8)) == 0 &&
               strcmp(yaslaurel_judgement_meaning(8), yaslaurel_meaning(8)) == 0,
-          "meaning: a refused matrix is a refusal in all three");
+          "meaning: a refused matrix is a refusal in all four");
     check(strcmp(yaslaurel_verdict_meaning(2), "no answer of yaslaurel_matrix_verdict") == 0 &&
+              strcmp(yaslaurel_silence_meaning(2), "no answer of yaslaurel_matrix_silent") == 0 &&
               strcmp(yaslaurel_judgement_meaning(5), "no answer of yaslaurel_matrix_judge") == 0,
           "meaning: of numbers that are no answers");
 }
@@ -676,6 +712,7 @@ int main(void)
     output_lengths();
     nulls();
     matrix_example();
+    silent_examples();
     step_example();
     batch_example();
     leaving_example();

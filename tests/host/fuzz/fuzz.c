@@ -112,7 +112,7 @@ static int stayed(const struct region *region, size_t written)
 
 /* How often each function gave each answer. */
 static unsigned long checks[ANSWERS], normals[ANSWERS], starts[ANSWERS], steps[ANSWERS], runs[ANSWERS],
-    verdicts[ANSWERS], policies[ANSWERS], profiles[ANSWERS], proposals[ANSWERS];
+    verdicts[ANSWERS], silences[ANSWERS], policies[ANSWERS], profiles[ANSWERS], proposals[ANSWERS];
 
 static uint8_t *put16(uint8_t *at, size_t value) { return put(at, value, 2); }
 
@@ -496,6 +496,17 @@ static uint32_t try_verdict(size_t subjects, size_t writers, uint32_t objects)
     return verdict;
 }
 
+/* Whether the rows that are lent are silent, beside their verdict. */
+static void try_silent(size_t subjects, size_t writers, uint32_t objects, uint32_t verdict)
+{
+    uint32_t silent = yaslaurel_matrix_silent((const uint32_t *)(const void *)reads_at.slice, subjects,
+                                              (const uint32_t *)(const void *)writes_at.slice, writers, objects);
+    require(silent <= 1 || silent == 8, "silent gives 0, 1 or 8");
+    require((silent == 8) == (verdict == 8), "silent refuses as the verdict does");
+    require(silent != 1 || verdict == 0, "a silent matrix is consistent");
+    silences[silent]++;
+}
+
 static void try_matrix(void)
 {
     uint32_t rows[24];
@@ -513,6 +524,7 @@ static void try_matrix(void)
     read_only(&reads_at, 1);
     read_only(&writes_at, 1);
     uint32_t verdict = try_verdict(subjects, writers, objects);
+    try_silent(subjects, writers, objects, verdict);
     uint32_t length = yaslaurel_matrix_policy((const uint32_t *)(const void *)reads_at.slice, subjects,
                                               (const uint32_t *)(const void *)writes_at.slice, writers, objects,
                                               out_at.slice, out_length);
@@ -675,6 +687,7 @@ static int all_reached(int print)
     all &= REACHED(print, steps, YASLAUREL_QUIET, YASLAUREL_ALERT, 7, 9, 10, 11, 12, 13, 14, 15, 18);
     all &= REACHED(print, runs, YASLAUREL_QUIET, YASLAUREL_ALERT, 7, 9, 10, 11, 12, 13, 14, 15, 18);
     all &= REACHED(print, verdicts, 0, 1, 8);
+    all &= REACHED(print, silences, 0, 1, 8);
     all &= REACHED(print, policies, LENGTH, 8, 9);
     all &= REACHED(print, profiles, LENGTH, 9, 16, 17);
     all &= REACHED(print, proposals, 0, 1, 2, 3, 4, 8);

@@ -89,6 +89,12 @@ static void call_verdict(void)
     answer = yaslaurel_matrix_verdict(rows[0], SUBJECTS, rows[1], SUBJECTS, OBJECTS, &count, &source, &target);
 }
 
+static void call_silent(void)
+{
+    NOTE();
+    answer = yaslaurel_matrix_silent(rows[0], SUBJECTS, rows[1], SUBJECTS, OBJECTS);
+}
+
 static void call_judge(void)
 {
     NOTE();
@@ -120,12 +126,13 @@ static struct function {
     {"yaslaurel_step", call_step, YASLAUREL_STEP_STACK, 0},
     {"yaslaurel_run", call_run, YASLAUREL_RUN_STACK, 0},
     {"yaslaurel_matrix_verdict", call_verdict, YASLAUREL_MATRIX_VERDICT_STACK, 0},
+    {"yaslaurel_matrix_silent", call_silent, YASLAUREL_MATRIX_SILENT_STACK, 0},
     {"yaslaurel_matrix_judge", call_judge, YASLAUREL_MATRIX_JUDGE_STACK, 0},
     {"yaslaurel_matrix_policy", call_policy, YASLAUREL_MATRIX_POLICY_STACK, 0},
     {"yaslaurel_profiles_policy", call_profiles, YASLAUREL_PROFILES_POLICY_STACK, 0},
 };
 
-enum { VERSION, CHECK, NORMALISE, START, STEP, RUN, VERDICT, JUDGE, POLICY, PROFILES };
+enum { VERSION, CHECK, NORMALISE, START, STEP, RUN, VERDICT, SILENT, JUDGE, POLICY, PROFILES };
 
 /* Runs a call on the painted stack and keeps the most that was found. */
 static void measure(int which)
@@ -250,6 +257,7 @@ static void measure_all(int round)
     steps();
     make_rows();
     measure(VERDICT);
+    measure(SILENT);
     measure(JUDGE);
     /* Nothing withdrawn but what no flow needs: each right that is put back is looked at. */
     memcpy(rows[4], rows[0], sizeof rows[0]);

@@ -1,6 +1,7 @@
 //! The cases of the comparison, a module for each kind. For a further function of the library add a module with its case
 //! and its part, and the part to this list, at its end: the seed of a part goes by its place.
 
+mod allowed;
 mod batches;
 mod histories;
 mod images;
@@ -24,4 +25,5 @@ pub const PARTS: &[Part] = &[
     matrices::PART,
     profiles::PART,
     proposals::PART,
+    allowed::PART,
 ];

@@ -3,6 +3,7 @@
 use crate::image::{Container, Kind, Policy};
 use crate::normal::{encode, put};
 use crate::numbers::{LONGEST_NORMAL, UNRESTRICTED};
+use crate::rules::covers;
 
 /// A matrix that passes refusal 8.
 struct Matrix<'a> {
@@ -56,6 +57,33 @@ impl Matrix<'_> {
             }
         }
         flow
+    }
+
+    /// "silent, yes exactly when no session from the derived policy, of reads, writes and appends that the matrix allows
+    /// (write right for both of the latter), raises an alert." Reads and appends take nothing away, so the fullest session
+    /// makes all of them until no tag grows; what any session brings together is together there. A subject is
+    /// unrestricted, so that an alert is at an object that somebody writes.
+    fn silent(&self) -> bool {
+        let mut objects: Vec<u64> = (0..self.objects).map(|b| 1 << b).collect();
+        let mut subjects = vec![0u64; self.reads.len()];
+        loop {
+            let before = (objects.clone(), subjects.clone());
+            for (s, held) in subjects.iter_mut().enumerate() {
+                let read = (0..self.objects).filter(|&a| has(self.reads[s], a));
+                *held = read.fold(*held, |held, a| held | objects[a]);
+                for (b, tag) in objects.iter_mut().enumerate() {
+                    if has(self.writes[s], b) {
+                        *tag |= *held;
+                    }
+                }
+            }
+            if before == (objects.clone(), subjects.clone()) {
+                break;
+            }
+        }
+        let rules = self.policy().rules;
+        let written = |b: usize| self.writes.iter().any(|&row| has(row, b));
+        (0..self.objects).all(|b| !written(b) || covers(&rules[b], objects[b]))
     }
 
     /// "The derived policy, a normal image: objects as files with their own atoms, then subjects as processes, one
@@ -114,6 +142,11 @@ pub fn verdict(reads: &[u32], writes: &[u32], objects: u32) -> Verdict {
     }
 }
 
+/// "Add beside it a yes or no, silent": 1 yes, 0 no, 8 refused.
+pub fn silent(reads: &[u32], writes: &[u32], objects: u32) -> u32 {
+    read(reads, writes, objects).map_or_else(|number| number, |matrix| u32::from(matrix.silent()))
+}
+
 /// The derived policy: the length of its image, or the number of the refusal, 9 before 8.
 pub fn policy(reads: &[u32], writes: &[u32], objects: u32, out: &mut [u8]) -> u32 {
     // "9 session of wrong length or output (of normaliser or derived policy) under 18,994 bytes"
@@ -130,6 +163,19 @@ pub fn policy(reads: &[u32], writes: &[u32], objects: u32, out: &mut [u8]) -> u3
 mod tests {
     use super::*;
     use crate::numbers::{CONTAINERS, HEADER};
+
+    /// "Consistent is too weak, since two permitted writers can mix."
+    #[test]
+    fn two_writers_mix() {
+        let (reads, writes) = ([1, 4], [2, 2]);
+        assert_eq!(verdict(&reads, &writes, 3).number, 0);
+        assert_eq!(silent(&reads, &writes, 3), 0);
+        assert_eq!(silent(&reads[..1], &writes[..1], 3), 1);
+        assert_eq!(silent(&[5, 3, 2], &[1, 2, 10], 4), 0);
+        assert_eq!(silent(&[3, 5, 6], &[8, 8, 8], 4), 0);
+        assert_eq!(silent(&[7], &[0], 3), 1);
+        assert_eq!(silent(&[], &[], 3), 8);
+    }
 
     /// "Document 000's matrix: read rows 5, 3, 2, write rows 1, 2, 10, 4 objects: 3 flows, first 0 to 3. Permit rules
     /// 5; 3; 4; 10. Image of 110 bytes, pairs (18,42), (60,2), (62,16), (78,32)."

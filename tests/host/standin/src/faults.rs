@@ -114,4 +114,12 @@ faults! {
     RequiredLackedRefused, withdrawals, differential, "a right that must stay and that the old matrix lacks is answered 8";
     NothingWithdrawnAnswered4, withdrawals, differential, "a proposal that withdraws nothing is answered 4";
     ReadRightsPutBack, withdrawals, differential, "only rights to read are put back";
+    SilentByGranted, matrices, differential calls, "silent by the granted flows, not the composed ones";
+    SilentByRows, matrices, differential calls, "silent by the flows out of an object";
+    SilentByEachSource, matrices, differential calls, "silent if each source alone has a mixture";
+    SilentByPairs, matrices, differential calls, "silent if each pair of sources has a mixture";
+    SilentAppendByRead, matrices, differential calls, "silent with appends by the right to read";
+    ConsistentAsSilent, matrices, differential calls, "consistent matrices are silent";
+    UnwrittenNotSilent, matrices, differential calls, "an object that nobody writes is not silent";
+    RefusedNotSilent, matrices, differential calls fuzz, "a matrix that is refused is not silent";
 }

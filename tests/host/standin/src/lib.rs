@@ -3,6 +3,7 @@
 
 pub mod faults;
 mod profiles;
+mod silence;
 mod step;
 mod withdrawals;
 
@@ -198,6 +199,19 @@ fn smallest_target(reads: &[u32], writes: &[u32], objects: usize) -> (u32, u32) 
         }
     }
     (0, 0)
+}
+
+/// # Safety
+/// As `include/yaslaurel.h` says.
+#[no_mangle]
+pub unsafe extern "C" fn yaslaurel_matrix_silent(
+    reads: *const u32,
+    reads_length: usize,
+    writes: *const u32,
+    writes_length: usize,
+    objects: u32,
+) -> u32 {
+    silence::answer(from_raw_parts(reads, reads_length), from_raw_parts(writes, writes_length), objects)
 }
 
 /// # Safety

@@ -1,4 +1,4 @@
-//! Access matrices: the verdict, and the policy that is derived.
+//! Access matrices: the verdict, silence, and the policy that is derived.
 
 use judge::matrix;
 use yaslaurel::{ffi, MatrixVerdict, OUTPUT_LENGTH};
@@ -12,13 +12,18 @@ use crate::lent::{guards_stand, Guarded};
 use crate::random::Random;
 
 pub const PART: Part = Part {
-    name: "matrices: verdict, derived policy",
+    name: "matrices: verdict, silence, derived policy",
     cases: 210_000,
     make: |r| Box::new(make(r)),
-    needs: &[Need::Numbers(VERDICT, &[0, 1, 8]), Need::Numbers(DERIVED, &[0, 8, 9])],
+    needs: &[
+        Need::Numbers(VERDICT, &[0, 1, 8]),
+        Need::Words(SILENCE, &["silent", "consistent, not silent", "not consistent", "refused"]),
+        Need::Numbers(DERIVED, &[0, 8, 9]),
+    ],
 };
 
 const VERDICT: &str = "matrix verdict, by answer";
+const SILENCE: &str = "matrices";
 const DERIVED: &str = "derived policy, by answer (0: a length)";
 
 #[derive(Clone)]
@@ -39,6 +44,8 @@ impl Case for Matrix {
         let library = library_verdict(&lent_reads, &lent_writes, *objects);
         let matrix::Verdict { number, count, source, target } = matrix::verdict(reads, writes, *objects);
         c.count(VERDICT, number);
+        let silent = matrix::silent(reads, writes, *objects);
+        c.count(SILENCE, in_words(silent, number));
         let (count_after, source_after, target_after) = if number <= 1 { (count, source, target) } else { BEFORE };
         bench.lend_out(*out_length);
         let length = library_policy(&lent_reads, &lent_writes, *objects, &mut bench.out);
@@ -48,6 +55,8 @@ impl Case for Matrix {
             .or_else(|| {
                 differ("matrix verdict of the Rust interface", self.safe_verdict(), (number, count, source, target))
             })
+            .or_else(|| differ("silent", library_silent(&lent_reads, &lent_writes, *objects), silent))
+            .or_else(|| differ("silent of the Rust interface", self.safe_silent(), silent))
             .or_else(|| differ("derived policy", length, expected_length))
             .or_else(|| differ_at("output of the derived policy", bench.out.content(), &bench.judge_out))
             .or_else(|| differ_at("the read rows", lent_reads.content(), reads))
@@ -72,6 +81,13 @@ impl Matrix {
             Ok(MatrixVerdict::Consistent) => (0, 0, 0, 0),
             Ok(MatrixVerdict::Inconsistent { flows, source, target }) => (1, flows, source, target),
             Err(refusal) => (refusal.number(), 0, 0, 0),
+        }
+    }
+
+    fn safe_silent(&self) -> u32 {
+        match yaslaurel::matrix_silent(&self.reads, &self.writes, self.objects) {
+            Ok(silent) => u32::from(silent),
+            Err(refusal) => refusal.number(),
         }
     }
 
@@ -117,6 +133,17 @@ impl Matrix {
     }
 }
 
+/// What a matrix is, by the answers on its silence and its consistency.
+fn in_words(silent: u32, verdict: u32) -> &'static str {
+    match (silent, verdict) {
+        (1, 0) => "silent",
+        (0, 0) => "consistent, not silent",
+        (0, 1) => "not consistent",
+        (8, 8) => "refused",
+        _ => "silent, not consistent",
+    }
+}
+
 /// The three numbers behind the verdict's pointers before the call.
 const BEFORE: (u32, u32, u32) = (0x1111_2222, 0x3333_4444, 0x5555_6666);
 
@@ -136,6 +163,13 @@ fn library_verdict(reads: &Guarded<u32>, writes: &Guarded<u32>, objects: u32) ->
         )
     };
     (number, count, source, target)
+}
+
+fn library_silent(reads: &Guarded<u32>, writes: &Guarded<u32>, objects: u32) -> u32 {
+    // SAFETY: as `lent` says.
+    unsafe {
+        ffi::yaslaurel_matrix_silent(reads.pointer(), reads.length(), writes.pointer(), writes.length(), objects)
+    }
 }
 
 fn library_policy(reads: &Guarded<u32>, writes: &Guarded<u32>, objects: u32, out: &mut Guarded<u8>) -> u32 {
