@@ -2,7 +2,7 @@
 -- elsewhere"): what its cases say, and the number and values of each.
 use Prim.Native.Nat.{ℕ}
 use mathlib.Core.Bool.{Bool, true, false}
-use Rattle.answers.specs.declared.Verdict.the-variants.{Quiet, Alert}
+use Rattle.answers.specs.declared.Verdict.the-variants.{Quiet, Alert, Blocked}
 use Rattle.answers.specs.declared.Received.{Received}
 use Rattle.answers.specs.declared.Answer.{Answer}
 use Rattle.answers.specs.declared.Answer.the-variants.{Given, Refused}
@@ -18,6 +18,10 @@ quiet c t = Given Quiet (received c t)
 abbrev pub alert : ℕ → ℕ → Answer
 alert c t = Given Alert (received c t)
 
+-- "answers blocked, with the receiver and the tag it would have had" (change request No. 9)
+abbrev pub blocked : ℕ → ℕ → Answer
+blocked c t = Given Blocked (received c t)
+
 abbrev pub refused : ℕ → Answer
 refused n = Refused n
 
@@ -27,21 +31,30 @@ refused n = Refused n
 abbrev pub isQuiet : Answer → Bool
 isQuiet (Given Quiet e) = true
 isQuiet (Given Alert e) = false
+isQuiet (Given Blocked e) = false
 isQuiet (Refused n) = false
 
 abbrev pub isAlert : Answer → Bool
 isAlert (Given Quiet e) = false
 isAlert (Given Alert e) = true
+isAlert (Given Blocked e) = false
 isAlert (Refused n) = false
+
+abbrev pub isBlocked : Answer → Bool
+isBlocked (Given Quiet e) = false
+isBlocked (Given Alert e) = false
+isBlocked (Given Blocked e) = true
+isBlocked (Refused n) = false
 
 abbrev pub isRefused : Answer → Bool
 isRefused (Given v e) = false
 isRefused (Refused n) = true
 
--- "A step is accepted if it is answered quiet or alert"
+-- "A step is accepted if it is answered quiet or alert": what is blocked is neither accepted nor refused
 abbrev pub accepted : Answer → Bool
 accepted (Given Quiet e) = true
 accepted (Given Alert e) = true
+accepted (Given Blocked e) = false
 accepted (Refused n) = false
 
 -- ---- their numbers and values
@@ -64,8 +77,13 @@ quietNumber = 0
 abbrev pub alertNumber : ℕ
 alertNumber = 256
 
+-- apart from these two and every refusal
+abbrev pub blockedNumber : ℕ
+blockedNumber = 257
+
 -- an answer as one number
 abbrev pub answerNumber : Answer → ℕ
 answerNumber (Given Quiet e) = quietNumber
 answerNumber (Given Alert e) = alertNumber
+answerNumber (Given Blocked e) = blockedNumber
 answerNumber (Refused n) = n

@@ -2,7 +2,7 @@
 // "Refused because ..").
 ghost use mathlib.Core.Path.{_≡_};
 ghost use mathlib.Core.Bool.{cond};
-ghost use Rattle.answers.specs.Answers.{isQuiet, isAlert, isRefused, accepted, receivedOf, answerNumber};
+ghost use Rattle.answers.specs.Answers.{isQuiet, isAlert, isBlocked, isRefused, accepted, receivedOf, answerNumber};
 ghost use Rattle.answers.specs.Tallies.{more, noTally, counted};
 use std::num::wrapping_add_u64;
 
@@ -71,15 +71,19 @@ pub const QUIET_NUMBER: u32 = 0;
 // The number of an alert, apart from every refusal.
 pub const ALERT_NUMBER: u32 = 256;
 
+// The number of an access that was blocked.
+pub const BLOCKED_NUMBER: u32 = 257;
+
 // ---- the answer to a record
 
-// What an access that was made is answered.
+// What an access that was not refused is answered.
 pub enum Verdict {
     Quiet,
     Alert,
+    Blocked,
 }
 
-// The receiver of an access, and its tag afterwards.
+// The receiver of an access, and its tag afterwards; the tag that it would have, where the access was blocked.
 pub struct Received {
     pub receiver: usize,
     pub tag: u64,
@@ -99,6 +103,7 @@ pub fn is_quiet(answer: Answer) -> bool
         Answer::Given(verdict, _) => match verdict {
             Verdict::Quiet => true,
             Verdict::Alert => false,
+            Verdict::Blocked => false,
         },
         Answer::Refused(_) => false,
     }
@@ -112,6 +117,21 @@ pub fn is_alert(answer: Answer) -> bool
         Answer::Given(verdict, _) => match verdict {
             Verdict::Quiet => false,
             Verdict::Alert => true,
+            Verdict::Blocked => false,
+        },
+        Answer::Refused(_) => false,
+    }
+}
+
+// The access would not be permitted, its receiver is guarded, and it was not made.
+pub fn is_blocked(answer: Answer) -> bool
+    ensures { λ r. ⌜ r ≡ isBlocked answer ⌝ }
+{
+    match answer {
+        Answer::Given(verdict, _) => match verdict {
+            Verdict::Quiet => false,
+            Verdict::Alert => false,
+            Verdict::Blocked => true,
         },
         Answer::Refused(_) => false,
     }
@@ -135,6 +155,7 @@ pub fn is_accepted(answer: Answer) -> bool
         Answer::Given(verdict, _) => match verdict {
             Verdict::Quiet => true,
             Verdict::Alert => true,
+            Verdict::Blocked => false,
         },
         Answer::Refused(_) => false,
     }
@@ -161,6 +182,7 @@ pub fn number(answer: Answer) -> u32
         Answer::Given(verdict, _) => match verdict {
             Verdict::Quiet => QUIET_NUMBER,
             Verdict::Alert => ALERT_NUMBER,
+            Verdict::Blocked => BLOCKED_NUMBER,
         },
         Answer::Refused(n) => n,
     }

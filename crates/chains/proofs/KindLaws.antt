@@ -12,6 +12,8 @@ use Rattle.rules.specs.Answers.{dataWidth}
 use Rattle.lists.proofs.Bools.{and-0, and-1, or-0, or-1, or-cases, clash, refuted}
 use Rattle.image.specs.Limits.{
   isFree,
+  isGuarded,
+  guardedKind,
   isFile,
   isVolatile,
   isProcess,
@@ -30,9 +32,18 @@ pub process-used : (k : ℕ) → isProcess k ≡ true → isFree k ≡ false
 unfolding isProcess isFree
 process-used k e = ne-eqb k freeKind (λ z. omega (arith, eqb-true k processKind e))
 
+-- a process is not guarded
+pub process-free : (k : ℕ) → isProcess k ≡ true → isGuarded k ≡ false
+unfolding isProcess isGuarded
+process-free k e = ne-eqb k guardedKind (λ z. omega (arith, z, eqb-true k processKind e))
+
+pub guarded-used : (k : ℕ) → isGuarded k ≡ true → isFree k ≡ false
+unfolding isGuarded isFree
+guarded-used k e = ne-eqb k freeKind (λ z. omega (arith, z, eqb-true k guardedKind e))
+
 pub file-used : (k : ℕ) → isFile k ≡ true → isFree k ≡ false
 unfolding isFile isFree
-file-used k e = ne-eqb k freeKind (λ z. omega (arith, eqb-true k fileKind e))
+file-used k e = ne-eqb k freeKind (λ z. ⊎-elim (λ p. omega (arith, z, eqb-true k fileKind p)) (λ p. omega (arith, z, eqb-true k guardedKind p)) (or-cases (eqb k fileKind) e))
 
 volatile-used : (k : ℕ) → isVolatile k ≡ true → isFree k ≡ false
 unfolding isVolatile isFree

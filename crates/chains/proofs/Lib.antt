@@ -11,6 +11,7 @@ pub mod Rows
 pub mod Start
 pub mod VerdictLaws
 pub mod TableLaws
+pub mod GuardLaws
 -- a whole list of records
 pub mod Monitors
 -- the table as a monitor, and the paper's listing run by it

@@ -3,37 +3,68 @@ use Prim.Native.Nat.{ℕ, suc, zero, _+_, _-_, _<_}
 use native.Mathlib.Omega.{arith}
 use native.Mathlib.Decide.{decLt}
 use mathlib.Core.Path.{_≡_, refl, sym, subst, _∙_, ap}
-use mathlib.Core.Logic.{_⊎_, inl, inr, _↔_}
+use mathlib.Core.Logic.{_⊎_, inl, inr, _↔_, ⊎-elim}
 use mathlib.Core.Bool.{Bool, true, false, not, cond, _&&_}
 use mathlib.Core.List.{List, [], _∷_, _++_}
 use mathlib.Core.Option.{Option, none, some}
 use lib.Dec.{eqb}
 use lib.ListN.{take}
-use borrow.Author.Tests.{eqb-true, eqb-false, not-true, not-false}
+use borrow.Author.Tests.{eqb-true, eqb-false}
 use Rattle.rules.specs.Sets.{atom}
 use Rattle.rules.specs.Rules.{covers}
 use Rattle.lists.specs.Lists.{elem}
 use Rattle.rules.specs.Answers.{dataWidth}
-use Rattle.lists.proofs.Bools.{and-1, clash, decide}
-use Rattle.image.specs.Limits.{isFree}
+use Rattle.lists.proofs.Bools.{and-in, and-0, or-0, or-cases, clash, refuted, decide}
+use Rattle.image.specs.Limits.{isFree, isGuarded}
 use Rattle.image.specs.Policy.{Policy}
 use Rattle.chains.specs.History.{Step, read, write, append, exec, fork, newFile, newVolatile, end, delete, History, _▸_, receiver}
 use Rattle.lists.specs.Conditions.{firstFailed}
 use Rattle.chains.specs.Chains.{UserRule, Item, dataAtom, runningAtom, Chain, Governs, Reaches, Forbidden}
 use Rattle.answers.specs.declared.Answer.{Answer}
-use Rattle.answers.specs.Answers.{accepted, isAlert, receiverOf, tagOf}
-use Rattle.answers.proofs.Cases.{accepted-given, unaccepted-refused}
-use Rattle.chains.specs.Demand.{judged, extend, after, historyFrom, AcceptedAt, Taken}
-use Rattle.chains.specs.Table.{State, freeRow, readRow, writeRow, appendRow, execRow, forkRow, newFileRow, newVolatileRow, fitsNeed, ruleOr, entry, processGood, objectGood, userGood, tableConditions, alerts, verdict, placed, operate, Faithful}
+use Rattle.answers.specs.Answers.{accepted, isAlert, isBlocked, isRefused, receiverOf, tagOf}
+use Rattle.answers.proofs.Cases.{accepted-given, blocked-given, unaccepted-cases}
+use Rattle.chains.specs.Demand.{judged, extend, after, historyFrom, AcceptedAt, GivenAt, BlockedTold, Taken}
+use Rattle.chains.specs.Guards.{guarded, writing, writtenInto}
+use Rattle.chains.specs.Table.{State, freeRow, readRow, writeRow, appendRow, execRow, forkRow, newFileRow, newVolatileRow, fitsNeed, ruleOr, entry, processGood, objectGood, userGood, tableConditions, alerts, blocks, verdict, placed, operate, Faithful}
 use Rattle.session.specs.Rows.{Row}
 use Rattle.chains.proofs.Exact.{Exact, covers-in, covers-out, Tagged, tagged-none}
 use Rattle.chains.proofs.Rows.{Good, RowOk, other, read-good, write-good, append-good, exec-good, fork-good, new-file-good, new-volatile-good}
 use Rattle.lists.proofs.Places.{some-inj, none-some}
-use Rattle.chains.proofs.KindLaws.{process-used, file-used, store-used}
+use Rattle.chains.proofs.KindLaws.{process-used, guarded-used, file-used, store-used}
 use Rattle.chains.proofs.TableLaws.{Passed, passed, operate-done, operate-given, rule-declared}
-use Rattle.chains.proofs.VerdictLaws.{verdict-alert, verdict-quiet}
+use Rattle.chains.proofs.VerdictLaws.{verdict-blocked, verdict-alert, verdict-quiet, verdict-receiver, verdict-tag, blocked-blocks, accepted-put, alert-alerts, left-put, left-blocked}
+use Rattle.chains.proofs.GuardLaws.{Guarding, guarding-other, guarded-written, guards-next, guarded-stays, guarding-next}
 use Rattle.chains.proofs.Steps.{end-none, delete-none, new-file-none, new-file-rules, new-volatile-none, new-volatile-rules, fork-chains, fork-rules}
 use Rattle.chains.proofs.Start.{Inv}
+
+-- ---- blocked accesses: of any state
+
+-- one that is blocked is a write or an append, and changes nothing
+operate-blocked : (σ : State) (s : Step) → isBlocked (operate σ s .1) ≡ true → (operate σ s .0 ≡ σ) × (writing s ≡ true)
+unfolding blocks
+operate-blocked σ s k =
+    let e : firstFailed (tableConditions σ s) ≡ 0 = operate-given σ s (blocked-given (operate σ s .1) k) in
+    let b : blocks s (entry σ s .row) ≡ true = blocked-blocks s (entry σ s .row) (ap (λ (x : State × Answer). isBlocked (x .1)) (sym (operate-done σ s e)) ∙ k) in (
+      ap (λ (x : State × Answer). x .0) (operate-done σ s e) ∙ left-blocked s (entry σ s .row) σ b,
+      guarded-written σ s (passed σ s e) (and-0 (isGuarded (entry σ s .row .kind)) (alerts s (entry σ s .row)) b),
+    )
+
+module _ {S R : Type 0} (op : S → R → S × Answer) (stepOf : R → Option Step) (view : S → State) (Valid : S → Type 0) (F : Faithful op stepOf view Valid) where
+  -- a blocked record spells a write or an append, and leaves the state
+  pub op-blocked : (σ : S) → Valid σ → (r : R) → isBlocked (op σ r .1) ≡ true → (s : Step) × (stepOf r ≡ some s) × (view (op σ r .0) ≡ view σ) × (writing s ≡ true)
+  op-blocked σ ok r b =
+      let f : (s : Step) × (stepOf r ≡ some s) × (view (op σ r .0) ≡ operate (view σ) s .0) × (op σ r .1 ≡ operate (view σ) s .1) = F .answering σ r ok (blocked-given (op σ r .1) b) in
+      let k : (operate (view σ) (f .0) .0 ≡ view σ) × (writing (f .0) ≡ true) = operate-blocked (view σ) (f .0) (ap isBlocked (sym (f .3)) ∙ b) in
+      (f .0, f .1, f .2 ∙ k .0, k .1)
+
+  -- each blocked record of a list spells a write or an append
+  pub blocked-at : (σ : S) → Valid σ → (rs : List R) (n : ℕ) (s : Step) (a : Answer) → GivenAt op stepOf σ rs n s a → isBlocked a ≡ true → writing s ≡ true
+  blocked-at σ ok [] n s a A b = absurd (none-some (A .answered))
+  blocked-at σ ok (q ∷ rs) zero s a A b =
+      let f : (t : Step) × (stepOf q ≡ some t) × (view (op σ q .0) ≡ view σ) × (writing t ≡ true) = op-blocked σ ok q (ap isBlocked (some-inj (A .answered)) ∙ b) in
+      ap writing (some-inj (sym (ap stepOf (some-inj (A .spelled .1)) ∙ A .spelled .2) ∙ f .1)) ∙ f .3
+  blocked-at σ ok (q ∷ rs) (suc n) s a A b =
+      blocked-at (op σ q .0) (F .stays σ q ok) rs n s a (record { spelled = A .spelled; answered = A .answered; given = A .given }) b
 
 module _ (P : Policy) where
   -- ---- one step
@@ -101,13 +132,17 @@ module _ (P : Policy) where
   taken h σ I (delete p o) g = tt
 
   -- the row that a step puts, and every other
-  placed-ok : (h : History) (σ : State) → Inv P h σ → (s : Step) (w : Row) → Put h s w → Inv P (h ▸ s) (placed σ (receiver s) w)
+  placed-ok : (h : History) (σ : State) → Inv P h σ → (s : Step) (w : Row) → Put h s w → Guarding P (h ▸ s) (receiver s) w → Inv P (h ▸ s) (placed σ (receiver s) w)
   unfolding placed
-  placed-ok h σ I s w g = record { rows = λ x. at x (eqb x (receiver s)) refl; users = I .users }
+  placed-ok h σ I s w g q = record { rows = λ x. at x (eqb x (receiver s)) refl; users = I .users; guarding = λ x. on x (eqb x (receiver s)) refl }
     where
       at : (x : ℕ) (b : Bool) → eqb x (receiver s) ≡ b → RowOk P (h ▸ s) x (cond b w (σ .row x))
       at x true e = subst (λ (z : ℕ). RowOk P (h ▸ s) z w) (sym (eqb-true x (receiver s) e)) (g .ok)
       at x false e = other P h s x (σ .row x) (eqb-false x (receiver s) e) (I .rows x)
+
+      on : (x : ℕ) (b : Bool) → eqb x (receiver s) ≡ b → Guarding P (h ▸ s) x (cond b w (σ .row x))
+      on x true e = subst (λ (z : ℕ). Guarding P (h ▸ s) z w) (sym (eqb-true x (receiver s) e)) q
+      on x false e = guarding-other P h s x (σ .row x) (eqb-false x (receiver s) e) (I .guarding x)
 
   -- ---- the answer
 
@@ -144,30 +179,47 @@ module _ (P : Policy) where
         let q : (m : ℕ) × (elem m r ≡ true) × ((k : ℕ) → atom t k ≡ 1 → atom m k ≡ 1) = covers-out r t (x .holds t e r gr) in
         nm (q .0) (q .1) (λ k z. q .2 k (reaches k .1 z))
 
-  told : (h : History) (s : Step) (w : Row) → Put h s w → Told (h ▸ s) s (verdict s w)
-  unfolding alerts
-  told h s w g = on (decide (alerts s w))
+  -- of a step that is not refused, whether it is made or blocked
+  answered : (h : History) (s : Step) (w : Row) → Put h s w → isGuarded (w .kind) ≡ guarded P (h ▸ s) (receiver s) → judged s ≡ true → BlockedTold P h s (verdict s w)
+  unfolding alerts blocks
+  answered h s w g q j = on (decide (isGuarded (w .kind))) (decide (covers (w .permit) (w .tag)))
     where
       info : (k : ℕ) → (atom (w .tag) k ≡ 1) ↔ Reaches P (h ▸ s) k (receiver s)
       info = reaches (h ▸ s) (receiver s) (w .tag) (g .tag)
 
-      alerting : alerts s w ≡ true → judged s ≡ true → Forbidden P (h ▸ s) (receiver s)
-      alerting e j =
-          uncovered (h ▸ s) (receiver s) (w .tag) (g .tag) (w .permit) (g .permit j)
-          (not-true (covers (w .permit) (w .tag)) (and-1 (judged s) e))
+      forbidden : covers (w .permit) (w .tag) ≡ false → Forbidden P (h ▸ s) (receiver s)
+      forbidden e = uncovered (h ▸ s) (receiver s) (w .tag) (g .tag) (w .permit) (g .permit j) e
 
-      resting : alerts s w ≡ false → judged s ≡ true → ¬ Forbidden P (h ▸ s) (receiver s)
-      resting e j =
-          covered (h ▸ s) (receiver s) (w .tag) (g .tag) (w .permit) (g .permit j)
-          (not-false (covers (w .permit) (w .tag)) (sym (ap (λ b. b && not (covers (w .permit) (w .tag))) j) ∙ e))
+      permitted : covers (w .permit) (w .tag) ≡ true → ¬ Forbidden P (h ▸ s) (receiver s)
+      permitted e = covered (h ▸ s) (receiver s) (w .tag) (g .tag) (w .permit) (g .permit j) e
 
-      on : (alerts s w ≡ true) ⊎ (alerts s w ≡ false) → Told (h ▸ s) s (verdict s w)
-      on (inl e) =
-          subst (Told (h ▸ s) s) (sym (verdict-alert s w e))
-          (record { at = refl; tag = info; verdict = λ j. (λ z. alerting e j, λ z. refl) })
-      on (inr e) =
-          subst (Told (h ▸ s) s) (sym (verdict-quiet s w e))
-          (record { at = refl; tag = info; verdict = λ j. (λ z. clash z refl, λ z. absurd (resting e j z)) })
+      alerting : covers (w .permit) (w .tag) ≡ false → alerts s w ≡ true
+      alerting e = and-in j (ap not e)
+
+      resting : covers (w .permit) (w .tag) ≡ true → alerts s w ≡ false
+      resting e = ap (λ b. judged s && not b) e ∙ ap (λ b. b && false) j
+
+      on : (isGuarded (w .kind) ≡ true) ⊎ (isGuarded (w .kind) ≡ false) → (covers (w .permit) (w .tag) ≡ true) ⊎ (covers (w .permit) (w .tag) ≡ false) → BlockedTold P h s (verdict s w)
+      on x (inl e) =
+          subst (BlockedTold P h s) (sym (verdict-quiet s w (resting e)))
+          (record { told = (λ z. clash z refl, λ z. absurd (permitted e z)); blocks = (λ z. clash z refl, λ z. absurd (permitted e (z .0))); at = refl; tag = info })
+      on (inl x) (inr e) =
+          subst (BlockedTold P h s) (sym (verdict-blocked s w (and-in x (alerting e))))
+          (record { told = (λ z. forbidden e, λ z. refl); blocks = (λ z. (forbidden e, sym q ∙ x), λ z. refl); at = refl; tag = info })
+      on (inr x) (inr e) =
+          subst (BlockedTold P h s) (sym (verdict-alert s w (ap (λ b. b && alerts s w) x) (alerting e)))
+          (record { told = (λ z. forbidden e, λ z. refl); blocks = (λ z. clash z refl, λ z. clash (q ∙ z .1) x); at = refl; tag = info })
+
+  -- of one that is made
+  told : (h : History) (s : Step) (w : Row) → Put h s w → isGuarded (w .kind) ≡ guarded P (h ▸ s) (receiver s) → blocks s w ≡ false → Told (h ▸ s) s (verdict s w)
+  told h s w g q free = record {
+    at = verdict-receiver s w;
+    tag = λ k. rw (verdict-tag s w) (reaches (h ▸ s) (receiver s) (w .tag) (g .tag) k);
+    verdict = λ j. (
+      λ z. answered h s w g q j .told .0 (or-0 (isAlert (verdict s w)) (isBlocked (verdict s w)) z),
+      λ z. ⊎-elim (λ x. x) (λ x. clash (blocked-blocks s w x) free) (or-cases (isAlert (verdict s w)) (answered h s w g q j .told .1 z)),
+    );
+  }
 
   -- ---- an accepted operation
 
@@ -178,9 +230,41 @@ module _ (P : Policy) where
   operate-ok : (h : History) (σ : State) → Inv P h σ → (s : Step) → accepted (operate σ s .1) ≡ true → Stepped h s (operate σ s .0) (operate σ s .1)
   operate-ok h σ I s a =
       let e : firstFailed (tableConditions σ s) ≡ 0 = operate-given σ s (accepted-given (operate σ s .1) a) in
-      let g : Put h s (entry σ s .row) = puts h σ I s (passed σ s e) in
-      subst (λ (x : State × Answer). Stepped h s (x .0) (x .1)) (sym (operate-done σ s e))
-      (record { inv = placed-ok h σ I s (entry σ s .row) g; told = told h s (entry σ s .row) g })
+      let w : Row = entry σ s .row in
+      let g : Put h s w = puts h σ I s (passed σ s e) in
+      let q : isGuarded (w .kind) ≡ guarded P (h ▸ s) (receiver s) = guards-next P h σ (I .guarding) s (passed σ s e) in
+      let f : blocks s w ≡ false = accepted-put s w (ap (λ (x : State × Answer). accepted (x .1)) (sym (operate-done σ s e)) ∙ a) in
+      subst (λ (x : State × Answer). Stepped h s (x .0) (x .1)) (sym (operate-done σ s e)) (record {
+        inv = subst (Inv P (h ▸ s)) (sym (left-put s w σ f)) (placed-ok h σ I s w g (guarding-next P h σ (I .guarding) s (passed σ s e) f));
+        told = told h s w g q f;
+      })
+
+  -- one that is not refused
+  operate-told : (h : History) (σ : State) → Inv P h σ → (s : Step) → isRefused (operate σ s .1) ≡ false → judged s ≡ true → BlockedTold P h s (operate σ s .1)
+  operate-told h σ I s r j =
+      let e : firstFailed (tableConditions σ s) ≡ 0 = operate-given σ s r in
+      subst (λ (x : State × Answer). BlockedTold P h s (x .1)) (sym (operate-done σ s e))
+      (answered h s (entry σ s .row) (puts h σ I s (passed σ s e)) (guards-next P h σ (I .guarding) s (passed σ s e)) j)
+
+  -- an accepted one raises no alert at a guarded file
+  operate-spared : (h : History) (σ : State) → Inv P h σ → (s : Step) → accepted (operate σ s .1) ≡ true → guarded P h (receiver s) ≡ true → isAlert (operate σ s .1) ≡ false
+  unfolding blocks alerts
+  operate-spared h σ I s a q =
+      let e : firstFailed (tableConditions σ s) ≡ 0 = operate-given σ s (accepted-given (operate σ s .1) a) in
+      let w : Row = entry σ s .row in
+      let f : blocks s w ≡ false = accepted-put s w (ap (λ (x : State × Answer). accepted (x .1)) (sym (operate-done σ s e)) ∙ a) in
+      refuted (isAlert (operate σ s .1)) (λ k.
+      let z : alerts s w ≡ true = alert-alerts s w (ap (λ (x : State × Answer). isAlert (x .1)) (sym (operate-done σ s e)) ∙ k) in
+      let j : judged s ≡ true = and-0 (judged s) (not (covers (w .permit) (w .tag))) z in
+      let y : isGuarded (w .kind) ≡ true = guards-next P h σ (I .guarding) s (passed σ s e) ∙ guarded-stays P h σ (I .guarding) s (passed σ s e) j q in
+      clash (and-in y z) f)
+
+  -- the row of a guarded file into which something was written is permitted what it holds
+  pub holds-after : (h : History) (σ : State) → Inv P h σ → (c : ℕ) → guarded P h c ≡ true → writtenInto h c ≡ true → ¬ Forbidden P h c
+  holds-after h σ I c q k =
+      let used : isFree (σ .row c .kind) ≡ false = guarded-used (σ .row c .kind) (I .guarding c .guards ∙ q) in
+      let g : Good P h c (σ .row c) = I .rows c .good used in
+      covered h c (σ .row c .tag) (g .tag) (σ .row c .permit) (g .permit) (I .guarding c .covered q k)
 
   -- ---- a monitor that follows the table
 
@@ -203,10 +287,14 @@ module _ (P : Policy) where
     op-ok : (h : History) (σ : S) → Valid σ → Inv P h (view σ) → (r : R) → Inv P (extend h (stepOf r) (accepted (op σ r .1))) (view (op σ r .0))
     op-ok h σ ok I r = on (accepted (op σ r .1)) refl
       where
+        same : (isBlocked (op σ r .1) ≡ true) ⊎ (isRefused (op σ r .1) ≡ true) → view (op σ r .0) ≡ view σ
+        same (inl q) = op-blocked op stepOf view Valid F σ ok r q .2
+        same (inr q) = F .refusing σ r ok q
+
         on : (b : Bool) → accepted (op σ r .1) ≡ b → Inv P (extend h (stepOf r) b) (view (op σ r .0))
         on false e =
             subst (λ (x : History). Inv P x (view (op σ r .0))) (sym (refused-extend h (stepOf r)))
-            (subst (λ (τ : State). Inv P h τ) (sym (F .refusing σ r ok (unaccepted-refused (op σ r .1) e))) I)
+            (subst (λ (τ : State). Inv P h τ) (sym (same (unaccepted-cases (op σ r .1) e))) I)
         on true e =
             let f : (s : Step) × (stepOf r ≡ some s) × Stepped h s (view (op σ r .0)) (op σ r .1) = op-accepted h σ ok I r e in
             subst (λ (m : Option Step). Inv P (extend h m true) (view (op σ r .0))) (sym (f .1)) (f .2 .inv)
@@ -248,6 +336,36 @@ module _ (P : Policy) where
     taken-at h σ ok I (q ∷ rs) (suc n) s a A =
         taken-at (extend h (stepOf q) (accepted (op σ q .1))) (op σ q .0) (F .stays σ q ok) (op-ok h σ ok I q) rs n s a
         (record { spelled = A .spelled; answered = A .answered; counted = A .counted })
+
+    -- each record of a list that is not refused is answered with the truth about what it would bring
+    pub given-at : (h : History) (σ : S) → Valid σ → Inv P h (view σ) → (rs : List R) (n : ℕ) (s : Step) (a : Answer) → GivenAt op stepOf σ rs n s a → judged s ≡ true
+        → BlockedTold P (historyFrom op stepOf h σ (take n rs)) s a
+    given-at h σ ok I [] n s a A j = absurd (none-some (A .answered))
+    given-at h σ ok I (q ∷ rs) zero s a A j =
+        let ea : op σ q .1 ≡ a = some-inj (A .answered) in
+        let e : isRefused (op σ q .1) ≡ false = ap isRefused ea ∙ A .given in
+        let f : (t : Step) × (stepOf q ≡ some t) × (view (op σ q .0) ≡ operate (view σ) t .0) × (op σ q .1 ≡ operate (view σ) t .1) = F .answering σ q ok e in
+        let es : f .0 ≡ s = some-inj (sym (f .1) ∙ ap stepOf (some-inj (A .spelled .1)) ∙ A .spelled .2) in
+        let d : op σ q .1 ≡ operate (view σ) s .1 = f .3 ∙ ap (λ (t : Step). operate (view σ) t .1) es in
+        subst (BlockedTold P h s) (sym d ∙ ea) (operate-told h (view σ) I s (ap isRefused (sym d) ∙ e) j)
+    given-at h σ ok I (q ∷ rs) (suc n) s a A j =
+        given-at (extend h (stepOf q) (accepted (op σ q .1))) (op σ q .0) (F .stays σ q ok) (op-ok h σ ok I q) rs n s a
+        (record { spelled = A .spelled; answered = A .answered; given = A .given }) j
+
+    -- each accepted record of a list raises no alert at a guarded file
+    pub spared-at : (h : History) (σ : S) → Valid σ → Inv P h (view σ) → (rs : List R) (n : ℕ) (s : Step) (a : Answer) → AcceptedAt op stepOf σ rs n s a
+        → guarded P (historyFrom op stepOf h σ (take n rs)) (receiver s) ≡ true → isAlert a ≡ false
+    spared-at h σ ok I [] n s a A k = absurd (none-some (A .answered))
+    spared-at h σ ok I (q ∷ rs) zero s a A k =
+        let ea : op σ q .1 ≡ a = some-inj (A .answered) in
+        let e : accepted (op σ q .1) ≡ true = ap accepted ea ∙ A .counted in
+        let f : (t : Step) × (stepOf q ≡ some t) × (view (op σ q .0) ≡ operate (view σ) t .0) × (op σ q .1 ≡ operate (view σ) t .1) = F .answering σ q ok (accepted-given (op σ q .1) e) in
+        let es : f .0 ≡ s = some-inj (sym (f .1) ∙ ap stepOf (some-inj (A .spelled .1)) ∙ A .spelled .2) in
+        ap isAlert (sym ea ∙ f .3)
+        ∙ operate-spared h (view σ) I (f .0) (ap accepted (sym (f .3)) ∙ e) (ap (λ (t : Step). guarded P h (receiver t)) es ∙ k)
+    spared-at h σ ok I (q ∷ rs) (suc n) s a A k =
+        spared-at (extend h (stepOf q) (accepted (op σ q .1))) (op σ q .0) (F .stays σ q ok) (op-ok h σ ok I q) rs n s a
+        (record { spelled = A .spelled; answered = A .answered; counted = A .counted }) k
 
 -- the history of a list of records begins with the history of its first records
 pub history-from-append : {S R : Type 0} (op : S → R → S × Answer) (stepOf : R → Option Step) (h : History) (σ : S) (rs qs : List R)

@@ -11,14 +11,14 @@ use Rattle.rules.specs.Sets.{atom, holds, dataOf}
 use Rattle.rules.specs.Rules.{covers, distinct, heldIn, unheldIn, insert, sort, normal, intersections, meet, unrestricted}
 use Rattle.lists.specs.Conditions.{firstFailed}
 use Rattle.lists.specs.Lists.{elem, every}
-use Rattle.image.specs.Limits.{isFree, isFile, isVolatile, isProcess, isStore, fileKind, processKind, noAtom, unrestrictedNumber}
+use Rattle.image.specs.Limits.{isGuarded, isFree, isFile, isVolatile, isProcess, isStore, fileKind, processKind, noAtom, unrestrictedNumber}
 use Rattle.image.specs.Policy.{Container, Policy, unrestrictedRule, ruleAt, named, containerGood, ruleGood, Sound}
 use Rattle.image.specs.Normal.{normalAt, placeOf, meaning}
 use Rattle.chains.specs.History.{Step, read, write, append, History, start, _▸_}
 use Rattle.chains.specs.Chains.{dataAtom, Chain, readAtom, appendAny}
 use Rattle.answers.specs.Answers.{quiet, alert, refused}
 use Rattle.chains.specs.Demand.{answers, historyOf, AcceptedAt}
-use Rattle.chains.specs.Table.{readRow, writeRow, appendRow, freeRow, fitsNeed, entry, processGood, objectGood, kindGood, freeGood, userGood, behalfFits, fits, meetGood, earlyConditions, tableConditions, alerts, verdict, placed, operate, begin}
+use Rattle.chains.specs.Table.{readRow, writeRow, appendRow, freeRow, fitsNeed, entry, processGood, objectGood, kindGood, freeGood, userGood, behalfFits, fits, meetGood, earlyConditions, tableConditions, alerts, blocks, verdict, placed, left, operate, begin}
 use Rattle.session.specs.Session.{startTag, startRow}
 use Rattle.chains.proofs.TableMonitor.{table-tag-told}
 
@@ -50,7 +50,7 @@ pub record Run : Type 0 where
 
 listing : Run
 unfolding operate entry fitsNeed processGood objectGood kindGood freeGood userGood behalfFits meetGood earlyConditions tableConditions
-    firstFailed every alerts verdict placed fits readRow writeRow appendRow freeRow begin startRow startTag meaning
+    firstFailed every alerts blocks verdict placed left isGuarded fits readRow writeRow appendRow freeRow begin startRow startTag meaning
     placeOf normalAt ruleAt unrestrictedRule unrestricted isFree isFile isVolatile isProcess isStore covers holds
     dataOf elem distinct heldIn unheldIn insert sort normal intersections meet
 listing = record { told = refl; upToWrite = refl; whole = refl }

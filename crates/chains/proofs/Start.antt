@@ -21,11 +21,13 @@ use Rattle.chains.proofs.Exact.{Exact, exact-unrestricted, exact-normal
 use Rattle.chains.proofs.Rows.{Good, RowOk}
 use Rattle.lists.proofs.Places.{some-inj, none-some, mapped, mapped-at}
 use Rattle.chains.proofs.KindLaws.{not-file, Accepted, sound-at}
+use Rattle.chains.proofs.GuardLaws.{Guarding, guarding-start}
 
 -- the state stands for the chains of the history and the rules governing after it
 pub record Inv (P : Policy) (h : History) (σ : State) : Type 0 where
   pub rows : (c : ℕ) → RowOk P h c (σ .row c)
   pub users : (u : ℕ) (v : List ℕ) → σ .user u ≡ some v → Exact (λ r. UserRule P u r) v
+  pub guarding : (c : ℕ) → Guarding P h c (σ .row c)
 
 named-unrestricted : (rules : List (List ℕ)) (n : ℕ) → n ≡ unrestrictedNumber → ruleAt rules n ≡ unrestrictedRule
 unfolding ruleAt
@@ -114,4 +116,5 @@ module _ (P : Policy) where
     begin-ok = record {
       rows = λ c. subst (λ m. RowOk P start c (startRowOf m)) (sym (mapped-at (placeOf (P .rules)) (P .containers) c)) (row-start c (getElem? (P .containers) c) refl);
       users = λ u v e. user-start u (getElem? (P .users) u) refl v (sym (mapped-at (normalAt (P .rules)) (P .users) u) ∙ e);
+      guarding = guarding-start P;
     }

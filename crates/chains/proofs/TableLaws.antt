@@ -12,8 +12,8 @@ use Rattle.lists.proofs.Bools.{clash}
 use Rattle.lists.proofs.Conditions.{zero-or-not, given-none}
 use Rattle.answers.specs.declared.Answer.{Answer}
 use Rattle.answers.specs.Answers.{refused, isRefused}
-use Rattle.chains.specs.History.{Step, receiver}
-use Rattle.chains.specs.Table.{State, needsFree, ruleOr, entry, isSome, processGood, objectGood, kindGood, freeGood, userGood, behalfFits, meetGood, earlyConditions, tableConditions, verdict, placed, operate}
+use Rattle.chains.specs.History.{Step}
+use Rattle.chains.specs.Table.{State, needsFree, ruleOr, entry, isSome, processGood, objectGood, kindGood, freeGood, userGood, behalfFits, meetGood, earlyConditions, tableConditions, verdict, left, operate}
 
 -- states that give the same rows and the same rules of users are equal
 pub same-state : (σ τ : State) → ((c : ℕ) → σ .row c ≡ τ .row c) → ((u : ℕ) → σ .user u ≡ τ .user u) → σ ≡ τ
@@ -27,7 +27,7 @@ rule-declared (some v) e = refl
 -- ---- an operation, by its refusal
 
 module _ (σ : State) (t : Step) where
-  pub operate-done : firstFailed (tableConditions σ t) ≡ 0 → operate σ t ≡ (placed σ (receiver t) (entry σ t .row), verdict t (entry σ t .row))
+  pub operate-done : firstFailed (tableConditions σ t) ≡ 0 → operate σ t ≡ (left σ t (entry σ t .row), verdict t (entry σ t .row))
   unfolding operate
   operate-done e = rw e
 

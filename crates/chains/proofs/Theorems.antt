@@ -2,24 +2,29 @@
 -- in specs/; everything else in this folder serves these statements.
 use Prim.Native.Nat.{ℕ, suc, zero, _<_}
 use mathlib.Core.Path.{_≡_, refl, sym, subst}
-use mathlib.Core.Logic.{_⊎_, inl, inr, _↔_}
+use mathlib.Core.Logic.{_⊎_, inl, inr, ⊎-elim, _↔_}
 use mathlib.Core.List.{List, _∷_, _++_}
-use mathlib.Core.Bool.{false}
-use mathlib.Core.Option.{Option}
+use mathlib.Core.Bool.{true, false}
+use mathlib.Core.Option.{Option, some}
 use lib.ListN.{take}
-use Rattle.image.specs.Limits.{isFree}
+use Rattle.lists.proofs.Bools.{decide}
+use Rattle.rules.specs.Rules.{covers}
+use Rattle.image.specs.Limits.{isFree, isGuarded}
 use Rattle.image.specs.Policy.{Policy, Sound}
 use Rattle.chains.specs.History.{Step, exec, end, delete, History, start, _▸_, StepAt}
 use Rattle.chains.specs.Chains.{Item, dataAtom, runningAtom, runRule, Starts, Carries, Ends, Leads, Chain, Governs}
 use Rattle.chains.specs.Behalf.{onBehalf}
+use Rattle.chains.specs.Guards.{guarded, writing, writtenInto}
 use Rattle.answers.specs.declared.Answer.{Answer}
-use Rattle.chains.specs.Demand.{after, historyOf, historyFrom, Demand3, TagTold, TakenAnew}
+use Rattle.answers.specs.Answers.{isBlocked}
+use Rattle.chains.specs.Demand.{after, historyOf, historyFrom, Demand3, TagTold, TakenAnew, BlockedExactly, GuardedHolds, GuardedSpared}
 use Rattle.chains.specs.Table.{State, begin, Faithful}
 use Rattle.chains.proofs.ChainLaws.{chain-snoc, chain-stay, chain-carry, chain-none, chain-here}
 use Rattle.chains.proofs.Inductive.{Built, listed, built}
 use Rattle.chains.proofs.Steps.{exec-data, exec-running, exec-run-rule, end-none, delete-none, deleted-first}
 use Rattle.chains.proofs.Start.{Inv, begin-ok}
-use Rattle.chains.proofs.Monitors.{Told, inv-after, told-at, taken-at, history-from-append}
+use Rattle.chains.proofs.GuardLaws.{Guarding}
+use Rattle.chains.proofs.Monitors.{Told, op-blocked, inv-after, told-at, given-at, taken-at, spared-at, holds-after, history-from-append}
 
 -- ---- demand 3: of every monitor that follows the table, from every state that reads as the start of a sound policy
 
@@ -35,6 +40,43 @@ module _ {S R : Type 0} (op : S → R → S × Answer) (stepOf : R → Option St
       let t : Told P (historyOf op stepOf σ (take (suc n) rs)) s a =
       told-at P op stepOf view Valid F start σ v (subst (Inv P start) (sym e) (begin-ok P ok)) rs n s a A in
       (t .at, t .tag)
+
+  -- ---- guarded files (change request No. 9)
+
+  -- an access that is not refused is answered alert or blocked exactly when it is forbidden, and blocked exactly when its receiver is
+  -- guarded too
+  pub blocked-exactly : Faithful op stepOf view Valid → (P : Policy) → Sound P → (σ : S) → Valid σ → view σ ≡ begin P → BlockedExactly op stepOf σ P
+  blocked-exactly F P ok σ v e rs n s a A j = given-at P op stepOf view Valid F start σ v (subst (Inv P start) (sym e) (begin-ok P ok)) rs n s a A j
+
+  -- of any state: a blocked access is a write or an append, and it changes nothing
+  pub blocked-step : Faithful op stepOf view Valid → (σ : S) → Valid σ → (r : R) → isBlocked (op σ r .1) ≡ true
+      → (s : Step) × (stepOf r ≡ some s) × (view (op σ r .0) ≡ view σ) × (writing s ≡ true)
+  blocked-step F = op-blocked op stepOf view Valid F
+
+  -- what is written into a guarded file is never forbidden there, and no accepted step raises an alert at one
+  pub guarded-holds : Faithful op stepOf view Valid → (P : Policy) → Sound P → (σ : S) → Valid σ → view σ ≡ begin P → GuardedHolds op stepOf σ P
+  guarded-holds F P ok σ v e rs c =
+      holds-after P (historyOf op stepOf σ rs) (view (after op σ rs))
+      (inv-after P op stepOf view Valid F start σ v (subst (Inv P start) (sym e) (begin-ok P ok)) rs) c
+
+  pub guarded-spared : Faithful op stepOf view Valid → (P : Policy) → Sound P → (σ : S) → Valid σ → view σ ≡ begin P → GuardedSpared op stepOf σ P
+  guarded-spared F P ok σ v e = spared-at P op stepOf view Valid F start σ v (subst (Inv P start) (sym e) (begin-ok P ok))
+
+  -- the row of a container is guarded exactly as the history says; if it is, its permit rule covers its tag, or nothing was written into
+  -- it and its tag is the start's
+  pub guarded-kind : Faithful op stepOf view Valid → (P : Policy) → Sound P → (σ : S) → Valid σ → view σ ≡ begin P
+      → (rs : List R) (c : ℕ) → isGuarded (view (after op σ rs) .row c .kind) ≡ guarded P (historyOf op stepOf σ rs) c
+  guarded-kind F P ok σ v e rs c =
+      inv-after P op stepOf view Valid F start σ v (subst (Inv P start) (sym e) (begin-ok P ok)) rs .guarding c .guards
+
+  pub guarded-covered : Faithful op stepOf view Valid → (P : Policy) → Sound P → (σ : S) → Valid σ → view σ ≡ begin P
+      → (rs : List R) (c : ℕ) → guarded P (historyOf op stepOf σ rs) c ≡ true
+      → (covers (view (after op σ rs) .row c .permit) (view (after op σ rs) .row c .tag) ≡ true)
+      ⊎ ((writtenInto (historyOf op stepOf σ rs) c ≡ false) × (view (after op σ rs) .row c .tag ≡ begin P .row c .tag))
+  guarded-covered F P ok σ v e rs c q =
+      let g : Guarding P (historyOf op stepOf σ rs) c (view (after op σ rs) .row c) =
+      inv-after P op stepOf view Valid F start σ v (subst (Inv P start) (sym e) (begin-ok P ok)) rs .guarding c in
+      ⊎-elim (λ w. inl (g .covered q w)) (λ w. inr (w, g .first q w)) (decide (writtenInto (historyOf op stepOf σ rs) c))
 
   -- an accepted fork, new file or new volatile takes a number to which nothing of its past comes back
   pub number-taken : Faithful op stepOf view Valid → (P : Policy) → Sound P → (σ : S) → Valid σ → view σ ≡ begin P → TakenAnew op stepOf σ P

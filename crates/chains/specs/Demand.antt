@@ -3,14 +3,14 @@
 use Prim.Native.Nat.{ℕ, suc}
 use mathlib.Core.Path.{_≡_}
 use mathlib.Core.Logic.{_↔_}
-use mathlib.Core.Bool.{Bool, true, false}
+use mathlib.Core.Bool.{Bool, true, false, _||_}
 use mathlib.Core.List.{List, [], _∷_}
 use mathlib.Core.Option.{Option, none, some}
 use lib.ListN.{getElem?, take}
 use Rattle.rules.specs.Sets.{atom}
 use Rattle.image.specs.Policy.{Policy}
 use Rattle.answers.specs.declared.Answer.{Answer}
-use Rattle.answers.specs.Answers.{accepted, isAlert, receiverOf, tagOf}
+use Rattle.answers.specs.Answers.{accepted, isAlert, isBlocked, isRefused, receiverOf, tagOf}
 use Rattle.chains.specs.History.{
   Step,
   read,
@@ -28,6 +28,7 @@ use Rattle.chains.specs.History.{
   receiver,
 }
 use Rattle.chains.specs.Chains.{UserRule, Item, Chain, Governs, Reaches, Forbidden}
+use Rattle.chains.specs.Guards.{guarded, writtenInto}
 
 -- ---- which steps are judged
 
@@ -62,6 +63,17 @@ Taken P h (newVolatile p o) =
 Taken P h (end p) = Unit {0}
 Taken P h (delete p o) = Unit {0}
 
+-- ---- blocked accesses (change request No. 9)
+
+-- "A write or append into it that would raise an alert answers blocked, with the receiver and the tag it would have had";
+-- "Blocked is given in just those cases"; "A blocked access is no part of the history from which later alerts are judged":
+-- h is the history of the records before, and h ▸ s what it would be with the access.
+pub record BlockedTold (P : Policy) (h : History) (s : Step) (a : Answer) : Type 0 where
+  pub told : ((isAlert a || isBlocked a) ≡ true) ↔ Forbidden P (h ▸ s) (receiver s)
+  pub blocks : (isBlocked a ≡ true) ↔ (Forbidden P (h ▸ s) (receiver s) × (guarded P (h ▸ s) (receiver s) ≡ true))
+  pub at : receiverOf a ≡ receiver s
+  pub tag : (k : ℕ) → (atom (tagOf a) k ≡ 1) ↔ Reaches P (h ▸ s) k (receiver s)
+
 -- ---- a list of records
 
 -- the history with one more record, which counts if it was accepted
@@ -94,7 +106,7 @@ module _ {S R : Type 0} (op : S → R → S × Answer) where
 
     -- ---- the demand
 
-    -- Of any list of records, record number n spells the step s, and its answer a is no refusal.
+    -- Of any list of records, record number n spells the step s, and its answer a accepts it.
     pub record AcceptedAt (σ : S) (rs : List R) (n : ℕ) (s : Step) (a : Answer) : Type 0 where
       pub spelled : (r : R) × (getElem? rs n ≡ some r) × (stepOf r ≡ some s)
       pub answered : getElem? (answers σ rs) n ≡ some a
@@ -116,3 +128,27 @@ module _ {S R : Type 0} (op : S → R → S × Answer) where
     -- Each accepted record that takes a free number begins it so.
     abbrev pub TakenAnew : S → Policy → Type 0
     TakenAnew σ P = (rs : List R) (n : ℕ) (s : Step) (a : Answer) → AcceptedAt σ rs n s a → Taken P (historyOf σ (take n rs)) s
+
+    -- ---- blocked accesses
+
+    -- Of any list of records, record number n spells the step s, and its answer a is no refusal: it is accepted, or blocked.
+    pub record GivenAt (σ : S) (rs : List R) (n : ℕ) (s : Step) (a : Answer) : Type 0 where
+      pub spelled : (r : R) × (getElem? rs n ≡ some r) × (stepOf r ≡ some s)
+      pub answered : getElem? (answers σ rs) n ≡ some a
+      pub given : isRefused a ≡ false
+
+    -- Each read, write, append, exec or fork that is not refused is answered so.
+    abbrev pub BlockedExactly : S → Policy → Type 0
+    BlockedExactly σ P = (rs : List R) (n : ℕ) (s : Step) (a : Answer) → GivenAt σ rs n s a → judged s ≡ true
+        → BlockedTold P (historyOf σ (take n rs)) s a
+
+    -- "Statement files should never receive a forbidden mixture": after any list of records a guarded file is not forbidden what it
+    -- holds, once a write or an append went into it. Before, it holds what it was started with.
+    abbrev pub GuardedHolds : S → Policy → Type 0
+    GuardedHolds σ P = (rs : List R) (c : ℕ) → guarded P (historyOf σ rs) c ≡ true → writtenInto (historyOf σ rs) c ≡ true
+        → ¬ Forbidden P (historyOf σ rs) c
+
+    -- No accepted record raises an alert at a guarded file.
+    abbrev pub GuardedSpared : S → Policy → Type 0
+    GuardedSpared σ P = (rs : List R) (n : ℕ) (s : Step) (a : Answer) → AcceptedAt σ rs n s a
+        → guarded P (historyOf σ (take n rs)) (receiver s) ≡ true → isAlert a ≡ false

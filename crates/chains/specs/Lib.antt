@@ -4,5 +4,7 @@ pub mod Chains
 pub mod Demand
 -- On whose behalf a process runs, from the history alone.
 pub mod Behalf
+-- Guarded files, from the policy and the history alone.
+pub mod Guards
 -- What a monitor does, as the paper's table has it. Demand 3 is proved for every monitor that follows it.
 pub mod Table

@@ -11,7 +11,7 @@ use lib.ListN.{length, getElem?}
 use Rattle.rules.specs.Sets.{dataOf, runningOf}
 use Rattle.rules.specs.Rules.{covers, meet}
 use Rattle.rules.specs.Answers.{dataWidth, mixtureLimit}
-use Rattle.image.specs.Limits.{isFree, isFile, isProcess, isStore, freeKind, fileKind, volatileKind}
+use Rattle.image.specs.Limits.{isFree, isGuarded, isFile, isProcess, isStore, freeKind, fileKind, volatileKind}
 use Rattle.image.specs.Policy.{Policy, unrestrictedRule}
 use Rattle.image.specs.Normal.{Place, meaning}
 use Rattle.lists.specs.Lists.{every}
@@ -22,7 +22,7 @@ use Rattle.session.specs.Rows.{Row}
 use Rattle.session.specs.Session.{startRow}
 use Rattle.chains.specs.History.{Step, read, write, append, exec, fork, newFile, newVolatile, end, delete, receiver}
 use Rattle.answers.specs.declared.Answer.{Answer}
-use Rattle.answers.specs.Answers.{refused, quiet, alert, isRefused}
+use Rattle.answers.specs.Answers.{refused, quiet, alert, blocked, isRefused}
 use Rattle.chains.specs.Demand.{judged}
 
 -- ---- rows
@@ -221,19 +221,29 @@ tableConditions σ t = earlyConditions σ t ++ ((meetGood σ t orRefuse overLimi
 unfoldable pub alerts : Step → Row → Bool
 alerts s w = judged s && not (covers (w .permit) (w .tag))
 
+-- "A write or append into it that would raise an alert answers blocked" (change request No. 9): no other step puts a row of a
+-- guarded file
+unfoldable pub blocks : Step → Row → Bool
+blocks s w = isGuarded (w .kind) && alerts s w
+
 -- "Each answer gives receiver and tag."
 unfoldable pub verdict : Step → Row → Answer
-verdict s w = cond (alerts s w) (alert (receiver s) (w .tag)) (quiet (receiver s) (w .tag))
+verdict s w =
+    cond (blocks s w) (blocked (receiver s) (w .tag)) (cond (alerts s w) (alert (receiver s) (w .tag)) (quiet (receiver s) (w .tag)))
 
 -- the row w in the place of container c's
 unfoldable pub placed : State → ℕ → Row → State
 placed σ c w = record { row = λ x. cond (eqb x c) w (σ .row x); user = σ .user }
 
+-- the state after a step that is not refused: a blocked one "changes nothing"
+unfoldable pub left : State → Step → Row → State
+left σ t w = cond (blocks t w) σ (placed σ (receiver t) w)
+
 -- the state after the step, and the answer: "A refusal .. changes no lent memory"; "An alert does not undo the access."
 unfoldable pub operate : State → Step → State × Answer
 operate σ t =
     cond (eqb (firstFailed (tableConditions σ t)) 0)
-    (placed σ (receiver t) (entry σ t .row), verdict t (entry σ t .row))
+    (left σ t (entry σ t .row), verdict t (entry σ t .row))
     (σ, refused (firstFailed (tableConditions σ t)))
 
 -- ---- the start

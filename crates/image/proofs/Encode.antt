@@ -12,7 +12,7 @@ use lib.Seq.{drop-at, take-append-seam}
 use borrow.Author.Tests.{eq-eqb, le-leb, lt-ltb, ltb-true, eqb-true, leb-true}
 use Rattle.lists.proofs.Bools.{and-in, and-0, and-1, or-cases}
 use Rattle.rules.specs.Answers.{dataWidth, tagWidth, mixtureLimit}
-use Rattle.image.specs.Limits.{fileKind, volatileKind, processKind, isFile, isVolatile, isProcess, unrestrictedNumber, noAtom, containerLimit, userLimit, ruleLimit, mixtureTotal, containerSize, userSize, ruleSize, mixtureSize, size8, size16, leadingNumber, headerSize, imageLimit, outputBound}
+use Rattle.image.specs.Limits.{fileKind, volatileKind, processKind, guardedKind, isFile, isVolatile, isProcess, unrestrictedNumber, noAtom, containerLimit, userLimit, ruleLimit, mixtureTotal, containerSize, userSize, ruleSize, mixtureSize, size8, size16, leadingNumber, headerSize, imageLimit, outputBound}
 use Rattle.fields.specs.Bytes.{numberIn, bytesOf, field, Bytes}
 use Rattle.lists.specs.Lists.{every, joined}
 use Rattle.image.specs.Policy.{Container, Policy, named, containerGood, ruleGood, Sound}
@@ -38,7 +38,7 @@ record Fits (c : Container) : Type 0 where
 -- a file's kind is one byte
 file-low : (k : ℕ) → isFile k ≡ true → k < 256 ^ size8
 unfolding isFile
-file-low k e = omega (arith, eqb-true k fileKind e)
+file-low k e = ⊎-elim (λ p. omega (arith, eqb-true k fileKind p)) (λ p. omega (arith, eqb-true k guardedKind p)) (or-cases (eqb k fileKind) e)
 
 container-fits : (n : ℕ) (c : Container) → n ≤ ruleLimit → containerGood n c ≡ true → Fits c
 unfolding containerGood isVolatile isProcess

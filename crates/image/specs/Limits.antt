@@ -17,16 +17,23 @@ volatileKind = 2
 abbrev pub processKind : ℕ
 processKind = 3
 
+-- "Kind 4, in image and session, is a guarded file, treated as a file elsewhere" (change request No. 9)
+abbrev pub guardedKind : ℕ
+guardedKind = 4
+
 -- the last of the kinds
 abbrev pub lastKind : ℕ
-lastKind = processKind
+lastKind = guardedKind
 
 -- the only place that says which kinds serve as what
 unfoldable pub isFree : ℕ → Bool
 isFree k = eqb k freeKind
 
+unfoldable pub isGuarded : ℕ → Bool
+isGuarded k = eqb k guardedKind
+
 unfoldable pub isFile : ℕ → Bool
-isFile k = eqb k fileKind
+isFile k = eqb k fileKind || eqb k guardedKind
 
 unfoldable pub isVolatile : ℕ → Bool
 isVolatile k = eqb k volatileKind

@@ -2,7 +2,7 @@
 use Prim.Native.Nat.{ℕ, suc}
 use mathlib.Core.Path.{_≡_, subst, ap, _∙_}
 use mathlib.Core.Logic.{_↔_}
-use mathlib.Core.Bool.{true}
+use mathlib.Core.Bool.{true, false}
 use mathlib.Core.List.{List, [], _∷_, _++_}
 use mathlib.Core.Option.{some}
 use lib.ListN.{length, take, getElem?}
@@ -11,14 +11,14 @@ use Rattle.image.specs.Policy.{Policy}
 use Rattle.chains.specs.History.{Step, History, start, receiver}
 use Rattle.chains.specs.Chains.{Reaches, Forbidden}
 use Rattle.answers.specs.declared.Answer.{Answer}
-use Rattle.answers.specs.Answers.{accepted, isAlert, receiverOf, tagOf}
-use Rattle.chains.specs.Demand.{judged, historyOf, AcceptedAt, Demand3, TagTold}
+use Rattle.answers.specs.Answers.{accepted, isAlert, isRefused, receiverOf, tagOf}
+use Rattle.chains.specs.Demand.{judged, historyOf, AcceptedAt, GivenAt, BlockedTold, Demand3, TagTold, BlockedExactly}
 use Rattle.records.specs.Records.{stepOf}
 use Rattle.monitor.specs.Steps.{stepAsked, stepAnswer}
 use Rattle.monitor.specs.Runs.{stepOn, runAnswers, runEffect, historyIn}
 use Rattle.records.proofs.RecordLaws.{record-step}
-use Rattle.monitor.proofs.StepLaws.{step-record, accepted-zero}
-use Rattle.monitor.proofs.RunLaws.{history-told, history-first, answer-last, record-last, take-last}
+use Rattle.monitor.proofs.StepLaws.{step-record, answered-zero, accepted-zero}
+use Rattle.monitor.proofs.RunLaws.{history-told, history-first, answer-last, record-last, take-last, take-before}
 
 -- ---- a position of a list of records
 
@@ -59,3 +59,23 @@ module _ (s : List ℕ) (P : Policy) (rs : List (List ℕ)) (r : List ℕ) (e : 
   alert-last d j =
       subst (λ (x : History). (isAlert (stepAnswer (runEffect s rs) r) ≡ true) ↔ Forbidden P x (receiver (stepAsked r))) whole
       (d (rs ++ (r ∷ [])) (length rs) (stepAsked r) (stepAnswer (runEffect s rs) r) last j)
+
+-- one more that is not refused, by the history before it
+module _ (s : List ℕ) (P : Policy) (rs : List (List ℕ)) (r : List ℕ) (e : isRefused (stepAnswer (runEffect s rs) r) ≡ false) where
+  given-last : GivenAt stepOn stepOf s (rs ++ (r ∷ [])) (length rs) (stepAsked r) (stepAnswer (runEffect s rs) r)
+  unfolding stepOn stepAsked
+  given-last = record {
+    spelled = (r, record-last rs r, record-step r (step-record (runEffect s rs) r (answered-zero (runEffect s rs) r e)));
+    answered = answer-last s rs r;
+    given = e;
+  }
+
+  before : historyOf stepOn stepOf s (take (length rs) (rs ++ (r ∷ []))) ≡ historyIn rs (runAnswers s rs)
+  unfolding runAnswers historyIn
+  before = ap (historyOf stepOn stepOf s) (take-before rs r) ∙ history-told start s rs
+
+  pub blocked-last : BlockedExactly stepOn stepOf s P → judged (stepAsked r) ≡ true
+      → BlockedTold P (historyIn rs (runAnswers s rs)) (stepAsked r) (stepAnswer (runEffect s rs) r)
+  blocked-last d j =
+      subst (λ (x : History). BlockedTold P x (stepAsked r) (stepAnswer (runEffect s rs) r)) before
+      (d (rs ++ (r ∷ [])) (length rs) (stepAsked r) (stepAnswer (runEffect s rs) r) given-last j)

@@ -8,7 +8,7 @@ use Rattle.rules.specs.Sets.{holds, dataOf, runningOf}
 use Rattle.rules.specs.Rules.{covers, distinct, heldIn, unheldIn, insert, sort, normal, intersections, meet, unrestricted}
 use Rattle.lists.specs.Lists.{elem, sameList, every}
 use Rattle.rules.specs.Answers.{padded}
-use Rattle.image.specs.Limits.{isFree, isFile, isVolatile, isProcess, isStore, fileKind, processKind, noAtom, unrestrictedNumber, usedKind}
+use Rattle.image.specs.Limits.{isFree, isGuarded, isFile, isVolatile, isProcess, isStore, fileKind, processKind, noAtom, unrestrictedNumber, usedKind}
 use Rattle.fields.specs.Bytes.{numberIn, bytesOf, field}
 use Rattle.image.specs.Policy.{Container, Policy, unrestrictedRule, ruleAt}
 use Rattle.image.specs.Normal.{normalAt, placeOf, meaning}
@@ -19,7 +19,7 @@ use Rattle.session.specs.Session.{startTag, startRow, placeWords, filled, sessi
 use Rattle.answers.specs.Answers.{quiet, alert, refused}
 use Rattle.answers.specs.Refusals.{notFree}
 use Rattle.chains.specs.History.{fork}
-use Rattle.chains.specs.Table.{State, freeRow, readRow, writeRow, appendRow, execRow, forkRow, newFileRow, fitsNeed, entry, processGood, objectGood, kindGood, freeGood, userGood, behalfFits, fits, meetGood, earlyConditions, tableConditions, alerts, verdict}
+use Rattle.chains.specs.Table.{State, freeRow, readRow, writeRow, appendRow, execRow, forkRow, newFileRow, fitsNeed, entry, processGood, objectGood, kindGood, freeGood, userGood, behalfFits, fits, meetGood, earlyConditions, tableConditions, alerts, blocks, verdict}
 use Rattle.lists.specs.Conditions.{firstFailed}
 use Rattle.records.specs.Codes.{readCode, writeCode, appendCode, execCode, forkCode, newFileCode, endCode, deleteCode, stepWith, noRows, codeAt, isCode}
 use Rattle.records.specs.Records.{noUser, requestIn, stepIn, userFits, ownObject, numbersGood, recordGood}
@@ -144,13 +144,13 @@ pub record CheckedRuns : Type 0 where
 
 pub checked-runs : CheckedRuns
 unfolding holds dataOf runningOf covers elem distinct heldIn unheldIn insert sort normal intersections meet unrestricted
-    sameList padded isFree isFile isVolatile isProcess isStore numberIn bytesOf field unrestrictedRule ruleAt
+    sameList padded isFree isFile isGuarded isVolatile isProcess isStore numberIn bytesOf field unrestrictedRule ruleAt
     normalAt placeOf meaning ruleOf wordsOf allZero isNormal keptWell rowWords freeWords permitWords runWords
     rowOf usedKind behalfGood containerRowGood userWords isDeclared userRuleWords userRuleOf userRowGood containerRow userRow
     putRow startTag startRow placeWords filled sessionOf startOf readRow writeRow appendRow execRow forkRow fits
     alerts verdict every firstFailed freeRow fitsNeed entry stepWith noRows codeAt isCode stepIn view rowsGood
     processGood objectGood kindGood freeGood userGood behalfFits meetGood earlyConditions tableConditions sessionConditions
-    madeAnswer madeEffect newFileRow requestIn userFits ownObject numbersGood recordGood sessionLengthGood stepAsked stepConditions refusalOf
+    madeAnswer madeEffect blocks newFileRow requestIn userFits ownObject numbersGood recordGood sessionLengthGood stepAsked stepConditions refusalOf
     stepAnswer stepEffect stepOn runAnswers
 checked-runs = record { forkItself = refl; execHolding = refl; execKeeping = refl; readHolding = refl; leaving = refl; leavingRefused = refl; behalf = refl; meetOver = refl; listing = refl; shortSession = refl }
 

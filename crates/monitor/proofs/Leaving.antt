@@ -57,7 +57,7 @@ module _ (s r : List ℕ) (a : accepted (stepAnswer s r) ≡ true) where
       to : Dec (c ≡ receiver (stepAsked r)) → containerRow (stepEffect s r) c ≡ replicate rowWidth 0 → Frees (stepAsked r) c
       to (no n) z = clash (zeros-free s c (sym (effect-others s r a c n) ∙ z)) used
       to (yes e) z =
-          let held = not-refused s r .0 (answer-accepted s r .0 a) .1 .1 .1 in
+          let held = not-refused s r .0 (answer-accepted s r .0 a .0) .1 .1 .1 in
           let words : rowWords (entry (view s) (stepAsked r) .row) ≡ replicate rowWidth 0 = sym (effect-row s r a) ∙ ap (containerRow (stepEffect s r)) (sym e) ∙ z in
           let kind : entry (view s) (stepAsked r) .row .kind ≡ 0 = sym (row-kind (entry (view s) (stepAsked r) .row)) ∙ ap (λ (ws : List ℕ). getD ws kindAt 0) words in
           rw e (free-left (view s) (stepAsked r) (held .0) (held .1 .0) (rw kind))
@@ -99,13 +99,13 @@ module _ (image lent : List ℕ) (bytes : Bytes image) (ok : startAnswer image l
   pub freed-fork : stepAsked r ≡ fork p c → (accepted (stepAnswer s r) ≡ true) ↔ (isProcess (view s .row p .kind) ≡ true)
   unfolding entry processGood userGood behalfFits meetGood every
   freed-fork e =
-      let h = valid-taken s r valid good (fork p c) e (object-fork (view s) p c .0) (object-fork (view s) p c .1 ∙ free) refl in
+      let h = valid-taken s r valid good (fork p c) e (object-fork (view s) p c .0) (object-fork (view s) p c .1 ∙ free) refl refl in
       (λ x. h .0 x .0, λ k. h .1 (k, refl, refl))
 
   pub freed-volatile : stepAsked r ≡ newVolatile p c → (accepted (stepAnswer s r) ≡ true) ↔ (isProcess (view s .row p .kind) ≡ true)
   unfolding entry processGood userGood behalfFits meetGood every
   freed-volatile e =
-      let h = valid-taken s r valid good (newVolatile p c) e (object-volatile (view s) p c .0) (object-volatile (view s) p c .1 ∙ free) refl in
+      let h = valid-taken s r valid good (newVolatile p c) e (object-volatile (view s) p c .0) (object-volatile (view s) p c .1 ∙ free) refl refl in
       (λ x. h .0 x .0, λ k. h .1 (k, refl, refl))
 
   -- A new file is accepted exactly if p is a process, the policy declares the user u, and p runs for nobody or for u.
@@ -122,7 +122,7 @@ module _ (image lent : List ℕ) (bytes : Bytes image) (ok : startAnswer image l
       behalf = view s .row p .behalf
 
       taken : (accepted (stepAnswer s r) ≡ true) ↔ ((isProcess (view s .row p .kind) ≡ true) × (isSome (view s .user u) ≡ true) × ((eqb behalf nobody || eqb behalf u) ≡ true))
-      taken = valid-taken s r valid good (newFile p c u) e (object-file (view s) p c u .0) (object-file (view s) p c u .1 ∙ free) refl
+      taken = valid-taken s r valid good (newFile p c u) e (object-file (view s) p c u .0) (object-file (view s) p c u .1 ∙ free) refl refl
 
       declared : (isSome (view s .user u) ≡ true) ↔ (u < length (policyIn image .users))
       declared = rw (← es) (declared-exactly-started image lent bytes ok (rs ++ (q ∷ [])) u)

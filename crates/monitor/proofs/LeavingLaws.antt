@@ -4,15 +4,15 @@ use native.Mathlib.Decide.{decLt}
 use native.Mathlib.Omega.{arith}
 use mathlib.Core.Path.{_≡_, refl, sym, ap, _∙_}
 use mathlib.Core.Logic.{_⊎_, inl, inr, _↔_}
-use mathlib.Core.Bool.{true, cond}
+use mathlib.Core.Bool.{true, false, cond}
 use mathlib.Core.List.{List, []}
 use lib.ListN.{length, replicate}
 use borrow.Author.Tests.{eq-eqb}
 use Rattle.lists.specs.Lists.{every}
 use Rattle.lists.specs.Conditions.{firstFailed}
-use Rattle.lists.proofs.Bools.{clash}
+use Rattle.lists.proofs.Bools.{clash, refuted}
 use Rattle.answers.specs.Refusals.{notDeclared, otherUser}
-use Rattle.answers.specs.Answers.{accepted}
+use Rattle.answers.specs.Answers.{isBlocked, accepted}
 use Rattle.rules.specs.Answers.{padded}
 use Rattle.rule_words.specs.Words.{wordsOf}
 use Rattle.image.specs.Limits.{containerLimit, isFree, isProcess}
@@ -20,6 +20,7 @@ use Rattle.session.specs.Limits.{sessionLength, rowWidth}
 use Rattle.session.specs.Rows.{rowWords, rowOf, containerRowGood, containerRow}
 use Rattle.session.specs.Session.{sessionLengthGood}
 use Rattle.chains.specs.History.{Step, read, write, append, exec, fork, newFile, newVolatile, end, delete, receiver}
+use Rattle.chains.specs.Guards.{writing}
 use Rattle.chains.specs.Table.{State, freeRow, readRow, writeRow, appendRow, execRow, forkRow, newFileRow, newVolatileRow, free, fitsNeed, entry, processGood, objectGood, kindGood, freeGood, userGood, behalfFits, meetGood, earlyConditions, tableConditions}
 use Rattle.chains.proofs.KindLaws.{process-used, store-used}
 use Rattle.records.specs.Records.{recordGood}
@@ -30,6 +31,7 @@ use Rattle.operations.proofs.KeptLaws.{laid-free}
 use Rattle.operations.proofs.PlacedRows.{Valid}
 use Rattle.monitor.specs.Steps.{stepAsked, stepConditions, refusalOf, stepAnswer}
 use Rattle.monitor.proofs.RunLaws.{record-rows}
+use Rattle.monitor.proofs.Guarded.{blocked-step}
 use Rattle.monitor.proofs.Theorems.{length-good, not-refused, answer-accepted}
 
 -- ---- 21 zeros
@@ -84,17 +86,19 @@ module _ (s r : List ℕ) (long : length s ≡ sessionLength) (good : recordGood
   free-taken t e ep eo en em gu =
       rw (e, ep, eo, en, em, eq-eqb (length s) sessionLength long, good, row, zeros, zeros-good, gu, runs, zeros-free s c zeros)
 
--- On a valid session a step that passes 12, 13 and 15 is left to its process, its user and on whose behalf it is made.
+-- On a valid session a step that passes 12, 13 and 15 and is no write or append is left to its process, its user and on whose behalf it is made.
 pub valid-taken : (s r : List ℕ) → Valid s → recordGood r ≡ true → (t : Step) → stepAsked r ≡ t
-    → kindGood (view s) t ≡ true → freeGood (view s) t ≡ true → meetGood (view s) t ≡ true
+    → kindGood (view s) t ≡ true → freeGood (view s) t ≡ true → meetGood (view s) t ≡ true → writing t ≡ false
     → (accepted (stepAnswer s r) ≡ true) ↔ ((processGood (view s) t ≡ true) × (userGood (view s) t ≡ true) × (behalfFits (view s) t ≡ true))
-valid-taken s r v good t e hk hf hm = rw (← e) (to, back)
+valid-taken s r v good t e hk hf hm hw = rw (← e) (to, back)
   where
     to : accepted (stepAnswer s r) ≡ true → (processGood (view s) (stepAsked r) ≡ true) × (userGood (view s) (stepAsked r) ≡ true) × (behalfFits (view s) (stepAsked r) ≡ true)
-    to a = let h = not-refused s r .0 (answer-accepted s r .0 a) .1 .1 .1 in (h .0, h .1 .1 .1 .0, h .1 .1 .1 .1 .0)
+    to a = let h = not-refused s r .0 (answer-accepted s r .0 a .0) .1 .1 .1 in (h .0, h .1 .1 .1 .0, h .1 .1 .1 .1 .0)
 
     back : (processGood (view s) (stepAsked r) ≡ true) × (userGood (view s) (stepAsked r) ≡ true) × (behalfFits (view s) (stepAsked r) ≡ true) → accepted (stepAnswer s r) ≡ true
     back (hp, hu, hb) =
-        answer-accepted s r .1
-        (not-refused s r .1
-        (length-good s .1 (v .long), (good, (record-rows s v r good, (hp, (ap (kindGood (view s)) e ∙ hk, (ap (freeGood (view s)) e ∙ hf, (hu, (hb, ap (meetGood (view s)) e ∙ hm)))))))))
+        answer-accepted s r .1 (
+          not-refused s r .1
+              (length-good s .1 (v .long), (good, (record-rows s v r good, (hp, (ap (kindGood (view s)) e ∙ hk, (ap (freeGood (view s)) e ∙ hf, (hu, (hb, ap (meetGood (view s)) e ∙ hm)))))))),
+          refuted (isBlocked (stepAnswer s r)) (λ b. clash (blocked-step s r b) (ap writing e ∙ hw)),
+        )

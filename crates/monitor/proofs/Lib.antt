@@ -1,7 +1,8 @@
--- Theorems is the file to read: what is proved of the monitor; Leaving has the numbers that an end or a delete leaves. The others
--- prove it.
+-- Theorems is the file to read: what is proved of the monitor; Leaving has the numbers that an end or a delete leaves, Guarded the guarded
+-- files. The others prove it.
 pub mod Theorems
 pub mod Leaving
+pub mod Guarded
 pub mod StepLaws
 pub mod AnswerLaws
 pub mod BehalfLaws

@@ -107,3 +107,7 @@ record-last (q ∷ rs) r = record-last rs r
 pub take-last : (rs : List (List ℕ)) (r : List ℕ) → take (suc (length rs)) (rs ++ (r ∷ [])) ≡ rs ++ (r ∷ [])
 take-last [] r = refl
 take-last (q ∷ rs) r = ap (λ l. q ∷ l) (take-last rs r)
+
+pub take-before : (rs : List (List ℕ)) (r : List ℕ) → take (length rs) (rs ++ (r ∷ [])) ≡ rs
+take-before [] r = refl
+take-before (q ∷ rs) r = ap (λ l. q ∷ l) (take-before rs r)

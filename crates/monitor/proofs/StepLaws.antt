@@ -1,8 +1,8 @@
 -- One step: refused, it leaves the session; else it does what the table says of the step that the record spells.
 use Prim.Native.Nat.{ℕ, _<_}
 use native.Mathlib.Omega.{arith}
-use mathlib.Core.Path.{_≡_, refl, sym, ap, _∙_}
-use mathlib.Core.Logic.{_≢_, _⊎_, inl, inr, _↔_}
+use mathlib.Core.Path.{_≡_, refl, sym, subst, ap, _∙_}
+use mathlib.Core.Logic.{_≢_, _⊎_, inl, inr, _↔_, ⊎-elim}
 use mathlib.Core.Bool.{true, false}
 use mathlib.Core.List.{List}
 use mathlib.Core.Option.{some}
@@ -10,7 +10,7 @@ use lib.ListN.{length}
 use borrow.Author.Tests.{eqb-true, eq-eqb, ne-eqb}
 use Rattle.lists.specs.Lists.{elem}
 use Rattle.lists.specs.Conditions.{FailsFirst, AllHold, firstFailed, numbersOf, numberAt, numbersGood}
-use Rattle.lists.proofs.Bools.{clash}
+use Rattle.lists.proofs.Bools.{clash, decide}
 use Rattle.lists.proofs.Conditions.{passed, zero-or-not, given-exactly, given-none}
 use Rattle.answers.specs.Refusals.{operationRecord, lentLength}
 use Rattle.answers.specs.declared.Answer.{Answer}
@@ -20,9 +20,9 @@ use Rattle.image.specs.Limits.{containerLimit}
 use Rattle.session.specs.Limits.{sessionLength}
 use Rattle.session.specs.Rows.{rowWords, putRow}
 use Rattle.chains.specs.History.{Step, receiver}
-use Rattle.chains.specs.Table.{State, entry, meetGood, earlyConditions, tableConditions, verdict, operate, Faithful}
+use Rattle.chains.specs.Table.{State, entry, meetGood, earlyConditions, tableConditions, blocks, verdict, operate, Faithful}
 use Rattle.chains.proofs.TableLaws.{operate-done}
-use Rattle.chains.proofs.VerdictLaws.{verdict-given}
+use Rattle.chains.proofs.VerdictLaws.{verdict-given, accepted-put, left-put, left-blocked}
 use Rattle.records.specs.declared.Code.{Code}
 use Rattle.records.specs.declared.Request.{Request}
 use Rattle.records.specs.Codes.{codeAt}
@@ -114,7 +114,7 @@ module _ (s r : List ℕ) (e : refusalOf s r ≡ 0) where
   unfolding stepConditions sessionConditions tableConditions earlyConditions
   step-record = holds .1 .0
 
-  step-meet : meetGood (view s) (stepAsked r) ≡ true
+  pub step-meet : meetGood (view s) (stepAsked r) ≡ true
   unfolding stepConditions sessionConditions tableConditions earlyConditions
   step-meet = holds .1 .1 .1 .1 .1 .1 .1 .1
 
@@ -127,7 +127,7 @@ module _ (s r : List ℕ) (e : refusalOf s r ≡ 0) where
   unfolding stepAsked
   step-ready = ready s (requestIn r) (named s r step-long step-record (requestIn r) refl) step-first
 
-  step-table : firstFailed (tableConditions (view s) (stepAsked r)) ≡ 0
+  pub step-table : firstFailed (tableConditions (view s) (stepAsked r)) ≡ 0
   unfolding stepConditions sessionConditions tableConditions earlyConditions firstFailed
   step-table =
       rw (holds .1 .1 .1 .0, holds .1 .1 .1 .1 .0, holds .1 .1 .1 .1 .1 .0, holds .1 .1 .1 .1 .1 .1 .0, holds .1 .1 .1 .1 .1 .1 .1 .0, holds .1 .1 .1 .1 .1 .1 .1 .1)
@@ -136,9 +136,14 @@ module _ (s r : List ℕ) (e : refusalOf s r ≡ 0) where
   unfolding stepAnswer madeAnswer
   made-answer = rw e
 
-  pub made-effect : stepEffect s r ≡ putRow s (receiver (stepAsked r)) (rowWords (entry (view s) (stepAsked r) .row))
+  -- blocked, or with the receiver's row
+  pub blocked-effect : blocks (stepAsked r) (entry (view s) (stepAsked r) .row) ≡ true → stepEffect s r ≡ s
   unfolding stepEffect madeEffect
-  made-effect = rw e
+  blocked-effect b = rw (e, b)
+
+  pub made-effect : blocks (stepAsked r) (entry (view s) (stepAsked r) .row) ≡ false → stepEffect s r ≡ putRow s (receiver (stepAsked r)) (rowWords (entry (view s) (stepAsked r) .row))
+  unfolding stepEffect madeEffect
+  made-effect b = rw (e, b)
 
   pub step-receiver : receiver (stepAsked r) < containerLimit
   unfolding stepAsked
@@ -148,19 +153,29 @@ module _ (s r : List ℕ) (e : refusalOf s r ≡ 0) where
   step-laid = entry-laid s (stepAsked r) step-ready step-meet
 
   pub effect-long : length (stepEffect s r) ≡ sessionLength
-  effect-long = ap length made-effect ∙ placed-long s step-long (receiver (stepAsked r)) step-receiver (entry (view s) (stepAsked r) .row) step-laid
+  effect-long =
+      ⊎-elim (λ b. ap length (blocked-effect b) ∙ step-long)
+      (λ b. ap length (made-effect b) ∙ placed-long s step-long (receiver (stepAsked r)) step-receiver (entry (view s) (stepAsked r) .row) step-laid)
+      (decide (blocks (stepAsked r) (entry (view s) (stepAsked r) .row)))
 
   step-view : view (stepEffect s r) ≡ operate (view s) (stepAsked r) .0
   step-view =
-      ap view made-effect
+      ⊎-elim
+      (λ b. ap view (blocked-effect b) ∙ sym (left-blocked (stepAsked r) (entry (view s) (stepAsked r) .row) (view s) b))
+      (λ b. ap view (made-effect b)
       ∙ view-put s step-long (receiver (stepAsked r)) step-receiver (entry (view s) (stepAsked r) .row) step-laid
+      ∙ sym (left-put (stepAsked r) (entry (view s) (stepAsked r) .row) (view s) b))
+      (decide (blocks (stepAsked r) (entry (view s) (stepAsked r) .row)))
       ∙ sym (ap (λ (x : State × Answer). x .0) (operate-done (view s) (stepAsked r) step-table))
 
   step-answer : stepAnswer s r ≡ operate (view s) (stepAsked r) .1
   step-answer = made-answer ∙ sym (ap (λ (x : State × Answer). x .1) (operate-done (view s) (stepAsked r) step-table))
 
   step-valid : Valid s → Valid (stepEffect s r)
-  step-valid v = rw made-effect (valid-put s v (receiver (stepAsked r)) step-receiver (entry (view s) (stepAsked r) .row) step-laid)
+  step-valid v =
+      ⊎-elim (λ b. subst Valid (sym (blocked-effect b)) v)
+      (λ b. subst Valid (sym (made-effect b)) (valid-put s v (receiver (stepAsked r)) step-receiver (entry (view s) (stepAsked r) .row) step-laid))
+      (decide (blocks (stepAsked r) (entry (view s) (stepAsked r) .row)))
 
 -- ---- the answer is a refusal exactly if a condition fails
 
@@ -176,6 +191,10 @@ answered-zero s r a = by (zero-or-not (refusalOf s r))
 
 pub accepted-zero : (s r : List ℕ) → accepted (stepAnswer s r) ≡ true → refusalOf s r ≡ 0
 accepted-zero s r a = answered-zero s r (accepted-given (stepAnswer s r) a)
+
+-- an accepted record does not block
+pub accepted-free : (s r : List ℕ) → accepted (stepAnswer s r) ≡ true → blocks (stepAsked r) (entry (view s) (stepAsked r) .row) ≡ false
+accepted-free s r a = accepted-put (stepAsked r) (entry (view s) (stepAsked r) .row) (ap accepted (sym (made-answer s r (accepted-zero s r a))) ∙ a)
 
 -- ---- the monitor follows the table
 

@@ -14,8 +14,8 @@ use Rattle.lists.specs.Conditions.{numbersOf, numberAt}
 use Rattle.lists.proofs.Bools.{and-in, and-0, and-1, clash}
 use Rattle.answers.specs.Refusals.{lentLength}
 use Rattle.answers.specs.declared.Answer.{Answer}
-use Rattle.answers.specs.Answers.{quiet, refused, isQuiet, isAlert, quietNumber, alertNumber, answerNumber}
-use Rattle.answers.proofs.Cases.{quiet-no-alert, Numbered, given-numbered}
+use Rattle.answers.specs.Answers.{quiet, refused, isQuiet, isAlert, isBlocked, quietNumber, alertNumber, blockedNumber, answerNumber}
+use Rattle.answers.proofs.Cases.{quiet-no-alert, quiet-no-blocked, Numbered, given-numbered}
 use Rattle.session.specs.Limits.{sessionLength}
 use Rattle.session.specs.Session.{sessionLengthGood}
 use Rattle.records.specs.Records.{recordLength}
@@ -63,39 +63,41 @@ quiet-stop (a ∷ l) q = let h : isQuiet a ≡ true = and-0 (isQuiet a) (every i
 
 -- ---- records up to and with it
 
--- none is taken only if there is none
-none-taken : (s : List ℕ) (rs : List (List ℕ)) → take (stopCount (runAnswers s rs)) rs ≡ [] → isAlert (stopAnswer (runAnswers s rs)) ≡ false
-unfolding stopAnswer stopCount runAnswers
-none-taken s [] e = refl
-none-taken s (x ∷ rs) e = by (isQuiet (stepOn s x .1)) e
-  where
-    by : (b : Bool) → take (cond b (suc (stopCount (runAnswers (stepOn s x .0) rs))) 1) (x ∷ rs) ≡ [] → isAlert (cond b (stopAnswer (runAnswers (stepOn s x .0) rs)) (stepOn s x .1)) ≡ false
-    by true e = absurd (cons≢nil e)
-    by false e = absurd (cons≢nil e)
-
 nil-snoc : (qs : List (List ℕ)) (r : List ℕ) → [] ≡ qs ++ (r ∷ []) → ⊥
 nil-snoc [] r e = cons≢nil (sym e)
 nil-snoc (q ∷ qs) r e = cons≢nil (sym e)
 
--- it is an alert exactly if the last record taken is answered by one
-pub alert-of-last : (s : List ℕ) (rs qs : List (List ℕ)) (r : List ℕ) → take (stopCount (runAnswers s rs)) rs ≡ qs ++ (r ∷ [])
-    → isAlert (stopAnswer (runAnswers s rs)) ≡ isAlert (stepAnswer (runEffect s qs) r)
-unfolding stopAnswer stopCount runAnswers runEffect stepOn
-alert-of-last s [] [] r e = absurd (cons≢nil (sym e))
-alert-of-last s [] (q ∷ qs) r e = absurd (cons≢nil (sym e))
-alert-of-last s (x ∷ rs) [] r e = by (isQuiet (stepAnswer s x)) refl e
-  where
-    by : (b : Bool) → isQuiet (stepAnswer s x) ≡ b → take (cond b (suc (stopCount (runAnswers (stepEffect s x) rs))) 1) (x ∷ rs) ≡ r ∷ []
-        → isAlert (cond b (stopAnswer (runAnswers (stepEffect s x) rs)) (stepAnswer s x)) ≡ isAlert (stepAnswer s r)
-    by true q e = none-taken (stepEffect s x) rs (tail-eq-of-cons-eq e) ∙ sym (quiet-no-alert (stepAnswer s x) q) ∙ ap (λ (y : List ℕ). isAlert (stepAnswer s y)) (head-eq-of-cons-eq e)
-    by false q e = ap (λ (y : List ℕ). isAlert (stepAnswer s y)) (head-eq-of-cons-eq e)
-alert-of-last s (x ∷ rs) (q ∷ qs) r e = by (isQuiet (stepAnswer s x)) e (alert-of-last (stepEffect s x) rs qs r)
-  where
-    by : (b : Bool) → take (cond b (suc (stopCount (runAnswers (stepEffect s x) rs))) 1) (x ∷ rs) ≡ q ∷ (qs ++ (r ∷ []))
-        → (take (stopCount (runAnswers (stepEffect s x) rs)) rs ≡ qs ++ (r ∷ []) → isAlert (stopAnswer (runAnswers (stepEffect s x) rs)) ≡ isAlert (stepAnswer (runEffect (stepEffect s x) qs) r))
-        → isAlert (cond b (stopAnswer (runAnswers (stepEffect s x) rs)) (stepAnswer s x)) ≡ isAlert (stepAnswer (runEffect (stepEffect s q) qs) r)
-    by true e h = h (tail-eq-of-cons-eq e) ∙ ap (λ (y : List ℕ). isAlert (stepAnswer (runEffect (stepEffect s y) qs) r)) (head-eq-of-cons-eq e)
-    by false e h = absurd (nil-snoc qs r (tail-eq-of-cons-eq e))
+-- of a test that no quiet answer passes
+module _ (f : Answer → Bool) (quiets : (a : Answer) → isQuiet a ≡ true → f a ≡ false) where
+  -- none is taken only if there is none
+  none-taken : (s : List ℕ) (rs : List (List ℕ)) → take (stopCount (runAnswers s rs)) rs ≡ [] → f (stopAnswer (runAnswers s rs)) ≡ false
+  unfolding stopAnswer stopCount runAnswers
+  none-taken s [] e = quiets (quiet 0 0) refl
+  none-taken s (x ∷ rs) e = by (isQuiet (stepOn s x .1)) e
+    where
+      by : (b : Bool) → take (cond b (suc (stopCount (runAnswers (stepOn s x .0) rs))) 1) (x ∷ rs) ≡ [] → f (cond b (stopAnswer (runAnswers (stepOn s x .0) rs)) (stepOn s x .1)) ≡ false
+      by true e = absurd (cons≢nil e)
+      by false e = absurd (cons≢nil e)
+
+  -- the answer passes it exactly if the last record taken is answered so
+  pub of-last : (s : List ℕ) (rs qs : List (List ℕ)) (r : List ℕ) → take (stopCount (runAnswers s rs)) rs ≡ qs ++ (r ∷ [])
+      → f (stopAnswer (runAnswers s rs)) ≡ f (stepAnswer (runEffect s qs) r)
+  unfolding stopAnswer stopCount runAnswers runEffect stepOn
+  of-last s [] [] r e = absurd (cons≢nil (sym e))
+  of-last s [] (q ∷ qs) r e = absurd (cons≢nil (sym e))
+  of-last s (x ∷ rs) [] r e = by (isQuiet (stepAnswer s x)) refl e
+    where
+      by : (b : Bool) → isQuiet (stepAnswer s x) ≡ b → take (cond b (suc (stopCount (runAnswers (stepEffect s x) rs))) 1) (x ∷ rs) ≡ r ∷ []
+          → f (cond b (stopAnswer (runAnswers (stepEffect s x) rs)) (stepAnswer s x)) ≡ f (stepAnswer s r)
+      by true q e = none-taken (stepEffect s x) rs (tail-eq-of-cons-eq e) ∙ sym (quiets (stepAnswer s x) q) ∙ ap (λ (y : List ℕ). f (stepAnswer s y)) (head-eq-of-cons-eq e)
+      by false q e = ap (λ (y : List ℕ). f (stepAnswer s y)) (head-eq-of-cons-eq e)
+  of-last s (x ∷ rs) (q ∷ qs) r e = by (isQuiet (stepAnswer s x)) e (of-last (stepEffect s x) rs qs r)
+    where
+      by : (b : Bool) → take (cond b (suc (stopCount (runAnswers (stepEffect s x) rs))) 1) (x ∷ rs) ≡ q ∷ (qs ++ (r ∷ []))
+          → (take (stopCount (runAnswers (stepEffect s x) rs)) rs ≡ qs ++ (r ∷ []) → f (stopAnswer (runAnswers (stepEffect s x) rs)) ≡ f (stepAnswer (runEffect (stepEffect s x) qs) r))
+          → f (cond b (stopAnswer (runAnswers (stepEffect s x) rs)) (stepAnswer s x)) ≡ f (stepAnswer (runEffect (stepEffect s q) qs) r)
+      by true e h = h (tail-eq-of-cons-eq e) ∙ ap (λ (y : List ℕ). f (stepAnswer (runEffect (stepEffect s y) qs) r)) (head-eq-of-cons-eq e)
+      by false e h = absurd (nil-snoc qs r (tail-eq-of-cons-eq e))
 
 -- ---- 9
 
@@ -106,7 +108,7 @@ step-keeps s r g = by (eqb (refusalOf s r) 0) refl
     by true e = unfold sessionLengthGood in (eq-eqb (length (stepEffect s r)) sessionLength (effect-long s r (eqb-true (refusalOf s r) 0 e)))
     by false e = ap sessionLengthGood (refused-effect s r (eqb-false (refusalOf s r) 0 e)) ∙ g
 
--- the number of each record's answer tells quiet, alert and 9 from all others on a session of the right length
+-- the number of each record's answer tells quiet, alert, blocked and 9 from all others on a session of the right length
 step-numbered : (s r : List ℕ) → sessionLengthGood s ≡ true → Numbered (stepAnswer s r)
 step-numbered s r g = by (eqb (refusalOf s r) 0) refl
   where
@@ -118,6 +120,7 @@ step-numbered s r g = by (eqb (refusalOf s r) 0) refl
         record {
           quietAlone = λ e. absurd (n (sym (h .0) ∙ e));
           alertAlone = λ e. absurd (h .1 (sym (h .0) ∙ e));
+          blockedAlone = λ e. absurd (h .2 (sym (h .0) ∙ e));
           never9 = λ e. clash g (unfold stepConditions numberAt numbersOf in (refused-at s r 0 (omega arith) .0 (sym (h .0) ∙ e)));
         }
 
@@ -145,14 +148,22 @@ ran-bad : (s t : List ℕ) → sessionLengthGood s ≡ false → ran s t ≡ rec
 unfolding ran
 ran-bad s t g = rw g
 
--- an alert is the answer to the last record taken
-pub ran-alert : (s t : List ℕ) (qs : List (List ℕ)) (r : List ℕ) → take (ran s t .taken) (traceRecords t) ≡ qs ++ (r ∷ [])
-    → isAlert (ran s t .answer) ≡ isAlert (stepAnswer (runEffect s qs) r)
-ran-alert s t qs r e = by (sessionLengthGood s) refl
-  where
-    by : (b : Bool) → sessionLengthGood s ≡ b → isAlert (ran s t .answer) ≡ isAlert (stepAnswer (runEffect s qs) r)
-    by true g = rw (ran-good s t g) (alert-of-last s (traceRecords t) qs r (rw (ran-good s t g) at e))
-    by false g = absurd (nil-snoc qs r (rw (ran-bad s t g) at e))
+-- an alert, or blocked, is the answer to the last record taken
+module _ (f : Answer → Bool) (quiets : (a : Answer) → isQuiet a ≡ true → f a ≡ false) where
+  ran-of-last : (s t : List ℕ) (qs : List (List ℕ)) (r : List ℕ) → take (ran s t .taken) (traceRecords t) ≡ qs ++ (r ∷ [])
+      → f (ran s t .answer) ≡ f (stepAnswer (runEffect s qs) r)
+  ran-of-last s t qs r e = by (sessionLengthGood s) refl
+    where
+      by : (b : Bool) → sessionLengthGood s ≡ b → f (ran s t .answer) ≡ f (stepAnswer (runEffect s qs) r)
+      by true g = rw (ran-good s t g) (of-last f quiets s (traceRecords t) qs r (rw (ran-good s t g) at e))
+      by false g = absurd (nil-snoc qs r (rw (ran-bad s t g) at e))
+
+module _ (s t : List ℕ) (qs : List (List ℕ)) (r : List ℕ) where
+  pub ran-alert : take (ran s t .taken) (traceRecords t) ≡ qs ++ (r ∷ []) → isAlert (ran s t .answer) ≡ isAlert (stepAnswer (runEffect s qs) r)
+  ran-alert = ran-of-last isAlert quiet-no-alert s t qs r
+
+  pub ran-blocked : take (ran s t .taken) (traceRecords t) ≡ qs ++ (r ∷ []) → isBlocked (ran s t .answer) ≡ isBlocked (stepAnswer (runEffect s qs) r)
+  ran-blocked = ran-of-last isBlocked quiet-no-blocked s t qs r
 
 module _ (s t : List ℕ) where
   -- the number of a run's answer
@@ -177,6 +188,12 @@ module _ (s t : List ℕ) where
   number-256 e =
       by-number alertNumber e
       (λ g n. ap (λ (w : Ran). isAlert (w .answer)) (ran-good s t g) ∙ stop-numbered s (traceRecords t) g .alertAlone n)
+      (λ g n. absurd (omega arith))
+
+  pub number-257 : answerNumber (ran s t .answer) ≡ blockedNumber → isBlocked (ran s t .answer) ≡ true
+  number-257 e =
+      by-number blockedNumber e
+      (λ g n. ap (λ (w : Ran). isBlocked (w .answer)) (ran-good s t g) ∙ stop-numbered s (traceRecords t) g .blockedAlone n)
       (λ g n. absurd (omega arith))
 
 -- the records that are left, run on the session that is left, are answered as in the whole

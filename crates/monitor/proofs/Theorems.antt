@@ -5,7 +5,7 @@
 use Prim.Native.Nat.{ℕ, suc, _*_, _<_}
 use native.Mathlib.Omega.{arith}
 use mathlib.Core.Path.{_≡_, refl, sym, ap, _∙_}
-use mathlib.Core.Logic.{_↔_, _≢_}
+use mathlib.Core.Logic.{_↔_, _≢_, ⊎-elim}
 use mathlib.Core.Bool.{true, false, cond}
 use mathlib.Core.List.{List, [], _∷_, _++_}
 use mathlib.Core.Option.{Option, some}
@@ -18,8 +18,8 @@ use Rattle.lists.proofs.Conditions.{given-among, given-none}
 use Rattle.fields.specs.Bytes.{Bytes}
 use Rattle.answers.specs.Refusals.{operationRecord, lentLength, row, noProcess, wrongKind, notFree, notDeclared, otherUser, overLimit}
 use Rattle.answers.specs.declared.Answer.{Answer}
-use Rattle.answers.specs.Answers.{quiet, alert, refused, isQuiet, isAlert, isRefused, accepted, receiverOf, tagOf, answerNumber}
-use Rattle.answers.proofs.Cases.{given-accepted, alert-number, accepted-number}
+use Rattle.answers.specs.Answers.{quiet, alert, refused, isQuiet, isAlert, isBlocked, isRefused, accepted, receiverOf, tagOf, answerNumber}
+use Rattle.answers.proofs.Cases.{given-cases, accepted-unblocked, alert-number, blocked-number, accepted-number}
 use Rattle.rules.specs.Sets.{atom}
 use Rattle.rules.specs.Rules.{covers}
 use Rattle.image.specs.Limits.{containerLimit, userLimit, isFree, isFile, isStore}
@@ -46,15 +46,15 @@ use Rattle.operations.proofs.PlacedRows.{Valid, placed-row, placed-other, place
 use Rattle.monitor.specs.Steps.{stepAsked, stepConditions, refusalOf, stepAnswer, stepEffect}
 use Rattle.monitor.specs.Runs.{stepOn, runAnswers, runEffect, historyIn}
 use Rattle.monitor.specs.Stops.{ran, ranEffect}
-use Rattle.monitor.proofs.StepLaws.{numbers, refused-at, refused-answer, refused-effect, step-long, step-record, step-receiver, step-laid, effect-long, made-answer, made-effect, answered, answered-zero, accepted-zero, faithful}
+use Rattle.monitor.proofs.StepLaws.{numbers, refused-at, refused-answer, refused-effect, step-long, step-record, step-receiver, step-laid, effect-long, made-answer, made-effect, answered, answered-zero, accepted-zero, accepted-free, faithful}
 use Rattle.monitor.proofs.AnswerLaws as answers
-use Rattle.monitor.proofs.AnswerLaws.{verdict-judged, new-quiet}
+use Rattle.monitor.proofs.AnswerLaws.{verdict-put, new-quiet}
 use Rattle.monitor.proofs.BehalfLaws.{Other, behalf-fails, other-same, process-named}
 use Rattle.monitor.proofs.StartView.{start-valid, start-view, begun-declared}
 use Rattle.monitor.proofs.UserLaws.{Users, reached-recorded}
 use Rattle.monitor.proofs.RunLaws.{valid-run, never-10, runEffect-append}
 use Rattle.monitor.proofs.DemandLaws.{alert-at, tag-at, alert-last}
-use Rattle.monitor.proofs.StopLaws.{stopped, all-quiet, quiet-stop, length-run, ran-good, ran-alert, number-9, number-0, number-256, answers-split, effect-split}
+use Rattle.monitor.proofs.StopLaws.{stopped, all-quiet, quiet-stop, length-run, ran-good, ran-alert, number-9, number-0, number-256, number-257, answers-split, effect-split}
 
 -- ---- DEMAND 3 (the paper, "Chains")
 
@@ -130,6 +130,9 @@ ran-0 s t = (number-0 s t, λ h. rw (ran-good s t (h .0), quiet-stop (runAnswers
 
 pub ran-256 : (s t : List ℕ) → (answerNumber (ran s t .answer) ≡ 256) ↔ (isAlert (ran s t .answer) ≡ true)
 ran-256 s t = (number-256 s t, alert-number (ran s t .answer))
+
+pub ran-257 : (s t : List ℕ) → (answerNumber (ran s t .answer) ≡ 257) ↔ (isBlocked (ran s t .answer) ≡ true)
+ran-257 s t = (number-257 s t, blocked-number (ran s t .answer))
 
 -- 9 exactly if the session has not its length; then nothing is taken, and nothing changed
 pub ran-9 : (s t : List ℕ) → (answerNumber (ran s t .answer) ≡ lentLength) ↔ (sessionLengthGood s ≡ false)
@@ -254,9 +257,12 @@ module _ (s r : List ℕ) where
   pub answer-given : (isRefused (stepAnswer s r) ≡ false) ↔ (refusalOf s r ≡ 0)
   answer-given = (answered-zero s r, answered s r)
 
-  -- what is not refused is accepted
-  pub answer-accepted : (accepted (stepAnswer s r) ≡ true) ↔ (refusalOf s r ≡ 0)
-  answer-accepted = (accepted-zero s r, λ e. given-accepted (stepAnswer s r) (answered s r e))
+  -- what is neither refused nor blocked is accepted
+  pub answer-accepted : (accepted (stepAnswer s r) ≡ true) ↔ ((refusalOf s r ≡ 0) × (isBlocked (stepAnswer s r) ≡ false))
+  answer-accepted = (
+    λ a. (accepted-zero s r a, accepted-unblocked (stepAnswer s r) a),
+    λ h. ⊎-elim (λ a. a) (λ b. clash b (h .1)) (given-cases (stepAnswer s r) (answered s r (h .0))),
+  )
 
 -- ---- what 12 and 13 ask of the object o, code by code: of any rows ("Operations", the column "o"; 8 and 9: change request No. 4)
 
@@ -438,7 +444,7 @@ module _ (s r : List ℕ) (a : accepted (stepAnswer s r) ≡ true) where
 
   pub effect-row : containerRow (stepEffect s r) (receiver (stepAsked r)) ≡ rowWords (entry (view s) (stepAsked r) .row)
   effect-row =
-      rw (made-effect s r e)
+      rw (made-effect s r e (accepted-free s r a))
       (placed-row s (step-long s r e) (receiver (stepAsked r)) (step-receiver s r e) (entry (view s) (stepAsked r) .row) (step-laid s r e))
 
   pub effect-good : containerRowGood (containerRow (stepEffect s r) (receiver (stepAsked r))) ≡ true
@@ -446,12 +452,12 @@ module _ (s r : List ℕ) (a : accepted (stepAnswer s r) ≡ true) where
 
   pub effect-others : (d : ℕ) → d ≢ receiver (stepAsked r) → containerRow (stepEffect s r) d ≡ containerRow s d
   effect-others d n =
-      rw (made-effect s r e)
+      rw (made-effect s r e (accepted-free s r a))
       (placed-other s (step-long s r e) (receiver (stepAsked r)) (step-receiver s r e) (entry (view s) (stepAsked r) .row) (step-laid s r e) d n)
 
   pub effect-users : (u : ℕ) → userRow (stepEffect s r) u ≡ userRow s u
   effect-users u =
-      rw (made-effect s r e)
+      rw (made-effect s r e (accepted-free s r a))
       (placed-user s (step-long s r e) (receiver (stepAsked r)) (step-receiver s r e) (entry (view s) (stepAsked r) .row) (step-laid s r e) u)
 
   pub effect-length : length (stepEffect s r) ≡ sessionLength
@@ -463,17 +469,20 @@ module _ (s r : List ℕ) (a : accepted (stepAnswer s r) ≡ true) where
       ≡ cond (covers (entry (view s) (stepAsked r) .row .permit) (entry (view s) (stepAsked r) .row .tag))
       (quiet (receiver (stepAsked r)) (entry (view s) (stepAsked r) .row .tag))
       (alert (receiver (stepAsked r)) (entry (view s) (stepAsked r) .row .tag))
-  answer-judged j = made-answer s r e ∙ verdict-judged (stepAsked r) (entry (view s) (stepAsked r) .row) j
+  answer-judged j = made-answer s r e ∙ verdict-put (stepAsked r) (entry (view s) (stepAsked r) .row) j (accepted-free s r a)
 
   -- "6 and 7 answer quiet", with "empty tag"; 8 and 9 "answer quiet with tag 0"
   pub answer-new : judged (stepAsked r) ≡ false → stepAnswer s r ≡ quiet (receiver (stepAsked r)) 0
   answer-new j = made-answer s r e ∙ new-quiet (view s) (stepAsked r) j
 
--- the answer as one number: 0 quiet, 256 alert, else the refusal, which is neither
+-- the answer as one number: 0 quiet, 256 alert, 257 blocked, else the refusal, which is none of these
 pub number-accepted : (s r : List ℕ) → accepted (stepAnswer s r) ≡ true → answerNumber (stepAnswer s r) ≡ cond (isAlert (stepAnswer s r)) 256 0
 number-accepted s r a = accepted-number (stepAnswer s r) a
 
-pub number-refused : (s r : List ℕ) → refusalOf s r ≢ 0 → (answerNumber (stepAnswer s r) ≡ refusalOf s r) × (refusalOf s r ≢ 256)
+pub number-blocked : (s r : List ℕ) → isBlocked (stepAnswer s r) ≡ true → answerNumber (stepAnswer s r) ≡ 257
+number-blocked s r b = blocked-number (stepAnswer s r) b
+
+pub number-refused : (s r : List ℕ) → refusalOf s r ≢ 0 → (answerNumber (stepAnswer s r) ≡ refusalOf s r) × (refusalOf s r ≢ 256) × (refusalOf s r ≢ 257)
 number-refused = answers.number-refused
 
 -- "zeros elsewhere"

@@ -1,7 +1,7 @@
 -- The users of a session, over a run: their rows stay, and a user that a row records is declared.
 use Prim.Native.Nat.{ℕ}
 use mathlib.Core.Path.{_≡_, refl, sym, subst, ap, _∙_}
-use mathlib.Core.Logic.{_⊎_, inl, inr, _≢_}
+use mathlib.Core.Logic.{_⊎_, inl, inr, ⊎-elim, _≢_}
 use mathlib.Core.Bool.{Bool, true, false, cond}
 use mathlib.Core.List.{List, [], _∷_}
 use mathlib.Core.Option.{Option, none, some}
@@ -18,8 +18,9 @@ use Rattle.session.specs.Limits.{nobody}
 use Rattle.session.specs.Rows.{Row}
 use Rattle.session.specs.Session.{startRow, startOf}
 use Rattle.chains.specs.History.{Step, read, write, append, exec, fork, newFile, newVolatile, end, delete, receiver}
-use Rattle.chains.specs.Table.{State, freeRow, readRow, writeRow, appendRow, execRow, forkRow, newFileRow, newVolatileRow, entry, isSome, processGood, userGood, tableConditions, placed, operate, startRowOf, begin}
+use Rattle.chains.specs.Table.{State, freeRow, readRow, writeRow, appendRow, execRow, forkRow, newFileRow, newVolatileRow, entry, isSome, processGood, userGood, tableConditions, blocks, placed, left, operate, startRowOf, begin}
 use Rattle.chains.proofs.TableLaws.{Passed, passed, operate-done, operate-given}
+use Rattle.chains.proofs.VerdictLaws.{left-put, left-blocked}
 use Rattle.records.specs.Records.{stepOf}
 use Rattle.operations.specs.View.{view}
 use Rattle.operations.proofs.PlacedRows.{Valid}
@@ -74,12 +75,19 @@ pub record Users (user : ℕ → Option (List ℕ)) (σ : State) : Type 0 where
   pub stay : σ .user ≡ user
   pub named : AllRecorded σ
 
-operate-users : (user : ℕ → Option (List ℕ)) (σ : State) → Users user σ → (t : Step) → isRefused (operate σ t .1) ≡ false → Users user (operate σ t .0)
+-- blocked, or with the row of the table
+left-users : (user : ℕ → Option (List ℕ)) (σ : State) → Users user σ → (t : Step) (w : Row) → Recorded (σ .user) w → Users user (left σ t w)
 unfolding placed
+left-users user σ U t w W =
+    ⊎-elim (λ b. subst (Users user) (sym (left-blocked t w σ b)) U)
+    (λ b. subst (Users user) (sym (left-put t w σ b)) (record { stay = U .stay; named = placed-recorded σ (U .named) (receiver t) w W }))
+    (decide (blocks t w))
+
+operate-users : (user : ℕ → Option (List ℕ)) (σ : State) → Users user σ → (t : Step) → isRefused (operate σ t .1) ≡ false → Users user (operate σ t .0)
 operate-users user σ U t a =
     let e : firstFailed (tableConditions σ t) ≡ 0 = operate-given σ t a in
     subst (λ (x : State × Answer). Users user (x .0)) (sym (operate-done σ t e))
-    (record { stay = U .stay; named = placed-recorded σ (U .named) (receiver t) (entry σ t .row) (entry-recorded σ (U .named) t (passed σ t e)) })
+    (left-users user σ U t (entry σ t .row) (entry-recorded σ (U .named) t (passed σ t e)))
 
 step-users : (user : ℕ → Option (List ℕ)) (s : List ℕ) → Valid s → Users user (view s) → (r : List ℕ) → Users user (view (stepOn s r .0))
 step-users user s v U r = by (decide (isRefused (stepOn s r .1)))

@@ -4,35 +4,37 @@ use mathlib.Core.Path.{_≡_, refl, sym, ap, ap₂, _∙_}
 use mathlib.Core.Bool.{Bool, true, false, not, cond, _&&_}
 use mathlib.Core.List.{List, [], _∷_}
 use native.Mathlib.Omega.{arith}
-use lib.Bits.{bitOr}
+use lib.Bits.{bitAnd, bitOr}
+use lib.Dec.{eqb}
 use lib.ListN.{length, getD, take, drop, replicate}
-use borrow.Author.Tests.{le-leb}
+use borrow.Author.Tests.{le-leb, ne-eqb, not-true, not-false}
 use borrow.Rule.Slice.PartMut.{putMid}
 use Rattle.lists.specs.Lists.{every}
 use Rattle.answers.specs.Refusals.{overLimit}
 use Rattle.answers.specs.declared.Answer.{Answer}
 use Rattle.answers.specs.declared.Answer.the-variants.{Given}
-use Rattle.answers.specs.Answers.{received, refused, quiet, alert}
+use Rattle.answers.specs.Answers.{received, refused, quiet, alert, blocked}
 use Rattle.rules.specs.Sets.{dataOf, runningOf}
 use Rattle.rules.specs.Rules.{covers, meet, unrestricted}
 use Rattle.rules.specs.Answers.{dataWidth, tagWidth, mixtureLimit, padded, boundedOf}
 use Rattle.rules.specs.declared.Bounded.{Bounded}
 use Rattle.rules.proofs.BoundedLaws.{bounded-some, padded-take}
-use Rattle.image.specs.Limits.{containerLimit, userLimit, fileKind, volatileKind, processKind}
+use Rattle.image.specs.Limits.{containerLimit, userLimit, fileKind, volatileKind, processKind, guardedKind, isGuarded}
 use Rattle.image.specs.Policy.{unrestrictedRule}
-use Rattle.rule_words.specs.Words.{ruleOf, wordsOf}
-use Rattle.session.specs.Limits.{sessionLength, rowWidth, userWidth, usersAt, runAt, userRuleAt, nobody}
+use Rattle.rule_words.specs.Words.{ruleWidth, ruleOf, wordsOf}
+use Rattle.session.specs.Limits.{sessionLength, rowWidth, userWidth, usersAt, kindAt, permitAt, runAt, userRuleAt, nobody}
 use Rattle.session.specs.Rows.{Row, rowOf, rowWords, freeWords, permitWords, runWords, putRow}
 use Rattle.session.proofs.PutLaws.{container-row-length, row-lent, row-returned}
 use Rattle.chains.specs.History.{Step, read, write, append, exec, fork, newFile, newVolatile, receiver}
 use Rattle.chains.specs.Demand.{judged}
-use Rattle.chains.specs.Table.{freeRow, readRow, writeRow, appendRow, execRow, forkRow, newFileRow, newVolatileRow, ruleOr, entry, fits, meetGood, alerts, verdict}
+use Rattle.chains.specs.Table.{freeRow, readRow, writeRow, appendRow, execRow, forkRow, newFileRow, newVolatileRow, ruleOr, entry, fits, meetGood, alerts, blocks, verdict}
 use Rattle.operations.specs.View.{view}
 use Rattle.operations.specs.Effects.{madeAnswer, madeEffect}
-use Rattle.operations.specs.Parts.{Ready, UsedAt, Kept, wordsFrom, contentWords, newWords, coverVerdict, coverAnswer, lateAnswer, lateEffect, sharedRun, absorbed, absorbAnswer, absorbEffect, launchTag, launchAnswer, launchEffect}
+use Rattle.operations.specs.Parts.{Ready, UsedAt, Kept, wordsFrom, contentWords, newWords, coverVerdict, coverAnswer, guardsAt, lateAnswer, lateEffect, sharedRun, absorbed, absorbAnswer, absorbEffect, launchTag, launchAnswer, launchEffect}
 use Rattle.operations.proofs.ViewLaws.{view-row}
+use Rattle.operations.proofs.RefusalTests.{kind-read}
 use Rattle.operations.proofs.ReadyLaws.{process-kind, ready-process, ready-object, ready-user}
-use Rattle.operations.proofs.RowSteps.{KeptAs, row-used, row-counts, row-long, run-kept, run-single, user-kept-as, met, content-row, new-row, fits-short, fits-made, rule-short}
+use Rattle.operations.proofs.RowSteps.{KeptAs, meet-single, words-lent, permit-kept, row-used, row-counts, row-long, run-kept, run-single, user-kept-as, met, content-row, new-row, fits-short, fits-made, rule-short}
 
 -- the answer a and the session s₁ afterwards are as the step t asks
 abbrev pub Done : List ℕ → Step → Answer → List ℕ → Type 0
@@ -78,22 +80,52 @@ content-seen s c h t r m e l ws ew =
 
 -- ---- answers
 
-verdict-covers : (t : Step) (w : Row) → judged t ≡ true → coverAnswer (receiver t) (w .permit) (w .tag) ≡ verdict t w
-unfolding verdict alerts coverAnswer
-verdict-covers t w j = rw j (by (covers (w .permit) (w .tag)))
+-- a judged step is blocked where its receiver is guarded and the tag not covered
+guard-blocks : (t : Step) (w : Row) → judged t ≡ true → blocks t w ≡ (isGuarded (w .kind) && not (covers (w .permit) (w .tag)))
+unfolding blocks alerts
+guard-blocks t w j = rw j refl
+
+guard-verdict : (t : Step) (w : Row) → judged t ≡ true
+    → cond (isGuarded (w .kind) && not (covers (w .permit) (w .tag))) (blocked (receiver t) (w .tag)) (coverAnswer (receiver t) (w .permit) (w .tag)) ≡ verdict t w
+unfolding verdict blocks alerts coverAnswer
+guard-verdict t w j = rw j (by (isGuarded (w .kind)) (covers (w .permit) (w .tag)))
   where
-    by : (b : Bool) → _≡_ {A = Answer} (Given (coverVerdict b) (received (receiver t) (w .tag))) (cond (not b) (alert (receiver t) (w .tag)) (quiet (receiver t) (w .tag)))
+    by : (g b : Bool) → _≡_ {A = Answer} (cond (g && not b) (blocked (receiver t) (w .tag)) (Given (coverVerdict b) (received (receiver t) (w .tag))))
+        (cond (g && not b) (blocked (receiver t) (w .tag)) (cond (not b) (alert (receiver t) (w .tag)) (quiet (receiver t) (w .tag))))
+    by true true = refl
+    by true false = refl
+    by false true = refl
+    by false false = refl
+
+-- what is not guarded is not blocked
+unguarded : (t : Step) (w : Row) → isGuarded (w .kind) ≡ false → blocks t w ≡ false
+unfolding blocks
+unguarded t w e = rw e
+
+verdict-covers : (t : Step) (w : Row) → isGuarded (w .kind) ≡ false → judged t ≡ true → coverAnswer (receiver t) (w .permit) (w .tag) ≡ verdict t w
+verdict-covers t w g j = rw g at (guard-verdict t w j)
+
+unblocked : (t : Step) (w : Row) → judged t ≡ false → blocks t w ≡ false
+unfolding blocks alerts
+unblocked t w j = rw j (by (isGuarded (w .kind)))
+  where
+    by : (g : Bool) → (g && false) ≡ false
     by true = refl
     by false = refl
 
 verdict-unjudged : (t : Step) (w : Row) → judged t ≡ false → quiet (receiver t) (w .tag) ≡ verdict t w
 unfolding verdict alerts
-verdict-unjudged t w j = rw j
+verdict-unjudged t w j = rw (unblocked t w j, j)
 
 -- ---- the rule of a `Bounded`
 
 bounded-rule : (r : List ℕ) (m : Bounded) → m ≡ boundedOf r → length r ≤ mixtureLimit → (m .count ≤ mixtureLimit) × (take (m .count) (m .mixtures) ≡ r)
 bounded-rule r m e l = rw (e, bounded-some r (le-leb (length r) mixtureLimit l)) (l, padded-take r (length r) refl)
+
+-- a process is not guarded
+process-free : (w : Row) → w .kind ≡ processKind → isGuarded (w .kind) ≡ false
+unfolding isGuarded
+process-free w e = ne-eqb (w .kind) guardedKind (λ z. omega (arith, e, z))
 
 -- ---- the three ways in which an operation ends
 
@@ -103,17 +135,17 @@ unfolding lateAnswer lateEffect
 refused-done s t g = (rw g, rw g)
 
 module _ (s : List ℕ) (t : Step) (g : meetGood (view s) t ≡ true) where
-  put-done : (a : Answer) (ws : List ℕ) → a ≡ verdict t (entry (view s) t .row) → ws ≡ rowWords (entry (view s) t .row) → Done s t a (returned s (receiver t) ws)
+  put-done : blocks t (entry (view s) t .row) ≡ false → (a : Answer) (ws : List ℕ) → a ≡ verdict t (entry (view s) t .row) → ws ≡ rowWords (entry (view s) t .row) → Done s t a (returned s (receiver t) ws)
   unfolding lateAnswer lateEffect madeAnswer madeEffect
-  put-done a ws ea e = (rw g ea, row-returned s (receiver t) ws ∙ rw (g, e))
+  put-done f a ws ea e = (rw g ea, row-returned s (receiver t) ws ∙ rw (g, f, e))
 
   -- all of it new
-  new-done : (w : Row) → entry (view s) t .row ≡ w → (m n : Bounded) (a : Answer) (ws : List ℕ)
+  new-done : (w : Row) → isGuarded (w .kind) ≡ false → entry (view s) t .row ≡ w → (m n : Bounded) (a : Answer) (ws : List ℕ)
       → m ≡ boundedOf (w .permit) → length (w .permit) ≤ mixtureLimit → n ≡ boundedOf (w .run) → length (w .run) ≤ mixtureLimit
       → a ≡ verdict t w → ws ≡ newWords (w .kind) (w .tag) m n (w .behalf)
       → Done s t a (returned s (receiver t) ws)
-  new-done w ew m n a ws em lm en ln ea e =
-      put-done a ws (ea ∙ ap (verdict t) (sym ew)) (e ∙ new-row (w .kind) (w .tag) (w .permit) (w .run) m n (w .behalf) em lm en ln ∙ ap rowWords (sym ew))
+  new-done w free ew m n a ws em lm en ln ea e =
+      put-done (ap (blocks t) ew ∙ unguarded t w free) a ws (ea ∙ ap (verdict t) (sym ew)) (e ∙ new-row (w .kind) (w .tag) (w .permit) (w .run) m n (w .behalf) em lm en ln ∙ ap rowWords (sym ew))
 
   -- of a process
   replace-done : (w : Row) → entry (view s) t .row ≡ w → (m n : Bounded) (a : Answer) (ws : List ℕ) → judged t ≡ true → w .kind ≡ processKind
@@ -121,9 +153,35 @@ module _ (s : List ℕ) (t : Step) (g : meetGood (view s) t ≡ true) where
       → a ≡ coverAnswer (receiver t) (take (m .count) (m .mixtures)) (w .tag) → ws ≡ newWords processKind (w .tag) m n (w .behalf)
       → Done s t a (returned s (receiver t) ws)
   replace-done w ew m n a ws j ek em lm en ln ea e =
-      new-done w ew m n a ws em lm en ln
-      (ea ∙ ap (λ (x : List ℕ). coverAnswer (receiver t) x (w .tag)) (bounded-rule (w .permit) m em lm .1) ∙ verdict-covers t w j)
+      new-done w (process-free w ek) ew m n a ws em lm en ln
+      (ea ∙ ap (λ (x : List ℕ). coverAnswer (receiver t) x (w .tag)) (bounded-rule (w .permit) m em lm .1) ∙ verdict-covers t w (process-free w ek) j)
       (e ∙ ap (λ (k : ℕ). newWords k (w .tag) m n (w .behalf)) (sym ek))
+
+-- ---- whether the access is blocked
+
+kind-seen : (s : List ℕ) (c : ℕ) → c < containerLimit → getD s (c * rowWidth + kindAt) 0 ≡ view s .row c .kind
+kind-seen s c l = kind-read s c ∙ ap (λ (w : Row). w .kind) (sym (view-row s c l))
+
+module _ (s : List ℕ) (c tag : ℕ) (h : UsedAt s c) (b : Bool) (e : b ≡ isGuarded (getD s (c * rowWidth + kindAt) 0)) where
+  kind-told : isGuarded (view s .row c .kind) ≡ b
+  kind-told = ap isGuarded (sym (kind-seen s c (h .low))) ∙ sym e
+
+  pub guards-not : not b ≡ true → false ≡ guardsAt s c tag
+  unfolding guardsAt
+  guards-not n = rw (kind-told ∙ not-true b n)
+
+  pub guards-told : not b ≡ false → (rule : List ℕ) → rule ≡ ruleOf (take (c * rowWidth + permitAt + ruleWidth - (c * rowWidth + permitAt)) (drop (c * rowWidth + permitAt) s))
+      → (v : Bool) → v ≡ covers rule tag → not v ≡ guardsAt s c tag
+  unfolding guardsAt
+  guards-told n rule er v ev =
+      let r : rule ≡ view s .row c .permit = er ∙ ap ruleOf (words-lent s (c * rowWidth + permitAt)) ∙ permit-kept s c h .said in
+      rw (kind-told ∙ not-false b n, ev, r)
+
+-- the meet of two run rules of one mixture
+pub single-met : (s : List ℕ) (c d : ℕ) → UsedAt s c → UsedAt s d → (eqb (getD s (c * rowWidth + runAt) 0) 1 && eqb (getD s (d * rowWidth + runAt) 0) 1) ≡ true
+    → boundedOf (bitAnd (getD s (c * rowWidth + runAt + 1) 0) (getD s (d * rowWidth + runAt + 1) 0) ∷ []) ≡ boundedOf (meet (view s .row c .run) (view s .row d .run))
+single-met s c d h k e =
+    met s _ _ _ _ _ (run-kept s c h) (run-kept s d k) (ap boundedOf (meet-single s (c * rowWidth + runAt) (d * rowWidth + runAt) e (run-kept s c h .kept) (run-kept s d k .kept)))
 
 -- ---- a container that takes in what another has
 
@@ -136,26 +194,30 @@ module _ (s : List ℕ) (c d t : ℕ) (h : UsedAt s c) (m : Bounded) (em : m ≡
   unfolding absorbAnswer absorbEffect
   absorb-over f = (rw (shared-fits ∙ f), rw (shared-fits ∙ f))
 
-  pub absorb-done : m .fits ≡ true → (a : Answer) (ws : List ℕ) → a ≡ coverAnswer c (rowOf (lent s c) .permit) t → ws ≡ contentWords (lent s c) t m
+  pub absorb-blocked : m .fits ≡ true → guardsAt s c t ≡ true → (a : Answer) → a ≡ blocked c t → (a ≡ absorbAnswer s c d t) × (s ≡ absorbEffect s c d t)
+  unfolding absorbAnswer absorbEffect
+  absorb-blocked f g a ea = (ea ∙ rw (shared-fits ∙ f, g), rw (shared-fits ∙ f, g))
+
+  pub absorb-done : m .fits ≡ true → guardsAt s c t ≡ false → (a : Answer) (ws : List ℕ) → a ≡ coverAnswer c (rowOf (lent s c) .permit) t → ws ≡ contentWords (lent s c) t m
       → (a ≡ absorbAnswer s c d t) × (returned s c ws ≡ absorbEffect s c d t)
   unfolding absorbAnswer absorbEffect absorbed sharedRun
-  absorb-done f a ws ea ew =
+  absorb-done f free a ws ea ew =
       let g : fits (sharedRun s c d) ≡ true = shared-fits ∙ f in
       let e : ws ≡ rowWords (absorbed s c d t) = content-seen s c h t (sharedRun s c d) m em (fits-short (sharedRun s c d) g) ws ew in
-      (ea ∙ ap (λ (x : List ℕ). coverAnswer c x t) (lent-permit s c (h .low)) ∙ rw g, row-returned s c ws ∙ rw (g, e))
+      (ea ∙ ap (λ (x : List ℕ). coverAnswer c x t) (lent-permit s c (h .low)) ∙ rw (g, free), row-returned s c ws ∙ rw (g, free, e))
 
 -- what an absorbing step is answered, and does, is what the table says
 module _ (s : List ℕ) (c d t : ℕ) (step : Step) (j : judged step ≡ true) (er : receiver step ≡ c) (ew : entry (view s) step .row ≡ absorbed s c d t) (eg : meetGood (view s) step ≡ fits (sharedRun s c d)) where
   absorb-answer : absorbAnswer s c d t ≡ lateAnswer s step
-  unfolding lateAnswer madeAnswer absorbAnswer absorbed
+  unfolding lateAnswer madeAnswer absorbAnswer absorbed guardsAt
   absorb-answer =
       ap (λ (x : Answer). cond (fits (sharedRun s c d)) x (refused overLimit))
-      (ap (λ (k : ℕ). coverAnswer k (view s .row c .permit) t) (sym er) ∙ verdict-covers step (absorbed s c d t) j)
+      (ap (λ (k : ℕ). cond (isGuarded (view s .row c .kind) && not (covers (view s .row c .permit) t)) (blocked k t) (coverAnswer k (view s .row c .permit) t)) (sym er) ∙ guard-verdict step (absorbed s c d t) j)
       ∙ rw (ew, eg)
 
   absorb-effect : absorbEffect s c d t ≡ lateEffect s step
-  unfolding lateEffect madeEffect absorbEffect
-  absorb-effect = rw (ew, eg, er)
+  unfolding lateEffect madeEffect absorbEffect guardsAt absorbed
+  absorb-effect = rw (ew, eg, er, guard-blocks step (absorbed s c d t) j)
 
   absorb-late : (a : Answer) (s₁ : List ℕ) → (a ≡ absorbAnswer s c d t) × (s₁ ≡ absorbEffect s c d t) → Done s step a s₁
   absorb-late a s₁ h = (h .0 ∙ absorb-answer, h .1 ∙ absorb-effect)
@@ -181,14 +243,22 @@ module _ (s : List ℕ) (p o : ℕ) where
   unfolding entry appendRow absorbed sharedRun meetGood
   append-done t et = absorb-late s o p t (append p o) refl refl (rw et) (one-fits (sharedRun s o p))
 
-  pub write-done : Ready s (write p o) → (m : Bounded) → m ≡ boundedOf (view s .row p .run) → (t : ℕ) → t ≡ view s .row p .tag → (a : Answer) (ws : List ℕ)
+  write-blocks : (t : ℕ) → t ≡ view s .row p .tag → blocks (write p o) (entry (view s) (write p o) .row) ≡ guardsAt s o t
+  unfolding entry writeRow guardsAt
+  write-blocks t et = guard-blocks (write p o) (writeRow (view s .row p) (view s .row o)) refl ∙ rw et
+
+  pub write-blocked : (t : ℕ) → t ≡ view s .row p .tag → guardsAt s o t ≡ true → (a : Answer) → a ≡ blocked o t → Done s (write p o) a s
+  unfolding lateAnswer lateEffect madeAnswer madeEffect verdict entry writeRow meetGood every
+  write-blocked t et g a ea = (ea ∙ rw (write-blocks t et ∙ g, et), rw (write-blocks t et ∙ g))
+
+  pub write-done : Ready s (write p o) → (m : Bounded) → m ≡ boundedOf (view s .row p .run) → (t : ℕ) → t ≡ view s .row p .tag → guardsAt s o t ≡ false → (a : Answer) (ws : List ℕ)
       → a ≡ coverAnswer o (rowOf (lent s o) .permit) t → ws ≡ contentWords (lent s o) t m → Done s (write p o) a (returned s o ws)
-  unfolding entry writeRow meetGood every
-  write-done h m em t et a ws ea ew =
+  unfolding entry writeRow meetGood every guardsAt
+  write-done h m em t et free a ws ea ew =
       let uo : UsedAt s o = ready-object s (write p o) h refl in
       let w : Row = writeRow (view s .row p) (view s .row o) in
-      put-done s (write p o) refl a ws
-      (ea ∙ ap₂ (λ (x : List ℕ) (y : ℕ). coverAnswer o x y) (lent-permit s o (uo .low)) et ∙ verdict-covers (write p o) w refl)
+      put-done s (write p o) refl (write-blocks t et ∙ free) a ws
+      (ea ∙ ap₂ (λ (x : List ℕ) (y : ℕ). coverAnswer o x y) (lent-permit s o (uo .low)) et ∙ (rw (ap (λ (y : ℕ). isGuarded (view s .row o .kind) && not (covers (view s .row o .permit) y)) (sym et) ∙ free) at (guard-verdict (write p o) w refl)))
       (content-seen s o uo t (view s .row p .run) m em (run-short s p (ready-process s (write p o) h)) ws ew
       ∙ ap (λ (y : ℕ). rowWords (record { kind = view s .row o .kind; tag = y; permit = view s .row o .permit; run = view s .row p .run; behalf = view s .row o .behalf })) et)
 
@@ -267,17 +337,17 @@ all-short = omega arith
 
 pub file-done : (s : List ℕ) (p o u : ℕ) → Ready s (newFile p o u) → (m : Bounded) → m ≡ boundedOf (ruleOr (view s .user u)) → (n : Bounded) → n ≡ boundedOf (unrestricted tagWidth) → (ws : List ℕ)
     → ws ≡ newWords fileKind 0 m n nobody → Done s (newFile p o u) (quiet o 0) (returned s o ws)
-unfolding entry newFileRow unrestrictedRule meetGood every
+unfolding entry newFileRow unrestrictedRule meetGood every isGuarded
 file-done s p o u h m em n en ws ew =
     let w : Row = newFileRow (ruleOr (view s .user u)) in
-    new-done s (newFile p o u) refl w refl m n (quiet o 0) ws em (rule-short s u (ready-user s (newFile p o u) h u refl)) en all-short
+    new-done s (newFile p o u) refl w refl refl m n (quiet o 0) ws em (rule-short s u (ready-user s (newFile p o u) h u refl)) en all-short
     (verdict-unjudged (newFile p o u) w refl) ew
 
 pub volatile-done : (s : List ℕ) (p o : ℕ) (m : Bounded) → m ≡ boundedOf (unrestricted tagWidth) → (ws : List ℕ)
     → ws ≡ newWords volatileKind 0 m m nobody → Done s (newVolatile p o) (quiet o 0) (returned s o ws)
-unfolding entry newVolatileRow unrestrictedRule meetGood every
+unfolding entry newVolatileRow unrestrictedRule meetGood every isGuarded
 volatile-done s p o m em ws ew =
-    new-done s (newVolatile p o) refl newVolatileRow refl m m (quiet o 0) ws em all-short em all-short (verdict-unjudged (newVolatile p o) newVolatileRow refl) ew
+    new-done s (newVolatile p o) refl newVolatileRow refl refl m m (quiet o 0) ws em all-short em all-short (verdict-unjudged (newVolatile p o) newVolatileRow refl) ew
 
 -- ---- what leaves
 
@@ -295,4 +365,4 @@ pub left-done : (s : List ℕ) (t : Step) → entry (view s) t .row ≡ freeRow 
     → (a ≡ quiet (receiver t) 0) × (s₁ ≡ putRow s (receiver t) freeWords) → Done s t a s₁
 unfolding lateAnswer lateEffect madeAnswer madeEffect freeRow
 left-done s t er g j a s₁ (ea, es) =
-    (ea ∙ verdict-unjudged t freeRow j ∙ ap (verdict t) (sym er) ∙ rw g, es ∙ ap (putRow s (receiver t)) (sym free-words ∙ ap rowWords (sym er)) ∙ rw g)
+    (ea ∙ verdict-unjudged t freeRow j ∙ ap (verdict t) (sym er) ∙ rw g, es ∙ ap (putRow s (receiver t)) (sym free-words ∙ ap rowWords (sym er)) ∙ rw (g, unblocked t (entry (view s) t .row) j))

@@ -79,7 +79,7 @@ module _ (s : List ℕ) (q : Request) (a : Asked q) (b : Bool) (p : b ≡ contai
 
 -- ---- the kinds, as they are read from the session
 
-kind-read : (s : List ℕ) (c : ℕ) → getD s (c * rowWidth + kindAt) 0 ≡ rowOf (containerRow s c) .kind
+pub kind-read : (s : List ℕ) (c : ℕ) → getD s (c * rowWidth + kindAt) 0 ≡ rowOf (containerRow s c) .kind
 unfolding rowOf containerRow
 kind-read s c = let h : kindAt < rowWidth = omega arith in rw (getD-take, getD-drop)
 

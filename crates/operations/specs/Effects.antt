@@ -14,7 +14,7 @@ use Rattle.answers.specs.Answers.{refused}
 use Rattle.session.specs.Limits.{sessionLength}
 use Rattle.session.specs.Rows.{rowWords, containerRowGood, userRowGood, containerRow, userRow, putRow}
 use Rattle.chains.specs.History.{Step, receiver}
-use Rattle.chains.specs.Table.{entry, tableConditions, verdict}
+use Rattle.chains.specs.Table.{entry, tableConditions, blocks, verdict}
 use Rattle.records.specs.declared.Request.{Request}
 use Rattle.records.specs.Records.{Asked}
 use Rattle.operations.specs.View.{view}
@@ -46,9 +46,9 @@ sessionRefusal s t = firstFailed (sessionConditions s t)
 
 -- ---- what a step does
 
--- the session with the receiver's row of the table
+-- the session with the receiver's row of the table; a blocked access "changes nothing"
 unfoldable pub madeEffect : List ℕ → Step → List ℕ
-madeEffect s t = putRow s (receiver t) (rowWords (entry (view s) t .row))
+madeEffect s t = cond (blocks t (entry (view s) t .row)) s (putRow s (receiver t) (rowWords (entry (view s) t .row)))
 
 unfoldable pub madeAnswer : List ℕ → Step → Answer
 madeAnswer s t = verdict t (entry (view s) t .row)

@@ -2,7 +2,7 @@
 -- No public contract cites this file.
 use Prim.Native.Nat.{ℕ, _+_, _≤_, _<_}
 use mathlib.Core.Path.{_≡_}
-use mathlib.Core.Bool.{Bool, true, false, cond}
+use mathlib.Core.Bool.{Bool, true, false, not, cond, _&&_}
 use mathlib.Core.List.{List, [], _∷_, _++_}
 use mathlib.Core.Option.{some}
 use lib.Bits.{bitOr}
@@ -13,10 +13,10 @@ use Rattle.answers.specs.declared.Answer.{Answer}
 use Rattle.answers.specs.declared.Answer.the-variants.{Given}
 use Rattle.answers.specs.declared.Verdict.{Verdict}
 use Rattle.answers.specs.declared.Verdict.the-variants.{Quiet, Alert}
-use Rattle.answers.specs.Answers.{received, refused}
+use Rattle.answers.specs.Answers.{received, blocked, refused}
 use Rattle.rules.specs.Rules.{covers, meet}
 use Rattle.rules.specs.declared.Bounded.{Bounded}
-use Rattle.image.specs.Limits.{containerLimit, userLimit, processKind, isFree}
+use Rattle.image.specs.Limits.{containerLimit, userLimit, processKind, isFree, isGuarded}
 use Rattle.rule_words.specs.Words.{ruleWidth, keptWell}
 use Rattle.session.specs.Limits.{sessionLength, kindAt, behalfAt}
 use Rattle.session.specs.Rows.{Row, rowWords, permitWords, containerRow, containerRowGood, putRow, userRow, userRowGood, isDeclared}
@@ -103,6 +103,10 @@ coverAnswer c permit tag = Given (coverVerdict (covers permit tag)) (received c 
 
 -- ---- container c takes in what d has, as a reader or a file that is appended to does: the tag t, and the meet of both run rules
 
+-- container c is guarded, and its permit rule does not cover the tag
+unfoldable pub guardsAt : List ℕ → ℕ → ℕ → Bool
+guardsAt s c t = isGuarded (view s .row c .kind) && not (covers (view s .row c .permit) t)
+
 unfoldable pub sharedRun : List ℕ → ℕ → ℕ → List ℕ
 sharedRun s c d = meet (view s .row c .run) (view s .row d .run)
 
@@ -111,10 +115,10 @@ absorbed s c d t =
     record { kind = view s .row c .kind; tag = t; permit = view s .row c .permit; run = sharedRun s c d; behalf = view s .row c .behalf }
 
 unfoldable pub absorbAnswer : List ℕ → ℕ → ℕ → ℕ → Answer
-absorbAnswer s c d t = cond (fits (sharedRun s c d)) (coverAnswer c (view s .row c .permit) t) (refused overLimit)
+absorbAnswer s c d t = cond (fits (sharedRun s c d)) (cond (guardsAt s c t) (blocked c t) (coverAnswer c (view s .row c .permit) t)) (refused overLimit)
 
 unfoldable pub absorbEffect : List ℕ → ℕ → ℕ → ℕ → List ℕ
-absorbEffect s c d t = cond (fits (sharedRun s c d)) (putRow s c (rowWords (absorbed s c d t))) s
+absorbEffect s c d t = cond (fits (sharedRun s c d)) (cond (guardsAt s c t) s (putRow s c (rowWords (absorbed s c d t)))) s
 
 -- ---- process p becomes what runs o for u: the run rule and the running atoms of o beside p's data atoms, under the permit rule m
 

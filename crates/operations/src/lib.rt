@@ -7,7 +7,7 @@ ghost use lib.Dec.{eqb};
 ghost use Prim.Native.Nat.{_≤_, _<_};
 ghost use lib.ListN.{length, getD, take};
 ghost use Rattle.lists.specs.Conditions.{firstFailed};
-ghost use Rattle.answers.specs.Answers.{quiet};
+ghost use Rattle.answers.specs.Answers.{quiet, blocked};
 ghost use Rattle.answers.specs.Refusals.{otherUser};
 ghost use Rattle.rules.specs.Rules.{meet};
 ghost use Rattle.rules.specs.Answers.{mixtureLimit, boundedOf};
@@ -20,7 +20,7 @@ ghost use Rattle.records.specs.Codes.{objectFits, codeAt};
 ghost use Rattle.records.specs.Records.{stepIn};
 ghost use Rattle.operations.specs.View.{view};
 ghost use Rattle.operations.specs.Effects.{Named, rowsGood, performAnswer, performEffect};
-ghost use Rattle.operations.specs.Parts.{firstConditions, Ready, lateAnswer, lateEffect, absorbAnswer, absorbEffect, launchAnswer, launchEffect, Kept, KeptAt, UsedAt, wordsFrom, contentWords, newWords, coverVerdict, coverAnswer};
+ghost use Rattle.operations.specs.Parts.{firstConditions, Ready, lateAnswer, lateEffect, absorbAnswer, absorbEffect, launchAnswer, launchEffect, Kept, KeptAt, UsedAt, wordsFrom, contentWords, newWords, coverVerdict, coverAnswer, guardsAt};
 use answers::Answer;
 use answers::Received;
 use answers::Verdict;
@@ -273,6 +273,26 @@ fn replace(
     judge(row, receiver)
 }
 
+// The container is guarded, and its permit rule does not cover the tag.
+fn guards(s: &[u64], c: usize, tag: u64) -> bool
+    requires { ⌜ UsedAt (now s) c ⌝ }
+    ensures { λ r. ⌜ r ≡ guardsAt (now (s .entry)) c tag ⌝ }
+{
+    let a = c * ROW_WIDTH;
+    if !image::is_guarded(s[a + KIND_AT]) {
+        return false;
+    }
+    let rule = rule_words::rule_of(&s[a + PERMIT_AT..a + PERMIT_AT + RULE_WIDTH]);
+    !rules::covers(rule, tag)
+}
+
+// The answer to an access that is blocked.
+fn blocked(receiver: usize, tag: u64) -> Answer
+    ensures { λ r. ⌜ r ≡ blocked receiver tag ⌝ }
+{
+    Answer::Given(Verdict::Blocked, Received { receiver, tag })
+}
+
 // ---- the operations
 
 // The receiver takes in what the giver has: it gets the tag, and the meet of both run rules.
@@ -282,7 +302,11 @@ fn absorb(s: &mut [u64], receiver: usize, giver: usize, tag: u64) -> Answer
 {
     let a = receiver * ROW_WIDTH;
     let b = giver * ROW_WIDTH;
+    let blocks = guards(s, receiver, tag);
     if both_single(s[a + RUN_AT], s[b + RUN_AT]) {
+        if blocks {
+            return blocked(receiver, tag);
+        }
         let mixture = mixture_at(s, a + RUN_AT, b + RUN_AT);
         return narrow(&mut s[a..a + ROW_WIDTH], receiver, tag, mixture);
     }
@@ -292,6 +316,9 @@ fn absorb(s: &mut [u64], receiver: usize, giver: usize, tag: u64) -> Answer
     );
     if !met.fits {
         return Answer::Refused(answers::OVER_LIMIT);
+    }
+    if blocks {
+        return blocked(receiver, tag);
     }
     update(&mut s[a..a + ROW_WIDTH], receiver, tag, met)
 }
@@ -314,6 +341,9 @@ fn write(s: &mut [u64], p: usize, o: usize) -> Answer
 {
     let rule = rule_at(s, p * ROW_WIDTH + RUN_AT);
     let tag = tag_of(s, p);
+    if guards(s, o, tag) {
+        return blocked(o, tag);
+    }
     let at = o * ROW_WIDTH;
     update(&mut s[at..at + ROW_WIDTH], o, tag, rule)
 }

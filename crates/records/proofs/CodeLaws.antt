@@ -15,7 +15,7 @@ use borrow.Author.Tests.{ne-eqb}
 use Rattle.lists.proofs.Bools.{clash}
 use Rattle.rules.specs.Sets.{atom}
 use Rattle.rules.proofs.SetLaws.{atom-above}
-use Rattle.image.specs.Limits.{freeKind, fileKind, volatileKind, processKind, lastKind, isFree, isFile, isVolatile, isProcess, isStore, containerLimit}
+use Rattle.image.specs.Limits.{freeKind, fileKind, volatileKind, processKind, guardedKind, lastKind, isFree, isFile, isVolatile, isProcess, isStore, containerLimit}
 use Rattle.session.specs.Limits.{nobody}
 use Rattle.chains.specs.History.{read, write, append, exec, fork, newFile, newVolatile, end, delete, receiver}
 use Rattle.chains.specs.Table.{State, Need, store, file, free, process, fitsNeed, entry, behalfFits}
@@ -74,14 +74,15 @@ entered σ q a =
     q (a .codeLow) (a .codeHigh) (a .own)
 
 -- kind by kind
-module _ (P : ℕ → Type 0) (frees : P freeKind) (files : P fileKind) (volatiles : P volatileKind) (processes : P processKind)
+module _ (P : ℕ → Type 0) (frees : P freeKind) (files : P fileKind) (volatiles : P volatileKind) (processes : P processKind) (guardeds : P guardedKind)
     (others : (k : ℕ) → lastKind < k → P k) where
   by-kind : (k : ℕ) → P k
   by-kind zero = frees
   by-kind (suc zero) = files
   by-kind (suc (suc zero)) = volatiles
   by-kind (suc (suc (suc zero))) = processes
-  by-kind (suc (suc (suc (suc k)))) = others (suc (suc (suc (suc k)))) (omega arith)
+  by-kind (suc (suc (suc (suc zero)))) = guardeds
+  by-kind (suc (suc (suc (suc (suc k))))) = others (suc (suc (suc (suc (suc k))))) (omega arith)
 
 -- no need names another kind
 other-kind : (m k : ℕ) → m < 2 ^ suc lastKind → lastKind < k → eqb (atom m k) 1 ≡ false
@@ -89,10 +90,10 @@ other-kind m k l h = ap (λ (x : ℕ). eqb x 1) (atom-above m k (lt-of-lt-of-le 
 
 pub need-fits : (n : Need) (k : ℕ) → objectFits (needNumber n) k ≡ fitsNeed n k
 unfolding objectFits fitsNeed atom isStore isFile isVolatile isFree isProcess
-need-fits store = by-kind (λ k. eqb (atom needsStore k) 1 ≡ isStore k) refl refl refl refl (λ k h. other-kind needsStore k (omega arith) h ∙ sym (simp (ne-eqb k fileKind (λ e. omega (arith, h, e)), ne-eqb k volatileKind (λ e. omega (arith, h, e)))))
-need-fits file = by-kind (λ k. eqb (atom needsFile k) 1 ≡ isFile k) refl refl refl refl (λ k h. other-kind needsFile k (omega arith) h ∙ sym (ne-eqb k fileKind (λ e. omega (arith, h, e))))
-need-fits free = by-kind (λ k. eqb (atom needsFree k) 1 ≡ isFree k) refl refl refl refl (λ k h. other-kind needsFree k (omega arith) h ∙ sym (ne-eqb k freeKind (λ e. omega (arith, h, e))))
-need-fits process = by-kind (λ k. eqb (atom needsProcess k) 1 ≡ isProcess k) refl refl refl refl (λ k h. other-kind needsProcess k (omega arith) h ∙ sym (ne-eqb k processKind (λ e. omega (arith, h, e))))
+need-fits store = by-kind (λ k. eqb (atom needsStore k) 1 ≡ isStore k) refl refl refl refl refl (λ k h. other-kind needsStore k (omega arith) h ∙ sym (simp (ne-eqb k fileKind (λ e. omega (arith, h, e)), ne-eqb k guardedKind (λ e. omega (arith, h, e)), ne-eqb k volatileKind (λ e. omega (arith, h, e)))))
+need-fits file = by-kind (λ k. eqb (atom needsFile k) 1 ≡ isFile k) refl refl refl refl refl (λ k h. other-kind needsFile k (omega arith) h ∙ sym (simp (ne-eqb k fileKind (λ e. omega (arith, h, e)), ne-eqb k guardedKind (λ e. omega (arith, h, e)))))
+need-fits free = by-kind (λ k. eqb (atom needsFree k) 1 ≡ isFree k) refl refl refl refl refl (λ k h. other-kind needsFree k (omega arith) h ∙ sym (ne-eqb k freeKind (λ e. omega (arith, h, e))))
+need-fits process = by-kind (λ k. eqb (atom needsProcess k) 1 ≡ isProcess k) refl refl refl refl refl (λ k h. other-kind needsProcess k (omega arith) h ∙ sym (ne-eqb k processKind (λ e. omega (arith, h, e))))
 
 -- every code needs something
 pub needed : (n : ℕ) → codeAt n .object ≡ 0 → ⊥

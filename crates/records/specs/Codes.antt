@@ -5,7 +5,7 @@ use mathlib.Core.Bool.{Bool, false, cond, _&&_}
 use mathlib.Core.Option.{none}
 use lib.Dec.{eqb, ltb}
 use Rattle.rules.specs.Sets.{atom}
-use Rattle.image.specs.Limits.{freeKind, fileKind, volatileKind, processKind}
+use Rattle.image.specs.Limits.{freeKind, fileKind, volatileKind, processKind, guardedKind}
 use Rattle.chains.specs.History.{Step, read, write, append, exec, fork, newFile, newVolatile, end, delete}
 use Rattle.chains.specs.Table.{State, freeRow, Need, store, file, free, process, entry, isSome}
 use Rattle.records.specs.declared.Code.{Code}
@@ -71,11 +71,11 @@ needsFree = 2 ^ freeKind
 
 -- "file"
 abbrev pub needsFile : ℕ
-needsFile = 2 ^ fileKind
+needsFile = 2 ^ fileKind + 2 ^ guardedKind
 
 -- "file, volatile"
 abbrev pub needsStore : ℕ
-needsStore = 2 ^ fileKind + 2 ^ volatileKind
+needsStore = 2 ^ fileKind + 2 ^ volatileKind + 2 ^ guardedKind
 
 -- a process
 abbrev pub needsProcess : ℕ

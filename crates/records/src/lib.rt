@@ -39,9 +39,9 @@ pub const NO_NEED: u8 = 0;
 
 pub const NEEDS_FREE: u8 = 1;
 
-const NEEDS_FILE: u8 = 2;
+const NEEDS_FILE: u8 = 18;
 
-const NEEDS_STORE: u8 = 6;
+const NEEDS_STORE: u8 = 22;
 
 const NEEDS_PROCESS: u8 = 8;
 

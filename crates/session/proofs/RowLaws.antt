@@ -12,7 +12,7 @@ use borrow.Author.Tests.{eqb-true, ne-eqb}
 use Rattle.lists.proofs.Bools.{and-0, and-1, or-cases, clash}
 use Rattle.rules.specs.Rules.{normal}
 use Rattle.rules.specs.Answers.{mixtureLimit}
-use Rattle.image.specs.Limits.{fileKind, volatileKind, processKind, lastKind, isFree, isFile, isVolatile, isProcess, isStore, usedKind}
+use Rattle.image.specs.Limits.{fileKind, volatileKind, processKind, guardedKind, lastKind, isFree, isFile, isVolatile, isProcess, isStore, usedKind}
 use Rattle.session.specs.Limits.{rowWidth, userWidth, kindAt, tagAt, permitAt, runAt, behalfAt, nobody, declaredAt, userRuleAt, declared}
 use Rattle.rule_words.specs.Words.{ruleWidth, ruleOf, wordsOf, allZero, keptWell}
 use Rattle.session.specs.Rows.{Row, rowWords, freeWords, permitWords, runWords, rowOf, behalfGood, containerRowGood, InUse, userWords, undeclaredWords, isDeclared, userRuleWords, userRuleOf, userRowGood}
@@ -26,12 +26,15 @@ pub used-kind : (k : ℕ) → usedKind k ≡ true → (1 ≤ k) × (k ≤ lastKi
 unfolding usedKind isStore isFile isVolatile isProcess
 used-kind k h =
     ⊎-elim
-    (λ p. ⊎-elim (λ q. file (eqb-true k fileKind q)) (λ q. volatile (eqb-true k volatileKind q)) (or-cases (eqb k fileKind) p))
+    (λ p. ⊎-elim (λ q. ⊎-elim (λ x. file (eqb-true k fileKind x)) (λ x. guarded (eqb-true k guardedKind x)) (or-cases (eqb k fileKind) q)) (λ q. volatile (eqb-true k volatileKind q)) (or-cases (eqb k fileKind || eqb k guardedKind) p))
     (λ p. process (eqb-true k processKind p))
-    (or-cases (eqb k fileKind || eqb k volatileKind) h)
+    (or-cases ((eqb k fileKind || eqb k guardedKind) || eqb k volatileKind) h)
   where
     file : k ≡ fileKind → (1 ≤ k) × (k ≤ lastKind)
     file e = (omega arith, omega arith)
+
+    guarded : k ≡ guardedKind → (1 ≤ k) × (k ≤ lastKind)
+    guarded e = (omega arith, omega arith)
 
     volatile : k ≡ volatileKind → (1 ≤ k) × (k ≤ lastKind)
     volatile e = (omega arith, omega arith)

@@ -1,13 +1,13 @@
--- `operations::write`. The process's tag and run rule replace the object's (`write-done`).
-use Rattle.operations.proofs.ReadyLaws.{ready-process, ready-object}
-use Rattle.operations.proofs.RowSteps.{run-kept, copied}
-use Rattle.operations.proofs.EffectLaws.{lent-fit, write-done}
-use mathlib.Core.Path.{refl}
-use Rattle.chains.specs.History.{write}
-use Rattle.chains.specs.Table.{entry}
+-- `operations::write`. The process's tag and run rule replace the object's (`write-done`), unless the object is guarded and not permitted the tag (`write-blocked`).
 use borrow.Author.Needs.{needs}
 use Rattle.operations.proofs.write.Statement.{statement}
 use Rattle.operations.proofs.write.Tie as tie
+use Rattle.operations.proofs.ReadyLaws.{ready-process, ready-object}
+use Rattle.operations.proofs.RowSteps.{run-kept, copied}
+use Rattle.operations.proofs.EffectLaws.{lent-fit, write-blocked, write-done}
+use mathlib.Core.Path.{refl, sym, _∙_}
+use Rattle.chains.specs.History.{write}
+use Rattle.chains.specs.Table.{entry}
 
 mul-rule-at : tie.Need-mul-rule-at
 unfolding entry
@@ -24,6 +24,14 @@ rule-at-requires c κs = let start = c .before .before in run-kept (start .args 
 tag-of-requires : tie.Need-tag-of-requires
 unfolding entry
 tag-of-requires c κs = search needs
+
+guards-requires : tie.Need-guards-requires
+unfolding entry
+guards-requires c κs = let start = c .before .before .before .before .before .before in (ready-object (start .args .s .now) (write (start .args .p) (start .args .o)) (start .pre) refl)
+
+returns : tie.Need-returns
+unfolding entry
+returns c = let start = c .before .before .before .before .before .before .before .before .before in write-blocked (start .args .s .now) (start .args .p) (start .args .o) _ (c .before .before .before .before .tag-of .ensures) (sym (c .before .before .guards .ensures) ∙ c .before .if1 .taken) _ (c .blocked .ensures)
 
 mul-at : tie.Need-mul-at
 unfolding entry
@@ -43,18 +51,15 @@ part-update-end c = search needs
 
 update-requires : tie.Need-update-requires
 unfolding entry
-update-requires c κs = let start = c .before .before .before .before .before .before in lent-fit (start .args .s .now) (start .args .o) (ready-object (start .args .s .now) (write (start .args .p) (start .args .o)) (start .pre) refl)
+update-requires c κs = let start = c .before .before .before .before .before .before .before .before .before in lent-fit (start .args .s .now) (start .args .o) (ready-object (start .args .s .now) (write (start .args .p) (start .args .o)) (start .pre) refl)
 
-returns : tie.Need-returns
+returns-2 : tie.Need-returns-2
 unfolding entry
-returns c =
-    let start = c .before .before .before .before .before .before .before .before .before in
+returns-2 c =
+    let start = c .before .before .before .before .before .before .before .before .before .before .before .before in
     let s = start .args .s .now in
-    write-done s (start .args .p) (start .args .o) (start .pre) _ (copied s _ _ _ (run-kept s (start .args .p)
-    (ready-process s (write (start .args .p) (start .args .o)) (start .pre)))
-    (c .before .before .before .before .before .before .rule-at .ensures)) _
-    (c .before .before .before .before .tag-of .ensures) _ _ (c .before .before .update .ensures .0)
-    (c .before .before .update .ensures .1)
+    write-done s (start .args .p) (start .args .o) (start .pre) _ (copied s _ _ _ (run-kept s (start .args .p) (ready-process s (write (start .args .p) (start .args .o)) (start .pre))) (c .before .before .before .before .before .before .before .before .before .rule-at .ensures)) _
+    (c .before .before .before .before .before .before .before .tag-of .ensures) (sym (c .before .before .before .before .before .guards .ensures) ∙ c .before .before .before .before .if1 .left) _ _ (c .before .before .update .ensures .0) (c .before .before .update .ensures .1)
 
 pub write-spec : {M : Type 1} → statement M
 write-spec =
@@ -64,6 +69,10 @@ write-spec =
     add-rule-at
     rule-at-requires
     tag-of-requires
+    guards-requires
+    (λ c κs. search needs)
+    (λ c. search needs)
+    returns
     mul-at
     add-update
     mul-update
@@ -72,4 +81,4 @@ write-spec =
     part-update-end
     update-requires
     (λ c. search needs)
-    returns)
+    returns-2)
