@@ -105,8 +105,8 @@ blocked-number (Given Alert e) k = clash k refl
 blocked-number (Given Blocked e) k = refl
 blocked-number (Refused n) k = clash k refl
 
-pub other-number : (a : Answer) → answerNumber a ≢ alertNumber → isAlert a ≡ false
-other-number a n = refuted (isAlert a) (λ k. n (alert-number a k))
+pub other-number : (a : Answer) → answerNumber a ≢ alertNumber → answerNumber a ≢ blockedNumber → (isAlert a || isBlocked a) ≡ false
+other-number a m n = rw (refuted (isAlert a) (λ k. m (alert-number a k))) (refuted (isBlocked a) (λ k. n (blocked-number a k)))
 
 -- the number of an answer that is not refused tells quiet, alert and blocked from all others
 pub record Numbered (a : Answer) : Type 0 where

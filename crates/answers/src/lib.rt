@@ -1,7 +1,7 @@
 // What the product answers: the refusal numbers, the answer to a record, and the tally of a run (the paper, "Operations" and
 // "Refused because ..").
 ghost use mathlib.Core.Path.{_≡_};
-ghost use mathlib.Core.Bool.{cond};
+ghost use mathlib.Core.Bool.{cond, _||_};
 ghost use Rattle.answers.specs.Answers.{isQuiet, isAlert, isBlocked, isRefused, accepted, receivedOf, answerNumber};
 ghost use Rattle.answers.specs.Tallies.{more, noTally, counted};
 use std::num::wrapping_add_u64;
@@ -131,6 +131,20 @@ pub fn is_blocked(answer: Answer) -> bool
         Answer::Given(verdict, _) => match verdict {
             Verdict::Quiet => false,
             Verdict::Alert => false,
+            Verdict::Blocked => true,
+        },
+        Answer::Refused(_) => false,
+    }
+}
+
+// The access is not permitted: it was answered by an alert, or blocked.
+pub fn is_forbidden(answer: Answer) -> bool
+    ensures { λ r. ⌜ r ≡ (isAlert answer || isBlocked answer) ⌝ }
+{
+    match answer {
+        Answer::Given(verdict, _) => match verdict {
+            Verdict::Quiet => false,
+            Verdict::Alert => true,
             Verdict::Blocked => true,
         },
         Answer::Refused(_) => false,

@@ -1,11 +1,11 @@
 -- What a call leaves in the numbers that a host points to: "A refusal .. changes no lent memory" (the paper).
 use Prim.Native.Nat.{ℕ}
-use mathlib.Core.Bool.{Bool, cond}
+use mathlib.Core.Bool.{Bool, cond, _||_}
 use lib.Dec.{eqb}
 use Rattle.answers.specs.Refusals.{matrix, lentLength}
 use Rattle.answers.specs.declared.Received.{Received}
 use Rattle.answers.specs.declared.Answer.{Answer}
-use Rattle.answers.specs.Answers.{isAlert, isRefused, receivedOf, answerNumber}
+use Rattle.answers.specs.Answers.{isAlert, isBlocked, isRefused, receivedOf, answerNumber}
 use Rattle.monitor.specs.declared.Ran.{Ran}
 
 -- a number that a host points to: the value, or what stood there if the call is refused
@@ -16,9 +16,9 @@ unlessRefused refused value old = cond refused old value
 abbrev pub receivedAfter : Answer → Received → Received
 receivedAfter a old = cond (isRefused a) old (receivedOf a)
 
--- receiver and tag after a run, which writes them in an alert alone
+-- receiver and tag after a run, which writes them in an alert and where it is blocked
 abbrev pub stopAfter : Answer → Received → Received
-stopAfter a old = cond (isAlert a) (receivedOf a) old
+stopAfter a old = cond (isAlert a || isBlocked a) (receivedOf a) old
 
 -- how many records were taken; 9, which changes nothing at all, leaves what stood there
 abbrev pub takenAfter : Ran → ℕ → ℕ

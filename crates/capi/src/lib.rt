@@ -54,7 +54,8 @@ pub extern "C" fn yaslaurel_session_start(image: &[u8], session: &mut [u64]) -> 
     session::start(image, session)
 }
 
-// 0 quiet, 256 alert, with receiver and tag; else the refusal, and everything is as it was.
+// 0 quiet, 256 alert, 257 blocked, with receiver and tag; else the refusal. The session changes in a quiet answer and in an alert alone,
+// and in a refusal everything is as it was.
 #[no_mangle]
 pub extern "C" fn yaslaurel_step(
     session: &mut [u64],
@@ -78,8 +79,8 @@ pub extern "C" fn yaslaurel_step(
     answers::number(answer)
 }
 
-// The records one behind the other, up to and with the first that is not answered quiet: 0 if each was, 256 alert, with receiver and
-// tag, or that record's refusal; taken is how many were run. 9 comes first, and everything is as it was.
+// The records one behind the other, up to and with the first that is not answered quiet: 0 if each was, 256 alert or 257 blocked, with
+// receiver and tag, or that record's refusal; taken is how many were run, that one among them. 9 comes first, and everything is as it was.
 #[no_mangle]
 pub extern "C" fn yaslaurel_run(
     session: &mut [u64],
@@ -102,7 +103,7 @@ pub extern "C" fn yaslaurel_run(
         return number;
     }
     *taken = ran.taken;
-    if !answers::is_alert(answer) {
+    if !answers::is_forbidden(answer) {
         return number;
     }
     let received = answers::received_of(answer);

@@ -1,4 +1,4 @@
--- Figures of a run: its history, the receivers of its alerts, and the positions of those.
+-- Figures of a run: its history, the receivers of its alerts, and the positions of those and of the blocked records.
 use Prim.Native.Nat.{ℕ, zero, suc, _+_, _<_}
 use native.Mathlib.Omega.{arith}
 use mathlib.Core.Path.{_≡_, refl, sym, ap, ap₂, subst, _∙_}
@@ -14,23 +14,25 @@ use Rattle.lists.proofs.Bools.{decide, clash, and-in, and-0, and-1}
 use Rattle.lists.proofs.Counting.{sum-same, sum-none, sum-add, sum-one}
 use Rattle.lists.proofs.Places.{some-inj, none-some}
 use Rattle.answers.specs.declared.Answer.{Answer}
-use Rattle.answers.specs.Answers.{isQuiet, isAlert, isRefused, accepted, receiverOf, quiet, alert}
+use Rattle.answers.specs.Answers.{isQuiet, isAlert, isBlocked, isRefused, accepted, receiverOf, quiet, alert}
 use Rattle.answers.specs.Tallies.{countOf}
-use Rattle.answers.proofs.Cases.{one, one-case, accepted-cases, alert-accepted}
+use Rattle.answers.proofs.Cases.{one, one-case, accepted-cases, alert-accepted, blocked-given}
 use Rattle.rules.specs.Rules.{covers}
 use Rattle.image.specs.Limits.{containerLimit}
 use Rattle.image.specs.Policy.{Policy}
 use Rattle.chains.specs.History.{Step, History, size, receiver}
-use Rattle.chains.specs.Demand.{judged, extend, AcceptedAt, Demand3}
+use Rattle.chains.specs.Demand.{judged, extend, AcceptedAt, GivenAt, Demand3, BlockedExactly}
 use Rattle.chains.specs.Table.{entry}
+use Rattle.chains.proofs.GuardLaws.{writing-judged}
 use Rattle.records.specs.Records.{stepOf}
 use Rattle.operations.specs.View.{view}
 use Rattle.monitor.specs.Steps.{stepAsked, stepAnswer, stepEffect}
 use Rattle.monitor.specs.Runs.{stepOn, runAnswers, historyBehind}
-use Rattle.monitor.proofs.Theorems.{answer-accepted, answer-judged, answer-new, accepted-spelled}
+use Rattle.monitor.proofs.Theorems.{answer-accepted, answer-judged, answer-new, accepted-spelled, given-spelled}
+use Rattle.monitor.proofs.Guarded.{blocked-step}
 use Rattle.monitor.proofs.StepLaws.{step-receiver}
 use Rattle.figures.specs.Figures.{alertAt}
-use Rattle.figures.specs.Positions.{ForbiddenAt, ForbiddenInto}
+use Rattle.figures.specs.Positions.{ForbiddenAt, ForbiddenInto, BlockedAt}
 
 -- ---- the history
 
@@ -51,27 +53,15 @@ history-size h s (r ∷ rs) =
     by true e = rw (accepted-spelled s r e) (omega arith)
     by false e = rw (unchanged (stepOf r))
 
--- ---- each answer is accepted or refused
+-- ---- each answer is accepted, refused or blocked
 
-accepted-refused : (a : Answer) → one (accepted a) + one (isRefused a) ≡ 1
-accepted-refused a = rw (accepted-cases a) (by (isQuiet a) (isAlert a) (isRefused a) (one-case a))
+accepted-refused : (a : Answer) → one (accepted a) + one (isRefused a) + one (isBlocked a) ≡ 1
+accepted-refused a = rw (accepted-cases a) (by (isQuiet a) (isAlert a) (isBlocked a) (isRefused a) (one-case a))
   where
-    by : (x y z : Bool) → one x + one y + one z ≡ 1 → one (x || y) + one z ≡ 1
-    by true true z e = absurd (omega arith)
-    by true false z e = omega arith
-    by false y z e = omega (arith, e)
-
-pub answers-split : (l : List Answer) → countOf accepted l + countOf isRefused l ≡ length l
-unfolding countOf
-answers-split [] = refl
-answers-split (a ∷ l) = by (accepted a) (isRefused a) (accepted-refused a) (answers-split l)
-  where
-    by : (x y : Bool) → one x + one y ≡ 1 → countOf accepted l + countOf isRefused l ≡ length l
-        → cond x (suc (countOf accepted l)) (countOf accepted l) + cond y (suc (countOf isRefused l)) (countOf isRefused l) ≡ suc (length l)
-    by true true e h = absurd (omega arith)
-    by true false e h = omega arith
-    by false true e h = omega arith
-    by false false e h = absurd (omega arith)
+    by : (x y b z : Bool) → one x + one y + one b + one z ≡ 1 → one (x || y) + one z + one b ≡ 1
+    by true true b z e = absurd (omega arith)
+    by true false b z e = omega (arith, e)
+    by false y b z e = omega (arith, e)
 
 -- ---- the receiver of an alert
 
@@ -96,9 +86,9 @@ module _ (s r : List ℕ) (h : isAlert (stepAnswer s r) ≡ true) where
       by false = refl
 
   alert-container : receiverOf (stepAnswer s r) < containerLimit
-  alert-container = rw alert-receiver (step-receiver s r (answer-accepted s r .0 accepts))
+  alert-container = rw alert-receiver (step-receiver s r (answer-accepted s r .0 accepts .0))
 
--- ---- the sum over the containers
+-- ---- sums
 
 -- one answer more
 one-more : (f : Answer → Bool) (a : Answer) (l : List Answer) → countOf f (a ∷ l) ≡ cond (f a) 1 0 + countOf f l
@@ -108,6 +98,13 @@ one-more f a l = by (f a)
     by : (b : Bool) → cond b (suc (countOf f l)) (countOf f l) ≡ cond b 1 0 + countOf f l
     by true = omega arith
     by false = omega arith
+
+pub answers-split : (l : List Answer) → countOf accepted l + countOf isRefused l + countOf isBlocked l ≡ length l
+answers-split [] = unfold countOf in refl
+answers-split (a ∷ l) =
+    rw (one-more accepted a l, one-more isRefused a l, one-more isBlocked a l) (omega (arith, accepted-refused a, answers-split l))
+
+-- ---- the sum over the containers
 
 -- an alert is one of one container, any other answer of none
 alert-once : (n : ℕ) (a : Answer) → (isAlert a ≡ true → receiverOf a < n) → sumBelow (λ c. cond (alertAt c a) 1 0) n ≡ cond (isAlert a) 1 0
@@ -212,3 +209,24 @@ module _ (s : List ℕ) (P : Policy) (d : Demand3 stepOn stepOf s P) (rs : List 
 
       back : ForbiddenInto s P rs c n → isAlert a ≡ true → (isAlert a && eqb (receiverOf a) c) ≡ true
       back (t, b, x, j, f, e) h = and-in h (eq-eqb (receiverOf a) c (receiver-at h t b x ∙ e))
+
+-- ---- the positions of the blocked records
+
+module _ (s : List ℕ) (P : Policy) (d : BlockedExactly stepOn stepOf s P) (rs : List (List ℕ)) (n : ℕ) (a : Answer) (g : getElem? (runAnswers s rs) n ≡ some a) where
+  given-at : (r q : List ℕ) → getElem? rs n ≡ some r → a ≡ stepAnswer q r → isBlocked a ≡ true → GivenAt stepOn stepOf s rs n (stepAsked r) a
+  unfolding runAnswers
+  given-at r q er e h = record { spelled = (r, er, given-spelled q r (ap isRefused (sym e) ∙ blocked-given a h)); answered = g; given = blocked-given a h }
+
+  same-given : (t : Step) (b : Answer) → GivenAt stepOn stepOf s rs n t b → b ≡ a
+  unfolding runAnswers
+  same-given t b x = some-inj (sym (x .answered) ∙ g)
+
+  pub blocked-at : (isBlocked a ≡ true) ↔ BlockedAt s P rs n
+  blocked-at = (λ h. by h (answer-at s rs n a g), λ x. ap isBlocked (sym (same-given (x .0) (x .1) (x .2))) ∙ d rs n (x .0) (x .1) (x .2) (x .3) .blocks .1 (x .4, x .5))
+    where
+      by : isBlocked a ≡ true → (r : List ℕ) × (getElem? rs n ≡ some r) × (q : List ℕ) × (a ≡ stepAnswer q r) → BlockedAt s P rs n
+      by h (r, er, q, e) =
+          let x : GivenAt stepOn stepOf s rs n (stepAsked r) a = given-at r q er e h in
+          let j : judged (stepAsked r) ≡ true = writing-judged (stepAsked r) (blocked-step q r (ap isBlocked (sym e) ∙ h)) in
+          let f = d rs n (stepAsked r) a x j .blocks .0 h in
+          (stepAsked r, a, x, j, f .0, f .1)

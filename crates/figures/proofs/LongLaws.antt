@@ -56,7 +56,7 @@ short f = length-append f (space ∷ (decimal traceLength ++ (newline ∷ [])))
 pub figures-line-apart : (n : ℕ) (f : Figures) → tooMany (f .records) ≡ false → traceLine n f ≡ line (nameOf n) (decimal traceLength ∷ []) → ⊥
 unfolding traceLine figuresLine figureFields countFields fieldsFrom
 figures-line-apart n f k e =
-    let fields : List (List ℕ) = rateFields (alertsIn f) (acceptedIn f) ++ alertFields (f .alertsAt) in
+    let fields : List (List ℕ) = decimal (f .counts 3) ∷ (rateFields (alertsIn f) (acceptedIn f) ++ alertFields (f .alertsAt)) in
     let same : line (nameOf n) (decimal (f .counts 0) ∷ decimal (f .counts 1) ∷ decimal (f .counts 2) ∷ fields) ≡ line (nameOf n) (decimal traceLength ∷ []) = rw k at e in
     omega (
       arith,

@@ -1,4 +1,4 @@
--- THE MONTH'S FIGURES: what is proved of them (change request No. 6). `monthText` (specs/Months.antt) is every byte that the program
+-- THE MONTH'S FIGURES: what is proved of them (change requests No. 6 and 9). `monthText` (specs/Months.antt) is every byte that the program
 -- prints. It is stated over `runAnswers`, the answers of which demand 3 speaks (crates/monitor/proofs/Theorems.antt). What the program
 -- hands on are the texts of `put_trace` and `put_total` for what `add_part` and `add_total` have counted.
 use Prim.Native.Nat.{ℕ, zero, suc, _+_, _-_, _*_, _/_, _%_, _^_, _≤_, _<_}
@@ -16,7 +16,7 @@ use Rattle.lists.specs.Counting.{countBelow, sumBelow}
 use Rattle.fields.specs.Ascii.{ascii}
 use Rattle.fields.specs.Bytes.{Bytes}
 use Rattle.answers.specs.declared.Answer.{Answer}
-use Rattle.answers.specs.Answers.{accepted, isAlert, isRefused}
+use Rattle.answers.specs.Answers.{accepted, isAlert, isBlocked, isRefused}
 use Rattle.answers.specs.Refusals.{traceLength}
 use Rattle.answers.specs.Tallies.{noTally, countOf}
 use Rattle.answers.proofs.Theorems.{tally-counts}
@@ -28,30 +28,31 @@ use Rattle.records.specs.Records.{recordLength}
 use Rattle.records.specs.Traces.{traceRecords}
 use Rattle.monitor.specs.Runs.{runAnswers, historyIn}
 use Rattle.monitor.proofs.Theorems.{demand3}
+use Rattle.monitor.proofs.Guarded.{blocked-exactly}
 use Rattle.listing.specs.Text.{decimal}
 use Rattle.listing.specs.Lines as watched
 use Rattle.listing.specs.Lines.{line, policyLine}
 use Rattle.trace_listing.specs.Listings.{partTally, partSession, totalOf}
 use Rattle.trace_listing.specs.Parts.{together}
 use Rattle.trace_listing.proofs.CutLaws.{answers-length}
-use Rattle.figures.specs.Figures.{Figures, testAt, acceptedIn, alertsIn, refusedIn, alertAt, figuresOf, noFigures, sumOf, recordLimit, tooMany}
+use Rattle.figures.specs.Figures.{Figures, testAt, acceptedIn, alertsIn, refusedIn, blockedIn, alertAt, figuresOf, noFigures, sumOf, recordLimit, tooMany}
 use Rattle.figures.specs.Lines.{nameOf, rateFields, fieldsFrom, countFields, alertFields, figureFields, traceLine}
 use Rattle.figures.specs.Months.{traceFigures, counting, totalFigures, traceLimit, monthText, FrontsOf}
 use Rattle.figures.proofs.ReadLaws.{fronts-text}
 use Rattle.figures.specs.Counters.{figuresIn, noCounters, partCounters, textByParts, InParts}
-use Rattle.figures.specs.Positions.{ForbiddenAt, ForbiddenInto}
+use Rattle.figures.specs.Positions.{ForbiddenAt, ForbiddenInto, BlockedAt}
 use Rattle.figures.proofs.MonthLaws as months
 use Rattle.figures.proofs.MonthLaws.{text-parts, records-length}
-use Rattle.figures.proofs.AlertLaws.{history-size, answers-split, alerts-summed, count-told, alert-at, alert-into}
+use Rattle.figures.proofs.AlertLaws.{history-size, answers-split, alerts-summed, count-told, alert-at, alert-into, blocked-at}
 use Rattle.figures.proofs.LongLaws.{many-records, long-line, figures-line-apart}
 
 -- ---- the counts of a list of answers
 
--- by their names: the accepted, the alerts, the refused
+-- by their names: the accepted, the alerts, the refused, the blocked
 pub counts-told : (l : List Answer)
-    → (acceptedIn (figuresOf l) ≡ countOf accepted l) × (alertsIn (figuresOf l) ≡ countOf isAlert l) × (refusedIn (figuresOf l) ≡ countOf isRefused l)
+    → (acceptedIn (figuresOf l) ≡ countOf accepted l) × (alertsIn (figuresOf l) ≡ countOf isAlert l) × (refusedIn (figuresOf l) ≡ countOf isRefused l) × (blockedIn (figuresOf l) ≡ countOf isBlocked l)
 unfolding figuresOf testAt
-counts-told l = (refl, refl, refl)
+counts-told l = (refl, refl, refl, refl)
 
 -- ---- the figures of a run: of any session and any records
 
@@ -61,12 +62,12 @@ module _ (s : List ℕ) (rs : List (List ℕ)) where
   unfolding figuresOf testAt historyIn
   accepted-history = sym (history-size start s rs ∙ omega arith)
 
-  -- each record is accepted or refused
+  -- each record is accepted, refused or blocked
   pub records-told : figuresOf (runAnswers s rs) .records ≡ length rs
   unfolding figuresOf
   records-told = answers-length s rs
 
-  pub accepted-refused : acceptedIn (figuresOf (runAnswers s rs)) + refusedIn (figuresOf (runAnswers s rs)) ≡ length rs
+  pub accepted-refused : acceptedIn (figuresOf (runAnswers s rs)) + refusedIn (figuresOf (runAnswers s rs)) + blockedIn (figuresOf (runAnswers s rs)) ≡ length rs
   unfolding figuresOf testAt
   accepted-refused = answers-split (runAnswers s rs) ∙ answers-length s rs
 
@@ -102,6 +103,16 @@ module _ (image : List ℕ) (bytes : Bytes image) (ok : checkOf image ≡ 0) (rs
   alerts-exact-at c =
       let s : List ℕ = startOf (policyIn image) in
       let x = count-told (alertAt c) (ForbiddenInto s (policyIn image) rs c) (runAnswers s rs) (λ n a g. alert-into s (policyIn image) (demand3 image bytes ok) rs n a g c) in
+      (x .0, λ n b. x .1 n (omega (arith, answers-length s rs)), x .2 ∙ ap (countBelow (x .0)) (answers-length s rs))
+
+  -- The blocked records are those that would be forbidden at a guarded file.
+  pub blocked-exact : (t : ℕ → Bool)
+      × ((n : ℕ) → n < length rs → (t n ≡ true) ↔ BlockedAt (startOf (policyIn image)) (policyIn image) rs n)
+      × (blockedIn (figuresOf (runAnswers (startOf (policyIn image)) rs)) ≡ countBelow t (length rs))
+  unfolding figuresOf testAt
+  blocked-exact =
+      let s : List ℕ = startOf (policyIn image) in
+      let x = count-told isBlocked (BlockedAt s (policyIn image) rs) (runAnswers s rs) (λ n a g. blocked-at s (policyIn image) (blocked-exactly image bytes ok) rs n a g) in
       (x .0, λ n b. x .1 n (omega (arith, answers-length s rs)), x .2 ∙ ap (countBelow (x .0)) (answers-length s rs))
 
 -- ---- 19
@@ -163,7 +174,7 @@ total-alerts s t ts h = ap alertsIn (total-next s t ts h) ∙ unfold sumOf in re
 -- the line of any figures shows the rate of their own counts: that of the total those of the total
 pub fields-shown : (f : Figures)
     → figureFields f
-    ≡ decimal (acceptedIn f) ∷ decimal (alertsIn f) ∷ decimal (refusedIn f) ∷ (rateFields (alertsIn f) (acceptedIn f) ++ alertFields (f .alertsAt))
+    ≡ decimal (acceptedIn f) ∷ decimal (alertsIn f) ∷ decimal (refusedIn f) ∷ decimal (blockedIn f) ∷ (rateFields (alertsIn f) (acceptedIn f) ++ alertFields (f .alertsAt))
 unfolding figureFields countFields fieldsFrom
 fields-shown f = refl
 

@@ -6,12 +6,13 @@ use lib.Dec.{eqb, ltb}
 use lib.ListN.{length, getD}
 use Rattle.answers.specs.declared.Answer.{Answer}
 use Rattle.answers.specs.Answers as answers
-use Rattle.answers.specs.Answers.{isAlert, isRefused, receiverOf}
+use Rattle.answers.specs.Answers.{isAlert, isBlocked, isRefused, receiverOf}
 use Rattle.answers.specs.Tallies.{countOf}
 
--- "accepted steps, alerts, refused steps": what the answers are counted by, in the order in which the counts are shown
+-- "accepted steps, alerts, refused steps", and of blocked ones "a count of its own, right behind refused steps and outside accepted, alerts
+-- and refused" (change request No. 9): what the answers are counted by, in the order in which the counts are shown
 abbrev pub tests : List (Answer → Bool)
-tests = answers.accepted ∷ isAlert ∷ isRefused ∷ []
+tests = answers.accepted ∷ isAlert ∷ isRefused ∷ isBlocked ∷ []
 
 -- how many counts there are
 abbrev pub countLimit : ℕ
@@ -36,6 +37,9 @@ alertsIn f = f .counts 1
 
 abbrev pub refusedIn : Figures → ℕ
 refusedIn f = f .counts 2
+
+abbrev pub blockedIn : Figures → ℕ
+blockedIn f = f .counts 3
 
 -- an alert whose receiver is container number c, whoever holds the number
 unfoldable pub alertAt : ℕ → Answer → Bool

@@ -1,6 +1,6 @@
--- What a reader must believe of this crate (change request No. 6), in the order of the request: the figures of a list of answers, the
+-- What a reader must believe of this crate (change requests No. 6 and 9), in the order of the request: the figures of a list of answers, the
 -- lines that show them, the text of a month; then the numbers that the code keeps figures in, the
--- room that a line needs, and the records at which an alert is due.
+-- room that a line needs, and the records at which an alert is due, or which are to be blocked.
 pub mod Figures
 pub mod Lines
 pub mod Months

@@ -30,7 +30,7 @@ unfoldable pub fieldsFrom : (ℕ → List (List ℕ)) → ℕ → ℕ → List (
 fieldsFrom fields k zero = []
 fieldsFrom fields k (suc n) = fields k ++ fieldsFrom fields (suc k) n
 
--- "accepted steps, alerts, refused steps"
+-- "accepted steps, alerts, refused steps", and "right behind" the blocked ones
 unfoldable pub countFields : (ℕ → ℕ) → List (List ℕ)
 countFields counts = fieldsFrom (λ k. decimal (counts k) ∷ []) 0 countLimit
 

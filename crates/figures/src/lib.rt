@@ -34,8 +34,8 @@ pub const NAME_LENGTH: usize = 6;
 // The code of the digit 0.
 const ZERO: u8 = 48;
 
-// The counts of a trace beside its records: of accepted steps, alerts and refused steps, in the order of the lines.
-pub const COUNT_LIMIT: usize = 3;
+// The counts of a trace beside its records: of accepted steps, alerts, refused and blocked steps, in the order of the lines.
+pub const COUNT_LIMIT: usize = 4;
 
 // The places of two of them, of which the rate is made.
 const ACCEPTED: usize = 0;
@@ -52,6 +52,7 @@ fn passes(test: usize, answer: Answer) -> bool
         0 => answers::is_accepted(answer),
         1 => answers::is_alert(answer),
         2 => answers::is_refused(answer),
+        3 => answers::is_blocked(answer),
         _ => false,
     }
 }

@@ -2,7 +2,7 @@
 use mathlib.Core.Path.{_≡_, refl}
 use mathlib.Core.List.{[], _∷_, map}
 use Rattle.fields.specs.Ascii.{ascii}
-use Rattle.answers.specs.Answers.{quiet, alert, refused}
+use Rattle.answers.specs.Answers.{quiet, alert, blocked, refused}
 use Rattle.listing.specs.Text.{digit, digits, decimalIn, decimal, hexadecimal}
 use Rattle.listing.specs.Lines.{line, operationWord, verdictWord, answerWord, answerFields, heading, stepLine, shortLine, totalLine, policyLine}
 
@@ -59,9 +59,14 @@ unknown-codes : map operationWord (0 ∷ 10 ∷ 255 ∷ []) ≡ map ascii ("othe
 unfolding operationWord ascii
 unknown-codes = refl
 
+-- an access that is blocked
+blocked-access : stepLine 7 3 5 1 (blocked 1 7) ≡ ascii "7 append 5 1 blocked 1 0000000000000007\n"
+unfolding stepLine operationWord answerWord answerFields verdictWord line decimal decimalIn hexadecimal digits digit ascii
+blocked-access = refl
+
 -- the longest line
-longest-line : stepLine 18446744073709551615 7 18446744073709551615 18446744073709551615 (alert 18446744073709551615 18446744073709551615)
-    ≡ ascii "18446744073709551615 volatile 18446744073709551615 18446744073709551615 alert 18446744073709551615 ffffffffffffffff\n"
+longest-line : stepLine 18446744073709551615 7 18446744073709551615 18446744073709551615 (blocked 18446744073709551615 18446744073709551615)
+    ≡ ascii "18446744073709551615 volatile 18446744073709551615 18446744073709551615 blocked 18446744073709551615 ffffffffffffffff\n"
 unfolding stepLine operationWord answerWord answerFields verdictWord line decimal decimalIn hexadecimal digits digit ascii
 longest-line = refl
 

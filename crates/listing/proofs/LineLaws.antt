@@ -9,7 +9,7 @@ use lib.ListN.{length, length-append}
 use borrow.Author.Tests.{ne-eqb}
 use Rattle.fields.specs.Ascii.{ascii}
 use Rattle.answers.specs.declared.Verdict.{Verdict}
-use Rattle.answers.specs.declared.Verdict.the-variants.{Quiet, Alert}
+use Rattle.answers.specs.declared.Verdict.the-variants.{Quiet, Alert, Blocked}
 use Rattle.answers.specs.declared.Answer.{Answer}
 use Rattle.answers.specs.declared.Answer.the-variants.{Given, Refused}
 use Rattle.listing.specs.Text.{decimalLimit, decimal}
@@ -91,6 +91,7 @@ pub verdict-bounds : (v : Verdict) → Bounded verdictLimit (verdictWord v)
 unfolding verdictWord ascii
 verdict-bounds Quiet = (omega arith, omega arith)
 verdict-bounds Alert = (omega arith, omega arith)
+verdict-bounds Blocked = (omega arith, omega arith)
 
 pub verdict-length : (v : Verdict) → length (verdictWord v ++ (space ∷ [])) ≤ verdictLimit + 1
 verdict-length v = simp length-append (omega (arith, verdict-bounds v))

@@ -44,7 +44,7 @@ operationLimit = 8
 
 -- the most bytes of a verdict's word
 abbrev pub verdictLimit : ℕ
-verdictLimit = 5
+verdictLimit = 7
 
 -- the most bytes of a step's number, word, p and o, with the space behind each
 abbrev pub accessLimit : ℕ

@@ -6,7 +6,7 @@ use lib.Dec.{eqb}
 use Rattle.fields.specs.Ascii.{ascii}
 use Rattle.listing.specs.Text.{decimal, hexadecimal}
 use Rattle.answers.specs.declared.Verdict.{Verdict}
-use Rattle.answers.specs.declared.Verdict.the-variants.{Quiet, Alert}
+use Rattle.answers.specs.declared.Verdict.the-variants.{Quiet, Alert, Blocked}
 use Rattle.answers.specs.declared.Answer.{Answer}
 use Rattle.answers.specs.declared.Answer.the-variants.{Given, Refused}
 
@@ -43,10 +43,11 @@ operationWord code =
     (cond (eqb code 9) (ascii "delete")
     (ascii "other")))))))))
 
--- the verdict's word, as in the paper's listing
+-- the verdict's word, as in the paper's listing; "The listing's verdict word is `blocked`" (change request No. 9)
 unfoldable pub verdictWord : Verdict → List ℕ
 verdictWord Quiet = ascii "quiet"
 verdictWord Alert = ascii "alert"
+verdictWord Blocked = ascii "blocked"
 
 -- the field of the verdict
 unfoldable pub answerWord : Answer → List ℕ

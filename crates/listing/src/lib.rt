@@ -233,6 +233,7 @@ fn verdict_word(verdict: Verdict) -> Word
     match verdict {
         Verdict::Quiet => word_of(0x2020207465697571, 5),
         Verdict::Alert => word_of(0x2020207472656c61, 5),
+        Verdict::Blocked => word_of(0x2064656b636f6c62, 7),
     }
 }
 

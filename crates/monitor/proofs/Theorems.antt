@@ -493,3 +493,7 @@ refused-zeros = answers.refused-zeros
 pub accepted-spelled : (s r : List ℕ) → accepted (stepAnswer s r) ≡ true → stepOf r ≡ some (stepAsked r)
 unfolding stepAsked
 accepted-spelled s r a = record-step r (step-record s r (accepted-zero s r a))
+
+pub given-spelled : (s r : List ℕ) → isRefused (stepAnswer s r) ≡ false → stepOf r ≡ some (stepAsked r)
+unfolding stepAsked
+given-spelled s r a = record-step r (step-record s r (answered-zero s r a))

@@ -20,9 +20,13 @@ unfolding testAt
 returns-3 c = rw (c .before .match .keys3) (c .is-refused .ensures)
 
 returns-4 : tie.Need-returns-4
-returns-4 c =
+unfolding testAt
+returns-4 c = rw (c .before .match .keys4) (c .is-blocked .ensures)
+
+returns-5 : tie.Need-returns-5
+returns-5 c =
     let r = c .match .rest in
-    sym (no-test (c .before .args .test) (c .before .args .answer) (omega (arith, r .0 .0 .1, r .0 .1, r .1)))
+    sym (no-test (c .before .args .test) (c .before .args .answer) (omega (arith, r .0 .0 .0 .1, r .0 .0 .1, r .0 .1, r .1)))
 
 pub passes-spec : {M : Type 1} → statement M
 passes-spec =
@@ -31,7 +35,9 @@ passes-spec =
     (λ c κs. search needs)
     (λ c κs. search needs)
     (λ c κs. search needs)
+    (λ c κs. search needs)
     returns
     returns-2
     returns-3
-    returns-4)
+    returns-4
+    returns-5)
