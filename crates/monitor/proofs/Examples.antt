@@ -8,7 +8,7 @@ use Rattle.rules.specs.Sets.{holds, dataOf, runningOf}
 use Rattle.rules.specs.Rules.{covers, distinct, heldIn, unheldIn, insert, sort, normal, intersections, meet, unrestricted}
 use Rattle.lists.specs.Lists.{elem, sameList, every}
 use Rattle.rules.specs.Answers.{padded}
-use Rattle.image.specs.Limits.{isFree, isGuarded, isFile, isVolatile, isProcess, isStore, fileKind, processKind, noAtom, unrestrictedNumber, usedKind}
+use Rattle.image.specs.Limits.{isFree, isGuarded, isFile, isVolatile, isProcess, isStore, fileKind, processKind, guardedKind, noAtom, unrestrictedNumber, usedKind}
 use Rattle.fields.specs.Bytes.{numberIn, bytesOf, field}
 use Rattle.image.specs.Policy.{Container, Policy, unrestrictedRule, ruleAt}
 use Rattle.image.specs.Normal.{normalAt, placeOf, meaning}
@@ -16,7 +16,7 @@ use Rattle.chains.proofs.KindLaws.{process-used}
 use Rattle.session.specs.Rows.{Row, rowWords, freeWords, permitWords, runWords, rowOf, behalfGood, containerRowGood, userWords, isDeclared, userRuleWords, userRuleOf, userRowGood, containerRow, userRow, putRow}
 use Rattle.rule_words.specs.Words.{allZero, keptWell, ruleOf, wordsOf, isNormal}
 use Rattle.session.specs.Session.{startTag, startRow, placeWords, filled, sessionOf, startOf, sessionLengthGood}
-use Rattle.answers.specs.Answers.{quiet, alert, refused}
+use Rattle.answers.specs.Answers.{quiet, alert, blocked, refused}
 use Rattle.answers.specs.Refusals.{notFree}
 use Rattle.chains.specs.History.{fork}
 use Rattle.chains.specs.Table.{State, freeRow, readRow, writeRow, appendRow, execRow, forkRow, newFileRow, fitsNeed, entry, processGood, objectGood, kindGood, freeGood, userGood, behalfFits, fits, meetGood, earlyConditions, tableConditions, alerts, blocks, verdict}
@@ -61,6 +61,22 @@ T = record { containers = file 0 unrestrictedNumber ∷ process ∷ []; users = 
 -- two files whose run rules have the mixtures 62, 61, 59 and 55, 47, 31, and a process
 abbrev pub Q : Policy
 Q = record { containers = file noAtom 0 ∷ file noAtom 1 ∷ process ∷ []; users = []; rules = (62 ∷ 61 ∷ 59 ∷ []) ∷ (55 ∷ 47 ∷ 31 ∷ []) ∷ [] }
+
+-- a file with the atom 1; two guarded files with the atoms 2 and 3, of which the first is permitted its own atom and the second nothing;
+-- two processes and a user, who permits the atom 2
+abbrev guardedFile : ℕ → ℕ → ℕ → Container
+guardedFile d permit run = record { kind = guardedKind; atom = d; permit = permit; run = run }
+
+abbrev pub G : Policy
+G = record {
+  containers = file 1 unrestrictedNumber ∷ guardedFile 2 0 unrestrictedNumber ∷ guardedFile 3 1 unrestrictedNumber ∷ process ∷ process ∷ [];
+  users = 0 ∷ [];
+  rules = (4 ∷ []) ∷ (0 ∷ []) ∷ [];
+}
+
+-- the run rules of Q, the second that of a guarded file which permits nothing at all
+abbrev pub H : Policy
+H = record { containers = file noAtom 0 ∷ guardedFile noAtom 2 1 ∷ process ∷ []; users = []; rules = (62 ∷ 61 ∷ 59 ∷ []) ∷ (55 ∷ 47 ∷ 31 ∷ []) ∷ [] ∷ [] }
 
 -- the derived policy of document 000's matrix: four files, three processes and a user
 abbrev object : ℕ → Container
@@ -135,6 +151,30 @@ pub record CheckedRuns : Type 0 where
       ∷ recordOf newFileCode 4 5 1
       ∷ [])
       ≡ quiet 2 0 ∷ quiet 1 (2 ^ 32) ∷ refused 18 ∷ refused 14 ∷ quiet 3 0 ∷ quiet 4 (2 ^ 32) ∷ refused 18 ∷ []
+  -- Change request No. 9. Process 3 reads file 0, which holds 1: neither may it write that into the guarded file 1, nor append it, and the
+  -- file holds 2 as before. Process 4 holds nothing, and may not append that to file 2, which is not permitted the atom that it holds.
+  pub guarding : runAnswers (startOf G)
+      (recordOf readCode 3 0 noUser
+      ∷ recordOf writeCode 3 1 noUser
+      ∷ recordOf appendCode 3 1 noUser
+      ∷ recordOf appendCode 4 2 noUser
+      ∷ recordOf readCode 4 1 noUser
+      ∷ recordOf appendCode 4 1 noUser
+      ∷ [])
+      ≡ quiet 3 (2 ^ 1) ∷ blocked 1 (2 ^ 1) ∷ blocked 1 (2 ^ 1 + 2 ^ 2) ∷ blocked 2 (2 ^ 3) ∷ quiet 4 (2 ^ 2) ∷ quiet 1 (2 ^ 2) ∷ []
+  -- "treated as a file elsewhere": it is executed and deleted. A new file that takes its number is not guarded, and is written with an
+  -- alert.
+  pub guardedElsewhere : runAnswers (startOf G)
+      (recordOf execCode 4 1 0
+      ∷ recordOf readCode 3 0 noUser
+      ∷ recordOf deleteCode 3 1 noUser
+      ∷ recordOf newFileCode 3 1 0
+      ∷ recordOf writeCode 3 1 noUser
+      ∷ [])
+      ≡ alert 4 (2 ^ 34) ∷ quiet 3 (2 ^ 1) ∷ quiet 1 0 ∷ quiet 1 0 ∷ alert 1 (2 ^ 1) ∷ []
+  -- "15 being tested before it": a write is blocked, an append refused for its meet
+  pub guardedOver : runAnswers (startOf H) (recordOf readCode 2 0 noUser ∷ recordOf writeCode 2 1 noUser ∷ recordOf appendCode 2 1 noUser ∷ [])
+      ≡ quiet 2 0 ∷ blocked 1 0 ∷ refused 15 ∷ []
   -- "Meet of 62, 61, 59 with 55, 47, 31 has nine: 15."
   pub meetOver : runAnswers (startOf Q) (recordOf readCode 2 0 noUser ∷ recordOf readCode 2 1 noUser ∷ []) ≡ quiet 2 0 ∷ refused 15 ∷ []
   -- the listing (Listing has it from the image's bytes)
@@ -152,7 +192,7 @@ unfolding holds dataOf runningOf covers elem distinct heldIn unheldIn insert sor
     processGood objectGood kindGood freeGood userGood behalfFits meetGood earlyConditions tableConditions sessionConditions
     madeAnswer madeEffect blocks newFileRow requestIn userFits ownObject numbersGood recordGood sessionLengthGood stepAsked stepConditions refusalOf
     stepAnswer stepEffect stepOn runAnswers
-checked-runs = record { forkItself = refl; execHolding = refl; execKeeping = refl; readHolding = refl; leaving = refl; leavingRefused = refl; behalf = refl; meetOver = refl; listing = refl; shortSession = refl }
+checked-runs = record { forkItself = refl; execHolding = refl; execKeeping = refl; readHolding = refl; leaving = refl; leavingRefused = refl; behalf = refl; guarding = refl; guardedElsewhere = refl; guardedOver = refl; meetOver = refl; listing = refl; shortSession = refl }
 
 -- ---- the same of any rows
 
