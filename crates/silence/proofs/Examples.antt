@@ -13,7 +13,7 @@ use Rattle.lists.specs.Conditions.{firstFailed}
 use Rattle.lists.specs.Counting.{someBelow, allBelow}
 use Rattle.rules.specs.Answers.{padded}
 use Rattle.answers.specs.Answers.{quiet, alert}
-use Rattle.image.specs.Limits.{isFree, isFile, isVolatile, isProcess, isStore, fileKind, processKind, noAtom, usedKind}
+use Rattle.image.specs.Limits.{isFree, isGuarded, isFile, isVolatile, isProcess, isStore, fileKind, processKind, noAtom, usedKind}
 use Rattle.fields.specs.Bytes.{numberIn, bytesOf, field}
 use Rattle.image.specs.Policy.{Policy, unrestrictedRule}
 use Rattle.image.specs.Image.{policyIn}
@@ -27,7 +27,7 @@ use Rattle.matrix.specs.Verdicts.{ungranted, ungrantedFrom, consistent, matrixC
 use Rattle.derivation.specs.Derived.{writerMixtures, orAlone, permitOf, countFrom, derivedImage}
 use Rattle.derivation.proofs.Theorems.{derived-read, derived-means}
 use Rattle.chains.specs.History.{read, append}
-use Rattle.chains.specs.Table.{freeRow, readRow, writeRow, appendRow, fitsNeed, entry, processGood, objectGood, kindGood, freeGood, userGood, behalfFits, fits, meetGood, earlyConditions, tableConditions, alerts, verdict}
+use Rattle.chains.specs.Table.{freeRow, readRow, writeRow, appendRow, fitsNeed, entry, processGood, objectGood, kindGood, freeGood, userGood, behalfFits, fits, meetGood, earlyConditions, tableConditions, alerts, blocks, verdict}
 use Rattle.records.specs.Codes.{stepWith, noRows, codeAt, isCode}
 use Rattle.records.specs.Records.{requestIn, stepIn, userFits, ownObject, numbersGood, recordGood, stepOf}
 use Rattle.operations.specs.View.{view}
@@ -110,11 +110,11 @@ session = ap (λ (p : Policy). sessionOf (meaning p)) (derived-read reads writes
 
 run : runAnswers (sessionOf (record { places = places; users = unrestrictedRule ∷ [] })) (front ++ (last ∷ [])) ≡ quiet 3 1 ∷ quiet 1 3 ∷ quiet 4 4 ∷ alert 1 7 ∷ []
 unfolding holds dataOf runningOf covers elem distinct heldIn unheldIn insert sort normal intersections meet unrestricted
-    sameList padded isFree isFile isVolatile isProcess isStore numberIn bytesOf field unrestrictedRule
+    sameList padded isFree isGuarded isFile isVolatile isProcess isStore numberIn bytesOf field unrestrictedRule
     ruleOf wordsOf allZero isNormal keptWell rowWords freeWords permitWords runWords
     rowOf usedKind behalfGood containerRowGood userWords isDeclared userRuleWords userRuleOf userRowGood containerRow userRow
     putRow startTag startRow placeWords filled sessionOf readRow writeRow appendRow fits
-    alerts verdict every firstFailed freeRow fitsNeed entry stepWith noRows codeAt isCode stepIn view rowsGood
+    alerts blocks verdict every firstFailed freeRow fitsNeed entry stepWith noRows codeAt isCode stepIn view rowsGood
     processGood objectGood kindGood freeGood userGood behalfFits meetGood earlyConditions tableConditions sessionConditions
     madeAnswer madeEffect requestIn userFits ownObject numbersGood recordGood sessionLengthGood stepAsked stepConditions refusalOf
     stepAnswer stepEffect stepOn runAnswers countFrom permitOf writerMixtures orAlone has atom

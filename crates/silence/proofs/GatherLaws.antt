@@ -28,10 +28,11 @@ use Rattle.chains.specs.History.{Step, read, append, receiver}
 use Rattle.chains.specs.Demand.{after}
 use Rattle.chains.specs.Table.{State, readRow, appendRow, entry, alerts, placed, operate}
 use Rattle.chains.proofs.TableLaws.{operate-done}
+use Rattle.chains.proofs.VerdictLaws.{left-put}
 use Rattle.answers.specs.declared.Answer.{Answer}
 use Rattle.silence.specs.Silent.{sourcesOf, quietObject}
 use Rattle.silence.specs.Sessions.{Allowed, mayRead, mayAppend, AllAllowed}
-use Rattle.silence.proofs.SourceLaws.{Holding, passes, holds-on, carried}
+use Rattle.silence.proofs.SourceLaws.{Holding, passes, never-blocks, holds-on, carried}
 
 -- whatever a container held, it holds
 abbrev pub Grown : State → State → Type 0
@@ -56,7 +57,8 @@ after-append σ (t ∷ ts) us = after-append (operate σ t .0) ts us
 module _ (reads writes : List ℕ) (n : ℕ) (even : length writes ≡ length reads) (few : n ≤ dataWidth) where
   -- the state after an allowed step
   pub done : (σ : State) → Holding reads writes n σ → (t : Step) → Allowed reads writes n t → operate σ t .0 ≡ placed σ (receiver t) (entry σ t .row)
-  done σ H t a = ap (λ (x : State × Answer). x .0) (operate-done σ t (passes reads writes n even few σ H t a))
+  done σ H t a =
+      ap (λ (x : State × Answer). x .0) (operate-done σ t (passes reads writes n even few σ H t a)) ∙ left-put t (entry σ t .row) σ (never-blocks reads writes n even few σ H t a)
 
   pub next : (σ : State) → Holding reads writes n σ → (t : Step) → Allowed reads writes n t → Holding reads writes n (operate σ t .0)
   next σ H t a = subst (Holding reads writes n) (sym (done σ H t a)) (holds-on reads writes n even few σ H t a)

@@ -15,21 +15,15 @@ use Rattle.lists.proofs.Places.{some-inj}
 use Rattle.rules.specs.Answers.{dataWidth}
 use Rattle.answers.specs.declared.Answer.{Answer}
 use Rattle.answers.specs.Answers.{accepted, isAlert, isRefused}
-use Rattle.answers.proofs.Cases.{given-accepted}
-use Rattle.session.specs.Rows.{Row}
 use Rattle.chains.specs.History.{Step}
 use Rattle.chains.specs.Demand.{answers, after}
-use Rattle.chains.specs.Table.{State, entry, tableConditions, alerts, verdict, operate, Faithful}
+use Rattle.chains.specs.Table.{State, entry, tableConditions, alerts, operate, Faithful}
 use Rattle.chains.proofs.TableLaws.{operate-done}
-use Rattle.chains.proofs.VerdictLaws.{verdict-alert, verdict-quiet, verdict-given}
+use Rattle.chains.proofs.VerdictLaws.{verdict-alert, verdict-quiet, verdict-accepted}
 use Rattle.silence.specs.Silent.{quietObject, silent}
 use Rattle.silence.specs.Sessions.{Allowed, AllAllowed, noAlert}
-use Rattle.silence.proofs.SourceLaws.{Holding, passes, stays-quiet}
+use Rattle.silence.proofs.SourceLaws.{Holding, passes, never-blocks, stays-quiet}
 use Rattle.silence.proofs.GatherLaws.{Owning, next, firstSteps, lastStep, last-allowed, all-allowed, gathered-holding, last-alerts}
-
--- a step that is not refused is accepted
-verdict-accepted : (t : Step) (w : Row) → accepted (verdict t w) ≡ true
-verdict-accepted t w = given-accepted (verdict t w) (verdict-given t w)
 
 module _ {S R : Type 0} (op : S → R → S × Answer) (stepOf : R → Option Step) (view : S → State) (Valid : S → Type 0) (F : Faithful op stepOf view Valid)
     (accepts : (σ : S) (r : R) (t : Step) → Valid σ → stepOf r ≡ some t → firstFailed (tableConditions (view σ) t) ≡ 0 → isRefused (op σ r .1) ≡ false)
@@ -50,7 +44,7 @@ module _ {S R : Type 0} (op : S → R → S × Answer) (stepOf : R → Option St
         taken =
             ap accepted d
             ∙ ap (λ (x : State × Answer). accepted (x .1)) (operate-done (view σ) t (passes reads writes n even few (view σ) H t a))
-            ∙ verdict-accepted t (entry (view σ) t .row);
+            ∙ verdict-accepted t (entry (view σ) t .row) (never-blocks reads writes n even few (view σ) H t a);
         left = f .2 ∙ ap (λ (s : Step). operate (view σ) s .0) q;
         told = d;
       }
@@ -129,7 +123,7 @@ module _ {S R : Type 0} (op : S → R → S × Answer) (stepOf : R → Option St
     alert-answer : (σ : State) → Holding reads writes n σ → (t : Step) → Allowed reads writes n t → alerts t (entry σ t .row) ≡ true → isAlert (operate σ t .1) ≡ true
     alert-answer σ H t a q =
         ap (λ (x : State × Answer). isAlert (x .1)) (operate-done σ t (passes reads writes n even few σ H t a))
-        ∙ ap isAlert (verdict-alert t (entry σ t .row) q)
+        ∙ ap isAlert (verdict-alert t (entry σ t .row) (never-blocks reads writes n even few σ H t a) q)
 
     alerting-run : (b : ℕ) → b < n → quietObject reads writes n b ≡ false → (σ : S) → Valid σ → Holding reads writes n (view σ) → Owning reads writes n even few (view σ) → Alerting σ
     alerting-run b lb q σ v H O =

@@ -18,7 +18,7 @@ use Rattle.rules.specs.Rules.{covers, normal, meet, unrestricted}
 use Rattle.rules.specs.Answers.{dataWidth, tagWidth}
 use Rattle.rules.proofs.SetLaws.{atom-le, atoms-holds, holds-all, holds-has, single-same, or-has, data-has}
 use Rattle.rules.proofs.RuleLaws.{covers-normal, covers-part, meet-self}
-use Rattle.image.specs.Limits.{fileKind, processKind, isFile, isVolatile, isStore, isProcess}
+use Rattle.image.specs.Limits.{fileKind, processKind, isGuarded, isFile, isVolatile, isStore, isProcess}
 use Rattle.image.specs.Policy.{unrestrictedRule}
 use Rattle.image.proofs.WrittenMeaning.{normal-unrestricted}
 use Rattle.session.specs.Rows.{Row}
@@ -30,7 +30,7 @@ use Rattle.matrix.proofs.BitLaws.{has-atom, bits-has}
 use Rattle.derivation.specs.Derived.{permitOf}
 use Rattle.chains.specs.History.{Step, read, write, append, receiver}
 use Rattle.chains.specs.Demand.{judged}
-use Rattle.chains.specs.Table.{State, readRow, writeRow, appendRow, entry, fitsNeed, processGood, objectGood, kindGood, freeGood, userGood, behalfFits, fits, meetGood, earlyConditions, tableConditions, alerts, placed}
+use Rattle.chains.specs.Table.{State, readRow, writeRow, appendRow, entry, fitsNeed, processGood, objectGood, kindGood, freeGood, userGood, behalfFits, fits, meetGood, earlyConditions, tableConditions, alerts, blocks, placed}
 use Rattle.silence.specs.Silent.{sourcesOf, quietObject}
 use Rattle.silence.specs.Sessions.{Allowed, mayRead, mayWrite, mayAppend}
 
@@ -127,6 +127,13 @@ module _ (reads writes : List ℕ) (n : ℕ) (even : length writes ≡ length re
     passes (write p o) (mayWrite {s} {k} l m h) = rw (subject-process s l, object-store k m) refl
     passes (append p o) (mayAppend {s} {k} l m h) =
         rw (subject-process s l, object-store k m, H .subject s l .run, H .object k m .run, unrestricted-meet, unrestricted-fits) refl
+
+    -- nothing is blocked: neither an object nor a subject is guarded
+    pub never-blocks : (t : Step) → Allowed reads writes n t → blocks t (entry σ t .row) ≡ false
+    unfolding entry readRow writeRow appendRow blocks isGuarded
+    never-blocks (read p o) (mayRead {s} {k} l m h) = rw (H .subject s l .kind) refl
+    never-blocks (write p o) (mayWrite {s} {k} l m h) = rw (H .object k m .kind) refl
+    never-blocks (append p o) (mayAppend {s} {k} l m h) = rw (H .object k m .kind) refl
 
     -- a row that is put in its place
     put-subject : (s : ℕ) → s < length reads → (w : Row) → SubjectRow reads writes n s w → Holding reads writes n (placed σ (n + s) w)
