@@ -88,7 +88,7 @@ install: lib
 	chmod 644 $(DESTDIR)$(LIBDIR)/pkgconfig/yaslaurel.pc
 	$(INSTALL) -m 644 target/lib/man/man3/*.3 $(DESTDIR)$(MANDIR)/man3/
 	$(INSTALL) -m 644 docs/FORMATS.md $(DESTDIR)$(DOCDIR)/
-	$(INSTALL) -m 644 examples/c/host.c $(DESTDIR)$(DOCDIR)/examples/
+	$(INSTALL) -m 644 examples/c/host.c examples/c/guard.c $(DESTDIR)$(DOCDIR)/examples/
 	$(INSTALL) -m 644 hosts/rust/Cargo.toml hosts/rust/build.rs $(DESTDIR)$(CRATEDIR)/
 	$(INSTALL) -m 644 $(addprefix hosts/rust/,$(CRATE_SOURCES)) $(DESTDIR)$(CRATEDIR)/src/
 
@@ -100,7 +100,7 @@ uninstall:
 	rm -f $(DESTDIR)$(BINDIR)/policy $(DESTDIR)$(BINDIR)/record
 	rm -f $(DESTDIR)$(INCLUDEDIR)/yaslaurel.h $(DESTDIR)$(LIBDIR)/libyaslaurel.a $(DESTDIR)$(LIBDIR)/pkgconfig/yaslaurel.pc
 	rm -f $(DESTDIR)$(MANDIR)/man3/yaslaurel.3 $(DESTDIR)$(MANDIR)/man3/yaslaurel_*.3
-	rm -f $(DESTDIR)$(DOCDIR)/FORMATS.md $(DESTDIR)$(DOCDIR)/examples/host.c
+	rm -f $(DESTDIR)$(DOCDIR)/FORMATS.md $(addprefix $(DESTDIR)$(DOCDIR)/examples/,host.c guard.c)
 	rm -f $(addprefix $(DESTDIR)$(CRATEDIR)/,Cargo.toml build.rs $(CRATE_SOURCES))
 	-rmdir --ignore-fail-on-non-empty $(addprefix $(DESTDIR),$(DOCDIR)/examples $(DOCDIR) $(CRATEDIR)/src $(CRATEDIR) $(dir $(CRATEDIR)))
 

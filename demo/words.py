@@ -1,5 +1,5 @@
 #!/usr/bin/env python3
-"""demo/words.py [FOLDER]: reads a listing and prints its alerts and refusals in words, containers and sources by the names
+"""demo/words.py [FOLDER]: reads a listing and prints its alerts, blocked accesses and refusals in words, containers and sources by the names
 that `policy make` wrote into FOLDER (the folder of this script by default)."""
 
 import sys
@@ -46,17 +46,19 @@ def main():
     names = (folder / "names.txt").read_text().splitlines()
     containers = Containers((folder / "containers.txt").read_text())
     lines = sys.stdin.read().splitlines()
-    total = None
+    total, blocked = None, 0
     for line in lines:
         match line.split():
             case ["step", "op", *_] | ["policy", "refused", _]:
                 continue
             case ["total", _, "alerts", alerts, "refused", refused]:
-                total = f"{alerts} alerts, {refused} refused"
-            case [step, op, p, o, "alert", receiver, tag]:
+                total = f"{alerts} alerts, {refused} refused, {blocked} blocked"
+            case [step, op, p, o, "alert" | "blocked" as verdict, receiver, tag]:
                 p, o, receiver = (containers[number] for number in (p, o, receiver))
                 holder = ", which" if receiver == o else " and"
-                print(f"alert, step {step}: {p} {VERBS[op]} {o}{holder} now holds {sources(names, int(tag, 16))}")
+                holds = "now holds" if verdict == "alert" else "would hold"
+                blocked += verdict == "blocked"
+                print(f"{verdict}, step {step}: {p} {VERBS[op]} {o}{holder} {holds} {sources(names, int(tag, 16))}")
             case [step, op, p, o, "refused", number]:
                 what = VERBS.get(op, op) if op == "end" and p == o else f"{VERBS.get(op, op)} {containers[o]}"
                 print(f"refused with {number}, step {step}: {containers[p]} {what}")

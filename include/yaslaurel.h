@@ -34,6 +34,7 @@
  *   1 to 4     yaslaurel_matrix_judge alone: the first condition that fails
  *   a length   YASLAUREL_HEADER_LENGTH or more: of the image written, from the three functions that write one
  *   256        yaslaurel_step and yaslaurel_run alone: alert
+ *   257        yaslaurel_step and yaslaurel_run alone: blocked, neither accepted nor refused
  *   1 to 18    otherwise: refused, with the number of the first condition that fails, in the order below; 18 is a refusal
  *              from yaslaurel_step and yaslaurel_run alone, which give no length
  *
@@ -161,6 +162,7 @@
 #define YASLAUREL_FILE 1u
 #define YASLAUREL_VOLATILE 2u
 #define YASLAUREL_PROCESS 3u
+#define YASLAUREL_GUARDED 4u /* a file into which no write or append brings a forbidden mixture */
 
 /* What stands for none. */
 #define YASLAUREL_NO_ATOM 255u        /* no atom of a container */
@@ -220,6 +222,7 @@
 #define YASLAUREL_ACCEPTED 0u
 #define YASLAUREL_QUIET 0u
 #define YASLAUREL_ALERT 256u
+#define YASLAUREL_BLOCKED 257u
 #define YASLAUREL_CONSISTENT 0u
 #define YASLAUREL_NOT_CONSISTENT 1u
 #define YASLAUREL_NOT_SILENT 0u
@@ -307,11 +310,15 @@ YASLAUREL_MUST_USE
 uint32_t yaslaurel_session_start(const uint8_t *image, size_t image_len, uint64_t *session, size_t session_len);
 
 /*
- * Judges one operation record. The session is brought up to date. An alert does not undo the access.
+ * Judges one operation record. The session is brought up to date. An alert does not undo the access. A write or append into
+ * a guarded file that would raise an alert is blocked instead: the session stays as it was, and the host must not make the
+ * access. So a host that has guarded files asks before each write and append, and makes the access on quiet and on alert
+ * alone; an alerted access counts as made.
  *
  * Returns 0 quiet or 256 alert: `receiver` is then the number of the container that received, `tag` the set of its atoms,
- * atom k worth 2 to the k; for an end or a delete, the number of the container that leaves, and 0. Else 9, then 7, then 10
- * to 14, 18 or 15, and `receiver` and `tag` keep what they held.
+ * atom k worth 2 to the k; for an end or a delete, the number of the container that leaves, and 0. 257 blocked: `receiver`
+ * is the guarded file, `tag` what it would have held. Else 9, then 7, then 10 to 14, 18 or 15, and `receiver` and `tag` keep
+ * what they held.
  */
 YASLAUREL_MUST_USE
 uint32_t yaslaurel_step(uint64_t *session, size_t session_len, const uint8_t *record, size_t record_len,
@@ -325,10 +332,10 @@ uint32_t yaslaurel_step(uint64_t *session, size_t session_len, const uint8_t *re
  * To go on, call again with the records behind: YASLAUREL_RECORD_LENGTH times `taken` bytes further, none left if that is
  * `records_len` or more. The answers are those of yaslaurel_step on each record in turn.
  *
- * Returns 0 if each was quiet, also if there is none; 256 alert, with `receiver` and `tag` as from yaslaurel_step; else
- * that record's refusal, 7, 10 to 15 or 18, which changes nothing of its own, while the records before it stay done.
- * `taken` is then how many were judged, the last included; `receiver` and `tag` are written in an alert alone. 9 comes
- * first, also without records, and nothing changes, `taken` neither.
+ * Returns 0 if each was quiet, also if there is none; 256 alert or 257 blocked, with `receiver` and `tag` as from
+ * yaslaurel_step; else that record's refusal, 7, 10 to 15 or 18, which changes nothing of its own, while the records before
+ * it stay done. `taken` is then how many were judged, the last included; `receiver` and `tag` are written in an alert and a
+ * blocked record alone. 9 comes first, also without records, and nothing changes, `taken` neither.
  */
 YASLAUREL_MUST_USE
 uint32_t yaslaurel_run(uint64_t *session, size_t session_len, const uint8_t *records, size_t records_len,

@@ -32,7 +32,7 @@ use yaslaurel::layout::image::{CONTAINERS, HEADER};
 use yaslaurel::layout::profiles::{PATHS, PATH_LIMIT, TEXT_LIMIT};
 use yaslaurel::layout::record;
 use yaslaurel::layout::session::{container, rule, BEHALF, KIND, NOBODY, PERMIT, RULE_MIXTURES, RUN};
-use yaslaurel::{ffi, Matrix, OUTPUT_LENGTH, SESSION_LENGTH};
+use yaslaurel::{ffi, Matrix, Verdict, OUTPUT_LENGTH, SESSION_LENGTH};
 
 const ROUNDS: usize = 31;
 
@@ -105,7 +105,7 @@ fn steps(session: &[u64], records: &[[u8; record::LENGTH]], refusal: u32) -> Out
     let mut trial = session.to_vec();
     for record in records {
         let (number, ..) = judge_step(&mut trial, record);
-        let refused = if number == ffi::ALERT { 0 } else { number };
+        let refused = if number == ffi::ALERT || number == ffi::BLOCKED { 0 } else { number };
         assert_eq!(refused, refusal, "the records are what the table says");
     }
     let mut copies: Vec<std::cell::RefCell<Vec<u64>>> = Vec::new();
@@ -148,6 +148,9 @@ fn operations() {
         let session = started(&work::policy(mixtures, variants));
         line(name, &steps(&session, &work::records(&[1, 1, 2, 3, 4], 1_024), 0));
     }
+    let guarded = started(&work::guarded());
+    line("append, guarded, quiet", &steps(&guarded, &work::guarded_appends(120), 0));
+    line("append, guarded, blocked", &steps(&guarded, &work::guarded_appends(121), 0));
     for (name, records) in work::leaving() {
         line(&format!("{name}, rules of 1"), &steps(&one, &records, 0));
     }
@@ -200,7 +203,10 @@ fn library_run(session: &mut [u64], mut records: &[u8]) -> u64 {
 fn iterated_run(session: &mut [u64], records: &[u8]) -> u64 {
     yaslaurel::run_in(session, records).fold(0, |sum: u64, (_, answer)| {
         let (number, receiver, tag) = match answer {
-            Ok(alert) => (ffi::ALERT, u64::from(alert.receiver), alert.tag),
+            Ok(answer) => {
+                let number = if answer.verdict == Verdict::Alert { ffi::ALERT } else { ffi::BLOCKED };
+                (number, u64::from(answer.receiver), answer.tag)
+            }
             Err(refusal) => (refusal.number(), 0, 0),
         };
         sum.rotate_left(5) ^ tag ^ receiver ^ u64::from(number)
@@ -575,6 +581,7 @@ fn listing() -> io::Result<()> {
                 alerts += 1;
                 writeln!(out, "{step} {word} {p} {o} alert {receiver} {tag:016x}")?;
             }
+            ffi::BLOCKED => writeln!(out, "{step} {word} {p} {o} blocked {receiver} {tag:016x}")?,
             _ => {
                 refusals += 1;
                 writeln!(out, "{step} {word} {p} {o} refused {number}")?;

@@ -14,6 +14,7 @@ struct Figures {
     accepted: u64,
     alerts: u64,
     refused: u64,
+    blocked: u64,
     containers: BTreeMap<u64, u64>,
 }
 
@@ -29,6 +30,7 @@ impl Figures {
                     figures.alerts += 1;
                     *figures.containers.entry(receiver).or_default() += 1;
                 }
+                (ffi::BLOCKED, ..) => figures.blocked += 1,
                 (number, ..) if number < ffi::ALERT => figures.refused += 1,
                 (number, ..) => panic!("no answer has the number {number}"),
             }
@@ -40,13 +42,14 @@ impl Figures {
         self.accepted += other.accepted;
         self.alerts += other.alerts;
         self.refused += other.refused;
+        self.blocked += other.blocked;
         for (container, alerts) in &other.containers {
             *self.containers.entry(*container).or_default() += alerts;
         }
     }
 
     fn write(&self, name: &str, out: &mut impl Write) -> io::Result<()> {
-        write!(out, "{name} {} {} {}", self.accepted, self.alerts, self.refused)?;
+        write!(out, "{name} {} {} {} {}", self.accepted, self.alerts, self.refused, self.blocked)?;
         match self.accepted {
             0 => write!(out, " none")?,
             steps => write!(out, " {} {}", 1_000 * self.alerts / steps, 1_000 * self.alerts % steps)?,

@@ -116,6 +116,23 @@ pub fn policy(mixtures: usize, variants: usize) -> Vec<u8> {
     image(&containers, &[0, 0, 0, 0], &rules)
 }
 
+/// 100 guarded files that may hold atoms 0 to 30, 20 volatiles, and processes 120 and 121, of which the latter is made to hold
+/// atom 31 by [`guarded_appends`].
+pub fn guarded() -> Vec<u8> {
+    let mut containers = vec![(4, NO_ATOM, 0, UNRESTRICTED); 100];
+    containers.extend([(2, NO_ATOM, UNRESTRICTED, UNRESTRICTED); 20]);
+    containers.extend([(3, NO_ATOM, UNRESTRICTED, UNRESTRICTED); 2]);
+    containers.push((1, 31, UNRESTRICTED, UNRESTRICTED));
+    image(&containers, &[], &[vec![(1 << 31) - 1]])
+}
+
+/// Appends to the files of [`guarded`] by a process; of 121, which first reads atom 31, all but the first are blocked.
+pub fn guarded_appends(process: usize) -> Vec<[u8; record::LENGTH]> {
+    let first = record(1, process, if process == 121 { 122 } else { 119 }, record::NO_USER);
+    let appends = (1..1_024).map(|i| record(3, process, i % 100, record::NO_USER));
+    std::iter::once(first).chain(appends).collect()
+}
+
 /// A policy of so many files, each with two rules of its own of so many mixtures, and users as many as there can be.
 pub fn policy_of_files(files: usize, mixtures: usize, seed: u64) -> Vec<u8> {
     let mut r = Random(seed);

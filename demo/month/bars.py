@@ -12,8 +12,8 @@ class Line:
     """A line of figures, field by field."""
 
     def __init__(self, fields):
-        self.accepted, self.alerts, self.refused = map(int, fields[:3])
-        rest = fields[4:] if fields[3] == "none" else fields[5:]
+        self.accepted, self.alerts, self.refused, self.blocked = map(int, fields[:4])
+        rest = fields[5:] if fields[4] == "none" else fields[6:]
         self.containers = dict(zip(rest[::2], map(int, rest[1::2]), strict=True))
 
 

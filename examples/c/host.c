@@ -9,7 +9,7 @@
  *
  * Exit status:
  *   0  every record was quiet
- *   1  some record gave an alert
+ *   1  some record gave an alert, or was blocked
  *   2  some record was refused: the monitor has not followed it
  *   3  both
  *   4  the policy was refused
@@ -106,7 +106,7 @@ static void print_sources(uint64_t tag, const struct names *names)
 
 /* What has been counted so far. */
 struct totals {
-    uint64_t steps, alerts, refusals;
+    uint64_t steps, alerts, blocked, refusals;
 };
 
 /* Whether an answer is one of the refusals that the header lists. */
@@ -125,6 +125,11 @@ static int judge(uint64_t *session, const uint8_t *records, size_t length, struc
         if (answer == YASLAUREL_ALERT) {
             totals->alerts++;
             printf("step %" PRIu64 ": container %" PRIu64 " now holds", totals->steps, receiver);
+            print_sources(tag, names);
+            printf("\n");
+        } else if (answer == YASLAUREL_BLOCKED) {
+            totals->blocked++;
+            printf("step %" PRIu64 ": blocked, container %" PRIu64 " would hold", totals->steps, receiver);
             print_sources(tag, names);
             printf("\n");
         } else if (is_refusal(answer)) {
@@ -147,7 +152,7 @@ static int judge(uint64_t *session, const uint8_t *records, size_t length, struc
 static int judge_trace(uint64_t *session, const char *path, FILE *trace, const struct names *names)
 {
     static uint8_t chunk[CHUNK];
-    struct totals totals = {0, 0, 0};
+    struct totals totals = {0, 0, 0, 0};
     /* A chunk is short at the end of the trace alone, so no record is cut. */
     size_t length = sizeof chunk;
 
@@ -161,8 +166,9 @@ static int judge_trace(uint64_t *session, const char *path, FILE *trace, const s
             return FAILED;
         }
     }
-    printf("%" PRIu64 " steps, %" PRIu64 " alerts, %" PRIu64 " refused\n", totals.steps, totals.alerts, totals.refusals);
-    return (totals.alerts > 0 ? ALERTS : QUIET) | (totals.refusals > 0 ? REFUSALS : QUIET);
+    printf("%" PRIu64 " steps, %" PRIu64 " alerts, %" PRIu64 " refused, %" PRIu64 " blocked\n", totals.steps,
+           totals.alerts, totals.refusals, totals.blocked);
+    return (totals.alerts + totals.blocked > 0 ? ALERTS : QUIET) | (totals.refusals > 0 ? REFUSALS : QUIET);
 }
 
 int main(int argc, char **argv)

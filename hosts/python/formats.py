@@ -20,7 +20,7 @@ RECORDS = {
 # An operation record: code, a zero, process, object, user.
 OPERATION = struct.Struct("<BBHHH")
 
-KINDS = {"file": 1, "volatile": 2, "process": 3}
+KINDS = {"file": 1, "volatile": 2, "process": 3, "guarded": 4}
 CODES = {"read": 1, "write": 2, "append": 3, "exec": 4, "fork": 5, "new-file": 6, "new-volatile": 7, "end": 8, "delete": 9}
 
 RUNNING = 32  # how far the running atom of a data atom is behind it

@@ -65,6 +65,7 @@ impl Watch {
                     let sources = self.policy.sources_in(answer.tag);
                     println!("alert, step {step}: {process} {what}{holder} now holds {sources}");
                 }
+                // No policy from profiles has a guarded file.
                 unknown => return Err(format!("unknown answer {unknown:?}")),
             },
             Err(refusal) => {

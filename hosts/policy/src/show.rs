@@ -2,7 +2,7 @@
 
 use std::collections::HashSet;
 
-use yaslaurel::{Mixture, Policy, Rule, Source};
+use yaslaurel::{Kind, Mixture, Policy, Rule, Source};
 
 use crate::quoted;
 
@@ -75,7 +75,11 @@ fn containers(policy: &Policy) -> String {
     let lines = policy.containers().map(|(name, container)| {
         let source = option("source", container.source.map(|source| quoted(&policy.source_name(source))));
         let rules = [option_rule("permit", container.permit), option_rule("run", container.run)].concat();
-        format!("{} {}{source}{rules}\n", container.kind, quoted(name))
+        let (word, guarded) = match container.kind {
+            Kind::Guarded => (Kind::File, " guarded"),
+            kind => (kind, ""),
+        };
+        format!("{word} {}{guarded}{source}{rules}\n", quoted(name))
     });
     lines.collect()
 }

@@ -14,7 +14,7 @@ pub struct Part {
 pub enum Statement {
     Source { name: String },
     Rule { name: String, mixtures: Vec<Vec<Part>> },
-    File { name: String, source: Option<String>, permit: Option<String>, run: Option<String> },
+    File { name: String, guarded: bool, source: Option<String>, permit: Option<String>, run: Option<String> },
     Permit { file: String, mixtures: Vec<Vec<Part>> },
     Volatile { name: String },
     Process { name: String },
@@ -82,6 +82,13 @@ impl Words<'_> {
     }
 
     /// The name behind a keyword, if the keyword is next; no keyword may stand twice.
+    /// A word that stands alone, once.
+    fn flag(&mut self, keyword: &str, into: &mut bool) -> bool {
+        let takes = !*into && self.takes(Token::Word(keyword));
+        *into |= takes;
+        takes
+    }
+
     fn option(&mut self, keyword: &str, into: &mut Option<String>) -> Result<bool, String> {
         if into.is_some() || !self.takes(Token::Word(keyword)) {
             return Ok(false);
@@ -115,18 +122,19 @@ impl Words<'_> {
         })
     }
 
-    /// `[source S] [permit R] [run R]`, in any order.
+    /// `[guarded] [source S] [permit R] [run R]`, in any order.
     fn file(&mut self) -> Result<Statement, String> {
         let name = self.name("the name of a file")?;
-        let (mut source, mut permit, mut run) = (None, None, None);
-        while self.option("source", &mut source)?
+        let (mut guarded, mut source, mut permit, mut run) = (false, None, None, None);
+        while self.flag("guarded", &mut guarded)
+            || self.option("source", &mut source)?
             || self.option("permit", &mut permit)?
             || self.option("run", &mut run)?
         {}
         if !self.tokens.is_empty() {
-            return self.wrong("`source`, `permit` or `run`, each once, with a name behind it");
+            return self.wrong("`guarded`, or `source`, `permit` or `run` with a name behind it, each once");
         }
-        Ok(Statement::File { name, source, permit, run })
+        Ok(Statement::File { name, guarded, source, permit, run })
     }
 
     /// `[rule R] [uid N]`, in any order.

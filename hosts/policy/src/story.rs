@@ -125,7 +125,11 @@ impl Reader {
             (_, Some(line)) => Err(format!("a step was at line {line}, expected only steps behind it")),
             (Statement::Source { name }, None) => self.source(&name),
             (Statement::Rule { name, mixtures }, None) => self.rule(name, &mixtures),
-            (Statement::File { name, source, permit, run }, None) => self.file(&name, source, permit, run),
+            (Statement::File { name, guarded, source, permit, run }, None) => {
+                self.file(&name, source, permit, run)?;
+                let number = self.file_number(&name)?;
+                self.policy.set_guarded(number, guarded).map_err(said)
+            }
             (Statement::Permit { file, mixtures }, None) => {
                 let rule = self.rule_of(&mixtures)?;
                 let number = self.file_number(&file)?;
@@ -205,9 +209,10 @@ impl Reader {
             return self.policy.file(name).map_err(said);
         };
         let (_, container) = self.policy.containers().nth(number.into()).expect("the number is that of a container");
-        match container.kind {
-            Kind::File => Ok(number),
-            kind => Err(format!("`{name}` is a {kind}, expected a file")),
+        if container.kind.is_file() {
+            Ok(number)
+        } else {
+            Err(format!("`{name}` is a {}, expected a file", container.kind))
         }
     }
 

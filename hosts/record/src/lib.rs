@@ -82,11 +82,17 @@ fn run_live(options: &Options) -> Result<u8, Failure> {
 }
 
 /// A follower at the start of a run whose first process starts in a folder.
-fn start(options: &Options, first: Option<&Path>, uid: Option<u32>, report: Report) -> Result<Follower, Failure> {
+fn start(options: &Options, first: Option<&Path>, uid: Option<u32>, mut report: Report) -> Result<Follower, Failure> {
     let folder = options.folder.as_deref().or(first);
     let plan = follow::plan(&options.story, folder)?;
     if plan.names_uids() && uid.is_none() {
         return Err(Failure::failed("the story names user ids, so --uid must say that of the first process"));
+    }
+    if !plan.guarded.is_empty() {
+        report.line(&format!(
+            "nothing is stopped here, guarded files are watched as plain ones: {}",
+            plan.guarded.join(", ")
+        ));
     }
     let folder = first.map(|first| first.as_os_str().to_os_string().into_vec());
     let run = Start { uid, folder, keep: options.out.is_some() };

@@ -32,6 +32,8 @@ pub struct RuleUser(pub Option<u8>);
 pub struct Plan {
     pub policy: Policy,
     pub files: Vec<StoryFile>,
+    /// The names of the files that the story guards, which are plain ones here.
+    pub guarded: Vec<String>,
     /// The recorder's own process: it executes nothing, so it may make files for every user.
     pub recorder: u8,
     /// The first process of the run.
@@ -84,12 +86,13 @@ impl Plan {
             return Err(PlanError::Step { line: step.line });
         }
         let mut policy = story.policy().clone();
+        let guarded = unguarded(&mut policy)?;
         let mut files = story_files(&policy, folder)?;
         let recorder = policy.process("the recorder")?;
         let first = policy.process("the first process")?;
         let unrestricted = policy.user("unrestricted user", Rule::unrestricted())?;
         rule_users(&mut policy, &mut files)?;
-        Ok(Plan { policy, files, recorder, first, unrestricted, uids: story.uids().to_vec() })
+        Ok(Plan { policy, files, guarded, recorder, first, unrestricted, uids: story.uids().to_vec() })
     }
 
     /// The user on whose behalf a user id runs.
@@ -102,6 +105,18 @@ impl Plan {
     pub fn names_uids(&self) -> bool {
         !self.uids.is_empty()
     }
+}
+
+/// Makes the guarded files plain ones, and gives their names: an access that is watched has been made, so the monitor must take it
+/// as made.
+fn unguarded(policy: &mut Policy) -> Result<Vec<String>, PolicyError> {
+    let all = policy.containers().enumerate();
+    let guarded = all.filter(|(_, (_, container))| container.kind == Kind::Guarded);
+    let guarded: Vec<(u8, String)> = guarded.map(|(number, (name, _))| (number as u8, name.to_string())).collect();
+    for (number, _) in &guarded {
+        policy.set_guarded(*number, false)?;
+    }
+    Ok(guarded.into_iter().map(|(_, name)| name).collect())
 }
 
 fn story_files(policy: &Policy, folder: Option<&[u8]>) -> Result<Vec<StoryFile>, PlanError> {

@@ -14,13 +14,21 @@ pub enum Kind {
     Volatile = 2,
     /// A process.
     Process = 3,
+    /// A guarded file: a write or append that would raise an alert there is [blocked](crate::Verdict::Blocked). Else as a file.
+    Guarded = 4,
 }
 
 impl Kind {
-    /// The kind of a number from 1 to 3.
+    /// The kind of a number from 1 to 4.
     #[must_use]
     pub fn from_number(number: u8) -> Option<Kind> {
-        [Kind::File, Kind::Volatile, Kind::Process].into_iter().find(|kind| kind.number() == number)
+        [Kind::File, Kind::Volatile, Kind::Process, Kind::Guarded].into_iter().find(|kind| kind.number() == number)
+    }
+
+    /// Whether it is a file, guarded or not.
+    #[must_use]
+    pub fn is_file(self) -> bool {
+        matches!(self, Kind::File | Kind::Guarded)
     }
 
     /// The number that stands for it in an image and in a session.
@@ -30,13 +38,14 @@ impl Kind {
     }
 }
 
-/// `file`, `volatile` or `process`.
+/// `file`, `volatile`, `process` or `guarded file`.
 impl fmt::Display for Kind {
     fn fmt(&self, f: &mut fmt::Formatter<'_>) -> fmt::Result {
         f.write_str(match self {
             Kind::File => "file",
             Kind::Volatile => "volatile",
             Kind::Process => "process",
+            Kind::Guarded => "guarded file",
         })
     }
 }

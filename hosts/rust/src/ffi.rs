@@ -8,6 +8,8 @@
 pub const QUIET: u32 = 0;
 /// The answer alert.
 pub const ALERT: u32 = 256;
+/// The answer blocked.
+pub const BLOCKED: u32 = 257;
 
 extern "C" {
     pub fn yaslaurel_version() -> u32;

@@ -67,28 +67,31 @@ pub const SESSION_LENGTH: usize = layout::session::LENGTH;
 /// Bytes that an output for an image must hold.
 pub const OUTPUT_LENGTH: usize = layout::image::LONGEST_NORMAL;
 
-/// What the monitor says of an accepted operation.
+/// What the monitor says of an operation that it does not refuse.
 #[derive(Clone, Copy, Debug, PartialEq, Eq, Hash)]
-#[must_use = "it may be an alert"]
+#[must_use = "it may be an alert, or blocked"]
 #[non_exhaustive]
 pub enum Verdict {
     /// The receiver's permit rule covers its tag, or the operation made a new file or volatile, or the receiver has left.
     Quiet,
     /// The receiver's permit rule does not cover its tag. The access is not undone.
     Alert,
+    /// A write or append into a [guarded file](Kind::Guarded) that would have raised an alert. The session stays as it was, and
+    /// the host must not make the access.
+    Blocked,
 }
 
-/// The answer to an accepted operation.
+/// The answer to an operation that is not refused.
 #[derive(Clone, Copy, Debug, PartialEq, Eq, Hash)]
-#[must_use = "it may be an alert"]
+#[must_use = "it may be an alert, or blocked"]
 #[non_exhaustive]
 pub struct Answer {
-    /// Whether it is an alert.
+    /// Whether it is an alert, or blocked.
     pub verdict: Verdict,
     /// The number of the container that received, or that ended or was deleted.
     pub receiver: u8,
-    /// The set of atoms that the receiver now holds: atom k is worth 2 to the k, data atoms 0 to 31, their running
-    /// atoms 32 to 63. 0 for one that has left.
+    /// The set of atoms that the receiver now holds, or would hold if the operation were not blocked: atom k is worth 2 to the
+    /// k, data atoms 0 to 31, their running atoms 32 to 63. 0 for one that has left.
     pub tag: u64,
 }
 
@@ -248,6 +251,7 @@ pub fn step_in(session: &mut [u64], record: &[u8]) -> Result<Answer, Refusal> {
     let verdict = match number {
         ffi::QUIET => Verdict::Quiet,
         ffi::ALERT => Verdict::Alert,
+        ffi::BLOCKED => Verdict::Blocked,
         number => return Err(refusal(number)),
     };
     Ok(Answer { verdict, receiver: receiver as u8, tag })
@@ -312,6 +316,25 @@ impl Session {
     /// # Ok::<(), Refusal>(())
     /// ```
     ///
+    /// A guarded file takes in no forbidden mixture:
+    ///
+    /// ```
+    /// use yaslaurel::{Mixture, Operation, Policy, Session, Verdict};
+    /// let mut policy = Policy::new();
+    /// let (north, south) = (policy.source("north")?, policy.source("south")?);
+    /// let (positions, statement, job) = (policy.file("positions")?, policy.file("statement")?, policy.process("job")?);
+    /// policy.set_source(positions, north)?;
+    /// policy.set_permit_rule(statement, Mixture::of([south]))?;
+    /// policy.set_guarded(statement, true)?;
+    /// let mut session = Session::start(&policy.image())?;
+    /// assert_eq!(session.perform(Operation::Read { process: job, object: positions })?.verdict, Verdict::Quiet);
+    /// let before = session.clone();
+    /// let answer = session.perform(Operation::Write { process: job, object: statement })?;
+    /// assert_eq!((answer.verdict, answer.receiver, answer.tag), (Verdict::Blocked, statement, 0b01));
+    /// assert_eq!(session, before);
+    /// # Ok::<(), Box<dyn std::error::Error>>(())
+    /// ```
+    ///
     /// # Errors
     ///
     /// As [`step`](Session::step); [`Refusal::OperationRecord`] only for a user over 15.
@@ -321,8 +344,8 @@ impl Session {
     }
 
     /// Judges the records that lie one behind the other in a slice, each as [`step`](Session::step) does; the last may be
-    /// short. The iterator gives what is not quiet: the record's place in the slice, counted from 0, and its alert or
-    /// refusal. Records are judged as the iterator goes on, so it is run to its end, or [`Run::judged`] tells how far it
+    /// short. The iterator gives what is not quiet: the record's place in the slice, counted from 0, and its alert, that it is
+    /// blocked, or its refusal. Records are judged as the iterator goes on, so it is run to its end, or [`Run::judged`] tells how far it
     /// came.
     ///
     /// ```
@@ -481,9 +504,8 @@ pub fn matrix_verdict(reads: &[u32], writes: &[u32], objects: u32) -> Result<Mat
 /// [`Refusal::Matrix`].
 pub fn matrix_silent(reads: &[u32], writes: &[u32], objects: u32) -> Result<bool, Refusal> {
     // SAFETY: the slices are valid and aligned for their lengths.
-    let number = unsafe {
-        ffi::yaslaurel_matrix_silent(reads.as_ptr(), reads.len(), writes.as_ptr(), writes.len(), objects)
-    };
+    let number =
+        unsafe { ffi::yaslaurel_matrix_silent(reads.as_ptr(), reads.len(), writes.as_ptr(), writes.len(), objects) };
     match number {
         0 => Ok(false),
         1 => Ok(true),
@@ -584,8 +606,8 @@ pub fn profiles_policy_into(text: &[u8], out: &mut [u8]) -> Result<usize, Refusa
 #[cfg(test)]
 mod tests {
     #[test]
-    #[should_panic(expected = "unknown answer 257")]
+    #[should_panic(expected = "unknown answer 258")]
     fn an_answer_that_is_no_refusal_is_told() {
-        let _ = super::refusal(257);
+        let _ = super::refusal(258);
     }
 }

@@ -213,6 +213,16 @@ impl Policy {
         Ok(())
     }
 
+    /// Makes a file a [guarded](Kind::Guarded) one, or a plain one again.
+    ///
+    /// # Errors
+    ///
+    /// [`PolicyError::NotAFile`], or [`PolicyError::NotThere`].
+    pub fn set_guarded(&mut self, file: u8, guarded: bool) -> Result<(), PolicyError> {
+        self.file_mut(file)?.kind = if guarded { Kind::Guarded } else { Kind::File };
+        Ok(())
+    }
+
     /// Says what a file may hold without an alert.
     ///
     /// # Errors
@@ -264,7 +274,7 @@ impl Policy {
 
     fn file_mut(&mut self, number: u8) -> Result<&mut PolicyContainer, PolicyError> {
         let container = self.containers.get_mut(usize::from(number)).ok_or(PolicyError::NotThere(number))?;
-        if container.kind == Kind::File {
+        if container.kind.is_file() {
             Ok(container)
         } else {
             Err(PolicyError::NotAFile(number))
@@ -475,7 +485,9 @@ impl Reader<'_> {
             let source = Source::from_atom(u32::from(self.bytes[place + image::ATOM]));
             let [permit, run] = [image::PERMIT, image::RUN].map(|field| rule(place + field));
             let [permit, run] = [permit, run].map(|rule| policy.rule_number(rule).expect("no more than the image's"));
-            policy.add_container(&format!("{kind}-{number}"), kind).expect("no more than the image's");
+            // A guarded file has the name of a file.
+            let word = if kind.is_file() { Kind::File } else { kind };
+            policy.add_container(&format!("{word}-{number}"), kind).expect("no more than the image's");
             policy.containers[number] = PolicyContainer { kind, source, permit, run };
         }
         for (number, place) in self.records(image::USERS).enumerate() {

@@ -18,7 +18,7 @@ pub fn run_in<'a>(session: &'a mut [u64], records: &'a [u8]) -> Run<'a> {
 }
 
 /// What is not quiet of a batch of records, from [`Session::run`](crate::Session::run): each record's place in the
-/// slice, and its alert or refusal.
+/// slice, and its alert, that it is blocked, or its refusal.
 #[must_use = "the records are judged as the iterator goes on"]
 pub struct Run<'a> {
     session: &'a mut [u64],
@@ -76,12 +76,14 @@ impl Iterator for Run<'_> {
         self.done = self.records.is_empty();
         // The last of them, or the first place of a call that took none.
         let place = self.judged.saturating_sub(1);
+        let answer = |verdict| Some((place, Ok(Answer { verdict, receiver: receiver as u8, tag })));
         match number {
             ffi::QUIET => {
                 self.done = true;
                 None
             }
-            ffi::ALERT => Some((place, Ok(Answer { verdict: Verdict::Alert, receiver: receiver as u8, tag }))),
+            ffi::ALERT => answer(Verdict::Alert),
+            ffi::BLOCKED => answer(Verdict::Blocked),
             number => {
                 let refusal = refusal(number);
                 self.done |= refusal == Refusal::LentLength;

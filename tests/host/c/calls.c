@@ -377,6 +377,86 @@ static void behalf_rows(void)
     }
 }
 
+/* A session with guarded files: 0 a file; 1 guarded and 2 a file, which may hold atoms 1 and 2; 3 and 5 processes; 4 guarded, whose
+   own atom it may not hold; 6 guarded and 7 a file, whose run rules meet in nine mixtures. Its user may hold atom 1. */
+static void start_guarded(void)
+{
+    static const size_t counts[YASLAUREL_SECTIONS] = {8, 1, 4, 8};
+    static const uint64_t mixtures[] = {6, 2, 31, 47, 55, 59, 61, 62};
+    uint8_t image[148];
+    size_t length = put_header(image, counts, NULL);
+    uint8_t *at = section_at(image, CONTAINER_SECTION);
+
+    at = put_container(at, YASLAUREL_FILE, 0, YASLAUREL_UNRESTRICTED, YASLAUREL_UNRESTRICTED);
+    at = put_container(at, YASLAUREL_GUARDED, 1, 0, YASLAUREL_UNRESTRICTED);
+    at = put_container(at, YASLAUREL_FILE, 2, 0, YASLAUREL_UNRESTRICTED);
+    at = put_other(at, YASLAUREL_PROCESS);
+    at = put_container(at, YASLAUREL_GUARDED, 3, 1, YASLAUREL_UNRESTRICTED);
+    at = put_other(at, YASLAUREL_PROCESS);
+    at = put_container(at, YASLAUREL_GUARDED, YASLAUREL_NO_ATOM, 1, 2);
+    at = put_container(at, YASLAUREL_FILE, 4, YASLAUREL_UNRESTRICTED, 3);
+    at = put_rule(put_rule(put_rule(put_rule(put_user(at, 1), 0, 1), 1, 1), 2, 3), 5, 3);
+    for (size_t i = 0; i < 8; i++) {
+        at = put_mixture(at, mixtures[i]);
+    }
+    check(length == sizeof image && yaslaurel_image_check(image, length) == 0 &&
+              yaslaurel_session_start(image, length, session, SESSION) == 0,
+          "guarded: the session starts");
+}
+
+static void guarded_example(void)
+{
+    static const struct {
+        uint8_t code, p, o;
+        uint16_t u;
+        uint32_t answer;
+        uint64_t receiver, tag;
+    } steps[] = {
+        {1, 3, 0, YASLAUREL_NO_USER, 0, 3, 1},                     /* process 3 holds 0 */
+        {2, 3, 1, YASLAUREL_NO_USER, YASLAUREL_BLOCKED, 1, 1},     /* which no write brings into file 1 */
+        {3, 3, 1, YASLAUREL_NO_USER, YASLAUREL_BLOCKED, 1, 3},     /* and no append */
+        {3, 3, 2, YASLAUREL_NO_USER, YASLAUREL_ALERT, 2, 5},       /* a plain file takes it, with an alert */
+        {1, 3, 1, YASLAUREL_NO_USER, 0, 3, 3},                     /* a guarded file is read, and holds its own alone */
+        {3, 5, 4, YASLAUREL_NO_USER, YASLAUREL_BLOCKED, 4, 8},     /* not even an append of nothing */
+        {1, 5, 7, YASLAUREL_NO_USER, 0, 5, 16},                    /* process 5 holds 4, and its run rule */
+        {3, 5, 6, YASLAUREL_NO_USER, YASLAUREL_REFUSED_MEET, 77, 88}, /* 15 before blocked */
+        {2, 5, 6, YASLAUREL_NO_USER, YASLAUREL_BLOCKED, 6, 16},    /* a write forms no meet */
+        {4, 3, 1, 0, YASLAUREL_ALERT, 3, 3 | (uint64_t)1 << 33},   /* a guarded file is executed; user 0 may hold 1 */
+        {9, 3, 1, YASLAUREL_NO_USER, 0, 1, 0},                     /* and deleted */
+        {6, 3, 1, 0, 0, 1, 0},                                     /* a new file at its number */
+        {3, 3, 1, YASLAUREL_NO_USER, YASLAUREL_ALERT, 1, 3 | (uint64_t)1 << 33}, /* is a plain one */
+        {3, 3, 4, YASLAUREL_NO_USER, YASLAUREL_BLOCKED, 4, 11 | (uint64_t)1 << 33},
+    };
+
+    start_guarded();
+    for (size_t i = 0; i < sizeof steps / sizeof steps[0]; i++) {
+        const uint8_t record[RECORD] = {
+            steps[i].code, 0, steps[i].p, 0, steps[i].o, 0, (uint8_t)steps[i].u, (uint8_t)(steps[i].u >> 8)};
+        memcpy(before, session, sizeof session);
+        check(step_gives(record, steps[i].answer, steps[i].receiver, steps[i].tag), "guarded: a step of guarded files");
+        check(steps[i].answer != YASLAUREL_BLOCKED || session_stayed(), "guarded: a blocked step leaves the session");
+    }
+}
+
+/* A batch stops behind a blocked record, which is counted and leaves the session as it was. */
+static void guarded_batch(void)
+{
+    static const uint8_t batch[4 * RECORD] = {
+        1, 0, 3, 0, 0, 0, 255, 255, 3, 0, 3, 0, 1, 0, 255, 255, /* read, append: blocked */
+        1, 0, 3, 0, 2, 0, 255, 255, 2, 0, 3, 0, 1, 0, 255, 255, /* read, write: blocked */
+    };
+
+    start_guarded();
+    got = unset;
+    check(run(session, SESSION, batch, sizeof batch) == YASLAUREL_BLOCKED && got.taken == 2 && got.receiver == 1 &&
+              got.tag == 3,
+          "run: a batch that stops at a blocked record");
+    check(session[YASLAUREL_CONTAINER_ROW + YASLAUREL_TAG_AT] == 2, "run: a blocked record leaves the file");
+    check(run(session, SESSION, batch + 2 * RECORD, 2 * RECORD) == YASLAUREL_BLOCKED && got.taken == 2 &&
+              got.receiver == 1 && got.tag == 5,
+          "run: the rest of the batch goes on where it stopped");
+}
+
 /* Lines `profile /NUMBER {`, `/f MODES,` and `}` for so many programs from a number on. The length of the text. */
 static size_t programs(char *text, int first, int count, const char *modes)
 {
@@ -498,7 +578,8 @@ static size_t random_image(uint64_t *seed, int round, uint8_t *image, size_t lim
 /* Whether an answer is one that a step can give, of a record that names no user. */
 static int step_answer(uint32_t answer)
 {
-    return answer == YASLAUREL_QUIET || answer == YASLAUREL_ALERT || answer == 7 || (answer >= 10 && answer <= 15);
+    return answer == YASLAUREL_QUIET || answer == YASLAUREL_ALERT || answer == YASLAUREL_BLOCKED || answer == 7 ||
+           (answer >= 10 && answer <= 15);
 }
 
 /* A step and a run on random numbers, or on the session of a random image. */
@@ -511,7 +592,8 @@ static int random_steps(uint64_t *seed, const uint8_t *image, size_t length)
     yaslaurel_record(codes[draw(seed) % sizeof codes], draw(seed) % 256, draw(seed) % 256, YASLAUREL_NO_USER, record);
     uint32_t answer = step(session, SESSION, record, RECORD);
     int good = step_answer(answer) && got.receiver < YASLAUREL_CONTAINERS;
-    good = good && (answer == YASLAUREL_QUIET || answer == YASLAUREL_ALERT || answer_stayed());
+    good = good && (answer == YASLAUREL_QUIET || answer == YASLAUREL_ALERT || answer == YASLAUREL_BLOCKED ||
+                    answer_stayed());
     answer = run(session, SESSION, image, length);
     good = good && (step_answer(answer) || answer == 18);
     return good && got.taken <= (length + RECORD - 1) / RECORD && (answer != 0 || got.taken * RECORD >= length);
@@ -718,6 +800,8 @@ int main(void)
     leaving_example();
     behalf_example();
     behalf_rows();
+    guarded_example();
+    guarded_batch();
     profile_example();
     profile_limits();
     withdrawals();

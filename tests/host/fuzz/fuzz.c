@@ -31,7 +31,7 @@ enum {
     WORD = sizeof(uint64_t),
     BATCH = 40, /* records of a run at most */
     /* Numbers of answers; a length is counted as the last. */
-    ANSWERS = 257,
+    ANSWERS = 259,
     LENGTH = ANSWERS - 1
 };
 
@@ -133,7 +133,7 @@ static void make_containers(const size_t *counts)
     for (size_t i = 0; i < counts[CONTAINER_SECTION]; i++) {
         if (i > 0 && percent(60)) {
             size_t permit = rule_of(counts[RULE_SECTION], 20), run = rule_of(counts[RULE_SECTION], 40);
-            at = put_container(at, YASLAUREL_FILE, below(YASLAUREL_ATOMS), permit, run);
+            at = put_container(at, percent(40) ? YASLAUREL_GUARDED : YASLAUREL_FILE, below(YASLAUREL_ATOMS), permit, run);
         } else {
             at = put_other(at, i == 0 || percent(50) ? YASLAUREL_PROCESS : YASLAUREL_VOLATILE);
         }
@@ -275,8 +275,10 @@ static unsigned make_record(uint8_t *record)
     if (code == 8 && percent(60)) {
         code = 5; /* More processes begin than end. */
     }
+    static const uint64_t stores[] = {YASLAUREL_FILE, YASLAUREL_GUARDED, YASLAUREL_VOLATILE};
+    uint64_t store = stores[below(code == 4 ? 2 : 3)];
     size_t p = percent(96) ? container_of(3) : below(YASLAUREL_CONTAINERS);
-    size_t o = code == 8 ? p : container_of(code <= 4 || code == 9 ? 1 + (code != 4 ? below(2) : 0) : 0);
+    size_t o = code == 8 ? p : container_of(code <= 4 || code == 9 ? store : 0);
 
     for (size_t i = 0; i < RECORD; i++) {
         record[i] = (uint8_t)draw();
@@ -354,6 +356,19 @@ static void check_accepted(const uint8_t *record, const uint64_t *numbers)
     require(memcmp(session, after, WORD * SESSION) == 0, "the other rows stay");
 }
 
+/* What a blocked record leaves in the lent session, whose answer is these numbers. */
+static void check_blocked(const uint8_t *record, const uint64_t *numbers)
+{
+    unsigned code = record[YASLAUREL_CODE_AT], o = record[YASLAUREL_OBJECT_AT];
+
+    require(code == 2 || code == 3, "only writes and appends are blocked");
+    require(session[CONTAINER_ROW * o + YASLAUREL_KIND_AT] == YASLAUREL_GUARDED, "only guarded files block");
+    require(stayed(&session_at, 0), "the session stays where a record is blocked");
+    uint64_t tag = session[CONTAINER_ROW * record[YASLAUREL_PROCESS_AT] + YASLAUREL_TAG_AT];
+    tag |= code == 3 ? session[CONTAINER_ROW * o + YASLAUREL_TAG_AT] : 0;
+    require(numbers[0] == o && numbers[1] == tag, "a blocked record gives the file and the tag it would have had");
+}
+
 /* Whether an answer is a refusal of a step, which are these numbers. */
 static int step_refused(uint32_t answer) { return answer == 7 || (answer >= 9 && answer <= 15) || answer == 18; }
 
@@ -382,16 +397,18 @@ static void try_step(int damaged)
     uint32_t answer = step((uint64_t *)(void *)session_at.slice, session_length, record_at.slice, length, numbers);
     read_only(&record_at, 0);
 
-    int accepted = answer == YASLAUREL_QUIET || answer == YASLAUREL_ALERT;
-    require(accepted || step_refused(answer), "the step gives an answer or 7, 9 to 15, 18");
+    int accepted = answer == YASLAUREL_QUIET || answer == YASLAUREL_ALERT, blocked = answer == YASLAUREL_BLOCKED;
+    require(accepted || blocked || step_refused(answer), "the step gives an answer or 7, 9 to 15, 18");
     require((answer == 9) == (session_length != SESSION), "the step gives 9 for a session of wrong length alone");
     require(damaged || answer != 10, "a session that only start and step have written is not refused with 10");
     require(stayed(&record_at, 0), "the record stays");
-    require(stayed(&numbers_at, accepted ? sizeof before : 0), "receiver and tag stay in a refusal");
+    require(stayed(&numbers_at, accepted || blocked ? sizeof before : 0), "receiver and tag stay in a refusal");
     require(answer != 18 || other_user(record), "18 is for a new file for another user alone");
     steps[answer]++;
     if (accepted) {
         check_accepted(record, numbers);
+    } else if (blocked) {
+        check_blocked(record, numbers);
     } else {
         require(stayed(&session_at, 0), "the session stays in a refusal");
     }
@@ -431,14 +448,15 @@ static size_t make_batch(uint8_t *records)
 /* What a run leaves of the lent memory is what its records leave step by step, and 9 leaves everything. */
 static void check_run(const struct run *expected, const uint64_t *stepped, const uint64_t *numbers, size_t taken)
 {
-    int judged = expected->answer != 9, alert = expected->answer == YASLAUREL_ALERT;
+    int judged = expected->answer != 9;
+    int told = expected->answer == YASLAUREL_ALERT || expected->answer == YASLAUREL_BLOCKED;
 
     require(stayed(&record_at, 0), "the records stay");
-    require(stayed(&numbers_at, alert ? 2 * WORD : 0), "receiver and tag stay but in an alert");
+    require(stayed(&numbers_at, told ? 2 * WORD : 0), "receiver and tag stay but in an alert or where it is blocked");
     require(stayed(&taken_at, judged ? sizeof taken : 0), "9 leaves the count");
     require(!judged || taken == expected->taken, "the run counts the records up to and with the one at which it stops");
-    require(!alert || (numbers[0] == expected->numbers[0] && numbers[1] == expected->numbers[1]),
-            "the run gives the alert's receiver and tag");
+    require(!told || (numbers[0] == expected->numbers[0] && numbers[1] == expected->numbers[1]),
+            "the run gives the receiver and tag of an alert or a blocked record");
     require(stayed(&session_at, judged ? WORD * SESSION : 0), "memory beside the session stays");
     require(!judged || memcmp(session_at.slice, stepped, WORD * SESSION) == 0,
             "the run leaves the session that its records leave");
@@ -684,8 +702,8 @@ static int all_reached(int print)
     int all = REACHED(print, checks, 0, 1, 2, 3, 4, 5, 6);
     all &= REACHED(print, normals, LENGTH, 1, 2, 3, 4, 5, 6, 9);
     all &= REACHED(print, starts, 0, 1, 2, 3, 4, 5, 6, 9);
-    all &= REACHED(print, steps, YASLAUREL_QUIET, YASLAUREL_ALERT, 7, 9, 10, 11, 12, 13, 14, 15, 18);
-    all &= REACHED(print, runs, YASLAUREL_QUIET, YASLAUREL_ALERT, 7, 9, 10, 11, 12, 13, 14, 15, 18);
+    all &= REACHED(print, steps, YASLAUREL_QUIET, YASLAUREL_ALERT, YASLAUREL_BLOCKED, 7, 9, 10, 11, 12, 13, 14, 15, 18);
+    all &= REACHED(print, runs, YASLAUREL_QUIET, YASLAUREL_ALERT, YASLAUREL_BLOCKED, 7, 9, 10, 11, 12, 13, 14, 15, 18);
     all &= REACHED(print, verdicts, 0, 1, 8);
     all &= REACHED(print, silences, 0, 1, 8);
     all &= REACHED(print, policies, LENGTH, 8, 9);

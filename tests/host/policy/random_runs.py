@@ -19,6 +19,9 @@ STORIES, DAMAGED = 120, 400
 MAKES, LEAVES, TAKES_USER = {"fork", "new-file", "new-volatile"}, {"end", "delete"}, {"exec", "new-file"}
 
 
+FILES = ["file", "guarded"]
+
+
 class RandomStory:
     """A story in text, and beside it the policy and the trace that it stands for."""
 
@@ -73,11 +76,12 @@ class RandomStory:
     def container(self, kind, source):
         name = self.name("c", len(self.holders))
         text, permit, run = "", UNRESTRICTED, UNRESTRICTED
-        if kind == "file":
+        if kind in FILES:
             (permit_text, permit), (run_text, run) = self.option("permit"), self.option("run")
             source_text = "" if source is None else f" source {self.spelled(self.sources[source])}"
-            text = "".join(self.r.sample([permit_text, run_text, source_text], 3))
-        self.lines.append(f"{kind} {self.spelled(name)}{text}")
+            guarded_text = " guarded" if kind == "guarded" else ""
+            text = "".join(self.r.sample([permit_text, run_text, source_text, guarded_text], 4))
+        self.lines.append(f"{'file' if kind in FILES else kind} {self.spelled(name)}{text}")
         self.add(name, kind, source, permit, run)
 
     def add(self, name, kind, source, permit, run):
@@ -87,7 +91,7 @@ class RandomStory:
     def permit(self):
         """A permit line, of a file that has no permit rule or of a new one."""
         free = [number for number, (kind, _, permit, _) in enumerate(self.containers)
-                if kind == KINDS["file"] and permit == UNRESTRICTED]
+                if kind in map(KINDS.get, FILES) and permit == UNRESTRICTED]
         if not free or self.r.random() < 0.5:
             free = [len(self.containers)]
             self.add(self.name("c", len(self.holders)), "file", None, UNRESTRICTED, UNRESTRICTED)

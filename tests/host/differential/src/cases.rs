@@ -3,6 +3,7 @@
 
 mod allowed;
 mod batches;
+mod guarded;
 mod histories;
 mod images;
 mod matrices;
@@ -26,4 +27,5 @@ pub const PARTS: &[Part] = &[
     profiles::PART,
     proposals::PART,
     allowed::PART,
+    guarded::PART,
 ];

@@ -37,6 +37,8 @@ pub enum Need {
     Words(&'static str, &'static [&'static str]),
     /// The largest is this.
     Largest(&'static str, usize),
+    /// Of all that was counted under the name, this part at least, in a hundred.
+    Share(&'static str, &'static str, u64),
 }
 
 #[derive(Default)]
@@ -64,6 +66,14 @@ impl Counters {
         self.counts.get(name).and_then(|counts| counts.get(&key)).is_some_and(|&count| count > 0)
     }
 
+    /// Whether so many in a hundred of what was counted under a name have this key.
+    fn share(&self, name: &str, key: Key, percent: u64) -> bool {
+        self.counts.get(name).is_some_and(|counts| {
+            let all: u64 = counts.values().sum();
+            100 * counts.get(&key).copied().unwrap_or(0) >= percent * all && all > 0
+        })
+    }
+
     /// What the run did not reach of this, and must.
     pub fn missing(&self, need: &Need) -> Vec<String> {
         let without = |name: &str, keys: Vec<Key>| {
@@ -75,6 +85,8 @@ impl Counters {
             Need::Words(name, words) => without(name, words.iter().map(|&word| word.into()).collect()),
             Need::Largest(name, size) if self.largest.get(name) == Some(&size) => vec![],
             Need::Largest(name, size) => vec![format!("{name}: {size}")],
+            Need::Share(name, key, percent) if self.share(name, key.into(), percent) => vec![],
+            Need::Share(name, key, percent) => vec![format!("{name}: {percent} in a hundred {key}")],
         }
     }
 

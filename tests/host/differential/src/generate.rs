@@ -90,12 +90,14 @@ pub fn policy(r: &mut Random, class: usize) -> Spec {
     rules(r, class, &mut spec);
     let rules = spec.rules.len();
     let atoms = r.pick(&[2, 4, 32]);
+    // Files, guarded ones, or both.
+    let kinds: &[u8] = r.pick(&[&[1], &[1, 1, 4], &[1, 4], &[4]]);
     for _ in 0..count(r, class, CONTAINERS.most) {
         spec.containers.push(match r.below(20) {
             0..=10 => {
                 let atom = if r.percent(10) { NO_ATOM } else { r.below(atoms) as u8 };
                 let run = if r.percent(40) { UNRESTRICTED } else { rule_number(r, rules) };
-                (1, atom, rule_number(r, rules), run)
+                (r.pick(kinds), atom, rule_number(r, rules), run)
             }
             11..=13 => (2, NO_ATOM, UNRESTRICTED, UNRESTRICTED),
             _ => PROCESS_RECORD,
@@ -177,7 +179,7 @@ fn damage_spec(r: &mut Random, spec: &mut Spec) {
             let at = r.below(spec.containers.len());
             let container = &mut spec.containers[at];
             match r.below(5) {
-                0 => container.0 = r.pick(&[0, 1, 2, 3, 4, 255]),
+                0 => container.0 = r.pick(&[0, 1, 2, 3, 4, 5, 7, 255]),
                 1 => container.1 = r.pick(&[0, 31, 32, 63, 254, 255]),
                 2 => container.2 = r.pick(&[0, rules, rules + 1, 65534, 65535]),
                 3 => container.3 = r.pick(&[0, rules, rules + 1, 65534, 65535]),
@@ -339,8 +341,8 @@ fn container_of(r: &mut Random, session: &[u64], wanted: &[u64], bound: usize) -
 /// An object for a code.
 fn object(r: &mut Random, session: &[u64], code: u8, p: u16, containers: usize) -> u16 {
     let kinds: &[u64] = match code {
-        1..=3 | 9 => &[1, 2],
-        4 => &[1],
+        1..=3 | 9 => &[1, 2, 4],
+        4 => &[1, 4],
         _ => &[0],
     };
     // A free number among the first ones is mostly one that was left.

@@ -74,7 +74,7 @@ fn passes(code: u8, carried: Carried) -> Option<Carried> {
 pub fn list(policy: &Policy, history: &[Record]) -> Vec<Chain> {
     let mut found = Vec::new();
     for (file, container) in policy.containers.iter().enumerate() {
-        if container.kind != Kind::File {
+        if !container.kind.is_file() {
             continue;
         }
         // "A data atom starts in each file naming it". "A file's run rule starts in that file".
@@ -173,16 +173,30 @@ pub fn governing(policy: &Policy, history: &[Record], chains: &[Chain], containe
     }
 }
 
-/// What the judge of chains says of one accepted step.
+/// Whether a number stands for a guarded file after the first `after` steps: "Kind 4, in image and session, is a guarded file"
+/// (change request No. 9). Codes 5 to 7 make none, and one that leaves takes its guard with it.
+fn guarded(policy: &Policy, history: &[Record], container: usize, after: usize) -> bool {
+    let holder_changed = |step: &Record| match step.code {
+        5..=7 => step.o == container,
+        _ => leaves(*step) == Some(container),
+    };
+    let of_the_image = !history[..after].iter().any(holder_changed);
+    of_the_image && policy.containers.get(container).is_some_and(|own| own.kind == Kind::Guarded)
+}
+
+/// What the judge of chains says of one step.
 #[derive(Clone, Copy, Debug, PartialEq, Eq)]
 pub struct Judged {
-    pub alert: bool,
+    /// Some rule that governs the receiver does not cover the information that comes there.
+    pub forbidden: bool,
+    /// The receiver is a guarded file: then the step is blocked where it would alert.
+    pub guarded: bool,
     pub receiver: usize,
     pub information: u64,
 }
 
-/// Judges every step of a history: an alert exactly when one of the rules that govern the receiver does not cover the
-/// information that has come there; "6 and 7 answer quiet", and so do 8 and 9 ("Both answer quiet with tag 0").
+/// Judges every step of a history: an alert, or blocked, exactly when one of the rules that govern the receiver does not cover
+/// the information that has come there; "6 and 7 answer quiet", and so do 8 and 9 ("Both answer quiet with tag 0").
 pub fn judge(policy: &Policy, history: &[Record]) -> Vec<Judged> {
     let chains = list(policy, history);
     history
@@ -192,10 +206,18 @@ pub fn judge(policy: &Policy, history: &[Record]) -> Vec<Judged> {
             let receiver = if step.code == 1 || step.code == 4 { step.p } else { step.o };
             let information = information(&chains, receiver, at + 1);
             let rules = governing(policy, history, &chains, receiver, at + 1);
-            let alert = step.code <= 5 && rules.iter().any(|rule| !covers(rule, information));
-            Judged { alert, receiver, information }
+            let forbidden = step.code <= 5 && rules.iter().any(|rule| !covers(rule, information));
+            let guarded = guarded(policy, history, receiver, at + 1);
+            Judged { forbidden, guarded, receiver, information }
         })
         .collect()
+}
+
+/// Judges one step behind a history that it is no part of: "A blocked access is no part of the history from which later alerts
+/// are judged" (change request No. 9).
+pub fn judge_next(policy: &Policy, history: &[Record], step: Record) -> Judged {
+    let with: Vec<Record> = history.iter().copied().chain([step]).collect();
+    *judge(policy, &with).last().expect("there is this step")
 }
 
 /// "Show on whose behalf a process runs. So far this is implied by the last exec." "exec sets it and fork copies it" (change
@@ -293,6 +315,19 @@ mod tests {
         assert_eq!(of_3, [0, 0, 2, 0, 0, 0, 0, 0, 0]);
         let of_0: Vec<usize> = (0..=8).map(|after| count(0, after)).collect();
         assert_eq!(of_0, [1, 1, 1, 1, 1, 0, 0, 0, 1]);
+    }
+
+    /// A number is guarded as long as the guarded file of the image holds it.
+    #[test]
+    fn a_guard_leaves_with_its_file() {
+        let mut policy =
+            Policy { containers: vec![file(0), file(1), process()], users: vec![UNRESTRICTED], rules: vec![] };
+        policy.containers[1].kind = Kind::Guarded;
+        let new_file = Record { code: 6, p: 2, o: 1, u: Some(0) };
+        let history = [step(1, 2, 0), step(9, 2, 1), new_file];
+        let of_1: Vec<bool> = (0..=3).map(|after| guarded(&policy, &history, 1, after)).collect();
+        assert_eq!(of_1, [true, true, false, false]);
+        assert!(!guarded(&policy, &history, 0, 0) && !guarded(&policy, &history, 9, 0));
     }
 
     /// The order of steps counts: what p reads after its write does not reach the file.

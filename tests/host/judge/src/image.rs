@@ -6,21 +6,29 @@ use crate::numbers::{
 };
 use crate::rules::{unrestricted, Rule};
 
-/// The three kinds of container, "1 file, 2 volatile, 3 process".
+/// The kinds of container, "1 file, 2 volatile, 3 process"; "Kind 4, in image and session, is a guarded file, treated as a file
+/// elsewhere" (change request No. 9).
 #[derive(Clone, Copy, Debug, PartialEq, Eq)]
 pub enum Kind {
     File,
     Volatile,
     Process,
+    Guarded,
 }
 
 impl Kind {
+    /// A file or a guarded one.
+    pub fn is_file(self) -> bool {
+        matches!(self, Kind::File | Kind::Guarded)
+    }
+
     /// The kind as the number that image and session store.
     pub fn number(self) -> u8 {
         match self {
             Kind::File => 1,
             Kind::Volatile => 2,
             Kind::Process => 3,
+            Kind::Guarded => 4,
         }
     }
 
@@ -30,6 +38,7 @@ impl Kind {
             1 => Some(Kind::File),
             2 => Some(Kind::Volatile),
             3 => Some(Kind::Process),
+            4 => Some(Kind::Guarded),
             _ => None,
         }
     }
@@ -113,12 +122,12 @@ fn container(record: &[u8], rules: usize) -> Result<Container, u32> {
     match Kind::of(u64::from(kind)) {
         None => Err(5),
         // "atom (8 bits: 0 to 31, 255 none)"
-        Some(Kind::File) => {
+        Some(kind) if kind.is_file() => {
             if (atom >= DATA_ATOMS && atom != NO_ATOM) || !names_a_rule(permit, rules) || !names_a_rule(run, rules) {
                 return Err(5);
             }
             let atom = if atom == NO_ATOM { None } else { Some(atom) };
-            Ok(Container { kind: Kind::File, atom, permit, run })
+            Ok(Container { kind, atom, permit, run })
         }
         // "Kinds 2 and 3 have atom 255 and both rules 65535."
         Some(kind) => {

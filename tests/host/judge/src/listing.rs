@@ -53,6 +53,8 @@ pub fn listing(policy: &[u8], trace: &[u8]) -> String {
                 alerts += 1;
                 writeln!(text, "alert {} {:016x}", answer.receiver, answer.tag).unwrap();
             }
+            // "The listing's verdict word is `blocked`." (change request No. 9); the total has no count of it.
+            Outcome::Blocked => writeln!(text, "blocked {} {:016x}", answer.receiver, answer.tag).unwrap(),
             Outcome::Refused => {
                 refusals += 1;
                 writeln!(text, "refused {}", answer.number).unwrap();

@@ -9,12 +9,15 @@ use crate::session::{outcome, start, step, Outcome};
 /// "19 when a trace has over 1,000,000 records".
 const TOO_LONG: u32 = 19;
 
-/// "accepted steps, alerts, refused steps, .. then number and alerts of each container number that alerted".
+/// "accepted steps, alerts, refused steps, .. then number and alerts of each container number that alerted"; "the month's figures
+/// give it a count of its own, right behind refused steps and outside accepted, alerts and refused" (change request No. 9, of a
+/// blocked access).
 #[derive(Default)]
 struct Figures {
     accepted: u64,
     alerts: u64,
     refused: u64,
+    blocked: u64,
     containers: BTreeMap<u64, u64>,
 }
 
@@ -33,6 +36,7 @@ fn figures(policy: &[u8], trace: &[u8]) -> Figures {
                 found.alerts += 1;
                 *found.containers.entry(answer.receiver).or_default() += 1;
             }
+            Outcome::Blocked => found.blocked += 1,
             Outcome::Refused => found.refused += 1,
         }
     }
@@ -42,7 +46,7 @@ fn figures(policy: &[u8], trace: &[u8]) -> Figures {
 /// "name (`total` in the last), accepted steps, alerts, refused steps, the rate .., then number and alerts of each container
 /// number that alerted, rising", "spaced and ended as in the listing".
 fn line(name: &str, found: &Figures) -> String {
-    let mut text = format!("{name} {} {} {}", found.accepted, found.alerts, found.refused);
+    let mut text = format!("{name} {} {} {} {}", found.accepted, found.alerts, found.refused, found.blocked);
     match found.accepted {
         // "With no accepted step it prints `none` for the rate."
         0 => text.push_str(" none"),
@@ -79,6 +83,7 @@ pub fn month(policy: &[u8], traces: &[Vec<u8>]) -> String {
         total.accepted += found.accepted;
         total.alerts += found.alerts;
         total.refused += found.refused;
+        total.blocked += found.blocked;
         for (container, alerts) in found.containers {
             *total.containers.entry(container).or_default() += alerts;
         }
@@ -92,26 +97,27 @@ mod tests {
     use super::*;
 
     /// Figures with these counts and alerts at these containers.
-    fn some(accepted: u64, refused: u64, containers: &[(u64, u64)]) -> Figures {
+    fn some(accepted: u64, refused: u64, blocked: u64, containers: &[(u64, u64)]) -> Figures {
         let containers: BTreeMap<u64, u64> = containers.iter().copied().collect();
-        Figures { accepted, alerts: containers.values().sum(), refused, containers }
+        Figures { accepted, alerts: containers.values().sum(), refused, blocked, containers }
     }
 
     #[test]
     fn lines() {
         assert_eq!(
-            line("07.bin", &some(301, 2, &[(255, 1), (0, 3), (7, 12)])),
-            "07.bin 301 16 2 53 47 0 3 7 12 255 1\n"
+            line("07.bin", &some(301, 2, 5, &[(255, 1), (0, 3), (7, 12)])),
+            "07.bin 301 16 2 5 53 47 0 3 7 12 255 1\n"
         );
-        assert_eq!(line("total", &some(0, 0, &[])), "total 0 0 0 none\n");
-        assert_eq!(line("00.bin", &some(3, 0, &[])), "00.bin 3 0 0 0 0\n");
+        assert_eq!(line("total", &some(0, 0, 0, &[])), "total 0 0 0 0 none\n");
+        assert_eq!(line("00.bin", &some(3, 0, 0, &[])), "00.bin 3 0 0 0 0 0\n");
     }
 
     #[test]
     fn no_trace_and_refused_policy() {
         let empty = crate::normal::encode(&crate::image::Policy { containers: vec![], users: vec![], rules: vec![] });
-        assert_eq!(month(&empty, &[]), "total 0 0 0 none\n");
-        assert_eq!(month(&empty, &[vec![1, 0, 0], vec![]]), "00.bin 0 0 1 none\n01.bin 0 0 0 none\ntotal 0 0 1 none\n");
+        assert_eq!(month(&empty, &[]), "total 0 0 0 0 none\n");
+        let lines = "00.bin 0 0 1 0 none\n01.bin 0 0 0 0 none\ntotal 0 0 1 0 none\n";
+        assert_eq!(month(&empty, &[vec![1, 0, 0], vec![]]), lines);
         assert_eq!(month(&[], &[vec![1, 0, 0]]), "policy refused 1\n");
     }
 
@@ -119,7 +125,7 @@ mod tests {
     fn at_the_limits() {
         let empty = crate::normal::encode(&crate::image::Policy { containers: vec![], users: vec![], rules: vec![] });
         let long = [vec![0; 8_000_000], vec![0; 8_000_001]];
-        assert_eq!(month(&empty, &long), "00.bin 0 0 1000000 none\n01.bin 19\ntotal 0 0 1000000 none\n");
+        assert_eq!(month(&empty, &long), "00.bin 0 0 1000000 0 none\n01.bin 19\ntotal 0 0 1000000 0 none\n");
         assert_eq!(month(&empty, &vec![vec![]; 65]).lines().count(), 65);
     }
 }

@@ -7,11 +7,12 @@ use crate::numbers::{
 };
 use crate::rules::{covers, data_atoms, meet, normal, running_atoms, unrestricted, Rule};
 
-/// The number of an answer that is quiet and of one that is an alert.
+/// The numbers of the answers quiet, alert and blocked.
 pub const QUIET: u32 = 0;
 pub const ALERT: u32 = 256;
+pub const BLOCKED: u32 = 257;
 
-/// What one operation returns: quiet, alert or the number of its refusal; "Each answer gives receiver and tag".
+/// What one operation returns: quiet, alert, blocked or the number of its refusal; "Each answer gives receiver and tag".
 #[derive(Clone, Copy, Debug, PartialEq, Eq)]
 pub struct Answer {
     pub number: u32,
@@ -24,6 +25,7 @@ pub struct Answer {
 pub enum Outcome {
     Quiet,
     Alert,
+    Blocked,
     Refused,
 }
 
@@ -33,6 +35,7 @@ pub fn outcome(number: u32) -> Outcome {
     match number {
         QUIET => Outcome::Quiet,
         ALERT => Outcome::Alert,
+        BLOCKED => Outcome::Blocked,
         1..=18 => Outcome::Refused,
         unknown => panic!("unknown answer {unknown}"),
     }
@@ -270,8 +273,8 @@ fn judged(session: &[u64], record: Record) -> Result<Effect, u32> {
     // "file or volatile" (change request No. 4)
     let kind = o.row().map(|row| row.kind);
     let right = match record.code {
-        1..=3 | 9 => kind == Some(Kind::File) || kind == Some(Kind::Volatile),
-        4 => kind == Some(Kind::File),
+        1..=3 | 9 => kind.is_some_and(|kind| kind.is_file() || kind == Kind::Volatile),
+        4 => kind.is_some_and(Kind::is_file),
         _ => true,
     };
     if !right {
@@ -310,11 +313,20 @@ pub fn step(session: &mut [u64], record: &[u8]) -> Answer {
             Answer { number: QUIET, receiver: receiver as u64, tag: 0 }
         }
         Ok(Effect { receiver, place: Place::Taken(row) }) => {
-            write_container(session, receiver, &row);
             // "Codes 1 to 5 answer alert if the receiver's permit rule does not cover its tag afterwards, else quiet;
             // 6 and 7 answer quiet." "An alert does not undo the access."
             let alert = record.code <= 5 && !covers(&row.permit, row.tag);
-            let number = if alert { ALERT } else { QUIET };
+            // "A write or append into it that would raise an alert answers blocked, with the receiver and the tag it would
+            // have had, and changes nothing." (change request No. 9)
+            let blocked = alert && (record.code == 2 || record.code == 3) && row.kind == Kind::Guarded;
+            if !blocked {
+                write_container(session, receiver, &row);
+            }
+            let number = match (alert, blocked) {
+                (_, true) => BLOCKED,
+                (true, false) => ALERT,
+                (false, false) => QUIET,
+            };
             Answer { number, receiver: receiver as u64, tag: row.tag }
         }
     }
@@ -380,6 +392,33 @@ mod tests {
             let answer = step(&mut session, &record(4, 0, 1, 3));
             assert_eq!(answer, Answer { number: QUIET, receiver: 0, tag: kept | 1 << 33 });
         }
+    }
+
+    /// "A write or append into it that would raise an alert answers blocked, with the receiver and the tag it would have had,
+    /// and changes nothing. Blocked is given in just those cases, 15 being tested before it."
+    #[test]
+    fn a_guarded_file_takes_no_forbidden_mixture() {
+        let guarded = Row { permit: vec![6], ..row(Kind::Guarded, 2) };
+        let plain = Row { kind: Kind::File, ..guarded.clone() };
+        let rows = [(0, row(Kind::Process, 5)), (1, guarded.clone()), (2, plain), (3, row(Kind::Process, 4))];
+        let started = session_with(&rows, &[]);
+        for (code, tag) in [(2, 5), (3, 7)] {
+            let mut session = started.clone();
+            assert_eq!(step(&mut session, &record(code, 0, 1, 65535)), Answer { number: BLOCKED, receiver: 1, tag });
+            assert_eq!(session, started);
+            assert_eq!(step(&mut session, &record(code, 0, 2, 65535)), Answer { number: ALERT, receiver: 2, tag });
+            assert_ne!(session, started);
+            assert_eq!(step(&mut session, &record(code, 3, 1, 65535)).number, QUIET);
+        }
+        // Read, executed and deleted as a file is.
+        let mut session = session_with(&rows, &[(0, unrestricted())]);
+        for (code, user) in [(1, 65535), (4, 0), (9, 65535)] {
+            assert_eq!(step(&mut session, &record(code, 0, 1, user)).number, QUIET);
+        }
+        let process = Row { run: vec![59, 61, 62], ..row(Kind::Process, 1) };
+        let file = Row { run: vec![31, 47, 55], ..guarded };
+        let mut session = session_with(&[(0, process), (1, file)], &[]);
+        assert_eq!(step(&mut session, &record(3, 0, 1, 65535)).number, 15);
     }
 
     /// "Reading a file holding only 33 adds nothing."

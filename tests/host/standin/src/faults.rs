@@ -122,4 +122,17 @@ faults! {
     ConsistentAsSilent, matrices, differential calls, "consistent matrices are silent";
     UnwrittenNotSilent, matrices, differential calls, "an object that nobody writes is not silent";
     RefusedNotSilent, matrices, differential calls fuzz, "a matrix that is refused is not silent";
+    BlockedWrites, all, differential chains calls fuzz, "a blocked access is made all the same";
+    BlockedOldTag, all, differential chains calls fuzz, "blocked answers the tag that the file has";
+    BlockedAsAlert, all, differential chains calls, "a blocked access is answered by an alert";
+    GuardedAlerts, all, differential chains calls, "a guarded file is not guarded";
+    PlainFileBlocked, all, differential chains calls, "a plain file is guarded too";
+    ReadBlocked, all, differential chains calls, "a read is blocked where it would alert";
+    BlockedBeforeMeet, all, differential calls, "blocked goes before 15";
+    NewFileGuarded, all, differential chains calls, "a new file is guarded";
+    GuardedRefusedByImage, all, differential calls fuzz, "an image with a guarded file is refused with 5";
+    GuardedNotExecuted, all, differential calls, "a guarded file cannot be executed";
+    GuardedNotDeleted, all, differential calls, "a guarded file cannot be deleted";
+    RunPastBlocked, all, differential calls fuzz, "a run goes on behind a blocked record";
+    BlockedRunUntold, all, differential calls fuzz, "a run that is blocked leaves receiver and tag";
 }

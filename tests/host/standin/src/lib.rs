@@ -10,7 +10,7 @@ mod withdrawals;
 use std::slice::{from_raw_parts, from_raw_parts_mut};
 
 use faults::{planted, Fault};
-use judge::numbers::{user_row, HEADER, LONGEST_NORMAL, MIXTURES, RULES, UNRESTRICTED, USERS};
+use judge::numbers::{user_row, CONTAINERS, HEADER, LONGEST_NORMAL, MIXTURES, RULES, UNRESTRICTED, USERS};
 use judge::session::{outcome, Outcome};
 use judge::withdrawals::Rows;
 use judge::{image, matrix, normal, session};
@@ -28,6 +28,9 @@ pub extern "C" fn yaslaurel_version() -> u32 {
 pub unsafe extern "C" fn yaslaurel_image_check(bytes: *const u8, length: usize) -> u32 {
     let bytes = from_raw_parts(bytes, length);
     let number = image::check(bytes);
+    if planted(Fault::GuardedRefusedByImage) && [0, 6].contains(&number) && has_guarded(bytes) {
+        return 5;
+    }
     if planted(Fault::UsersBeforeContainers) && number == 5 && users_wrong(bytes) {
         return 6;
     }
@@ -37,6 +40,12 @@ pub unsafe extern "C" fn yaslaurel_image_check(bytes: *const u8, length: usize) 
 /// The 16-bit number at a place of an image.
 fn number_at(bytes: &[u8], place: usize) -> usize {
     usize::from(u16::from_le_bytes([bytes[place], bytes[place + 1]]))
+}
+
+/// Whether an image whose containers pass has a guarded one.
+fn has_guarded(bytes: &[u8]) -> bool {
+    let (offset, length) = (number_at(bytes, CONTAINERS.offset_at), number_at(bytes, CONTAINERS.length_at));
+    bytes[offset..offset + length].chunks(CONTAINERS.size).any(|record| record[0] == 4)
 }
 
 /// Whether a user's rule number is wrong in an image that is refused with 5.
@@ -140,6 +149,7 @@ pub unsafe extern "C" fn yaslaurel_run(
     let given = match outcome(run.answer.number) {
         Outcome::Quiet => planted(Fault::QuietRunClearsAnswer),
         Outcome::Alert => true,
+        Outcome::Blocked => !planted(Fault::BlockedRunUntold),
         Outcome::Refused => false,
     };
     if given {

@@ -7,7 +7,7 @@ use judge::numbers::{
     RULE_MIXTURES, SESSION,
 };
 use judge::rules::{covers, holds, meet, running_atoms};
-use judge::session::{self, outcome, Answer, Outcome, Record, Run, ALERT, QUIET};
+use judge::session::{self, outcome, Answer, Outcome, Record, Run, ALERT, BLOCKED, QUIET};
 
 use crate::faults::{planted, Fault};
 
@@ -31,6 +31,7 @@ pub fn run(session: &mut [u64], records: &[u8]) -> Run {
         let goes_on = match outcome(answer.number) {
             Outcome::Quiet => true,
             Outcome::Alert => planted(Fault::RunPastAlert),
+            Outcome::Blocked => planted(Fault::RunPastBlocked),
             Outcome::Refused => false,
         };
         if !goes_on {
@@ -51,10 +52,43 @@ pub fn step(session: &mut [u64], bytes: &[u8]) -> Answer {
     if let Some(other) = other_answer(session, &before, bytes, answer.number) {
         return other;
     }
-    match session::read_record(bytes) {
-        Some(record) if !refused(answer.number) => accepted(session, &before, record, kept, answer),
+    match (session::read_record(bytes), outcome(answer.number)) {
+        (Some(record), Outcome::Quiet | Outcome::Alert) => accepted(session, &before, record, kept, answer),
+        (Some(record), Outcome::Blocked) => blocked(session, record, answer),
+        (_, Outcome::Refused) | (None, _) => answer,
+    }
+}
+
+/// An operation that was blocked.
+fn blocked(session: &mut [u64], record: Record, answer: Answer) -> Answer {
+    let place = container_row(record.o);
+    match Fault::planted() {
+        Some(Fault::BlockedWrites) => {
+            let made = unguarded(session, record);
+            Answer { number: BLOCKED, ..made }
+        }
+        Some(Fault::GuardedAlerts) => unguarded(session, record),
+        Some(Fault::AlwaysQuiet) => Answer { number: QUIET, ..unguarded(session, record) },
+        Some(Fault::BlockedOldTag) => Answer { tag: session[place][ROW_TAG], ..answer },
+        Some(Fault::BlockedAsAlert) => Answer { number: ALERT, ..answer },
         _ => answer,
     }
+}
+
+/// The operation on a file that is not guarded, which is guarded again behind it.
+fn unguarded(session: &mut [u64], record: Record) -> Answer {
+    let place = container_row(record.o);
+    session[place.clone()][ROW_KIND] = 1;
+    let answer = session::step(session, &spelled(record));
+    session[place][ROW_KIND] = 4;
+    answer
+}
+
+/// The bytes of a record.
+fn spelled(record: Record) -> Vec<u8> {
+    let user = record.u.map_or(u16::MAX, |user| user as u16);
+    let numbers = [record.p as u16, record.o as u16, user];
+    [record.code, 0].into_iter().chain(numbers.into_iter().flat_map(u16::to_le_bytes)).collect()
 }
 
 /// Whether a number is a refusal.
@@ -111,6 +145,23 @@ fn other_answer(session: &mut [u64], before: &[u64], bytes: &[u8], number: u32) 
             (number == 7 && another).then(|| refusal(12)).flatten()
         }
         Fault::ProcessDeleted => process_deleted(session, bytes).filter(|_| number == 12),
+        Fault::GuardedNotExecuted | Fault::GuardedNotDeleted => {
+            let code = if planted(Fault::GuardedNotExecuted) { 4 } else { 9 };
+            let record = session::read_record(bytes).filter(|record| record.code == code)?;
+            let judged = ![7, 9, 10, 11].contains(&number);
+            if !judged || before[container_row(record.o)][ROW_KIND] != 4 {
+                return None;
+            }
+            session.copy_from_slice(before);
+            refusal(12)
+        }
+        Fault::BlockedBeforeMeet => {
+            let record = session::read_record(bytes).filter(|record| number == 15 && record.code == 3)?;
+            let (p, o) = (&before[container_row(record.p)], &before[container_row(record.o)]);
+            let tag = p[ROW_TAG] | o[ROW_TAG];
+            let blocks = o[ROW_KIND] == 4 && !covers(rule(&o[ROW_PERMIT]), tag);
+            blocks.then_some(Answer { number: BLOCKED, receiver: record.o as u64, tag })
+        }
         Fault::UnusedWordsUnseen | Fault::ProcessOfUser16 | Fault::FileOfUser0 | Fault::FreeRowOfNobody => {
             (number == 10).then(|| overlooked(session, before, bytes)).flatten()
         }
@@ -191,7 +242,20 @@ fn accepted(session: &mut [u64], before: &[u64], record: Record, kept: Option<Ve
         session.copy_from_slice(before);
         return Answer { number: 15, receiver: 0, tag: 0 };
     }
-    Answer { number: verdict(row, record.code), tag: row[ROW_TAG], ..answer }
+    if planted(Fault::NewFileGuarded) && record.code == 6 {
+        row[ROW_KIND] = 4;
+    }
+    let (number, tag) = (verdict(row, record.code), row[ROW_TAG]);
+    let blocks = match (Fault::planted(), record.code) {
+        (Some(Fault::PlainFileBlocked), 2 | 3) => row[ROW_KIND] == 1,
+        (Some(Fault::ReadBlocked), 1) => true,
+        _ => false,
+    };
+    if blocks && number == ALERT {
+        session.copy_from_slice(before);
+        return Answer { number: BLOCKED, tag, ..answer };
+    }
+    Answer { number, tag, ..answer }
 }
 
 /// An end or a delete that was accepted.

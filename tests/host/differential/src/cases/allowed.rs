@@ -32,7 +32,8 @@ impl Case for Allowed {
         let silent = matrix_silent(reads, writes, *objects).expect("the matrix is well formed");
         let image = matrix_policy(reads, writes, *objects).expect("the matrix is well formed");
         let allowed = self.allowed();
-        let some = if allowed.is_empty() { vec![] } else { chosen.iter().map(|at| allowed[at % allowed.len()]).collect() };
+        let some =
+            if allowed.is_empty() { vec![] } else { chosen.iter().map(|at| allowed[at % allowed.len()]).collect() };
         // Reads and appends of all rights, over and over, lose nothing and reach everything.
         let lossless: Vec<Operation> =
             allowed.into_iter().filter(|access| !matches!(access, Operation::Write { .. })).collect();

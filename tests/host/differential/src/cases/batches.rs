@@ -20,7 +20,7 @@ pub const PART: Part = Part {
     cases: 100_000,
     make: |r| Box::new(make(r)),
     needs: &[
-        Need::Numbers(RUN, &[session::QUIET, session::ALERT, 7, 9, 10, 11, 12, 13, 14, 15, 18]),
+        Need::Numbers(RUN, &[session::QUIET, session::ALERT, session::BLOCKED, 7, 9, 10, 11, 12, 13, 14, 15, 18]),
         Need::Words(ENDS, &["stopped before the end", "took a short record", "without a record"]),
     ],
 };
@@ -172,10 +172,10 @@ fn run_once(bench: &mut Bench, rest: &[u8], c: &mut Counters) -> Result<session:
     c.add(ENDS, "without a record", u64::from(rest.is_empty()));
     c.add(ENDS, "stopped before the end", u64::from(number != session::QUIET && behind > 0));
     c.add(ENDS, "took a short record", u64::from(expected.taken * record::LENGTH > rest.len()));
-    // 9 leaves everything, and only an alert has receiver and tag.
+    // 9 leaves everything, and only an alert and a blocked record have receiver and tag.
     let taken = if number == 9 { TAKEN_BEFORE } else { expected.taken };
     let (receiver, tag) = match outcome(number) {
-        Outcome::Alert => (expected.answer.receiver, expected.answer.tag),
+        Outcome::Alert | Outcome::Blocked => (expected.answer.receiver, expected.answer.tag),
         Outcome::Quiet | Outcome::Refused => BEFORE,
     };
     let difference = differ("run", library, (number, taken, receiver, tag))

@@ -2,7 +2,7 @@
 
 use std::collections::HashSet;
 
-use judge::session::{self, Record};
+use judge::session::{self, outcome, Outcome, Record};
 use judge::{chains, image};
 use yaslaurel::Session;
 
@@ -17,6 +17,7 @@ pub const PART: Part = Part {
     make: |r| Box::new(History(traces::short(r))),
     needs: &[
         Need::Words(STEPS, &["an alert", "a running atom", "a number taken again", "an alert of such a number"]),
+        Need::Words(STEPS, &["blocked", "quiet at a guarded file"]),
         Need::Words(BEHALF, &["on nobody's behalf", "on a user's behalf"]),
     ],
 };
@@ -31,19 +32,16 @@ impl Case for History {
     fn run(&self, _: &mut Bench, c: &mut Counters) -> Difference {
         let Trace { image, records } = &self.0;
         let (Ok(policy), Ok(mut session)) = (image::read(image), Session::start(image)) else { return None };
-        let mut history = Vec::new();
-        let mut answers = Vec::new();
-        // What the library accepts makes the history.
+        let mut given = Vec::new();
         for record in records {
             if let Ok(answer) = session.step(record) {
                 let Some(read) = session::read_record(record) else {
-                    return Some("a malformed record was accepted".into());
+                    return Some("a malformed record was not refused".into());
                 };
-                history.push(read);
-                answers.push(safe_answer(Ok(answer)));
+                given.push((read, safe_answer(Ok(answer))));
             }
         }
-        judged_by_chains(&policy, &history, &answers, c).or_else(|| judged_by_execs(&session, &history, c))
+        judged_by_chains(&policy, &given, c).or_else(|| judged_by_execs(&session, &accepted(&given), c))
     }
 
     fn simpler(&self) -> Vec<Box<dyn Case>> {
@@ -64,35 +62,64 @@ fn judged_by_execs(session: &Session, history: &[Record], c: &mut Counters) -> D
     })
 }
 
-/// Compares the answers with those of the judge of chains, which knows the image and which records were accepted.
-pub fn judged_by_chains(
-    policy: &image::Policy,
-    history: &[Record],
-    answers: &[session::Answer],
-    c: &mut Counters,
-) -> Difference {
-    c.count(CHAINS, "traces");
-    c.add(CHAINS, "chains", chains::list(policy, history).len() as u64);
-    // The numbers that a container has left, and those of them that were taken again.
-    let (mut left, mut again) = (HashSet::new(), HashSet::new());
-    for (at, (judged, answer)) in chains::judge(policy, history).iter().zip(answers).enumerate() {
-        let Record { code, o, .. } = history[at];
+/// The history: the steps that were answered quiet or by an alert.
+fn accepted(given: &[(Record, session::Answer)]) -> Vec<Record> {
+    let blocked = |answer: &session::Answer| outcome(answer.number) == Outcome::Blocked;
+    given.iter().filter(|(_, answer)| !blocked(answer)).map(|(record, _)| *record).collect()
+}
+
+/// The numbers that a container has left, and those of them that were taken again.
+#[derive(Default)]
+struct Numbers {
+    left: HashSet<usize>,
+    again: HashSet<usize>,
+}
+
+impl Numbers {
+    fn count(&mut self, step: Record, judged: chains::Judged, answer: &session::Answer, c: &mut Counters) {
         c.count(STEPS, "in all");
-        if code >= 8 {
+        let blocked = outcome(answer.number) == Outcome::Blocked;
+        if step.code >= 8 {
             c.count(STEPS, "a container leaves");
-            left.insert(o);
-        } else if code >= 5 && left.contains(&o) {
+            self.left.insert(step.o);
+        } else if step.code >= 5 && self.left.contains(&step.o) {
             c.count(STEPS, "a number taken again");
-            again.insert(o);
+            self.again.insert(step.o);
         }
-        c.add(STEPS, "an alert of such a number", u64::from(judged.alert && again.contains(&judged.receiver)));
-        c.add(STEPS, "an alert", u64::from(judged.alert));
+        let again = judged.forbidden && self.again.contains(&judged.receiver);
+        c.add(STEPS, "an alert of such a number", u64::from(again));
+        c.add(STEPS, "an alert", u64::from(judged.forbidden && !blocked));
         c.add(STEPS, "a running atom", u64::from(judged.information >> 32 != 0));
-        let alert = answer.number == session::ALERT;
-        let same =
-            judged.alert == alert && judged.receiver as u64 == answer.receiver && judged.information == answer.tag;
+        c.add(STEPS, "blocked", u64::from(blocked));
+        c.add(STEPS, "quiet at a guarded file", u64::from(judged.guarded && !blocked));
+    }
+}
+
+/// Compares the answers with those of the judge of chains, which knows the image and which records were accepted: those answered
+/// quiet or by an alert. A blocked one is judged behind the history before it, and is no part of what follows.
+pub fn judged_by_chains(policy: &image::Policy, given: &[(Record, session::Answer)], c: &mut Counters) -> Difference {
+    let history = accepted(given);
+    c.count(CHAINS, "traces");
+    c.add(CHAINS, "chains", chains::list(policy, &history).len() as u64);
+    let judged_steps = chains::judge(policy, &history);
+    let (mut at, mut numbers) = (0, Numbers::default());
+    for (place, (step, answer)) in given.iter().enumerate() {
+        let judged = match outcome(answer.number) {
+            Outcome::Blocked => chains::judge_next(policy, &history[..at], *step),
+            Outcome::Quiet | Outcome::Alert | Outcome::Refused => {
+                at += 1;
+                judged_steps[at - 1]
+            }
+        };
+        numbers.count(*step, judged, answer, c);
+        let number = match (judged.forbidden, judged.guarded) {
+            (false, _) => session::QUIET,
+            (true, false) => session::ALERT,
+            (true, true) => session::BLOCKED,
+        };
+        let same = (number, judged.receiver as u64, judged.information) == (answer.number, answer.receiver, answer.tag);
         if !same {
-            return Some(format!("accepted step {}: by chains {judged:?}, by tags {answer:?}", at + 1));
+            return Some(format!("step {} that is not refused: by chains {judged:?}, by tags {answer:?}", place + 1));
         }
     }
     None

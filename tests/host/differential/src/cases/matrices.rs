@@ -167,9 +167,7 @@ fn library_verdict(reads: &Guarded<u32>, writes: &Guarded<u32>, objects: u32) ->
 
 fn library_silent(reads: &Guarded<u32>, writes: &Guarded<u32>, objects: u32) -> u32 {
     // SAFETY: as `lent` says.
-    unsafe {
-        ffi::yaslaurel_matrix_silent(reads.pointer(), reads.length(), writes.pointer(), writes.length(), objects)
-    }
+    unsafe { ffi::yaslaurel_matrix_silent(reads.pointer(), reads.length(), writes.pointer(), writes.length(), objects) }
 }
 
 fn library_policy(reads: &Guarded<u32>, writes: &Guarded<u32>, objects: u32, out: &mut Guarded<u8>) -> u32 {

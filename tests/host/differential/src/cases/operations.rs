@@ -2,7 +2,7 @@
 
 use std::fmt::Write as _;
 
-use judge::rules::normal;
+use judge::rules::{covers, normal};
 use judge::session::{self, outcome, Outcome};
 use yaslaurel::layout::image::{CONTAINERS, USERS};
 use yaslaurel::layout::record::{self, NO_USER};
@@ -24,9 +24,11 @@ pub const PART: Part = Part {
     cases: 900_000,
     make: |r| Box::new(make(r)),
     needs: &[
-        Need::Numbers(STEP, &[session::QUIET, session::ALERT, 7, 9, 10, 11, 12, 13, 14, 15, 18]),
+        Need::Numbers(STEP, &[session::QUIET, session::ALERT, session::BLOCKED, 7, 9, 10, 11, 12, 13, 14, 15, 18]),
         Need::Numbers(QUIET, &[1, 2, 3, 4, 5, 6, 7, 8, 9]),
         Need::Numbers(ALERT, &[1, 2, 3, 4, 5]),
+        Need::Numbers(BLOCKED, &[2, 3]),
+        Need::Words(GUARDED, &["read", "executed", "deleted", "15 where it would be blocked"]),
         Need::Numbers(REFUSED_FILE, &[7, 10, 11, 13, 14, 18]),
         Need::Numbers(REFUSED_END, &[7, 10, 11]),
         Need::Numbers(REFUSED_DELETE, &[7, 10, 11, 12]),
@@ -37,6 +39,8 @@ pub const PART: Part = Part {
 const STEP: &str = "step, by answer";
 const QUIET: &str = "quiet, by code";
 const ALERT: &str = "alert, by code";
+const BLOCKED: &str = "blocked, by code";
+const GUARDED: &str = "guarded files";
 const REFUSED_FILE: &str = "new file, by refusal";
 const REFUSED_END: &str = "end, by refusal";
 const REFUSED_DELETE: &str = "delete, by refusal";
@@ -111,10 +115,14 @@ fn library_step(session: &mut Guarded<u64>, record: &Guarded<u8>) -> (u32, u64, 
 pub fn step(bench: &mut Bench, record: &[u8], c: &mut Counters) -> Result<session::Answer, String> {
     bench.record.fill(record);
     let (number, receiver, tag) = library_step(&mut bench.session, &bench.record);
+    let at_guarded = guarded_object(&bench.judge_session, record);
     let expected = session::step(&mut bench.judge_session, record);
+    if let Some(uncovered) = at_guarded {
+        count_guarded(record, expected.number, uncovered, c);
+    }
     count(record, expected.number, &bench.judge_session, c);
     let numbers = match outcome(expected.number) {
-        Outcome::Quiet | Outcome::Alert => (expected.receiver, expected.tag),
+        Outcome::Quiet | Outcome::Alert | Outcome::Blocked => (expected.receiver, expected.tag),
         // "changes no lent memory"
         Outcome::Refused => BEFORE,
     };
@@ -124,6 +132,26 @@ pub fn step(bench: &mut Bench, record: &[u8], c: &mut Counters) -> Result<sessio
         .or_else(|| differ_at("the record itself", bench.record.content(), record))
         .or_else(|| bench.guards());
     difference.map_or(Ok(expected), Err)
+}
+
+/// Whether the object of a record is a guarded file; then, whether its permit rule does not cover what p and it hold together.
+fn guarded_object(session: &[u64], bytes: &[u8]) -> Option<bool> {
+    let read = session::read_record(bytes)?;
+    let (p, o) = (session.get(container(read.p))?, session.get(container(read.o))?);
+    let rule = &o[rule(PERMIT)];
+    let mixtures = rule.get(1..1 + rule[0] as usize)?;
+    (o[KIND] == 4).then(|| !covers(mixtures, p[TAG] | o[TAG]))
+}
+
+/// Counts a step at a guarded file.
+fn count_guarded(bytes: &[u8], number: u32, uncovered: bool, c: &mut Counters) {
+    match (bytes[record::CODE], outcome(number)) {
+        (1, Outcome::Quiet | Outcome::Alert) => c.count(GUARDED, "read"),
+        (4, Outcome::Quiet | Outcome::Alert) => c.count(GUARDED, "executed"),
+        (9, Outcome::Quiet) => c.count(GUARDED, "deleted"),
+        (3, Outcome::Refused) if number == 15 && uncovered => c.count(GUARDED, "15 where it would be blocked"),
+        _ => {}
+    }
 }
 
 /// Counts a step by its answer and its code.
@@ -140,6 +168,7 @@ fn count(record: &[u8], number: u32, after: &[u64], c: &mut Counters) {
             }
         }
         (Outcome::Alert, Some(code)) => c.count(ALERT, code),
+        (Outcome::Blocked, Some(code)) => c.count(BLOCKED, code),
         (Outcome::Refused, Some(6)) => c.count(REFUSED_FILE, number),
         (Outcome::Refused, Some(8)) => c.count(REFUSED_END, number),
         (Outcome::Refused, Some(9)) => c.count(REFUSED_DELETE, number),
@@ -210,7 +239,7 @@ fn damage_rule(r: &mut Random, words: &mut [u64]) {
 fn damage_row(r: &mut Random, row: &mut [u64]) {
     match r.below(5) {
         4 => row[BEHALF] = r.pick(&[0, 15, 16, 255, NOBODY - 1, NOBODY, NOBODY + 1, 1 << 32, u64::MAX]),
-        0 => row[KIND] = r.pick(&[0, 4, 1 << 32, (1 << 32) + 1, u64::MAX, 2, 3]),
+        0 => row[KIND] = r.pick(&[0, 4, 5, 7, 1 << 32, (1 << 32) + 1, (1 << 32) + 4, u64::MAX, 2, 3]),
         1 => row[r.below(CONTAINER_ROW)] ^= 1 << r.below(64),
         2 => damage_rule(r, &mut row[rule(PERMIT)]),
         _ => damage_rule(r, &mut row[rule(RUN)]),
@@ -228,11 +257,11 @@ fn damage_user(r: &mut Random, row: &mut [u64]) {
 /// The kind of object that a code wants, or sometimes another.
 fn object_kind(r: &mut Random, code: u8) -> u64 {
     if r.percent(10) {
-        return r.below(4) as u64;
+        return r.below(5) as u64;
     }
     match code {
-        1..=3 | 9 => r.pick(&[1, 1, 2]),
-        4 => 1,
+        1..=3 | 9 => r.pick(&[1, 4, 2]),
+        4 => r.pick(&[1, 4]),
         8 => 3,
         _ => 0,
     }
@@ -265,7 +294,7 @@ fn about_eight(r: &mut Random, rows: &mut Rows) {
 
 /// Rows for an operation of this code by p on o, for u.
 fn rows_for(r: &mut Random, code: u8, p: usize, o: usize, u: usize, first: Vec<u64>) -> Rows {
-    let kind = if r.percent(6) { r.below(4) as u64 } else { 3 };
+    let kind = if r.percent(6) { r.below(5) as u64 } else { 3 };
     let mut rows = Rows::default();
     rows.containers.push((p, container_row(r, kind, &first)));
     // Rules from two sets of mixtures meet in more ways than rules from one, which share mixtures.

@@ -48,9 +48,11 @@ struct Listed {
 pub fn make(r: &mut Random, class: usize, length: usize) -> Trace {
     let mut spec = generate::policy(r, class);
     // At least two files, a process and a user, or most records are refused.
-    while spec.containers.len() < CONTAINERS.most && spec.containers.iter().filter(|c| c.0 == 1).count() < 2 {
+    let is_file = |kind: u8| kind == 1 || kind == 4;
+    while spec.containers.len() < CONTAINERS.most && spec.containers.iter().filter(|c| is_file(c.0)).count() < 2 {
         let rule = if spec.rules.is_empty() { UNRESTRICTED } else { r.below(spec.rules.len()) as u16 };
-        spec.containers.push((1, r.below(3) as u8, rule, if r.percent(50) { UNRESTRICTED } else { rule }));
+        let kind = r.pick(&[1, 4]);
+        spec.containers.push((kind, r.below(3) as u8, rule, if r.percent(50) { UNRESTRICTED } else { rule }));
     }
     while spec.containers.len() < CONTAINERS.most && spec.containers.iter().filter(|c| c.0 == 3).count() < 1 {
         spec.containers.push(generate::PROCESS_RECORD);
@@ -94,22 +96,20 @@ impl Case for Listed {
         // The safe interface runs beside it.
         let mut safe = self.chains.then(|| Session::start(image).expect("the image is accepted"));
         c.largest(LONGEST, records.len());
-        let mut history: Vec<Record> = Vec::new();
-        let mut answers = Vec::new();
+        let mut given: Vec<(Record, session::Answer)> = Vec::new();
         for (at, record) in records.iter().enumerate() {
             let answer = match self.record(bench, safe.as_mut(), record, c) {
                 Ok(answer) => answer,
                 Err(difference) => return Some(format!("record {}: {difference}", at + 1)),
             };
             match outcome(answer.number) {
-                Outcome::Quiet | Outcome::Alert => {
-                    history.push(session::read_record(record).expect("the record was accepted"));
-                    answers.push(answer);
+                Outcome::Quiet | Outcome::Alert | Outcome::Blocked => {
+                    given.push((session::read_record(record).expect("the record was not refused"), answer));
                 }
                 Outcome::Refused => {}
             }
         }
-        self.chains.then(|| judged_by_chains(&policy, &history, &answers, c)).flatten()
+        self.chains.then(|| judged_by_chains(&policy, &given, c)).flatten()
     }
 
     fn simpler(&self) -> Vec<Box<dyn Case>> {
@@ -185,6 +185,7 @@ fn verdict_number(verdict: Verdict) -> u32 {
     match verdict {
         Verdict::Quiet => session::QUIET,
         Verdict::Alert => session::ALERT,
+        Verdict::Blocked => session::BLOCKED,
         other => panic!("an unknown verdict: {other:?}"),
     }
 }

@@ -25,6 +25,11 @@ standin::faults! {
     ListEndsAtLongTrace, all, month, "the list ends at a trace that is too long";
     ShortRecordUncounted, all, month, "a short last record does not count toward the million";
     AlertsAtProcess, all, month, "alerts are counted at the process";
+    BlockedRefused, all, month, "blocked steps count as refused";
+    BlockedAccepted, all, month, "blocked steps count as accepted";
+    BlockedAlerts, all, month, "blocked steps count as alerts";
+    BlockedBehindRate, all, month, "blocked steps stand behind the rate";
+    BlockedTotalOfLast, all, month, "the total's blocked steps are those of the last trace";
 }
 
 /// Alerts by container, in the order in which the containers are printed.
@@ -35,6 +40,7 @@ struct Figures {
     accepted: u64,
     alerts: u64,
     refused: u64,
+    blocked: u64,
     containers: Containers,
 }
 
@@ -53,6 +59,7 @@ impl Figures {
         self.accepted += other.accepted;
         self.alerts += other.alerts;
         self.refused += other.refused;
+        self.blocked = other.blocked + if planted(Fault::BlockedTotalOfLast) { 0 } else { self.blocked };
         for &(container, alerts) in &other.containers {
             self.alert(container, alerts);
         }
@@ -82,10 +89,14 @@ fn total_rate(total: &Figures, rates: &[Rate]) -> Rate {
 
 fn line(name: &str, found: &Figures, rate: Option<Rate>) -> String {
     let mut fields = vec![name.to_string()];
-    fields.extend([found.accepted, found.alerts, found.refused].map(|count| count.to_string()));
+    fields.extend([found.accepted, found.alerts, found.refused, found.blocked].map(|count| count.to_string()));
     match rate {
         Some((quotient, remainder)) => fields.extend([quotient.to_string(), remainder.to_string()]),
         None => fields.push("none".to_string()),
+    }
+    if planted(Fault::BlockedBehindRate) {
+        let blocked = fields.remove(4);
+        fields.push(blocked);
     }
     let silent = if planted(Fault::SilentContainers) { 256 } else { 0 };
     let mut containers: BTreeMap<u64, u64> = (0..silent).map(|container| (container, 0)).collect();
@@ -137,6 +148,16 @@ impl Month {
                     let process = planted(Fault::AlertsAtProcess);
                     found.alert(if process { u64::from(record[2]) } else { answer.receiver }, 1);
                 }
+                Outcome::Blocked => match Fault::planted() {
+                    Some(Fault::BlockedRefused) => found.refused += 1,
+                    Some(Fault::BlockedAccepted) => found.accepted += 1,
+                    Some(Fault::BlockedAlerts) => {
+                        found.blocked += 1;
+                        found.alerts += 1;
+                        found.alert(answer.receiver, 1);
+                    }
+                    _ => found.blocked += 1,
+                },
                 Outcome::Refused => {
                     found.accepted += u64::from(planted(Fault::RefusedAccepted));
                     found.refused += 1;
