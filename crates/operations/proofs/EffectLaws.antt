@@ -4,10 +4,9 @@ use mathlib.Core.Path.{_≡_, refl, sym, ap, ap₂, _∙_}
 use mathlib.Core.Bool.{Bool, true, false, not, cond, _&&_}
 use mathlib.Core.List.{List, [], _∷_}
 use native.Mathlib.Omega.{arith}
-use lib.Bits.{bitAnd, bitOr}
-use lib.Dec.{eqb}
+use lib.Bits.{bitOr}
 use lib.ListN.{length, getD, take, drop, replicate}
-use borrow.Author.Tests.{le-leb, ne-eqb, not-true, not-false}
+use borrow.Author.Tests.{eq-eqb, le-leb, not-true, not-false}
 use borrow.Rule.Slice.PartMut.{putMid}
 use Rattle.lists.specs.Lists.{every}
 use Rattle.answers.specs.Refusals.{overLimit}
@@ -19,7 +18,7 @@ use Rattle.rules.specs.Rules.{covers, meet, unrestricted}
 use Rattle.rules.specs.Answers.{dataWidth, tagWidth, mixtureLimit, padded, boundedOf}
 use Rattle.rules.specs.declared.Bounded.{Bounded}
 use Rattle.rules.proofs.BoundedLaws.{bounded-some, padded-take}
-use Rattle.image.specs.Limits.{containerLimit, userLimit, fileKind, volatileKind, processKind, guardedKind, isGuarded}
+use Rattle.image.specs.Limits.{containerLimit, userLimit, fileKind, volatileKind, processKind, isGuarded, isProcess}
 use Rattle.image.specs.Policy.{unrestrictedRule}
 use Rattle.rule_words.specs.Words.{ruleWidth, ruleOf, wordsOf}
 use Rattle.session.specs.Limits.{sessionLength, rowWidth, userWidth, usersAt, kindAt, permitAt, runAt, userRuleAt, nobody}
@@ -27,14 +26,15 @@ use Rattle.session.specs.Rows.{Row, rowOf, rowWords, freeWords, permitWords, ru
 use Rattle.session.proofs.PutLaws.{container-row-length, row-lent, row-returned}
 use Rattle.chains.specs.History.{Step, read, write, append, exec, fork, newFile, newVolatile, receiver}
 use Rattle.chains.specs.Demand.{judged}
+use Rattle.chains.proofs.KindLaws.{process-free}
 use Rattle.chains.specs.Table.{freeRow, readRow, writeRow, appendRow, execRow, forkRow, newFileRow, newVolatileRow, ruleOr, entry, fits, meetGood, alerts, blocks, verdict}
 use Rattle.operations.specs.View.{view}
 use Rattle.operations.specs.Effects.{madeAnswer, madeEffect}
-use Rattle.operations.specs.Parts.{Ready, UsedAt, Kept, wordsFrom, contentWords, newWords, coverVerdict, coverAnswer, guardsAt, lateAnswer, lateEffect, sharedRun, absorbed, absorbAnswer, absorbEffect, launchTag, launchAnswer, launchEffect}
+use Rattle.operations.specs.Parts.{Ready, UsedAt, Kept, wordsFrom, contentWords, newWords, coverVerdict, coverAnswer, guardsAt, lateAnswer, lateEffect, sharedRun, absorbed, absorbAnswer, absorbEffect, withheldAnswer, launchTag, launchAnswer, launchEffect}
 use Rattle.operations.proofs.ViewLaws.{view-row}
 use Rattle.operations.proofs.RefusalTests.{kind-read}
 use Rattle.operations.proofs.ReadyLaws.{process-kind, ready-process, ready-object, ready-user}
-use Rattle.operations.proofs.RowSteps.{KeptAs, meet-single, words-lent, permit-kept, row-used, row-counts, row-long, run-kept, run-single, user-kept-as, met, content-row, new-row, fits-short, fits-made, rule-short}
+use Rattle.operations.proofs.RowSteps.{KeptAs, words-lent, permit-kept, row-used, row-counts, row-long, run-kept, run-single, user-kept-as, met, content-row, new-row, fits-short, fits-made, rule-short}
 
 -- the answer a and the session s₁ afterwards are as the step t asks
 abbrev pub Done : List ℕ → Step → Answer → List ℕ → Type 0
@@ -85,25 +85,18 @@ guard-blocks : (t : Step) (w : Row) → judged t ≡ true → blocks t w ≡ (is
 unfolding blocks alerts
 guard-blocks t w j = rw j refl
 
-guard-verdict : (t : Step) (w : Row) → judged t ≡ true
-    → cond (isGuarded (w .kind) && not (covers (w .permit) (w .tag))) (blocked (receiver t) (w .tag)) (coverAnswer (receiver t) (w .permit) (w .tag)) ≡ verdict t w
-unfolding verdict blocks alerts coverAnswer
-guard-verdict t w j = rw j (by (isGuarded (w .kind)) (covers (w .permit) (w .tag)))
-  where
-    by : (g b : Bool) → _≡_ {A = Answer} (cond (g && not b) (blocked (receiver t) (w .tag)) (Given (coverVerdict b) (received (receiver t) (w .tag))))
-        (cond (g && not b) (blocked (receiver t) (w .tag)) (cond (not b) (alert (receiver t) (w .tag)) (quiet (receiver t) (w .tag))))
-    by true true = refl
-    by true false = refl
-    by false true = refl
-    by false false = refl
-
 -- what is not guarded is not blocked
 unguarded : (t : Step) (w : Row) → isGuarded (w .kind) ≡ false → blocks t w ≡ false
 unfolding blocks
 unguarded t w e = rw e
 
-verdict-covers : (t : Step) (w : Row) → isGuarded (w .kind) ≡ false → judged t ≡ true → coverAnswer (receiver t) (w .permit) (w .tag) ≡ verdict t w
-verdict-covers t w g j = rw g at (guard-verdict t w j)
+verdict-covers : (t : Step) (w : Row) → blocks t w ≡ false → judged t ≡ true → coverAnswer (receiver t) (w .permit) (w .tag) ≡ verdict t w
+unfolding verdict alerts coverAnswer
+verdict-covers t w f j = rw (f, j) (by (covers (w .permit) (w .tag)))
+  where
+    by : (b : Bool) → _≡_ {A = Answer} (Given (coverVerdict b) (received (receiver t) (w .tag))) (cond (not b) (alert (receiver t) (w .tag)) (quiet (receiver t) (w .tag)))
+    by true = refl
+    by false = refl
 
 unblocked : (t : Step) (w : Row) → judged t ≡ false → blocks t w ≡ false
 unfolding blocks alerts
@@ -123,9 +116,9 @@ bounded-rule : (r : List ℕ) (m : Bounded) → m ≡ boundedOf r → length r �
 bounded-rule r m e l = rw (e, bounded-some r (le-leb (length r) mixtureLimit l)) (l, padded-take r (length r) refl)
 
 -- a process is not guarded
-process-free : (w : Row) → w .kind ≡ processKind → isGuarded (w .kind) ≡ false
-unfolding isGuarded
-process-free w e = ne-eqb (w .kind) guardedKind (λ z. omega (arith, e, z))
+process-unguarded : (w : Row) → w .kind ≡ processKind → isGuarded (w .kind) ≡ false
+unfolding isProcess
+process-unguarded w e = process-free (w .kind) (eq-eqb (w .kind) processKind e)
 
 -- ---- the three ways in which an operation ends
 
@@ -153,8 +146,8 @@ module _ (s : List ℕ) (t : Step) (g : meetGood (view s) t ≡ true) where
       → a ≡ coverAnswer (receiver t) (take (m .count) (m .mixtures)) (w .tag) → ws ≡ newWords processKind (w .tag) m n (w .behalf)
       → Done s t a (returned s (receiver t) ws)
   replace-done w ew m n a ws j ek em lm en ln ea e =
-      new-done w (process-free w ek) ew m n a ws em lm en ln
-      (ea ∙ ap (λ (x : List ℕ). coverAnswer (receiver t) x (w .tag)) (bounded-rule (w .permit) m em lm .1) ∙ verdict-covers t w (process-free w ek) j)
+      new-done w (process-unguarded w ek) ew m n a ws em lm en ln
+      (ea ∙ ap (λ (x : List ℕ). coverAnswer (receiver t) x (w .tag)) (bounded-rule (w .permit) m em lm .1) ∙ verdict-covers t w (unguarded t w (process-unguarded w ek)) j)
       (e ∙ ap (λ (k : ℕ). newWords k (w .tag) m n (w .behalf)) (sym ek))
 
 -- ---- whether the access is blocked
@@ -177,12 +170,6 @@ module _ (s : List ℕ) (c tag : ℕ) (h : UsedAt s c) (b : Bool) (e : b ≡ isG
       let r : rule ≡ view s .row c .permit = er ∙ ap ruleOf (words-lent s (c * rowWidth + permitAt)) ∙ permit-kept s c h .said in
       rw (kind-told ∙ not-false b n, ev, r)
 
--- the meet of two run rules of one mixture
-pub single-met : (s : List ℕ) (c d : ℕ) → UsedAt s c → UsedAt s d → (eqb (getD s (c * rowWidth + runAt) 0) 1 && eqb (getD s (d * rowWidth + runAt) 0) 1) ≡ true
-    → boundedOf (bitAnd (getD s (c * rowWidth + runAt + 1) 0) (getD s (d * rowWidth + runAt + 1) 0) ∷ []) ≡ boundedOf (meet (view s .row c .run) (view s .row d .run))
-single-met s c d h k e =
-    met s _ _ _ _ _ (run-kept s c h) (run-kept s d k) (ap boundedOf (meet-single s (c * rowWidth + runAt) (d * rowWidth + runAt) e (run-kept s c h .kept) (run-kept s d k .kept)))
-
 -- ---- a container that takes in what another has
 
 module _ (s : List ℕ) (c d t : ℕ) (h : UsedAt s c) (m : Bounded) (em : m ≡ boundedOf (meet (view s .row c .run) (view s .row d .run))) where
@@ -194,33 +181,51 @@ module _ (s : List ℕ) (c d t : ℕ) (h : UsedAt s c) (m : Bounded) (em : m ≡
   unfolding absorbAnswer absorbEffect
   absorb-over f = (rw (shared-fits ∙ f), rw (shared-fits ∙ f))
 
-  pub absorb-blocked : m .fits ≡ true → guardsAt s c t ≡ true → (a : Answer) → a ≡ blocked c t → (a ≡ absorbAnswer s c d t) × (s ≡ absorbEffect s c d t)
-  unfolding absorbAnswer absorbEffect
-  absorb-blocked f g a ea = (ea ∙ rw (shared-fits ∙ f, g), rw (shared-fits ∙ f, g))
-
-  pub absorb-done : m .fits ≡ true → guardsAt s c t ≡ false → (a : Answer) (ws : List ℕ) → a ≡ coverAnswer c (rowOf (lent s c) .permit) t → ws ≡ contentWords (lent s c) t m
+  pub absorb-done : m .fits ≡ true → (a : Answer) (ws : List ℕ) → a ≡ coverAnswer c (rowOf (lent s c) .permit) t → ws ≡ contentWords (lent s c) t m
       → (a ≡ absorbAnswer s c d t) × (returned s c ws ≡ absorbEffect s c d t)
   unfolding absorbAnswer absorbEffect absorbed sharedRun
-  absorb-done f free a ws ea ew =
+  absorb-done f a ws ea ew =
       let g : fits (sharedRun s c d) ≡ true = shared-fits ∙ f in
       let e : ws ≡ rowWords (absorbed s c d t) = content-seen s c h t (sharedRun s c d) m em (fits-short (sharedRun s c d) g) ws ew in
-      (ea ∙ ap (λ (x : List ℕ). coverAnswer c x t) (lent-permit s c (h .low)) ∙ rw (g, free), row-returned s c ws ∙ rw (g, free, e))
+      (ea ∙ ap (λ (x : List ℕ). coverAnswer c x t) (lent-permit s c (h .low)) ∙ rw g, row-returned s c ws ∙ rw (g, e))
+
+  -- where it is withheld
+  pub withheld-over : m .fits ≡ false → refused overLimit ≡ withheldAnswer s c d t
+  unfolding withheldAnswer
+  withheld-over f = rw (shared-fits ∙ f)
+
+  pub withheld-fits : m .fits ≡ true → (a : Answer) → a ≡ blocked c t → a ≡ withheldAnswer s c d t
+  unfolding withheldAnswer
+  withheld-fits f a ea = ea ∙ rw (shared-fits ∙ f)
 
 -- what an absorbing step is answered, and does, is what the table says
 module _ (s : List ℕ) (c d t : ℕ) (step : Step) (j : judged step ≡ true) (er : receiver step ≡ c) (ew : entry (view s) step .row ≡ absorbed s c d t) (eg : meetGood (view s) step ≡ fits (sharedRun s c d)) where
-  absorb-answer : absorbAnswer s c d t ≡ lateAnswer s step
-  unfolding lateAnswer madeAnswer absorbAnswer absorbed guardsAt
-  absorb-answer =
-      ap (λ (x : Answer). cond (fits (sharedRun s c d)) x (refused overLimit))
-      (ap (λ (k : ℕ). cond (isGuarded (view s .row c .kind) && not (covers (view s .row c .permit) t)) (blocked k t) (coverAnswer k (view s .row c .permit) t)) (sym er) ∙ guard-verdict step (absorbed s c d t) j)
-      ∙ rw (ew, eg)
+  -- it does not block
+  module _ (f : blocks step (absorbed s c d t) ≡ false) where
+    absorb-answer : absorbAnswer s c d t ≡ lateAnswer s step
+    unfolding lateAnswer madeAnswer absorbAnswer absorbed
+    absorb-answer =
+        ap (λ (x : Answer). cond (fits (sharedRun s c d)) x (refused overLimit))
+        (ap (λ (k : ℕ). coverAnswer k (view s .row c .permit) t) (sym er) ∙ verdict-covers step (absorbed s c d t) f j)
+        ∙ rw (ew, eg)
 
-  absorb-effect : absorbEffect s c d t ≡ lateEffect s step
-  unfolding lateEffect madeEffect absorbEffect guardsAt absorbed
-  absorb-effect = rw (ew, eg, er, guard-blocks step (absorbed s c d t) j)
+    absorb-effect : absorbEffect s c d t ≡ lateEffect s step
+    unfolding lateEffect madeEffect absorbEffect
+    absorb-effect = rw (ew, eg, er, f)
 
-  absorb-late : (a : Answer) (s₁ : List ℕ) → (a ≡ absorbAnswer s c d t) × (s₁ ≡ absorbEffect s c d t) → Done s step a s₁
-  absorb-late a s₁ h = (h .0 ∙ absorb-answer, h .1 ∙ absorb-effect)
+    absorb-late : (a : Answer) (s₁ : List ℕ) → (a ≡ absorbAnswer s c d t) × (s₁ ≡ absorbEffect s c d t) → Done s step a s₁
+    absorb-late a s₁ h = (h .0 ∙ absorb-answer, h .1 ∙ absorb-effect)
+
+  -- it does
+  module _ (b : blocks step (absorbed s c d t) ≡ true) where
+    either : (x : Bool) → cond x s s ≡ s
+    either true = refl
+    either false = refl
+
+    withheld-late : (a : Answer) → a ≡ withheldAnswer s c d t → Done s step a s
+    unfolding lateAnswer lateEffect madeAnswer madeEffect withheldAnswer verdict absorbed
+    withheld-late a ea =
+        (ea ∙ ap (λ (k : ℕ). cond (fits (sharedRun s c d)) (blocked k t) (refused overLimit)) (sym er) ∙ rw (ew, eg, b), rw (ew, b) (sym (either (meetGood (view s) step))))
 
 one-fits : (r : List ℕ) → every fits (r ∷ []) ≡ fits r
 unfolding every
@@ -233,15 +238,25 @@ one-fits r = by (fits r)
 -- ---- the operations, one by one
 
 module _ (s : List ℕ) (p o : ℕ) where
-  pub read-done : (t : ℕ) → t ≡ bitOr (view s .row p .tag) (dataOf dataWidth (view s .row o .tag)) → (a : Answer) (s₁ : List ℕ)
+  pub read-done : Ready s (read p o) → (t : ℕ) → t ≡ bitOr (view s .row p .tag) (dataOf dataWidth (view s .row o .tag)) → (a : Answer) (s₁ : List ℕ)
       → (a ≡ absorbAnswer s p o t) × (s₁ ≡ absorbEffect s p o t) → Done s (read p o) a s₁
   unfolding entry readRow absorbed sharedRun meetGood
-  read-done t et = absorb-late s p o t (read p o) refl refl (rw et) (one-fits (sharedRun s p o))
+  read-done h t et =
+      absorb-late s p o t (read p o) refl refl (rw et) (one-fits (sharedRun s p o))
+      (unguarded (read p o) (absorbed s p o t) (process-unguarded (absorbed s p o t) (process-kind s (read p o) h)))
 
-  pub append-done : (t : ℕ) → t ≡ bitOr (view s .row o .tag) (view s .row p .tag) → (a : Answer) (s₁ : List ℕ)
+  append-blocks : (t : ℕ) → blocks (append p o) (absorbed s o p t) ≡ guardsAt s o t
+  unfolding absorbed guardsAt
+  append-blocks t = guard-blocks (append p o) (absorbed s o p t) refl
+
+  pub append-done : (t : ℕ) → t ≡ bitOr (view s .row o .tag) (view s .row p .tag) → guardsAt s o t ≡ false → (a : Answer) (s₁ : List ℕ)
       → (a ≡ absorbAnswer s o p t) × (s₁ ≡ absorbEffect s o p t) → Done s (append p o) a s₁
   unfolding entry appendRow absorbed sharedRun meetGood
-  append-done t et = absorb-late s o p t (append p o) refl refl (rw et) (one-fits (sharedRun s o p))
+  append-done t et f = absorb-late s o p t (append p o) refl refl (rw et) (one-fits (sharedRun s o p)) (append-blocks t ∙ f)
+
+  pub append-blocked : (t : ℕ) → t ≡ bitOr (view s .row o .tag) (view s .row p .tag) → guardsAt s o t ≡ true → (a : Answer) → a ≡ withheldAnswer s o p t → Done s (append p o) a s
+  unfolding entry appendRow absorbed sharedRun meetGood
+  append-blocked t et b = withheld-late s o p t (append p o) refl refl (rw et) (one-fits (sharedRun s o p)) (append-blocks t ∙ b)
 
   write-blocks : (t : ℕ) → t ≡ view s .row p .tag → blocks (write p o) (entry (view s) (write p o) .row) ≡ guardsAt s o t
   unfolding entry writeRow guardsAt
@@ -258,7 +273,7 @@ module _ (s : List ℕ) (p o : ℕ) where
       let uo : UsedAt s o = ready-object s (write p o) h refl in
       let w : Row = writeRow (view s .row p) (view s .row o) in
       put-done s (write p o) refl (write-blocks t et ∙ free) a ws
-      (ea ∙ ap₂ (λ (x : List ℕ) (y : ℕ). coverAnswer o x y) (lent-permit s o (uo .low)) et ∙ (rw (ap (λ (y : ℕ). isGuarded (view s .row o .kind) && not (covers (view s .row o .permit) y)) (sym et) ∙ free) at (guard-verdict (write p o) w refl)))
+      (ea ∙ ap₂ (λ (x : List ℕ) (y : ℕ). coverAnswer o x y) (lent-permit s o (uo .low)) et ∙ verdict-covers (write p o) w (write-blocks t et ∙ free) refl)
       (content-seen s o uo t (view s .row p .run) m em (run-short s p (ready-process s (write p o) h)) ws ew
       ∙ ap (λ (y : ℕ). rowWords (record { kind = view s .row o .kind; tag = y; permit = view s .row o .permit; run = view s .row p .run; behalf = view s .row o .behalf })) et)
 

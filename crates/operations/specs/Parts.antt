@@ -103,10 +103,6 @@ coverAnswer c permit tag = Given (coverVerdict (covers permit tag)) (received c 
 
 -- ---- container c takes in what d has, as a reader or a file that is appended to does: the tag t, and the meet of both run rules
 
--- container c is guarded, and its permit rule does not cover the tag
-unfoldable pub guardsAt : List ℕ → ℕ → ℕ → Bool
-guardsAt s c t = isGuarded (view s .row c .kind) && not (covers (view s .row c .permit) t)
-
 unfoldable pub sharedRun : List ℕ → ℕ → ℕ → List ℕ
 sharedRun s c d = meet (view s .row c .run) (view s .row d .run)
 
@@ -115,10 +111,20 @@ absorbed s c d t =
     record { kind = view s .row c .kind; tag = t; permit = view s .row c .permit; run = sharedRun s c d; behalf = view s .row c .behalf }
 
 unfoldable pub absorbAnswer : List ℕ → ℕ → ℕ → ℕ → Answer
-absorbAnswer s c d t = cond (fits (sharedRun s c d)) (cond (guardsAt s c t) (blocked c t) (coverAnswer c (view s .row c .permit) t)) (refused overLimit)
+absorbAnswer s c d t = cond (fits (sharedRun s c d)) (coverAnswer c (view s .row c .permit) t) (refused overLimit)
 
 unfoldable pub absorbEffect : List ℕ → ℕ → ℕ → ℕ → List ℕ
-absorbEffect s c d t = cond (fits (sharedRun s c d)) (cond (guardsAt s c t) s (putRow s c (rowWords (absorbed s c d t)))) s
+absorbEffect s c d t = cond (fits (sharedRun s c d)) (putRow s c (rowWords (absorbed s c d t))) s
+
+-- ---- a write or an append into container c, which would have the tag t
+
+-- container c is guarded, and its permit rule does not cover the tag
+unfoldable pub guardsAt : List ℕ → ℕ → ℕ → Bool
+guardsAt s c t = isGuarded (view s .row c .kind) && not (covers (view s .row c .permit) t)
+
+-- then an append of d is answered blocked, "15 being tested before it"
+unfoldable pub withheldAnswer : List ℕ → ℕ → ℕ → ℕ → Answer
+withheldAnswer s c d t = cond (fits (sharedRun s c d)) (blocked c t) (refused overLimit)
 
 -- ---- process p becomes what runs o for u: the run rule and the running atoms of o beside p's data atoms, under the permit rule m
 

@@ -20,7 +20,7 @@ ghost use Rattle.records.specs.Codes.{objectFits, codeAt};
 ghost use Rattle.records.specs.Records.{stepIn};
 ghost use Rattle.operations.specs.View.{view};
 ghost use Rattle.operations.specs.Effects.{Named, rowsGood, performAnswer, performEffect};
-ghost use Rattle.operations.specs.Parts.{firstConditions, Ready, lateAnswer, lateEffect, absorbAnswer, absorbEffect, launchAnswer, launchEffect, Kept, KeptAt, UsedAt, wordsFrom, contentWords, newWords, coverVerdict, coverAnswer, guardsAt};
+ghost use Rattle.operations.specs.Parts.{firstConditions, Ready, lateAnswer, lateEffect, absorbAnswer, absorbEffect, launchAnswer, launchEffect, Kept, KeptAt, UsedAt, wordsFrom, contentWords, newWords, coverVerdict, coverAnswer, guardsAt, withheldAnswer};
 use answers::Answer;
 use answers::Received;
 use answers::Verdict;
@@ -293,6 +293,23 @@ fn blocked(receiver: usize, tag: u64) -> Answer
     Answer::Given(Verdict::Blocked, Received { receiver, tag })
 }
 
+// The answer to an append into a container that guards itself from the tag: 15 comes first.
+fn withheld(s: &[u64], receiver: usize, giver: usize, tag: u64) -> Answer
+    requires { ⌜ (UsedAt (now s) receiver) × (UsedAt (now s) giver) ⌝ }
+    ensures { λ r. ⌜ r ≡ withheldAnswer (now (s .entry)) receiver giver tag ⌝ }
+{
+    let a = receiver * ROW_WIDTH;
+    let b = giver * ROW_WIDTH;
+    let met = meet_kept(
+        &s[a + RUN_AT..a + RUN_AT + RULE_WIDTH],
+        &s[b + RUN_AT..b + RUN_AT + RULE_WIDTH],
+    );
+    if !met.fits {
+        return Answer::Refused(answers::OVER_LIMIT);
+    }
+    blocked(receiver, tag)
+}
+
 // ---- the operations
 
 // The receiver takes in what the giver has: it gets the tag, and the meet of both run rules.
@@ -302,11 +319,7 @@ fn absorb(s: &mut [u64], receiver: usize, giver: usize, tag: u64) -> Answer
 {
     let a = receiver * ROW_WIDTH;
     let b = giver * ROW_WIDTH;
-    let blocks = guards(s, receiver, tag);
     if both_single(s[a + RUN_AT], s[b + RUN_AT]) {
-        if blocks {
-            return blocked(receiver, tag);
-        }
         let mixture = mixture_at(s, a + RUN_AT, b + RUN_AT);
         return narrow(&mut s[a..a + ROW_WIDTH], receiver, tag, mixture);
     }
@@ -316,9 +329,6 @@ fn absorb(s: &mut [u64], receiver: usize, giver: usize, tag: u64) -> Answer
     );
     if !met.fits {
         return Answer::Refused(answers::OVER_LIMIT);
-    }
-    if blocks {
-        return blocked(receiver, tag);
     }
     update(&mut s[a..a + ROW_WIDTH], receiver, tag, met)
 }
@@ -355,7 +365,11 @@ fn append(s: &mut [u64], p: usize, o: usize) -> Answer
 {
     let held = tag_of(s, p);
     let stored = tag_of(s, o);
-    absorb(s, o, p, stored | held)
+    let tag = stored | held;
+    if guards(s, o, tag) {
+        return withheld(s, o, p, tag);
+    }
+    absorb(s, o, p, tag)
 }
 
 // The process becomes what runs the object for the user, under the permit rule; it keeps its data atoms.

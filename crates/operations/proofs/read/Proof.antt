@@ -33,7 +33,7 @@ absorb-requires c κs =
 returns : tie.Need-returns
 returns c =
     let start = c .before .before .before .before .before .before .before .before .before .before in
-    read-done (start .args .s .now) (start .args .p) (start .args .o) _ (c .before .before .before .before
+    read-done (start .args .s .now) (start .args .p) (start .args .o) (start .pre) _ (c .before .before .before .before
     .add-data-atoms .ensures ∙ ap₂ (λ (x y : ℕ). bitOr x (dataOf dataWidth y)) (c .before .before .before .before
     .before .before .before .tag-of .ensures) (c .before .before .before .before .before .tag-of2 .ensures)) _ _ (c
     .before .before .absorb .ensures)
