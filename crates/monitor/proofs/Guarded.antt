@@ -1,27 +1,30 @@
 -- GUARDED FILES (change request No. 9, "Stop it instead"): what is proved of accesses that are blocked, and of the files that are guarded.
 use Prim.Native.Nat.{ℕ}
-use mathlib.Core.Path.{_≡_, sym, ap, _∙_}
-use mathlib.Core.Logic.{_⊎_, _↔_}
+use mathlib.Core.Path.{_≡_, refl, sym, ap, _∙_}
+use mathlib.Core.Logic.{_⊎_, inl, _↔_}
 use mathlib.Core.Bool.{true, false, not}
 use mathlib.Core.List.{List, [], _∷_, _++_}
+use lib.Bits.{bitOr}
 use lib.ListN.{take}
 use borrow.Author.Tests.{not-true}
-use Rattle.lists.proofs.Bools.{and-in, and-0, and-1}
+use Rattle.lists.proofs.Bools.{and-in, and-0, and-1, clash, refuted}
 use Rattle.fields.specs.Bytes.{Bytes}
 use Rattle.answers.specs.Answers.{blocked, isBlocked, isRefused}
 use Rattle.answers.proofs.Cases.{blocked-given}
 use Rattle.rules.specs.Rules.{covers}
+use Rattle.rules.proofs.SetLaws.{or-has}
 use Rattle.image.specs.Limits.{isGuarded}
 use Rattle.image.specs.Image.{checkOf, policyIn}
 use Rattle.image.proofs.Decode.{accepted-sound}
 use Rattle.session.specs.Rows.{Row}
 use Rattle.session.specs.Session.{startOf, startAnswer, startEffect}
 use Rattle.session.proofs.Canonical.{effect-start}
-use Rattle.chains.specs.History.{History, _▸_, receiver}
+use Rattle.chains.specs.History.{append, History, _▸_, receiver}
 use Rattle.chains.specs.Chains.{Forbidden}
 use Rattle.chains.specs.Guards.{guarded, writing, writtenInto}
 use Rattle.chains.specs.Demand.{judged, historyOf, BlockedTold, BlockedExactly, GuardedHolds, GuardedSpared}
-use Rattle.chains.specs.Table.{State, entry, meetGood, alerts, blocks}
+use Rattle.chains.specs.Table.{State, appendRow, entry, meetGood, alerts, blocks}
+use Rattle.chains.proofs.Exact.{covers-in, covers-out}
 use Rattle.chains.proofs.TableLaws.{passed}
 use Rattle.chains.proofs.VerdictLaws.{verdict-blocked, blocks-alerts, blocked-blocks}
 use Rattle.chains.proofs.GuardLaws.{guarded-written, writing-judged, written-kind}
@@ -92,6 +95,20 @@ module _ (s r : List ℕ) where
           ap isBlocked
           (made-answer s r e
           ∙ verdict-blocked (stepAsked r) row (and-in (ap isGuarded (written-kind (view s) (stepAsked r) w) ∙ g) (and-in (writing-judged (stepAsked r) w) (ap not c))))
+
+-- A guarded file that is not permitted what it holds, as one whose own atom its permit rule leaves out, blocks every append, of nothing too.
+pub append-unpermitted : (s r : List ℕ) (p o : ℕ) → stepAsked r ≡ append p o → refusalOf s r ≡ 0 → isGuarded (view s .row o .kind) ≡ true
+    → covers (view s .row o .permit) (view s .row o .tag) ≡ false → isBlocked (stepAnswer s r) ≡ true
+unfolding entry appendRow
+append-unpermitted s r p o e h g c =
+    answer-blocked s r .1 (rw e (
+      h,
+      refl,
+      g,
+      refuted (covers (view s .row o .permit) (bitOr (view s .row o .tag) (view s .row p .tag))) (λ k.
+          let q = covers-out (view s .row o .permit) (bitOr (view s .row o .tag) (view s .row p .tag)) k in
+          clash (covers-in (view s .row o .permit) (view s .row o .tag) (q .0) (q .1) (λ i a. q .2 i (or-has (view s .row o .tag) (view s .row p .tag) i .1 (inl a)))) c),
+    ))
 
 -- ---- from the session that an image starts which is not refused
 
