@@ -57,15 +57,6 @@ module _ {S R : Type 0} (op : S → R → S × Answer) (stepOf : R → Option St
       let k : (operate (view σ) (f .0) .0 ≡ view σ) × (writing (f .0) ≡ true) = operate-blocked (view σ) (f .0) (ap isBlocked (sym (f .3)) ∙ b) in
       (f .0, f .1, f .2 ∙ k .0, k .1)
 
-  -- each blocked record of a list spells a write or an append
-  pub blocked-at : (σ : S) → Valid σ → (rs : List R) (n : ℕ) (s : Step) (a : Answer) → GivenAt op stepOf σ rs n s a → isBlocked a ≡ true → writing s ≡ true
-  blocked-at σ ok [] n s a A b = absurd (none-some (A .answered))
-  blocked-at σ ok (q ∷ rs) zero s a A b =
-      let f : (t : Step) × (stepOf q ≡ some t) × (view (op σ q .0) ≡ view σ) × (writing t ≡ true) = op-blocked σ ok q (ap isBlocked (some-inj (A .answered)) ∙ b) in
-      ap writing (some-inj (sym (ap stepOf (some-inj (A .spelled .1)) ∙ A .spelled .2) ∙ f .1)) ∙ f .3
-  blocked-at σ ok (q ∷ rs) (suc n) s a A b =
-      blocked-at (op σ q .0) (F .stays σ q ok) rs n s a (record { spelled = A .spelled; answered = A .answered; given = A .given }) b
-
 module _ (P : Policy) where
   -- ---- one step
 

@@ -2,14 +2,14 @@
 use Prim.Native.Nat.{ℕ}
 use mathlib.Core.Path.{_≡_, refl, sym, ap, _∙_}
 use mathlib.Core.Logic.{_⊎_, inl, _↔_}
-use mathlib.Core.Bool.{true, false, not}
+use mathlib.Core.Bool.{true, false, not, cond}
 use mathlib.Core.List.{List, [], _∷_, _++_}
 use lib.Bits.{bitOr}
 use lib.ListN.{take}
 use borrow.Author.Tests.{not-true}
 use Rattle.lists.proofs.Bools.{and-in, and-0, and-1, clash, refuted}
 use Rattle.fields.specs.Bytes.{Bytes}
-use Rattle.answers.specs.Answers.{blocked, isBlocked, isRefused}
+use Rattle.answers.specs.Answers.{quiet, alert, blocked, isBlocked, isRefused}
 use Rattle.answers.proofs.Cases.{blocked-given}
 use Rattle.rules.specs.Rules.{covers}
 use Rattle.rules.proofs.SetLaws.{or-has}
@@ -37,6 +37,7 @@ use Rattle.monitor.specs.Steps.{stepAsked, refusalOf, stepAnswer, stepEf
 use Rattle.monitor.specs.Runs.{stepOn, runAnswers, runEffect, historyIn}
 use Rattle.monitor.specs.Stops.{ran}
 use Rattle.monitor.proofs.StepLaws.{step-table, step-meet, made-answer, blocked-effect, answered-zero, faithful}
+use Rattle.monitor.proofs.AnswerLaws.{verdict-judged}
 use Rattle.monitor.proofs.StartView.{start-valid, start-view}
 use Rattle.monitor.proofs.RunLaws.{runEffect-append}
 use Rattle.monitor.proofs.DemandLaws.{blocked-last}
@@ -71,6 +72,16 @@ module _ (s r : List ℕ) where
     -- "and changes nothing"
     pub blocked-nothing : stepEffect s r ≡ s
     blocked-nothing = blocked-effect s r blocked-unrefused blocking
+
+  -- Codes 1 to 5 that are not refused: quiet if the permit rule covers the tag, else blocked or alert by the receiver's kind.
+  pub answer-given-judged : refusalOf s r ≡ 0 → judged (stepAsked r) ≡ true
+      → stepAnswer s r
+      ≡ cond (covers (entry (view s) (stepAsked r) .row .permit) (entry (view s) (stepAsked r) .row .tag))
+      (quiet (receiver (stepAsked r)) (entry (view s) (stepAsked r) .row .tag))
+      (cond (isGuarded (entry (view s) (stepAsked r) .row .kind))
+      (blocked (receiver (stepAsked r)) (entry (view s) (stepAsked r) .row .tag))
+      (alert (receiver (stepAsked r)) (entry (view s) (stepAsked r) .row .tag)))
+  answer-given-judged e j = made-answer s r e ∙ verdict-judged (stepAsked r) row j
 
   -- "Blocked is given in just those cases", by the rows: a write or an append is not refused, its object is guarded, and its permit rule
   -- does not cover the tag that it would have

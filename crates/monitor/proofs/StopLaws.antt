@@ -80,7 +80,7 @@ module _ (f : Answer → Bool) (quiets : (a : Answer) → isQuiet a ≡ true →
       by false e = absurd (cons≢nil e)
 
   -- the answer passes it exactly if the last record taken is answered so
-  pub of-last : (s : List ℕ) (rs qs : List (List ℕ)) (r : List ℕ) → take (stopCount (runAnswers s rs)) rs ≡ qs ++ (r ∷ [])
+  of-last : (s : List ℕ) (rs qs : List (List ℕ)) (r : List ℕ) → take (stopCount (runAnswers s rs)) rs ≡ qs ++ (r ∷ [])
       → f (stopAnswer (runAnswers s rs)) ≡ f (stepAnswer (runEffect s qs) r)
   unfolding stopAnswer stopCount runAnswers runEffect stepOn
   of-last s [] [] r e = absurd (cons≢nil (sym e))

@@ -89,8 +89,8 @@ module _ (image lent : List ℕ) (bytes : Bytes image) (ok : startAnswer image l
   pub number-taken-started : TakenAnew stepOn stepOf (startEffect image lent) (policyIn image)
   number-taken-started = rw (effect-start image lent ok .1) (number-taken image bytes (effect-start image lent ok .0))
 
--- Demand 3 spelled out, over the bytes of the image and of the records, and which answers are no refusals. The start did not
--- refuse, and filled a lent session; a list of records was answered on it. Record number n is r, its answer a is no refusal, and
+-- Demand 3 spelled out, over the bytes of the image and of the records, and which answers accept. The start did not
+-- refuse, and filled a lent session; a list of records was answered on it. Record number n is r, its answer a accepts it, and
 -- it spells t: a read, write, append, exec or fork. h is the history up to and with it. Then a is an alert exactly if some rule
 -- governs the receiver of which no mixture holds all the atoms that have a chain into the receiver.
 pub alert-exactly : (image lent : List ℕ) → Bytes image → startAnswer image lent ≡ 0
@@ -124,7 +124,8 @@ alert-next image lent bytes ok rs r e j = alert-last (startEffect image lent) (p
 
 -- ---- a run that stops, `run`: of any session and any bytes
 
--- the number that a host sees: 0 exactly if the session has its length and each record is answered quiet, 256 exactly if it is an alert
+-- the number that a host sees: 0 exactly if the session has its length and each record is answered quiet, 256 exactly if it is an alert,
+-- 257 exactly if it is blocked
 pub ran-0 : (s t : List ℕ) → (answerNumber (ran s t .answer) ≡ 0) ↔ ((sessionLengthGood s ≡ true) × (every isQuiet (runAnswers s (traceRecords t)) ≡ true))
 ran-0 s t = (number-0 s t, λ h. rw (ran-good s t (h .0), quiet-stop (runAnswers s (traceRecords t)) (h .1)))
 
