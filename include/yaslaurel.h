@@ -15,7 +15,7 @@
  *     ...
  *     yaslaurel_record(YASLAUREL_READ, p, o, YASLAUREL_NO_USER, record);
  *     answer = yaslaurel_step(session, length, record, sizeof record,
- *                             &receiver, &tag);
+ *                             &receiver, &tag, &position);
  *
  * An image comes from a file, from an access matrix (yaslaurel_matrix_policy) or from a text of profiles
  * (yaslaurel_profiles_policy). FORMATS.md, which comes with it, has each format in full and a remedy for each refusal.
@@ -223,6 +223,7 @@
 #define YASLAUREL_QUIET 0u
 #define YASLAUREL_ALERT 256u
 #define YASLAUREL_BLOCKED 257u
+#define YASLAUREL_NO_POSITION 255u /* a position: no mixture holds the tag */
 #define YASLAUREL_CONSISTENT 0u
 #define YASLAUREL_NOT_CONSISTENT 1u
 #define YASLAUREL_NOT_SILENT 0u
@@ -317,12 +318,15 @@ uint32_t yaslaurel_session_start(const uint8_t *image, size_t image_len, uint64_
  *
  * Returns 0 quiet or 256 alert: `receiver` is then the number of the container that received, `tag` the set of its atoms,
  * atom k worth 2 to the k; for an end or a delete, the number of the container that leaves, and 0. 257 blocked: `receiver`
- * is the guarded file, `tag` what it would have held. Else 9, then 7, then 10 to 14, 18 or 15, and `receiver` and `tag` keep
- * what they held.
+ * is the guarded file, `tag` what it would have held. `position` is the place, 0 to 7, of the first mixture in the receiver's
+ * permit rule (as its row has it, in ascending order) that holds all of the tag, and so tells which permission let the flow
+ * through; YASLAUREL_NO_POSITION if none does, as in an alert, where it is blocked, for a new file under a rule without
+ * mixtures, and for a container that leaves. Else 9, then 7, then 10 to 14, 18 or 15, and `receiver`, `tag` and `position`
+ * keep what they held.
  */
 YASLAUREL_MUST_USE
 uint32_t yaslaurel_step(uint64_t *session, size_t session_len, const uint8_t *record, size_t record_len,
-                        uint64_t *receiver, uint64_t *tag);
+                        uint64_t *receiver, uint64_t *tag, uint32_t *position);
 
 /*
  * Judges records up to the first that is not quiet. They lie one behind the other in `records`; each is judged as
@@ -332,14 +336,14 @@ uint32_t yaslaurel_step(uint64_t *session, size_t session_len, const uint8_t *re
  * To go on, call again with the records behind: YASLAUREL_RECORD_LENGTH times `taken` bytes further, none left if that is
  * `records_len` or more. The answers are those of yaslaurel_step on each record in turn.
  *
- * Returns 0 if each was quiet, also if there is none; 256 alert or 257 blocked, with `receiver` and `tag` as from
+ * Returns 0 if each was quiet, also if there is none; 256 alert or 257 blocked, with `receiver`, `tag` and `position` as from
  * yaslaurel_step; else that record's refusal, 7, 10 to 15 or 18, which changes nothing of its own, while the records before
- * it stay done. `taken` is then how many were judged, the last included; `receiver` and `tag` are written in an alert and a
- * blocked record alone. 9 comes first, also without records, and nothing changes, `taken` neither.
+ * it stay done. `taken` is then how many were judged, the last included; `receiver`, `tag` and `position` are written in an
+ * alert and a blocked record alone. 9 comes first, also without records, and nothing changes, `taken` neither.
  */
 YASLAUREL_MUST_USE
 uint32_t yaslaurel_run(uint64_t *session, size_t session_len, const uint8_t *records, size_t records_len,
-                       size_t *taken, uint64_t *receiver, uint64_t *tag);
+                       size_t *taken, uint64_t *receiver, uint64_t *tag, uint32_t *position);
 
 /*
  * Gives the verdict on an access matrix. `reads` and `writes` have one row for each of 1 to 8 subjects, bit k for object k

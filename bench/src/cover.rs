@@ -14,8 +14,8 @@ const ATOMS: usize = 32 / RULE_MIXTURES;
 
 #[cfg(covering)]
 extern "C" {
-    /// The cover test alone, of the crate `covering`.
-    fn yaslaurel_covers(mixtures: *const u64, count: usize, tag: u64) -> bool;
+    /// The cover test alone, of the crate `covering`: the place of the first mixture that covers.
+    fn yaslaurel_cover_place(mixtures: *const u64, count: usize, tag: u64) -> usize;
 }
 
 /// Eight mixtures of data atoms, no two of which share one.
@@ -33,7 +33,7 @@ fn write_from(place: usize) -> (Vec<u64>, [u8; record::LENGTH]) {
     assert_eq!(library_step(&mut session, &work::record(1, 2, 1, record::NO_USER)).0, 0, "the process reads");
     let write = work::record(2, 2, 0, record::NO_USER);
     let tag = 1 << (ATOMS * place);
-    assert_eq!(library_step(&mut session, &write), (0, 0, tag), "the write is quiet");
+    assert_eq!(library_step(&mut session, &write), (0, 0, tag, place as u32), "the write is quiet");
     (session, write)
 }
 
@@ -76,12 +76,12 @@ pub fn cover() {
 #[cfg(covering)]
 fn cover_alone() {
     let rule = mixtures();
-    let covers = |tag: u64| {
+    let covers = |place: usize| {
+        let tag = std::hint::black_box(1 << (ATOMS * place));
         // SAFETY: the slice is valid and aligned for its length.
-        assert!(unsafe { yaslaurel_covers(rule.as_ptr(), rule.len(), std::hint::black_box(tag)) });
+        assert_eq!(unsafe { yaslaurel_cover_place(rule.as_ptr(), rule.len(), tag) }, place);
     };
-    let last = 1 << (ATOMS * (RULE_MIXTURES - 1));
-    by_turns("the cover test alone", 65_536, &mut [&mut || covers(1), &mut || covers(last)]);
+    by_turns("the cover test alone", 65_536, &mut [&mut || covers(0), &mut || covers(RULE_MIXTURES - 1)]);
 }
 
 #[cfg(not(covering))]

@@ -61,15 +61,25 @@ fn head_of(title: &str, first: &str, columns: [&str; 3]) {
     println!("\n## {title}\n\n| {first} | library ns | to {one} | to {two} | to {three} |\n|---|---|---|---|---|");
 }
 
-type Step = fn(&mut [u64], &[u8]) -> (u32, u64, u64);
+/// An answer: its number, then receiver, tag and position.
+type Answer = (u32, u64, u64, u32);
+
+type Step = fn(&mut [u64], &[u8]) -> Answer;
+
+/// The numbers of an answer in one.
+fn mixed(sum: u64, (number, receiver, tag, position): Answer) -> u64 {
+    sum.rotate_left(5) ^ tag ^ receiver ^ u64::from(number) ^ u64::from(position) << 16
+}
 
 /// One operation by the function that hosts call, as C sees it.
-fn library_step(session: &mut [u64], record: &[u8]) -> (u32, u64, u64) {
-    let (mut receiver, mut tag) = (0, 0);
+fn library_step(session: &mut [u64], record: &[u8]) -> Answer {
+    let (mut receiver, mut tag, mut position) = (0, 0, 0);
     let (words, bytes) = (session.as_mut_ptr(), record.as_ptr());
-    // SAFETY: the slices are valid and aligned for their lengths, and the two numbers are ours.
-    let number = unsafe { ffi::yaslaurel_step(words, session.len(), bytes, record.len(), &mut receiver, &mut tag) };
-    (number, receiver, tag)
+    // SAFETY: the slices are valid and aligned for their lengths, and the three numbers are ours.
+    let number = unsafe {
+        ffi::yaslaurel_step(words, session.len(), bytes, record.len(), &mut receiver, &mut tag, &mut position)
+    };
+    (number, receiver, tag, position)
 }
 
 fn library_check(image: &[u8]) -> u32 {
@@ -87,9 +97,9 @@ fn library_normalise(image: &[u8], out: &mut [u8]) -> u32 {
     unsafe { ffi::yaslaurel_image_normalise(image.as_ptr(), image.len(), out.as_mut_ptr(), out.len()) }
 }
 
-fn judge_step(session: &mut [u64], record: &[u8]) -> (u32, u64, u64) {
+fn judge_step(session: &mut [u64], record: &[u8]) -> Answer {
     let answer = judge::session::step(session, record);
-    (answer.number, answer.receiver, answer.tag)
+    (answer.number, answer.receiver, answer.tag, answer.position)
 }
 
 const STEPS: [(&str, Step); 4] = [
@@ -118,10 +128,7 @@ fn steps(session: &[u64], records: &[[u8; record::LENGTH]], refusal: u32) -> Out
             prepare: Box::new(|| copy.borrow_mut().copy_from_slice(session)),
             run: Box::new(|| {
                 let mut words = copy.borrow_mut();
-                records.iter().fold(0u64, |sum, record| {
-                    let (number, receiver, tag) = step(&mut words, record);
-                    sum.rotate_left(5) ^ tag ^ receiver ^ u64::from(number)
-                })
+                records.iter().fold(0u64, |sum, record| mixed(sum, step(&mut words, record)))
             }),
         })
         .collect();
@@ -186,13 +193,23 @@ fn library_run(session: &mut [u64], mut records: &[u8]) -> u64 {
     let (words, length) = (session.as_mut_ptr(), session.len());
     let mut sum = 0u64;
     while !records.is_empty() {
-        let (mut taken, mut receiver, mut tag) = (0, 0, 0);
-        // SAFETY: the slices are valid and aligned for their lengths, and the three numbers are ours.
+        let (mut taken, mut receiver, mut tag, mut position) = (0, 0, 0, 0);
+        let (bytes, bytes_length) = (records.as_ptr(), records.len());
+        // SAFETY: the slices are valid and aligned for their lengths, and the four numbers are ours.
         let number = unsafe {
-            ffi::yaslaurel_run(words, length, records.as_ptr(), records.len(), &mut taken, &mut receiver, &mut tag)
+            ffi::yaslaurel_run(
+                words,
+                length,
+                bytes,
+                bytes_length,
+                &mut taken,
+                &mut receiver,
+                &mut tag,
+                &mut position,
+            )
         };
         if number != ffi::QUIET {
-            sum = sum.rotate_left(5) ^ tag ^ receiver ^ u64::from(number);
+            sum = mixed(sum, (number, receiver, tag, position));
         }
         records = &records[records.len().min(record::LENGTH * taken)..];
     }
@@ -202,14 +219,15 @@ fn library_run(session: &mut [u64], mut records: &[u8]) -> u64 {
 /// The same by the iterator of the Rust interface.
 fn iterated_run(session: &mut [u64], records: &[u8]) -> u64 {
     yaslaurel::run_in(session, records).fold(0, |sum: u64, (_, answer)| {
-        let (number, receiver, tag) = match answer {
+        let answer = match answer {
             Ok(answer) => {
                 let number = if answer.verdict == Verdict::Alert { ffi::ALERT } else { ffi::BLOCKED };
-                (number, u64::from(answer.receiver), answer.tag)
+                let position = answer.position.map_or(ffi::NO_POSITION, u32::from);
+                (number, u64::from(answer.receiver), answer.tag, position)
             }
-            Err(refusal) => (refusal.number(), 0, 0),
+            Err(refusal) => (refusal.number(), 0, 0, 0),
         };
-        sum.rotate_left(5) ^ tag ^ receiver ^ u64::from(number)
+        mixed(sum, answer)
     })
 }
 
@@ -217,7 +235,7 @@ fn iterated_run(session: &mut [u64], records: &[u8]) -> u64 {
 fn stepped_run(step: Step, session: &mut [u64], records: &[u8]) -> u64 {
     records.chunks(record::LENGTH).fold(0, |sum: u64, bytes| match step(session, bytes) {
         (ffi::QUIET, ..) => sum,
-        (number, receiver, tag) => sum.rotate_left(5) ^ tag ^ receiver ^ u64::from(number),
+        answer => mixed(sum, answer),
     })
 }
 
@@ -562,12 +580,12 @@ fn listing() -> io::Result<()> {
     if let Ok(mut file) = fs::File::open("trace.bin") {
         file.read_to_end(&mut trace)?;
     }
-    writeln!(out, "step op p o verdict at tag")?;
+    writeln!(out, "step op p o verdict at tag pos")?;
     let words = ["other", "read", "write", "append", "exec", "fork", "file", "volatile", "end", "delete"];
     let (mut step, mut alerts, mut refusals) = (0u64, 0u64, 0u64);
     for record in trace.chunks(record::LENGTH) {
         step += 1;
-        let (number, receiver, tag) = plain::step::<Natural>(&mut session, record);
+        let (number, receiver, tag, position) = plain::step::<Natural>(&mut session, record);
         let (word, p, o) = match *record {
             [code, _, p0, p1, o0, o1, _, _] => {
                 let word = words.get(usize::from(code)).unwrap_or(&"other");
@@ -576,12 +594,12 @@ fn listing() -> io::Result<()> {
             _ => ("other", 0, 0),
         };
         match number {
-            ffi::QUIET => writeln!(out, "{step} {word} {p} {o} quiet {receiver} {tag:016x}")?,
+            ffi::QUIET => writeln!(out, "{step} {word} {p} {o} quiet {receiver} {tag:016x} {position}")?,
             ffi::ALERT => {
                 alerts += 1;
-                writeln!(out, "{step} {word} {p} {o} alert {receiver} {tag:016x}")?;
+                writeln!(out, "{step} {word} {p} {o} alert {receiver} {tag:016x} {position}")?;
             }
-            ffi::BLOCKED => writeln!(out, "{step} {word} {p} {o} blocked {receiver} {tag:016x}")?,
+            ffi::BLOCKED => writeln!(out, "{step} {word} {p} {o} blocked {receiver} {tag:016x} {position}")?,
             _ => {
                 refusals += 1;
                 writeln!(out, "{step} {word} {p} {o} refused {number}")?;

@@ -25,7 +25,7 @@ impl Figures {
         for bytes in trace.chunks(record::LENGTH) {
             match plain::step::<Natural>(session, bytes) {
                 (ffi::QUIET, ..) => figures.accepted += 1,
-                (ffi::ALERT, receiver, _) => {
+                (ffi::ALERT, receiver, ..) => {
                     figures.accepted += 1;
                     figures.alerts += 1;
                     *figures.containers.entry(receiver).or_default() += 1;

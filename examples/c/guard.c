@@ -142,9 +142,10 @@ static int access_file(uint32_t code, const char *process, const char *file, con
 {
     uint8_t record[YASLAUREL_RECORD_LENGTH];
     uint64_t receiver = 0, tag = 0;
+    uint32_t position = YASLAUREL_NO_POSITION;
 
     yaslaurel_record(code, number_of(process), number_of(file), YASLAUREL_NO_USER, record);
-    uint32_t answer = yaslaurel_step(session, YASLAUREL_SESSION_LENGTH, record, sizeof record, &receiver, &tag);
+    uint32_t answer = yaslaurel_step(session, YASLAUREL_SESSION_LENGTH, record, sizeof record, &receiver, &tag, &position);
     switch (answer) {
     case YASLAUREL_QUIET:
         return make_access(code, file, text) ? QUIET : FAILED;

@@ -119,8 +119,9 @@ static int judge(uint64_t *session, const uint8_t *records, size_t length, struc
     while (length > 0) {
         size_t taken = 0;
         uint64_t receiver = 0, tag = 0;
+        uint32_t position = YASLAUREL_NO_POSITION;
         uint32_t answer =
-            yaslaurel_run(session, YASLAUREL_SESSION_LENGTH, records, length, &taken, &receiver, &tag);
+            yaslaurel_run(session, YASLAUREL_SESSION_LENGTH, records, length, &taken, &receiver, &tag, &position);
         totals->steps += taken;
         if (answer == YASLAUREL_ALERT) {
             totals->alerts++;

@@ -27,6 +27,7 @@ RUNNING = 32  # how far the running atom of a data atom is behind it
 NO_ATOM = 255
 UNRESTRICTED = 65535
 NO_USER = 65535
+NO_POSITION = 255  # of an answer: no mixture holds the tag
 
 
 class Policy:

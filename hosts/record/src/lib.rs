@@ -95,7 +95,7 @@ fn start(options: &Options, first: Option<&Path>, uid: Option<u32>, mut report: 
         ));
     }
     let folder = first.map(|first| first.as_os_str().to_os_string().into_vec());
-    let run = Start { uid, folder, keep: options.out.is_some() };
+    let run = Start { uid, folder, keep: options.out.is_some(), why: options.why };
     Follower::start(plan, report, run, options.strict).map_err(Failure::story)
 }
 

@@ -98,6 +98,11 @@ impl Monitor {
         self.present[usize::from(number)].as_ref().map_or_else(|| number.to_string(), |present| present.name.clone())
     }
 
+    /// A mixture of a container's permit rule.
+    pub fn permitted(&self, number: u8, place: u8) -> u64 {
+        self.session.words()[session::container(number.into())][session::PERMIT + 1 + usize::from(place)]
+    }
+
     /// Whether a file with an unrestricted permit rule equals a new one: it holds nothing and is unrestricted to run.
     pub fn equals_new(&self, number: u8) -> bool {
         let row = &self.session.words()[session::container(usize::from(number))];

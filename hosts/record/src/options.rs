@@ -13,6 +13,7 @@ record help, record --version
   --uid N          the user id of the first process in a log
   --keep LOG       keeps the log of a live run
   --strict         stops at the first call that is not followed or refused, and ends the command
+  --why            tells also what is quiet, and which mixture of its rule let it through
 
 Alerts, refusals and what is not followed are told at once, in a live run on standard error; the last line is the summary.
 
@@ -30,6 +31,7 @@ pub struct Options {
     pub uid: Option<u32>,
     pub keep: Option<PathBuf>,
     pub strict: bool,
+    pub why: bool,
     pub command: Vec<OsString>,
 }
 
@@ -44,9 +46,16 @@ impl Options {
                 options.command = rest.collect();
                 break;
             }
-            if word == "--strict" {
-                options.strict = true;
-                continue;
+            match word.as_str() {
+                "--strict" => {
+                    options.strict = true;
+                    continue;
+                }
+                "--why" => {
+                    options.why = true;
+                    continue;
+                }
+                _ => {}
             }
             let mut value = || rest.next().ok_or_else(|| format!("nothing is behind {word}"));
             match word.as_str() {

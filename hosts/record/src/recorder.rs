@@ -51,6 +51,8 @@ pub struct Start {
     pub folder: Option<Vec<u8>>,
     /// Whether operations and holders are kept to be written at the end.
     pub keep: bool,
+    /// Whether what is quiet is told too, with the mixture that let it through.
+    pub why: bool,
 }
 
 impl Recorder {
@@ -270,15 +272,29 @@ impl Recorder {
         let answer = self.monitor.perform(self.line, operation);
         let step = self.monitor.steps();
         let verdict = answer.map(|answer| answer.verdict);
-        if verdict == Ok(Verdict::Quiet) {
+        if verdict == Ok(Verdict::Quiet) && !self.run.why {
             return;
         }
         let words = self.words(operation, answer.ok());
         match verdict {
+            Ok(Verdict::Quiet) => {
+                let why = answer.ok().and_then(|answer| self.why(answer)).unwrap_or_default();
+                self.report.line(&format!("quiet, step {step}: {words}{why}"));
+            }
             Ok(Verdict::Alert) => self.report.alert(step, &words),
             Ok(unknown) => self.report.unknown(step, &format!("{unknown:?}"), &words),
             Err(refusal) => self.report.refusal(step, refusal.number(), &words),
         }
+    }
+
+    /// Which mixture of the receiver's permit rule holds what it has, in words.
+    fn why(&self, answer: Answer) -> Option<String> {
+        let place = answer.position?;
+        let mixture = match self.monitor.permitted(answer.receiver, place) {
+            u64::MAX => "everything".to_string(),
+            mixture => self.plan.policy.sources_in(mixture).to_string(),
+        };
+        Some(format!(", let through by mixture {place}: {mixture}"))
     }
 
     /// An operation in words, with what the receiver holds.

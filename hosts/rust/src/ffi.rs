@@ -10,6 +10,8 @@ pub const QUIET: u32 = 0;
 pub const ALERT: u32 = 256;
 /// The answer blocked.
 pub const BLOCKED: u32 = 257;
+/// The position where no mixture holds the tag.
+pub const NO_POSITION: u32 = 255;
 
 extern "C" {
     pub fn yaslaurel_version() -> u32;
@@ -23,6 +25,7 @@ extern "C" {
         record_len: usize,
         receiver: *mut u64,
         tag: *mut u64,
+        position: *mut u32,
     ) -> u32;
     pub fn yaslaurel_run(
         session: *mut u64,
@@ -32,6 +35,7 @@ extern "C" {
         taken: *mut usize,
         receiver: *mut u64,
         tag: *mut u64,
+        position: *mut u32,
     ) -> u32;
     pub fn yaslaurel_matrix_verdict(
         reads: *const u32,

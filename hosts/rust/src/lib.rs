@@ -93,9 +93,19 @@ pub struct Answer {
     /// The set of atoms that the receiver now holds, or would hold if the operation were not blocked: atom k is worth 2 to the
     /// k, data atoms 0 to 31, their running atoms 32 to 63. 0 for one that has left.
     pub tag: u64,
+    /// The place, from 0, of the first mixture in the receiver's permit rule, in ascending order, that holds all of the tag: which
+    /// permission let the flow through. Nothing if there is none, as in an alert, where it is blocked, for a new file under a
+    /// rule without mixtures, and for a container that has left.
+    pub position: Option<u8>,
 }
 
 impl Answer {
+    /// The answer of a function of the library.
+    pub(crate) fn new(verdict: Verdict, receiver: u64, tag: u64, position: u32) -> Answer {
+        let position = (position != ffi::NO_POSITION).then_some(position as u8);
+        Answer { verdict, receiver: receiver as u8, tag, position }
+    }
+
     /// The atoms of the tag, rising.
     ///
     /// ```
@@ -242,11 +252,12 @@ pub fn start_in(image: &[u8], session: &mut [u64]) -> Result<(), Refusal> {
 /// [`Refusal::LentLength`] for another length, else as [`Session::step`]. A refusal changes nothing.
 #[inline]
 pub fn step_in(session: &mut [u64], record: &[u8]) -> Result<Answer, Refusal> {
-    let (mut receiver, mut tag) = (0, 0);
-    // SAFETY: the slices are valid and aligned for their lengths, the two numbers are ours, and Rust keeps what is
+    let (mut receiver, mut tag, mut position) = (0, 0, 0);
+    let (words, length) = (session.as_mut_ptr(), session.len());
+    // SAFETY: the slices are valid and aligned for their lengths, the three numbers are ours, and Rust keeps what is
     // written apart from the rest.
     let number = unsafe {
-        ffi::yaslaurel_step(session.as_mut_ptr(), session.len(), record.as_ptr(), record.len(), &mut receiver, &mut tag)
+        ffi::yaslaurel_step(words, length, record.as_ptr(), record.len(), &mut receiver, &mut tag, &mut position)
     };
     let verdict = match number {
         ffi::QUIET => Verdict::Quiet,
@@ -254,7 +265,7 @@ pub fn step_in(session: &mut [u64], record: &[u8]) -> Result<Answer, Refusal> {
         ffi::BLOCKED => Verdict::Blocked,
         number => return Err(refusal(number)),
     };
-    Ok(Answer { verdict, receiver: receiver as u8, tag })
+    Ok(Answer::new(verdict, receiver, tag, position))
 }
 
 /// A running session.

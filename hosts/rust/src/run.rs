@@ -57,8 +57,8 @@ impl Iterator for Run<'_> {
         if self.done {
             return None;
         }
-        let (mut taken, mut receiver, mut tag) = (0, 0, 0);
-        // SAFETY: the slices are valid and aligned for their lengths, the three numbers are ours, and Rust keeps what is
+        let (mut taken, mut receiver, mut tag, mut position) = (0, 0, 0, 0);
+        // SAFETY: the slices are valid and aligned for their lengths, the four numbers are ours, and Rust keeps what is
         // written apart from the rest.
         let number = unsafe {
             ffi::yaslaurel_run(
@@ -69,6 +69,7 @@ impl Iterator for Run<'_> {
                 &mut taken,
                 &mut receiver,
                 &mut tag,
+                &mut position,
             )
         };
         self.judged += taken;
@@ -76,7 +77,7 @@ impl Iterator for Run<'_> {
         self.done = self.records.is_empty();
         // The last of them, or the first place of a call that took none.
         let place = self.judged.saturating_sub(1);
-        let answer = |verdict| Some((place, Ok(Answer { verdict, receiver: receiver as u8, tag })));
+        let answer = |verdict| Some((place, Ok(Answer::new(verdict, receiver, tag, position))));
         match number {
             ffi::QUIET => {
                 self.done = true;

@@ -59,13 +59,16 @@ static int out_stayed_from(size_t from)
 struct numbers {
     uint64_t receiver, tag;
     size_t taken;
-    uint32_t count, source, target;
+    uint32_t position, count, source, target;
 };
 
-static const struct numbers unset = {77, 88, 99, 11, 22, 33};
+static const struct numbers unset = {77, 88, 99, 44, 11, 22, 33};
 static struct numbers got;
 
-static int answer_stayed(void) { return got.receiver == unset.receiver && got.tag == unset.tag; }
+static int answer_stayed(void)
+{
+    return got.receiver == unset.receiver && got.tag == unset.tag && got.position == unset.position;
+}
 
 static int numbers_stayed(void)
 {
@@ -76,12 +79,12 @@ static int numbers_stayed(void)
 /* Each function that has such pointers is called here alone. */
 static uint32_t step(uint64_t *words, size_t words_length, const uint8_t *record, size_t length)
 {
-    return yaslaurel_step(words, words_length, record, length, &got.receiver, &got.tag);
+    return yaslaurel_step(words, words_length, record, length, &got.receiver, &got.tag, &got.position);
 }
 
 static uint32_t run(uint64_t *words, size_t words_length, const uint8_t *records, size_t length)
 {
-    return yaslaurel_run(words, words_length, records, length, &got.taken, &got.receiver, &got.tag);
+    return yaslaurel_run(words, words_length, records, length, &got.taken, &got.receiver, &got.tag, &got.position);
 }
 
 static uint32_t verdict(const uint32_t *rows, size_t rows_length, const uint32_t *others, size_t others_length,
@@ -91,11 +94,26 @@ static uint32_t verdict(const uint32_t *rows, size_t rows_length, const uint32_t
                                     &got.target);
 }
 
+/* Whether the position that was told can be that of an answer: a refusal leaves it, and what is not quiet has none. */
+static int position_fits(uint32_t answer)
+{
+    switch (answer) {
+    case YASLAUREL_QUIET:
+        return got.position < YASLAUREL_RULE_MIXTURES || got.position == YASLAUREL_NO_POSITION;
+    case YASLAUREL_ALERT:
+    case YASLAUREL_BLOCKED:
+        return got.position == YASLAUREL_NO_POSITION;
+    default:
+        return got.position == unset.position;
+    }
+}
+
 /* Whether a step on the session by a record of the right length gives these. */
 static int step_gives(const uint8_t *record, uint32_t answer, uint64_t receiver, uint64_t tag)
 {
     got = unset;
-    return step(session, SESSION, record, RECORD) == answer && got.receiver == receiver && got.tag == tag;
+    return step(session, SESSION, record, RECORD) == answer && got.receiver == receiver && got.tag == tag &&
+           position_fits(answer);
 }
 
 /* The empty policy: four empty sections behind the header. */
@@ -457,6 +475,59 @@ static void guarded_batch(void)
           "run: the rest of the batch goes on where it stopped");
 }
 
+/* Which mixture lets a flow through, on a session of files 0 to 3, each with its atom, of which 3 may hold {1, 2, 3}, {0, 3} or
+   {0, 2}, guarded file 4 with the same rule, process 5, user 0 who may hold nothing and user 1 who may hold these. */
+static void position_example(void)
+{
+    static const size_t counts[YASLAUREL_SECTIONS] = {6, 2, 2, 3};
+    static const struct {
+        uint8_t code, p, o;
+        uint16_t u;
+        uint32_t answer, position;
+    } steps[] = {
+        {2, 5, 3, YASLAUREL_NO_USER, 0, 0},                             /* nothing: the first of 5, 9, 14 */
+        {1, 5, 1, YASLAUREL_NO_USER, 0, 0},                             /* the process is unrestricted */
+        {3, 5, 3, YASLAUREL_NO_USER, 0, 2},                             /* 1: only the third */
+        {3, 5, 4, YASLAUREL_NO_USER, 0, 2},
+        {5, 5, 6, YASLAUREL_NO_USER, 0, 0},                             /* a fork has its parent's rule */
+        {1, 5, 0, YASLAUREL_NO_USER, 0, 0},
+        {3, 5, 4, YASLAUREL_NO_USER, YASLAUREL_BLOCKED, 255},           /* 0 and 1: none */
+        {3, 5, 3, YASLAUREL_NO_USER, YASLAUREL_ALERT, 255},
+        {6, 5, 7, 0, 0, 255},                                           /* a new file under a rule without mixtures */
+        {6, 5, 8, 1, 0, 0},                                             /* and under one that covers nothing at all */
+        {7, 5, 9, YASLAUREL_NO_USER, 0, 0},
+        {9, 5, 9, YASLAUREL_NO_USER, 0, 255},                           /* who leaves has no rule */
+        {8, 6, 6, YASLAUREL_NO_USER, 0, 255},
+        {4, 5, 0, 1, YASLAUREL_ALERT, 255},                             /* 0, 1 and the running 0, for user 1 */
+        {1, 5, 9, YASLAUREL_NO_USER, YASLAUREL_REFUSED_KIND, 44},       /* a refusal leaves it */
+    };
+    uint8_t image[18 + 6 * 6 + 2 * 2 + 2 * 4 + 3 * 8];
+    size_t length = put_header(image, counts, NULL);
+    uint8_t *at = section_at(image, CONTAINER_SECTION);
+
+    for (uint64_t atom = 0; atom < 3; atom++) {
+        at = put_container(at, YASLAUREL_FILE, atom, YASLAUREL_UNRESTRICTED, YASLAUREL_UNRESTRICTED);
+    }
+    at = put_container(at, YASLAUREL_FILE, 3, 0, YASLAUREL_UNRESTRICTED);
+    at = put_container(at, YASLAUREL_GUARDED, YASLAUREL_NO_ATOM, 0, YASLAUREL_UNRESTRICTED);
+    at = put_user(put_user(put_other(at, YASLAUREL_PROCESS), 1), 0);
+    at = put_rule(put_rule(at, 0, 3), 3, 0);
+    put_mixture(put_mixture(put_mixture(at, 14), 9), 5);
+    check(length == sizeof image && yaslaurel_session_start(image, length, session, SESSION) == 0,
+          "position: the session starts");
+    for (size_t i = 0; i < sizeof steps / sizeof steps[0]; i++) {
+        const uint8_t record[RECORD] = {
+            steps[i].code, 0, steps[i].p, 0, steps[i].o, 0, (uint8_t)steps[i].u, (uint8_t)(steps[i].u >> 8)};
+        got = unset;
+        check(step(session, SESSION, record, RECORD) == steps[i].answer && got.position == steps[i].position,
+              "position: which mixture lets a flow through");
+    }
+    const uint8_t again[2 * RECORD] = {2, 0, 5, 0, 0, 0, 255, 255, 3, 0, 5, 0, 4, 0, 255, 255};
+    got = unset;
+    check(run(session, SESSION, again, sizeof again) == YASLAUREL_BLOCKED && got.taken == 2 && got.position == 255,
+          "position: a run tells that of the record at which it stops");
+}
+
 /* Lines `profile /NUMBER {`, `/f MODES,` and `}` for so many programs from a number on. The length of the text. */
 static size_t programs(char *text, int first, int count, const char *modes)
 {
@@ -802,6 +873,7 @@ int main(void)
     behalf_rows();
     guarded_example();
     guarded_batch();
+    position_example();
     profile_example();
     profile_limits();
     withdrawals();

@@ -8,8 +8,8 @@ void ignored(uint8_t *bytes, uint64_t *words, uint32_t *rows, size_t length)
     yaslaurel_image_check(bytes, length);
     yaslaurel_image_normalise(bytes, length, bytes, length);
     yaslaurel_session_start(bytes, length, words, length);
-    yaslaurel_step(words, length, bytes, length, words, words);
-    yaslaurel_run(words, length, bytes, length, &length, words, words);
+    yaslaurel_step(words, length, bytes, length, words, words, rows);
+    yaslaurel_run(words, length, bytes, length, &length, words, words, rows);
     yaslaurel_matrix_verdict(rows, length, rows, length, 1, rows, rows, rows);
     yaslaurel_matrix_silent(rows, length, rows, length, 1);
     yaslaurel_matrix_judge(rows, 1, rows, 1, 1, rows, 1, rows, 1, 1, rows, 1, rows, 1, 1);

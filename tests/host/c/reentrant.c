@@ -41,6 +41,7 @@ static uint64_t job(struct memory *memory)
 {
     static const uint32_t reads[3] = {5, 3, 2}, writes[3] = {1, 2, 10};
     uint64_t seed = 1, found = 0, receiver = 0, tag = 0;
+    uint32_t position = 0;
     uint8_t record[YASLAUREL_RECORD_LENGTH];
     size_t length = yaslaurel_matrix_policy(reads, 3, writes, 3, 4, memory->image, sizeof memory->image);
 
@@ -49,8 +50,8 @@ static uint64_t job(struct memory *memory)
     for (int i = 0; i < STEPS; i++) {
         uint32_t code = (uint32_t)(YASLAUREL_READ + next(&seed) % 3), p = (uint32_t)(4 + next(&seed) % 3);
         yaslaurel_record(code, p, (uint32_t)(next(&seed) % 4), YASLAUREL_NO_USER, record);
-        uint64_t answer = yaslaurel_step(memory->session, SESSION, record, sizeof record, &receiver, &tag);
-        found = found * 31 + answer * 7 + receiver * 3 + tag;
+        uint64_t answer = yaslaurel_step(memory->session, SESSION, record, sizeof record, &receiver, &tag, &position);
+        found = found * 31 + answer * 7 + receiver * 3 + tag + position * 5;
     }
     return found;
 }

@@ -11,17 +11,17 @@ uint32_t yaslaurel_session_start(const uint8_t *image, size_t image_len, uint64_
 }
 
 uint32_t yaslaurel_step(uint64_t *session, size_t session_len, const uint8_t *record, size_t record_len,
-                        uint64_t *receiver, uint64_t *tag)
+                        uint64_t *receiver, uint64_t *tag, uint32_t *position)
 {
-    (void)session, (void)session_len, (void)record, (void)record_len, (void)receiver, (void)tag;
+    (void)session, (void)session_len, (void)record, (void)record_len, (void)receiver, (void)tag, (void)position;
     return STEP;
 }
 
 uint32_t yaslaurel_run(uint64_t *session, size_t session_len, const uint8_t *records, size_t records_len, size_t *taken,
-                       uint64_t *receiver, uint64_t *tag)
+                       uint64_t *receiver, uint64_t *tag, uint32_t *position)
 {
     *taken = 1;
-    return yaslaurel_step(session, session_len, records, records_len, receiver, tag);
+    return yaslaurel_step(session, session_len, records, records_len, receiver, tag, position);
 }
 
 uint32_t yaslaurel_matrix_policy(const uint32_t *reads, size_t reads_len, const uint32_t *writes, size_t writes_len,

@@ -14,6 +14,7 @@ static uint8_t image[256];
 static uint64_t session[YASLAUREL_SESSION_LENGTH];
 static uint8_t record[YASLAUREL_RECORD_LENGTH];
 static uint64_t receiver, tag;
+static uint32_t position;
 
 /* The image; its length. */
 static size_t make_image(int place)
@@ -32,7 +33,7 @@ static size_t make_image(int place)
 
 static uint32_t step(void)
 {
-    return yaslaurel_step(session, YASLAUREL_SESSION_LENGTH, record, YASLAUREL_RECORD_LENGTH, &receiver, &tag);
+    return yaslaurel_step(session, YASLAUREL_SESSION_LENGTH, record, YASLAUREL_RECORD_LENGTH, &receiver, &tag, &position);
 }
 
 void prepare(int place)
@@ -43,7 +44,7 @@ void prepare(int place)
     if (step() != YASLAUREL_QUIET)
         abort();
     yaslaurel_record(YASLAUREL_WRITE, PROCESS, WRITTEN, YASLAUREL_NO_USER, record);
-    if (step() != YASLAUREL_QUIET || receiver != WRITTEN || tag != tag_in(place))
+    if (step() != YASLAUREL_QUIET || receiver != WRITTEN || tag != tag_in(place) || position != (uint32_t)place)
         abort();
 }
 

@@ -317,10 +317,28 @@ static int other_user(const uint8_t *record)
     return record[YASLAUREL_CODE_AT] == 6 && own != YASLAUREL_NO_USER && own != record[YASLAUREL_USER_AT];
 }
 
-/* A step, with the two numbers that it answers. */
+/* What a step answers: receiver, tag and, as a number of 32 bits, the position. */
+enum { TOLD = 3 };
+
+/* A step, with the numbers that it answers. */
 static uint32_t step(uint64_t *words, size_t words_length, const uint8_t *record, size_t length, uint64_t *numbers)
 {
-    return yaslaurel_step(words, words_length, record, length, &numbers[0], &numbers[1]);
+    return yaslaurel_step(words, words_length, record, length, &numbers[0], &numbers[1], (uint32_t *)(void *)&numbers[2]);
+}
+
+/* The position among the numbers of an answer. */
+static uint32_t position_told(const uint64_t *numbers) { return *(const uint32_t *)(const void *)&numbers[2]; }
+
+/* The place of the first mixture that holds a tag in the permit rule of a row. */
+static uint32_t position_in(const uint64_t *row, uint64_t tag)
+{
+    const uint64_t *rule = row + YASLAUREL_PERMIT_AT;
+    for (uint32_t place = 0; place < rule[0] && place < YASLAUREL_RULE_MIXTURES; place++) {
+        if ((rule[1 + place] & tag) == tag) {
+            return place;
+        }
+    }
+    return YASLAUREL_NO_POSITION;
 }
 
 /* Changes a bit in a row that a record names: of its process, its object or, for an exec, its user. */
@@ -349,6 +367,8 @@ static void check_accepted(const uint8_t *record, const uint64_t *numbers)
     require(after[row + YASLAUREL_BEHALF_AT] == behalf_after(record, numbers[0]),
             "an exec sets the receiver's user, a fork copies it, a new file or volatile has none, the others keep it");
     require(after[row + YASLAUREL_TAG_AT] == numbers[1], "the tag is the receiver's");
+    require(position_told(numbers) == position_in(after + row, numbers[1]),
+            "the position is that of the first mixture of the receiver's permit rule that holds the tag");
     for (size_t i = 0; record[YASLAUREL_CODE_AT] >= 8 && i < CONTAINER_ROW; i++) {
         require(after[row + i] == 0, "a container that leaves leaves a free row");
     }
@@ -367,6 +387,7 @@ static void check_blocked(const uint8_t *record, const uint64_t *numbers)
     uint64_t tag = session[CONTAINER_ROW * record[YASLAUREL_PROCESS_AT] + YASLAUREL_TAG_AT];
     tag |= code == 3 ? session[CONTAINER_ROW * o + YASLAUREL_TAG_AT] : 0;
     require(numbers[0] == o && numbers[1] == tag, "a blocked record gives the file and the tag it would have had");
+    require(position_told(numbers) == YASLAUREL_NO_POSITION, "a blocked record has no position");
 }
 
 /* Whether an answer is a refusal of a step, which are these numbers. */
@@ -377,7 +398,7 @@ static void try_step(int damaged)
 {
     uint8_t record[24];
     size_t length = RECORD, session_length = percent(98) ? SESSION : below(SESSION + 8);
-    uint64_t before[2] = {77, 88};
+    uint64_t before[TOLD] = {77, 88, 66};
 
     for (size_t i = RECORD; i < sizeof record; i++) {
         record[i] = (uint8_t)draw();
@@ -402,7 +423,7 @@ static void try_step(int damaged)
     require((answer == 9) == (session_length != SESSION), "the step gives 9 for a session of wrong length alone");
     require(damaged || answer != 10, "a session that only start and step have written is not refused with 10");
     require(stayed(&record_at, 0), "the record stays");
-    require(stayed(&numbers_at, accepted || blocked ? sizeof before : 0), "receiver and tag stay in a refusal");
+    require(stayed(&numbers_at, accepted || blocked ? sizeof before : 0), "receiver, tag and position stay in a refusal");
     require(answer != 18 || other_user(record), "18 is for a new file for another user alone");
     steps[answer]++;
     if (accepted) {
@@ -414,17 +435,17 @@ static void try_step(int damaged)
     }
 }
 
-/* What a run comes to: its answer, how many records it takes, and the receiver and tag of its last one. */
+/* What a run comes to: its answer, how many records it takes, and what its last one tells. */
 struct run {
     uint32_t answer;
     size_t taken;
-    uint64_t numbers[2];
+    uint64_t numbers[TOLD];
 };
 
 /* The records step by step, on a session of the right length, up to the first that is not quiet. */
 static struct run run_by_steps(uint64_t *words, const uint8_t *records, size_t length)
 {
-    struct run run = {YASLAUREL_QUIET, 0, {77, 88}};
+    struct run run = {YASLAUREL_QUIET, 0, {77, 88, 66}};
 
     for (size_t at = 0; run.answer == YASLAUREL_QUIET && at < length; at += RECORD) {
         size_t left = length - at;
@@ -452,11 +473,11 @@ static void check_run(const struct run *expected, const uint64_t *stepped, const
     int told = expected->answer == YASLAUREL_ALERT || expected->answer == YASLAUREL_BLOCKED;
 
     require(stayed(&record_at, 0), "the records stay");
-    require(stayed(&numbers_at, told ? 2 * WORD : 0), "receiver and tag stay but in an alert or where it is blocked");
+    require(stayed(&numbers_at, told ? TOLD * WORD : 0), "receiver, tag and position stay but in an alert or where it is blocked");
     require(stayed(&taken_at, judged ? sizeof taken : 0), "9 leaves the count");
     require(!judged || taken == expected->taken, "the run counts the records up to and with the one at which it stops");
-    require(!told || (numbers[0] == expected->numbers[0] && numbers[1] == expected->numbers[1]),
-            "the run gives the receiver and tag of an alert or a blocked record");
+    require(!told || memcmp(numbers, expected->numbers, sizeof expected->numbers) == 0,
+            "the run gives the receiver, tag and position of an alert or a blocked record");
     require(stayed(&session_at, judged ? WORD * SESSION : 0), "memory beside the session stays");
     require(!judged || memcmp(session_at.slice, stepped, WORD * SESSION) == 0,
             "the run leaves the session that its records leave");
@@ -468,8 +489,8 @@ static void try_run(int damaged)
     static uint64_t stepped[SESSION + 8];
     uint8_t records[(BATCH + 1) * RECORD];
     size_t session_length = percent(97) ? SESSION : below(SESSION + 8), length = make_batch(records), old_taken = 99;
-    uint64_t before[2] = {77, 88};
-    struct run expected = {9, 0, {77, 88}};
+    uint64_t before[TOLD] = {77, 88, 66};
+    struct run expected = {9, 0, {77, 88, 66}};
 
     if (damaged) {
         session[CONTAINER_ROW * below(20) + below(CONTAINER_ROW)] ^= (uint64_t)1 << below(64);
@@ -486,7 +507,7 @@ static void try_run(int damaged)
     uint64_t *numbers = (uint64_t *)(void *)numbers_at.slice;
     size_t *taken = (size_t *)(void *)taken_at.slice;
     uint32_t answer = yaslaurel_run((uint64_t *)(void *)session_at.slice, session_length, record_at.slice, length,
-                                    taken, &numbers[0], &numbers[1]);
+                                    taken, &numbers[0], &numbers[1], (uint32_t *)(void *)&numbers[2]);
     read_only(&record_at, 0);
     require(answer == expected.answer, "the run answers as the step does at which it stops, 9 first");
     runs[answer]++;

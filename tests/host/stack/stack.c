@@ -41,6 +41,7 @@ static uint32_t rows[6][SUBJECTS];
 static char text[YASLAUREL_TEXT_LIMIT + 1];
 static uint32_t answer;
 static uint64_t receiver, tag;
+static uint32_t position;
 static uint32_t count, source, target;
 static size_t taken;
 
@@ -74,13 +75,13 @@ static void call_start(void)
 static void call_step(void)
 {
     NOTE();
-    answer = yaslaurel_step(session, SESSION, record, sizeof record, &receiver, &tag);
+    answer = yaslaurel_step(session, SESSION, record, sizeof record, &receiver, &tag, &position);
 }
 
 static void call_run(void)
 {
     NOTE();
-    answer = yaslaurel_run(session, SESSION, record, sizeof record, &taken, &receiver, &tag);
+    answer = yaslaurel_run(session, SESSION, record, sizeof record, &taken, &receiver, &tag, &position);
 }
 
 static void call_verdict(void)

@@ -3,7 +3,7 @@
 
 use crate::image::{Kind, Policy};
 use crate::numbers::DATA_ATOMS;
-use crate::rules::{covers, Rule};
+use crate::rules::{covers, meet, position, unrestricted, Rule, NO_POSITION};
 use crate::session::Record;
 
 /// What travels along a chain. "Information means data atoms and twins." "A file's run rule starts in that file and
@@ -193,6 +193,9 @@ pub struct Judged {
     pub guarded: bool,
     pub receiver: usize,
     pub information: u64,
+    /// The first mixture that holds the information, in the meet of all rules that govern the receiver: it covers what all of
+    /// them cover, and only one rule in normal form does. "codes 8 and 9 giving 255" (change request No. 12).
+    pub position: u32,
 }
 
 /// Judges every step of a history: an alert, or blocked, exactly when one of the rules that govern the receiver does not cover
@@ -208,7 +211,9 @@ pub fn judge(policy: &Policy, history: &[Record]) -> Vec<Judged> {
             let rules = governing(policy, history, &chains, receiver, at + 1);
             let forbidden = step.code <= 5 && rules.iter().any(|rule| !covers(rule, information));
             let guarded = guarded(policy, history, receiver, at + 1);
-            Judged { forbidden, guarded, receiver, information }
+            let permit = rules.iter().fold(unrestricted(), |met, rule| meet(&met, rule));
+            let position = if leaves(*step).is_some() { NO_POSITION } else { position(&permit, information) };
+            Judged { forbidden, guarded, receiver, information, position }
         })
         .collect()
 }

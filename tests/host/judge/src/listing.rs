@@ -34,7 +34,8 @@ pub fn listing(policy: &[u8], trace: &[u8]) -> String {
         return text;
     }
     // "The first line names the fields"
-    text.push_str("step op p o verdict at tag\n");
+    // "headed `pos`" (change request No. 12)
+    text.push_str("step op p o verdict at tag pos\n");
     let (mut records, mut alerts, mut refusals) = (0u64, 0u64, 0u64);
     for record in trace.chunks(RECORD) {
         records += 1;
@@ -47,19 +48,22 @@ pub fn listing(policy: &[u8], trace: &[u8]) -> String {
         write!(text, "{records} {op} {p} {o} ").unwrap();
         // "Fields: step, operation, p, o, verdict, receiver, tag in 16 hexadecimal digits (small letters), or the
         // refusal number."
-        match outcome(answer.number) {
-            Outcome::Quiet => writeln!(text, "quiet {} {:016x}", answer.receiver, answer.tag).unwrap(),
+        let word = match outcome(answer.number) {
+            Outcome::Quiet => "quiet",
             Outcome::Alert => {
                 alerts += 1;
-                writeln!(text, "alert {} {:016x}", answer.receiver, answer.tag).unwrap();
+                "alert"
             }
             // "The listing's verdict word is `blocked`." (change request No. 9); the total has no count of it.
-            Outcome::Blocked => writeln!(text, "blocked {} {:016x}", answer.receiver, answer.tag).unwrap(),
+            Outcome::Blocked => "blocked",
             Outcome::Refused => {
                 refusals += 1;
                 writeln!(text, "refused {}", answer.number).unwrap();
+                continue;
             }
-        }
+        };
+        // "Listing lines of steps not refused have it as a last field" (the position, change request No. 12).
+        writeln!(text, "{word} {} {:016x} {}", answer.receiver, answer.tag, answer.position).unwrap();
     }
     // "the last gives the number of records, alerts and refusals"
     writeln!(text, "total {records} alerts {alerts} refused {refusals}").unwrap();
@@ -84,12 +88,12 @@ mod tests {
             trace.extend([255, 255]);
         }
         let expected = "\
-step op p o verdict at tag
-1 read 4 2 quiet 4 0000000000000004
-2 append 4 0 quiet 0 0000000000000005
-3 read 5 0 quiet 5 0000000000000005
-4 append 5 1 alert 1 0000000000000007
-5 write 6 1 quiet 1 0000000000000000
+step op p o verdict at tag pos
+1 read 4 2 quiet 4 0000000000000004 0
+2 append 4 0 quiet 0 0000000000000005 0
+3 read 5 0 quiet 5 0000000000000005 0
+4 append 5 1 alert 1 0000000000000007 255
+5 write 6 1 quiet 1 0000000000000000 0
 6 read 6 9 refused 12
 total 6 alerts 1 refused 1
 ";
@@ -99,7 +103,7 @@ total 6 alerts 1 refused 1
     #[test]
     fn short_last_record_and_refused_policy() {
         let empty = crate::normal::encode(&crate::image::Policy { containers: vec![], users: vec![], rules: vec![] });
-        let expected = "step op p o verdict at tag\n1 other 0 0 refused 7\ntotal 1 alerts 0 refused 1\n";
+        let expected = "step op p o verdict at tag pos\n1 other 0 0 refused 7\ntotal 1 alerts 0 refused 1\n";
         assert_eq!(listing(&empty, &[1, 0, 0]), expected);
         assert_eq!(listing(&[], &[1, 0, 0]), "policy refused 1\n");
     }

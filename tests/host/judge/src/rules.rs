@@ -27,6 +27,15 @@ pub fn covers(rule: &[u64], tag: u64) -> bool {
     rule.iter().any(|&mixture| holds(mixture, tag))
 }
 
+/// No position: "or 255".
+pub const NO_POSITION: u32 = 255;
+
+/// "The covering test now gives the position, 0 to 7, of the first covering mixture in ascending order, or 255." (change request
+/// No. 12). Of a rule in normal form, which ascends.
+pub fn position(rule: &[u64], tag: u64) -> u32 {
+    rule.iter().position(|&mixture| holds(mixture, tag)).map_or(NO_POSITION, |place| place as u32)
+}
+
 /// "The unrestricted rule has the single mixture of all 64 atoms."
 pub fn unrestricted() -> Rule {
     vec![u64::MAX]

@@ -5,19 +5,21 @@ use crate::numbers::{
     container_row, user_row, CONTAINERS, NOBODY, NO_USER, RECORD, ROW_DECLARED, ROW_KIND, ROW_PERMIT, ROW_RULE,
     ROW_RUN, ROW_TAG, ROW_USER, RULE_MIXTURES, RULE_WORDS, SESSION, USERS,
 };
-use crate::rules::{covers, data_atoms, meet, normal, running_atoms, unrestricted, Rule};
+use crate::rules::{covers, data_atoms, meet, normal, position, running_atoms, unrestricted, Rule, NO_POSITION};
 
 /// The numbers of the answers quiet, alert and blocked.
 pub const QUIET: u32 = 0;
 pub const ALERT: u32 = 256;
 pub const BLOCKED: u32 = 257;
 
-/// What one operation returns: quiet, alert, blocked or the number of its refusal; "Each answer gives receiver and tag".
+/// What one operation returns: quiet, alert, blocked or the number of its refusal; "Each answer gives receiver and tag", and "Every operation's
+/// answer carries it for the receiver's permit rule" (the position, change request No. 12).
 #[derive(Clone, Copy, Debug, PartialEq, Eq)]
 pub struct Answer {
     pub number: u32,
     pub receiver: u64,
     pub tag: u64,
+    pub position: u32,
 }
 
 /// What the number of an answer stands for. Each match names every case, so that a further one is missed nowhere.
@@ -41,9 +43,9 @@ pub fn outcome(number: u32) -> Outcome {
     }
 }
 
-/// "A refusal returns its number, zeros elsewhere".
+/// "A refusal returns its number, zeros elsewhere"; "refusals 0" (change request No. 12, of the position).
 fn refused(number: u32) -> Answer {
-    Answer { number, receiver: 0, tag: 0 }
+    Answer { number, receiver: 0, tag: 0, position: 0 }
 }
 
 /// A container row that is not free.
@@ -310,7 +312,8 @@ pub fn step(session: &mut [u64], record: &[u8]) -> Answer {
         // "Both answer quiet with tag 0"; "a free or undeclared row is all 0".
         Ok(Effect { receiver, place: Place::Free }) => {
             session[container_row(receiver)].fill(0);
-            Answer { number: QUIET, receiver: receiver as u64, tag: 0 }
+            // "codes 8 and 9 giving 255" (change request No. 12)
+            Answer { number: QUIET, receiver: receiver as u64, tag: 0, position: NO_POSITION }
         }
         Ok(Effect { receiver, place: Place::Taken(row) }) => {
             // "Codes 1 to 5 answer alert if the receiver's permit rule does not cover its tag afterwards, else quiet;
@@ -327,7 +330,8 @@ pub fn step(session: &mut [u64], record: &[u8]) -> Answer {
                 (true, false) => ALERT,
                 (false, false) => QUIET,
             };
-            Answer { number, receiver: receiver as u64, tag: row.tag }
+            // "Every operation's answer carries it for the receiver's permit rule, blocked ones included"
+            Answer { number, receiver: receiver as u64, tag: row.tag, position: position(&row.permit, row.tag) }
         }
     }
 }
@@ -353,7 +357,7 @@ pub fn run(session: &mut [u64], records: &[u8]) -> Run {
             return Run { answer, taken };
         }
     }
-    Run { answer: Answer { number: QUIET, receiver: 0, tag: 0 }, taken }
+    Run { answer: Answer { number: QUIET, receiver: 0, tag: 0, position: 0 }, taken }
 }
 
 #[cfg(test)]
@@ -390,7 +394,7 @@ mod tests {
             let rows = [(0, row(Kind::Process, held)), (1, row(Kind::File, 1 << 1 | 1 << 34))];
             let mut session = session_with(&rows, &[(3, unrestricted())]);
             let answer = step(&mut session, &record(4, 0, 1, 3));
-            assert_eq!(answer, Answer { number: QUIET, receiver: 0, tag: kept | 1 << 33 });
+            assert_eq!(answer, Answer { number: QUIET, receiver: 0, tag: kept | 1 << 33, position: 0 });
         }
     }
 
@@ -404,9 +408,10 @@ mod tests {
         let started = session_with(&rows, &[]);
         for (code, tag) in [(2, 5), (3, 7)] {
             let mut session = started.clone();
-            assert_eq!(step(&mut session, &record(code, 0, 1, 65535)), Answer { number: BLOCKED, receiver: 1, tag });
+            let answer = |number, receiver| Answer { number, receiver, tag, position: NO_POSITION };
+            assert_eq!(step(&mut session, &record(code, 0, 1, 65535)), answer(BLOCKED, 1));
             assert_eq!(session, started);
-            assert_eq!(step(&mut session, &record(code, 0, 2, 65535)), Answer { number: ALERT, receiver: 2, tag });
+            assert_eq!(step(&mut session, &record(code, 0, 2, 65535)), answer(ALERT, 2));
             assert_ne!(session, started);
             assert_eq!(step(&mut session, &record(code, 3, 1, 65535)).number, QUIET);
         }
@@ -421,11 +426,27 @@ mod tests {
         assert_eq!(step(&mut session, &record(3, 0, 1, 65535)).number, 15);
     }
 
+    /// "The covering test now gives the position, 0 to 7, of the first covering mixture in ascending order, or 255."
+    #[test]
+    fn the_first_covering_mixture_is_told() {
+        let permit = vec![6, 9, 12];
+        for (tag, position) in [(0, 0), (4, 0), (8, 1), (1, 1), (12, 2), (3, NO_POSITION)] {
+            let rows = [(0, row(Kind::Process, tag)), (1, Row { permit: permit.clone(), ..row(Kind::File, 0) })];
+            let answer = step(&mut session_with(&rows, &[]), &record(3, 0, 1, 65535));
+            assert_eq!((answer.position, answer.number == QUIET), (position, position != NO_POSITION), "tag {tag}");
+        }
+        // A new file under a rule without mixtures is quiet, and none covers what it holds.
+        let mut session = session_with(&[(0, row(Kind::Process, 0))], &[(0, vec![])]);
+        let answer = Answer { number: QUIET, receiver: 1, tag: 0, position: NO_POSITION };
+        assert_eq!(step(&mut session, &record(6, 0, 1, 0)), answer);
+    }
+
     /// "Reading a file holding only 33 adds nothing."
     #[test]
     fn read_takes_no_running_atom() {
         let mut session = session_with(&[(0, row(Kind::Process, 5)), (1, row(Kind::File, 1 << 33))], &[]);
-        assert_eq!(step(&mut session, &record(1, 0, 1, 65535)), Answer { number: QUIET, receiver: 0, tag: 5 });
+        let answer = Answer { number: QUIET, receiver: 0, tag: 5, position: 0 };
+        assert_eq!(step(&mut session, &record(1, 0, 1, 65535)), answer);
     }
 
     /// "Fork onto p itself: 13."
@@ -451,18 +472,18 @@ mod tests {
     fn rows_become_free() {
         let rows = [(0, row(Kind::Process, 5)), (1, row(Kind::File, 2)), (2, row(Kind::Process, 4))];
         let mut session = session_with(&rows, &[]);
-        let quiet = |receiver, tag| Answer { number: QUIET, receiver, tag };
+        let quiet = |receiver, tag, position| Answer { number: QUIET, receiver, tag, position };
         for (code, p, o, answer) in [
             (9, 0, 2, refused(12)),
             (9, 0, 3, refused(12)),
             (8, 0, 2, refused(7)),
             (8, 1, 1, refused(11)),
-            (9, 0, 1, quiet(1, 0)),
+            (9, 0, 1, quiet(1, 0, NO_POSITION)),
             (1, 0, 1, refused(12)),
-            (7, 0, 1, quiet(1, 0)),
-            (8, 2, 2, quiet(2, 0)),
+            (7, 0, 1, quiet(1, 0, 0)),
+            (8, 2, 2, quiet(2, 0, NO_POSITION)),
             (8, 2, 2, refused(11)),
-            (5, 0, 2, quiet(2, 5)),
+            (5, 0, 2, quiet(2, 5, 0)),
         ] {
             assert_eq!(step(&mut session, &record(code, p, o, 65535)), answer, "code {code} of {p} and {o}");
         }
@@ -479,7 +500,7 @@ mod tests {
         let rows = [(0, row(Kind::Process, 0)), (1, row(Kind::File, 2))];
         let users = [(0, unrestricted()), (1, unrestricted())];
         let mut session = session_with(&rows, &users);
-        let quiet = |receiver, tag| Answer { number: QUIET, receiver, tag };
+        let quiet = |receiver, tag| Answer { number: QUIET, receiver, tag, position: 0 };
         let twin = 2 << 32;
         for (code, p, o, u, answer) in [
             (6, 0, 2, 1, quiet(2, 0)),
@@ -532,7 +553,7 @@ mod tests {
         assert_eq!(run(&mut session, &records), Run { answer: refused(12), taken: 2 });
         records.truncate(RECORD + 3);
         assert_eq!(run(&mut session, &records), Run { answer: refused(7), taken: 2 });
-        let quiet = Answer { number: QUIET, receiver: 0, tag: 0 };
+        let quiet = Answer { number: QUIET, receiver: 0, tag: 0, position: 0 };
         assert_eq!(run(&mut session, &records[..RECORD]), Run { answer: quiet, taken: 1 });
         assert_eq!(run(&mut session, &[]), Run { answer: quiet, taken: 0 });
         assert_eq!(run(&mut [0; 100], &[]), Run { answer: refused(9), taken: 0 });

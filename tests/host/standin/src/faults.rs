@@ -135,4 +135,13 @@ faults! {
     GuardedNotDeleted, all, differential calls, "a guarded file cannot be deleted";
     RunPastBlocked, all, differential calls fuzz, "a run goes on behind a blocked record";
     BlockedRunUntold, all, differential calls fuzz, "a run that is blocked leaves receiver and tag";
+    PositionFromOne, all, differential chains calls fuzz, "positions are counted from 1";
+    PositionOfLast, all, differential chains calls fuzz, "the position is that of the last covering mixture";
+    PositionInRunRule, all, differential chains calls fuzz, "the position is that in the run rule";
+    LeaverPositionZero, all, differential chains calls fuzz, "an end or a delete has position 0";
+    NewFilePositionZero, all, differential chains calls fuzz, "a new file has position 0, also without a mixture";
+    AlertPositionCount, all, differential chains calls fuzz, "an alert has the number of mixtures as its position";
+    BlockedOldPosition, all, differential chains calls fuzz, "blocked has the position of what the file holds";
+    RefusedPositionTold, all, differential calls fuzz, "a refusal writes position 255";
+    RunPositionUntold, all, differential calls fuzz, "a run leaves the position of its alert";
 }

@@ -11,6 +11,7 @@ use std::slice::{from_raw_parts, from_raw_parts_mut};
 
 use faults::{planted, Fault};
 use judge::numbers::{user_row, CONTAINERS, HEADER, LONGEST_NORMAL, MIXTURES, RULES, UNRESTRICTED, USERS};
+use judge::rules::NO_POSITION;
 use judge::session::{outcome, Outcome};
 use judge::withdrawals::Rows;
 use judge::{image, matrix, normal, session};
@@ -113,6 +114,7 @@ pub unsafe extern "C" fn yaslaurel_step(
     record_length: usize,
     receiver: *mut u64,
     tag: *mut u64,
+    position: *mut u32,
 ) -> u32 {
     let session = from_raw_parts_mut(words, words_length);
     let record = from_raw_parts(record, record_length);
@@ -124,6 +126,9 @@ pub unsafe extern "C" fn yaslaurel_step(
     if !left {
         *receiver = answer.receiver;
         *tag = answer.tag;
+        *position = answer.position;
+    } else if planted(Fault::RefusedPositionTold) {
+        *position = NO_POSITION;
     }
     answer.number
 }
@@ -139,6 +144,7 @@ pub unsafe extern "C" fn yaslaurel_run(
     taken: *mut usize,
     receiver: *mut u64,
     tag: *mut u64,
+    position: *mut u32,
 ) -> u32 {
     let session = from_raw_parts_mut(words, words_length);
     let records = from_raw_parts(records, records_length);
@@ -155,6 +161,9 @@ pub unsafe extern "C" fn yaslaurel_run(
     if given {
         *receiver = run.answer.receiver;
         *tag = run.answer.tag;
+        if !planted(Fault::RunPositionUntold) {
+            *position = run.answer.position;
+        }
     }
     run.answer.number
 }

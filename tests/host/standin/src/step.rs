@@ -6,13 +6,13 @@ use judge::numbers::{
     container_row, user_row, CONTAINERS, NOBODY, RECORD, ROW_KIND, ROW_PERMIT, ROW_RUN, ROW_TAG, ROW_USER,
     RULE_MIXTURES, SESSION,
 };
-use judge::rules::{covers, holds, meet, running_atoms};
+use judge::rules::{covers, holds, meet, position, running_atoms, NO_POSITION};
 use judge::session::{self, outcome, Answer, Outcome, Record, Run, ALERT, BLOCKED, QUIET};
 
 use crate::faults::{planted, Fault};
 
 pub fn run(session: &mut [u64], records: &[u8]) -> Run {
-    let quiet = Answer { number: QUIET, receiver: 0, tag: 0 };
+    let quiet = Answer { number: QUIET, receiver: 0, tag: 0, position: 0 };
     if planted(Fault::EmptyRunUnchecked) && records.is_empty() {
         return Run { answer: quiet, taken: 0 };
     }
@@ -52,10 +52,34 @@ pub fn step(session: &mut [u64], bytes: &[u8]) -> Answer {
     if let Some(other) = other_answer(session, &before, bytes, answer.number) {
         return other;
     }
-    match (session::read_record(bytes), outcome(answer.number)) {
-        (Some(record), Outcome::Quiet | Outcome::Alert) => accepted(session, &before, record, kept, answer),
-        (Some(record), Outcome::Blocked) => blocked(session, record, answer),
-        (_, Outcome::Refused) | (None, _) => answer,
+    let Some(record) = session::read_record(bytes).filter(|_| !refused(answer.number)) else { return answer };
+    let answer = match outcome(answer.number) {
+        Outcome::Quiet | Outcome::Alert => accepted(session, &before, record, kept, answer),
+        Outcome::Blocked => blocked(session, record, answer),
+        Outcome::Refused => answer,
+    };
+    Answer { position: position_told(session, record, answer), ..answer }
+}
+
+/// The position that an answer tells.
+fn position_told(session: &[u64], record: Record, answer: Answer) -> u32 {
+    if refused(answer.number) {
+        return answer.position;
+    }
+    let row = &session[container_row(answer.receiver as usize)];
+    let permit = rule(&row[ROW_PERMIT]);
+    match (Fault::planted(), record.code) {
+        (Some(Fault::LeaverPositionZero), 8 | 9) => 0,
+        (_, 8 | 9) => NO_POSITION,
+        (Some(Fault::PositionFromOne), _) if answer.position != NO_POSITION => answer.position + 1,
+        (Some(Fault::PositionOfLast), _) => {
+            permit.iter().rposition(|&mixture| holds(mixture, answer.tag)).map_or(NO_POSITION, |place| place as u32)
+        }
+        (Some(Fault::PositionInRunRule), _) => position(rule(&row[ROW_RUN]), answer.tag),
+        (Some(Fault::NewFilePositionZero), 6) => 0,
+        (Some(Fault::AlertPositionCount), _) if answer.number == ALERT => permit.len() as u32,
+        (Some(Fault::BlockedOldPosition), _) if answer.number == BLOCKED => position(permit, row[ROW_TAG]),
+        _ => position(permit, answer.tag),
     }
 }
 
@@ -97,7 +121,7 @@ fn refused(number: u32) -> bool {
 }
 
 fn refusal(number: u32) -> Option<Answer> {
-    Some(Answer { number, receiver: 0, tag: 0 })
+    Some(Answer { number, receiver: 0, tag: 0, position: 0 })
 }
 
 /// The record that is judged.
@@ -160,7 +184,7 @@ fn other_answer(session: &mut [u64], before: &[u64], bytes: &[u8], number: u32) 
             let (p, o) = (&before[container_row(record.p)], &before[container_row(record.o)]);
             let tag = p[ROW_TAG] | o[ROW_TAG];
             let blocks = o[ROW_KIND] == 4 && !covers(rule(&o[ROW_PERMIT]), tag);
-            blocks.then_some(Answer { number: BLOCKED, receiver: record.o as u64, tag })
+            blocks.then_some(Answer { number: BLOCKED, receiver: record.o as u64, tag, position: NO_POSITION })
         }
         Fault::UnusedWordsUnseen | Fault::ProcessOfUser16 | Fault::FileOfUser0 | Fault::FreeRowOfNobody => {
             (number == 10).then(|| overlooked(session, before, bytes)).flatten()
@@ -187,7 +211,7 @@ fn process_deleted(session: &mut [u64], bytes: &[u8]) -> Option<Answer> {
     let record = session::read_record(bytes).filter(|record| record.code == 9)?;
     let row = session.get_mut(container_row(record.o)).filter(|row| row[ROW_KIND] == 3)?;
     row.fill(0);
-    Some(Answer { number: QUIET, receiver: record.o as u64, tag: 0 })
+    Some(Answer { number: QUIET, receiver: record.o as u64, tag: 0, position: NO_POSITION })
 }
 
 /// A quiet step on a session that is not well formed, where the fault does not look.
@@ -240,7 +264,7 @@ fn accepted(session: &mut [u64], before: &[u64], record: Record, kept: Option<Ve
     let meet_of_eight = matches!(record.code, 1 | 3) && rule(&row[ROW_RUN]).len() == RULE_MIXTURES;
     if planted(Fault::MeetOfEightRefused) && meet_of_eight && p[ROW_RUN] != o[ROW_RUN] {
         session.copy_from_slice(before);
-        return Answer { number: 15, receiver: 0, tag: 0 };
+        return Answer { number: 15, receiver: 0, tag: 0, position: 0 };
     }
     if planted(Fault::NewFileGuarded) && record.code == 6 {
         row[ROW_KIND] = 4;

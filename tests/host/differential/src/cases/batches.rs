@@ -7,7 +7,7 @@ use yaslaurel::{ffi, SESSION_LENGTH};
 use crate::bench::Bench;
 use crate::case::{boxed, differ, differ_at, hex, Case, Difference, Part};
 use crate::cases::images::show_image;
-use crate::cases::operations::BEFORE;
+use crate::cases::operations::{Told, BEFORE};
 use crate::cases::traces::{self, safe_answer, Trace};
 use crate::counters::{Counters, Need};
 use crate::generate;
@@ -133,14 +133,25 @@ fn safe_differs(safe: &mut [u64], batch: &[u8], loud: &Loud, after: &[u64]) -> D
 /// The number behind `taken` before a run: 9 must leave it.
 const TAKEN_BEFORE: usize = 0x1234_5678;
 
-/// A run's answer, then what `taken`, `receiver` and `tag` are behind it.
-fn library_run(session: &mut Guarded<u64>, records: &Guarded<u8>) -> (u32, usize, u64, u64) {
-    let (mut taken, (mut receiver, mut tag)) = (TAKEN_BEFORE, BEFORE);
+/// A run's answer, then what `taken`, and `receiver`, `tag` and `position`, are behind it.
+fn library_run(session: &mut Guarded<u64>, records: &Guarded<u8>) -> (u32, usize, Told) {
+    let (mut taken, (mut receiver, mut tag, mut position)) = (TAKEN_BEFORE, BEFORE);
     let (words, length) = (session.pointer_mut(), session.length());
     let (bytes, bytes_length) = (records.pointer(), records.length());
-    // SAFETY: as `lent` says; the three numbers are ours.
-    let number = unsafe { ffi::yaslaurel_run(words, length, bytes, bytes_length, &mut taken, &mut receiver, &mut tag) };
-    (number, taken, receiver, tag)
+    // SAFETY: as `lent` says; the four numbers are ours.
+    let number = unsafe {
+        ffi::yaslaurel_run(
+            words,
+            length,
+            bytes,
+            bytes_length,
+            &mut taken,
+            &mut receiver,
+            &mut tag,
+            &mut position,
+        )
+    };
+    (number, taken, (receiver, tag, position))
 }
 
 /// One batch on both sides, run to its end: what was not quiet.
@@ -172,13 +183,15 @@ fn run_once(bench: &mut Bench, rest: &[u8], c: &mut Counters) -> Result<session:
     c.add(ENDS, "without a record", u64::from(rest.is_empty()));
     c.add(ENDS, "stopped before the end", u64::from(number != session::QUIET && behind > 0));
     c.add(ENDS, "took a short record", u64::from(expected.taken * record::LENGTH > rest.len()));
-    // 9 leaves everything, and only an alert and a blocked record have receiver and tag.
+    // 9 leaves everything, and only an alert and a blocked record have receiver, tag and position.
     let taken = if number == 9 { TAKEN_BEFORE } else { expected.taken };
-    let (receiver, tag) = match outcome(number) {
-        Outcome::Alert | Outcome::Blocked => (expected.answer.receiver, expected.answer.tag),
+    let told = match outcome(number) {
+        Outcome::Alert | Outcome::Blocked => {
+            (expected.answer.receiver, expected.answer.tag, expected.answer.position)
+        }
         Outcome::Quiet | Outcome::Refused => BEFORE,
     };
-    let difference = differ("run", library, (number, taken, receiver, tag))
+    let difference = differ("run", library, (number, taken, told))
         .or_else(|| differ_at("session after the run", bench.session.content(), &bench.judge_session))
         .or_else(|| differ_at("the records themselves", bench.record.content(), rest))
         .or_else(|| bench.guards());

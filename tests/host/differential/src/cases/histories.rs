@@ -117,8 +117,13 @@ pub fn judged_by_chains(policy: &image::Policy, given: &[(Record, session::Answe
             (true, false) => session::ALERT,
             (true, true) => session::BLOCKED,
         };
-        let same = (number, judged.receiver as u64, judged.information) == (answer.number, answer.receiver, answer.tag);
-        if !same {
+        let by_chains = session::Answer {
+            number,
+            receiver: judged.receiver as u64,
+            tag: judged.information,
+            position: judged.position,
+        };
+        if by_chains != *answer {
             return Some(format!("step {} that is not refused: by chains {judged:?}, by tags {answer:?}", place + 1));
         }
     }

@@ -2,7 +2,7 @@
 
 use std::fmt::Write as _;
 
-use judge::rules::{covers, normal};
+use judge::rules::{covers, normal, NO_POSITION};
 use judge::session::{self, outcome, Outcome};
 use yaslaurel::layout::image::{CONTAINERS, USERS};
 use yaslaurel::layout::record::{self, NO_USER};
@@ -28,6 +28,7 @@ pub const PART: Part = Part {
         Need::Numbers(QUIET, &[1, 2, 3, 4, 5, 6, 7, 8, 9]),
         Need::Numbers(ALERT, &[1, 2, 3, 4, 5]),
         Need::Numbers(BLOCKED, &[2, 3]),
+        Need::Numbers(POSITION, &[0, 1, 2, 3, 4, 5, 6, 7, NO_POSITION]),
         Need::Words(GUARDED, &["read", "executed", "deleted", "15 where it would be blocked"]),
         Need::Numbers(REFUSED_FILE, &[7, 10, 11, 13, 14, 18]),
         Need::Numbers(REFUSED_END, &[7, 10, 11]),
@@ -41,6 +42,7 @@ const QUIET: &str = "quiet, by code";
 const ALERT: &str = "alert, by code";
 const BLOCKED: &str = "blocked, by code";
 const GUARDED: &str = "guarded files";
+const POSITION: &str = "quiet, by position";
 const REFUSED_FILE: &str = "new file, by refusal";
 const REFUSED_END: &str = "end, by refusal";
 const REFUSED_DELETE: &str = "delete, by refusal";
@@ -99,35 +101,43 @@ impl Case for Operation {
     }
 }
 
-/// The numbers behind `receiver` and `tag` before a call: a refusal must leave them.
-pub const BEFORE: (u64, u64) = (0x1111_2222_3333_4444, 0x5555_6666_7777_8888);
+/// Receiver, tag and position of an answer.
+pub type Told = (u64, u64, u32);
 
-fn library_step(session: &mut Guarded<u64>, record: &Guarded<u8>) -> (u32, u64, u64) {
-    let (mut receiver, mut tag) = BEFORE;
+/// The numbers behind `receiver`, `tag` and `position` before a call: a refusal must leave them.
+pub const BEFORE: Told = (0x1111_2222_3333_4444, 0x5555_6666_7777_8888, 0x9999_aaaa);
+
+fn library_step(session: &mut Guarded<u64>, record: &Guarded<u8>) -> (u32, Told) {
+    let (mut receiver, mut tag, mut position) = BEFORE;
     let (words, length) = (session.pointer_mut(), session.length());
-    // SAFETY: as `lent` says; the two numbers are ours.
-    let number =
-        unsafe { ffi::yaslaurel_step(words, length, record.pointer(), record.length(), &mut receiver, &mut tag) };
-    (number, receiver, tag)
+    let (bytes, bytes_length) = (record.pointer(), record.length());
+    // SAFETY: as `lent` says; the three numbers are ours.
+    let number = unsafe {
+        ffi::yaslaurel_step(words, length, bytes, bytes_length, &mut receiver, &mut tag, &mut position)
+    };
+    (number, (receiver, tag, position))
 }
 
 /// One step on both sides, on the sessions as they stand.
 pub fn step(bench: &mut Bench, record: &[u8], c: &mut Counters) -> Result<session::Answer, String> {
     bench.record.fill(record);
-    let (number, receiver, tag) = library_step(&mut bench.session, &bench.record);
+    let (number, told) = library_step(&mut bench.session, &bench.record);
     let at_guarded = guarded_object(&bench.judge_session, record);
     let expected = session::step(&mut bench.judge_session, record);
     if let Some(uncovered) = at_guarded {
         count_guarded(record, expected.number, uncovered, c);
     }
     count(record, expected.number, &bench.judge_session, c);
+    if outcome(expected.number) == Outcome::Quiet {
+        c.count(POSITION, expected.position);
+    }
     let numbers = match outcome(expected.number) {
-        Outcome::Quiet | Outcome::Alert | Outcome::Blocked => (expected.receiver, expected.tag),
+        Outcome::Quiet | Outcome::Alert | Outcome::Blocked => (expected.receiver, expected.tag, expected.position),
         // "changes no lent memory"
         Outcome::Refused => BEFORE,
     };
     let difference = differ("step", number, expected.number)
-        .or_else(|| differ("receiver and tag", (receiver, tag), numbers))
+        .or_else(|| differ("receiver, tag and position", told, numbers))
         .or_else(|| differ_at("session after the step", bench.session.content(), &bench.judge_session))
         .or_else(|| differ_at("the record itself", bench.record.content(), record))
         .or_else(|| bench.guards());

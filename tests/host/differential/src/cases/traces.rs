@@ -1,6 +1,7 @@
 //! Sessions from their start through a list of records.
 
 use judge::image;
+use judge::rules::NO_POSITION;
 use judge::session::{self, outcome, Outcome, Record};
 use yaslaurel::layout::image::{CONTAINERS, UNRESTRICTED};
 use yaslaurel::{Refusal, Session, Verdict, SESSION_LENGTH};
@@ -175,8 +176,9 @@ pub fn safe_answer(safe: Result<yaslaurel::Answer, Refusal>) -> session::Answer 
             number: verdict_number(answer.verdict),
             receiver: u64::from(answer.receiver),
             tag: answer.tag,
+            position: answer.position.map_or(NO_POSITION, u32::from),
         },
-        Err(refusal) => session::Answer { number: refusal.number(), receiver: 0, tag: 0 },
+        Err(refusal) => session::Answer { number: refusal.number(), receiver: 0, tag: 0, position: 0 },
     }
 }
 
