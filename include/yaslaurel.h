@@ -113,7 +113,7 @@
 
 /* The version of this header, in one number to compare with. yaslaurel_version gives the library's. */
 #define YASLAUREL_VERSION_MAJOR 0u
-#define YASLAUREL_VERSION_MINOR 1u
+#define YASLAUREL_VERSION_MINOR 2u
 #define YASLAUREL_VERSION_PATCH 0u
 #define YASLAUREL_VERSION                                                                                              \
     (YASLAUREL_VERSION_MAJOR * 65536u + YASLAUREL_VERSION_MINOR * 256u + YASLAUREL_VERSION_PATCH)

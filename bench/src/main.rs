@@ -197,16 +197,7 @@ fn library_run(session: &mut [u64], mut records: &[u8]) -> u64 {
         let (bytes, bytes_length) = (records.as_ptr(), records.len());
         // SAFETY: the slices are valid and aligned for their lengths, and the four numbers are ours.
         let number = unsafe {
-            ffi::yaslaurel_run(
-                words,
-                length,
-                bytes,
-                bytes_length,
-                &mut taken,
-                &mut receiver,
-                &mut tag,
-                &mut position,
-            )
+            ffi::yaslaurel_run(words, length, bytes, bytes_length, &mut taken, &mut receiver, &mut tag, &mut position)
         };
         if number != ffi::QUIET {
             sum = mixed(sum, (number, receiver, tag, position));

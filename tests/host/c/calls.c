@@ -485,7 +485,8 @@ static void position_example(void)
         uint16_t u;
         uint32_t answer, position;
     } steps[] = {
-        {2, 5, 3, YASLAUREL_NO_USER, 0, 0},                             /* nothing: the first of 5, 9, 14 */
+        {3, 5, 3, YASLAUREL_NO_USER, 0, 1},                             /* 3: the second of 5, 9, 14 */
+        {2, 5, 3, YASLAUREL_NO_USER, 0, 0},                             /* nothing: the first */
         {1, 5, 1, YASLAUREL_NO_USER, 0, 0},                             /* the process is unrestricted */
         {3, 5, 3, YASLAUREL_NO_USER, 0, 2},                             /* 1: only the third */
         {3, 5, 4, YASLAUREL_NO_USER, 0, 2},

@@ -140,16 +140,7 @@ fn library_run(session: &mut Guarded<u64>, records: &Guarded<u8>) -> (u32, usize
     let (bytes, bytes_length) = (records.pointer(), records.length());
     // SAFETY: as `lent` says; the four numbers are ours.
     let number = unsafe {
-        ffi::yaslaurel_run(
-            words,
-            length,
-            bytes,
-            bytes_length,
-            &mut taken,
-            &mut receiver,
-            &mut tag,
-            &mut position,
-        )
+        ffi::yaslaurel_run(words, length, bytes, bytes_length, &mut taken, &mut receiver, &mut tag, &mut position)
     };
     (number, taken, (receiver, tag, position))
 }
@@ -186,9 +177,7 @@ fn run_once(bench: &mut Bench, rest: &[u8], c: &mut Counters) -> Result<session:
     // 9 leaves everything, and only an alert and a blocked record have receiver, tag and position.
     let taken = if number == 9 { TAKEN_BEFORE } else { expected.taken };
     let told = match outcome(number) {
-        Outcome::Alert | Outcome::Blocked => {
-            (expected.answer.receiver, expected.answer.tag, expected.answer.position)
-        }
+        Outcome::Alert | Outcome::Blocked => (expected.answer.receiver, expected.answer.tag, expected.answer.position),
         Outcome::Quiet | Outcome::Refused => BEFORE,
     };
     let difference = differ("run", library, (number, taken, told))

@@ -112,9 +112,8 @@ fn library_step(session: &mut Guarded<u64>, record: &Guarded<u8>) -> (u32, Told)
     let (words, length) = (session.pointer_mut(), session.length());
     let (bytes, bytes_length) = (record.pointer(), record.length());
     // SAFETY: as `lent` says; the three numbers are ours.
-    let number = unsafe {
-        ffi::yaslaurel_step(words, length, bytes, bytes_length, &mut receiver, &mut tag, &mut position)
-    };
+    let number =
+        unsafe { ffi::yaslaurel_step(words, length, bytes, bytes_length, &mut receiver, &mut tag, &mut position) };
     (number, (receiver, tag, position))
 }
 
