@@ -1,5 +1,6 @@
 -- The answer to a record (the paper, "Operations": "Each answer gives receiver and tag"; "A refusal returns its number, zeros
--- elsewhere"): what its cases say, and the number and values of each.
+-- elsewhere"): what its cases say, and the number and values of each. It carries the position of the first mixture of the receiver's
+-- permit rule that covers the tag (change request No. 12).
 use Prim.Native.Nat.{ℕ}
 use mathlib.Core.Bool.{Bool, true, false}
 use Rattle.answers.specs.declared.Verdict.the-variants.{Quiet, Alert, Blocked}
@@ -9,18 +10,19 @@ use Rattle.answers.specs.declared.Answer.the-variants.{Given, Refused}
 
 -- ---- the answers
 
-abbrev pub received : ℕ → ℕ → Received
-received c t = record { receiver = c; tag = t }
+-- by container c, which then has the tag t, covered at the position k of its permit rule
+abbrev pub received : ℕ → ℕ → ℕ → Received
+received c t k = record { receiver = c; tag = t; position = k }
 
-abbrev pub quiet : ℕ → ℕ → Answer
-quiet c t = Given Quiet (received c t)
+abbrev pub quiet : ℕ → ℕ → ℕ → Answer
+quiet c t k = Given Quiet (received c t k)
 
-abbrev pub alert : ℕ → ℕ → Answer
-alert c t = Given Alert (received c t)
+abbrev pub alert : ℕ → ℕ → ℕ → Answer
+alert c t k = Given Alert (received c t k)
 
 -- "answers blocked, with the receiver and the tag it would have had" (change request No. 9)
-abbrev pub blocked : ℕ → ℕ → Answer
-blocked c t = Given Blocked (received c t)
+abbrev pub blocked : ℕ → ℕ → ℕ → Answer
+blocked c t k = Given Blocked (received c t k)
 
 abbrev pub refused : ℕ → Answer
 refused n = Refused n
@@ -59,16 +61,19 @@ accepted (Refused n) = false
 
 -- ---- their numbers and values
 
--- "zeros elsewhere"
+-- "zeros elsewhere"; of the position, "refusals 0" (change request No. 12)
 abbrev pub receivedOf : Answer → Received
 receivedOf (Given v e) = e
-receivedOf (Refused n) = received 0 0
+receivedOf (Refused n) = received 0 0 0
 
 abbrev pub receiverOf : Answer → ℕ
 receiverOf a = receivedOf a .receiver
 
 abbrev pub tagOf : Answer → ℕ
 tagOf a = receivedOf a .tag
+
+abbrev pub positionOf : Answer → ℕ
+positionOf a = receivedOf a .position
 
 abbrev pub quietNumber : ℕ
 quietNumber = 0

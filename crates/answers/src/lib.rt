@@ -83,10 +83,12 @@ pub enum Verdict {
     Blocked,
 }
 
-// The receiver of an access, and its tag afterwards; the tag that it would have, where the access was blocked.
+// The receiver of an access, its tag afterwards, and the position of the first mixture of its permit rule that covers the tag; what
+// these would be, where the access was blocked.
 pub struct Received {
     pub receiver: usize,
     pub tag: u64,
+    pub position: u8,
 }
 
 // A verdict on what was received, or the refusal's number.
@@ -175,7 +177,7 @@ pub fn is_accepted(answer: Answer) -> bool
     }
 }
 
-// The receiver and its tag; zeros in a refusal.
+// The receiver, its tag and the position; zeros in a refusal.
 pub fn received_of(answer: Answer) -> Received
     ensures { λ r. ⌜ r ≡ receivedOf answer ⌝ }
 {
@@ -184,6 +186,7 @@ pub fn received_of(answer: Answer) -> Received
         Answer::Refused(_) => Received {
             receiver: 0,
             tag: 0,
+            position: 0,
         },
     }
 }

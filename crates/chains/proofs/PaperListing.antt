@@ -8,7 +8,7 @@ use mathlib.Core.List.{List, [], _∷_}
 use mathlib.Core.Option.{some}
 use lib.ListN.{getElem?, take}
 use Rattle.rules.specs.Sets.{atom, holds, dataOf}
-use Rattle.rules.specs.Rules.{covers, distinct, heldIn, unheldIn, insert, sort, normal, intersections, meet, unrestricted}
+use Rattle.rules.specs.Rules.{covers, coverFrom, coverPlace, distinct, heldIn, unheldIn, insert, sort, normal, intersections, meet, unrestricted}
 use Rattle.lists.specs.Conditions.{firstFailed}
 use Rattle.lists.specs.Lists.{elem, every}
 use Rattle.image.specs.Limits.{isGuarded, isFree, isFile, isVolatile, isProcess, isStore, fileKind, processKind, noAtom, unrestrictedNumber}
@@ -44,14 +44,14 @@ four = start ▸ read 4 2 ▸ append 4 0 ▸ read 5 0 ▸ append 5 1
 
 -- the answers, and the history up to the write and the refused read
 pub record Run : Type 0 where
-  pub told : answers operate (begin P) steps ≡ quiet 4 4 ∷ quiet 0 5 ∷ quiet 5 5 ∷ alert 1 7 ∷ quiet 1 0 ∷ refused 12 ∷ []
+  pub told : answers operate (begin P) steps ≡ quiet 4 4 0 ∷ quiet 0 5 0 ∷ quiet 5 5 0 ∷ alert 1 7 255 ∷ quiet 1 0 0 ∷ refused 12 ∷ []
   pub upToWrite : historyOf operate some (begin P) (take 5 steps) ≡ four ▸ write 6 1
   pub whole : historyOf operate some (begin P) steps ≡ four ▸ write 6 1
 
 listing : Run
 unfolding operate entry fitsNeed processGood objectGood kindGood freeGood userGood behalfFits meetGood earlyConditions tableConditions
     firstFailed every alerts blocks verdict placed left isGuarded fits readRow writeRow appendRow freeRow begin startRow startTag meaning
-    placeOf normalAt ruleAt unrestrictedRule unrestricted isFree isFile isVolatile isProcess isStore covers holds
+    placeOf normalAt ruleAt unrestrictedRule unrestricted isFree isFile isVolatile isProcess isStore covers coverFrom coverPlace holds
     dataOf elem distinct heldIn unheldIn insert sort normal intersections meet
 listing = record { told = refl; upToWrite = refl; whole = refl }
 
@@ -117,8 +117,8 @@ sound = record {
 gone : ¬ Chain P (four ▸ write 6 1) (dataAtom 2) 1
 unfolding atom
 gone ch =
-    let at : AcceptedAt operate some (begin P) steps 4 (write 6 1) (quiet 1 0) =
+    let at : AcceptedAt operate some (begin P) steps 4 (write 6 1) (quiet 1 0 0) =
     record { spelled = (write 6 1, refl, refl); answered = ap (λ l. getElem? l 4) (listing .told); counted = refl } in
     let e : _≡_ {A = ℕ} 0 1 =
-    table-tag-told P sound steps 4 (write 6 1) (quiet 1 0) at .1 2 .1 (inl (subst (λ h. Chain P h (dataAtom 2) 1) (sym (listing .upToWrite)) ch)) in
+    table-tag-told P sound steps 4 (write 6 1) (quiet 1 0 0) at .1 2 .1 (inl (subst (λ h. Chain P h (dataAtom 2) 1) (sym (listing .upToWrite)) ch)) in
     omega arith

@@ -9,7 +9,7 @@ use lib.Bits.{bitOr}
 use lib.Dec.{eqb, leb}
 use lib.ListN.{length, getElem?}
 use Rattle.rules.specs.Sets.{dataOf, runningOf}
-use Rattle.rules.specs.Rules.{covers, meet}
+use Rattle.rules.specs.Rules.{covers, coverPlace, meet}
 use Rattle.rules.specs.Answers.{dataWidth, mixtureLimit}
 use Rattle.image.specs.Limits.{isFree, isGuarded, isFile, isProcess, isStore, freeKind, fileKind, volatileKind}
 use Rattle.image.specs.Policy.{Policy, unrestrictedRule}
@@ -226,10 +226,11 @@ alerts s w = judged s && not (covers (w .permit) (w .tag))
 unfoldable pub blocks : Step → Row → Bool
 blocks s w = isGuarded (w .kind) && alerts s w
 
--- "Each answer gives receiver and tag."
+-- "Each answer gives receiver and tag"; it "carries" the position of the first covering mixture "for the receiver's permit rule,
+-- blocked ones included, codes 8 and 9 giving 255" (change request No. 12): a free row has no mixture
 unfoldable pub verdict : Step → Row → Answer
 verdict s w =
-    cond (blocks s w) (blocked (receiver s) (w .tag)) (cond (alerts s w) (alert (receiver s) (w .tag)) (quiet (receiver s) (w .tag)))
+    cond (blocks s w) blocked (cond (alerts s w) alert quiet) (receiver s) (w .tag) (coverPlace (w .permit) (w .tag))
 
 -- the row w in the place of container c's
 unfoldable pub placed : State → ℕ → Row → State

@@ -54,7 +54,7 @@ pub record Starred : Type 0 where
   pub read-tag : (t : ℕ) → bitOr t (dataOf dataWidth (2 ^ 33)) ≡ t
   -- the same three and 15 as runs of records from a session's start
   pub exec-run : runAnswers (startOf P) (recordOf execCode 3 1 0 ∷ recordOf appendCode 3 0 noUser ∷ recordOf execCode 4 0 0 ∷ [])
-      ≡ quiet 3 (2 ^ 34) ∷ quiet 0 (2 ^ 1 + 2 ^ 34) ∷ quiet 4 (2 ^ 33) ∷ []
+      ≡ quiet 3 (2 ^ 34) 0 ∷ quiet 0 (2 ^ 1 + 2 ^ 34) 0 ∷ quiet 4 (2 ^ 33) 0 ∷ []
   pub exec-run-kept : runAnswers (startOf R)
       (recordOf execCode 3 1 0
       ∷ recordOf appendCode 3 0 noUser
@@ -62,11 +62,11 @@ pub record Starred : Type 0 where
       ∷ recordOf readCode 4 2 noUser
       ∷ recordOf execCode 4 0 0
       ∷ [])
-      ≡ quiet 3 (2 ^ 34) ∷ quiet 0 (2 ^ 1 + 2 ^ 34) ∷ quiet 4 (2 ^ 35) ∷ quiet 4 (2 ^ 3 + 2 ^ 35) ∷ quiet 4 (2 ^ 3 + 2 ^ 33) ∷ []
+      ≡ quiet 3 (2 ^ 34) 0 ∷ quiet 0 (2 ^ 1 + 2 ^ 34) 0 ∷ quiet 4 (2 ^ 35) 0 ∷ quiet 4 (2 ^ 3 + 2 ^ 35) 0 ∷ quiet 4 (2 ^ 3 + 2 ^ 33) 0 ∷ []
   pub read-run : runAnswers (startOf P)
       (recordOf execCode 3 0 0 ∷ recordOf writeCode 3 2 noUser ∷ recordOf readCode 4 1 noUser ∷ recordOf readCode 4 2 noUser ∷ [])
-      ≡ quiet 3 (2 ^ 33) ∷ quiet 2 (2 ^ 33) ∷ quiet 4 (2 ^ 2) ∷ quiet 4 (2 ^ 2) ∷ []
-  pub meet-run : runAnswers (startOf Q) (recordOf readCode 2 0 noUser ∷ recordOf readCode 2 1 noUser ∷ []) ≡ quiet 2 0 ∷ refused 15 ∷ []
+      ≡ quiet 3 (2 ^ 33) 0 ∷ quiet 2 (2 ^ 33) 0 ∷ quiet 4 (2 ^ 2) 0 ∷ quiet 4 (2 ^ 2) 0 ∷ []
+  pub meet-run : runAnswers (startOf Q) (recordOf readCode 2 0 noUser ∷ recordOf readCode 2 1 noUser ∷ []) ≡ quiet 2 0 0 ∷ refused 15 ∷ []
   -- "Fork onto p itself: 13."
   pub fork-itself : runAnswers (startOf P) (recordOf forkCode 3 3 noUser ∷ []) ≡ refused 13 ∷ []
   -- "Document 000's matrix ..: 3 flows, first 0 to 3."

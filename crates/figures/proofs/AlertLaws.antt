@@ -17,7 +17,7 @@ use Rattle.answers.specs.declared.Answer.{Answer}
 use Rattle.answers.specs.Answers.{isQuiet, isAlert, isBlocked, isRefused, accepted, receiverOf, quiet, alert}
 use Rattle.answers.specs.Tallies.{countOf}
 use Rattle.answers.proofs.Cases.{one, one-case, accepted-cases, alert-accepted, blocked-given}
-use Rattle.rules.specs.Rules.{covers}
+use Rattle.rules.specs.Rules.{covers, coverPlace}
 use Rattle.image.specs.Limits.{containerLimit}
 use Rattle.image.specs.Policy.{Policy}
 use Rattle.chains.specs.History.{Step, History, size, receiver}
@@ -81,7 +81,7 @@ module _ (s r : List ℕ) (h : isAlert (stepAnswer s r) ≡ true) where
       ap receiverOf (answer-judged s r accepts alert-judged)
       ∙ by (covers (entry (view s) (stepAsked r) .row .permit) (entry (view s) (stepAsked r) .row .tag))
     where
-      by : (b : Bool) → receiverOf (cond b (quiet (receiver (stepAsked r)) (entry (view s) (stepAsked r) .row .tag)) (alert (receiver (stepAsked r)) (entry (view s) (stepAsked r) .row .tag))) ≡ receiver (stepAsked r)
+      by : (b : Bool) → receiverOf (cond b quiet alert (receiver (stepAsked r)) (entry (view s) (stepAsked r) .row .tag) (coverPlace (entry (view s) (stepAsked r) .row .permit) (entry (view s) (stepAsked r) .row .tag))) ≡ receiver (stepAsked r)
       by true = refl
       by false = refl
 

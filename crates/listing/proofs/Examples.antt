@@ -8,27 +8,27 @@ use Rattle.listing.specs.Lines.{line, operationWord, verdictWord, answer
 
 -- ---- the listing
 
-names-the-fields : heading ≡ ascii "step op p o verdict at tag\n"
+names-the-fields : heading ≡ ascii "step op p o verdict at tag pos\n"
 unfolding heading line ascii
 names-the-fields = refl
 
-step-1 : stepLine 1 1 4 2 (quiet 4 4) ≡ ascii "1 read 4 2 quiet 4 0000000000000004\n"
+step-1 : stepLine 1 1 4 2 (quiet 4 4 0) ≡ ascii "1 read 4 2 quiet 4 0000000000000004 0\n"
 unfolding stepLine operationWord answerWord answerFields verdictWord line decimal decimalIn hexadecimal digits digit ascii
 step-1 = refl
 
-step-2 : stepLine 2 3 4 0 (quiet 0 5) ≡ ascii "2 append 4 0 quiet 0 0000000000000005\n"
+step-2 : stepLine 2 3 4 0 (quiet 0 5 0) ≡ ascii "2 append 4 0 quiet 0 0000000000000005 0\n"
 unfolding stepLine operationWord answerWord answerFields verdictWord line decimal decimalIn hexadecimal digits digit ascii
 step-2 = refl
 
-step-3 : stepLine 3 1 5 0 (quiet 5 5) ≡ ascii "3 read 5 0 quiet 5 0000000000000005\n"
+step-3 : stepLine 3 1 5 0 (quiet 5 5 0) ≡ ascii "3 read 5 0 quiet 5 0000000000000005 0\n"
 unfolding stepLine operationWord answerWord answerFields verdictWord line decimal decimalIn hexadecimal digits digit ascii
 step-3 = refl
 
-step-4 : stepLine 4 3 5 1 (alert 1 7) ≡ ascii "4 append 5 1 alert 1 0000000000000007\n"
+step-4 : stepLine 4 3 5 1 (alert 1 7 255) ≡ ascii "4 append 5 1 alert 1 0000000000000007 255\n"
 unfolding stepLine operationWord answerWord answerFields verdictWord line decimal decimalIn hexadecimal digits digit ascii
 step-4 = refl
 
-step-5 : stepLine 5 2 6 1 (quiet 1 0) ≡ ascii "5 write 6 1 quiet 1 0000000000000000\n"
+step-5 : stepLine 5 2 6 1 (quiet 1 0 0) ≡ ascii "5 write 6 1 quiet 1 0000000000000000 0\n"
 unfolding stepLine operationWord answerWord answerFields verdictWord line decimal decimalIn hexadecimal digits digit ascii
 step-5 = refl
 
@@ -60,13 +60,13 @@ unfolding operationWord ascii
 unknown-codes = refl
 
 -- an access that is blocked
-blocked-access : stepLine 7 3 5 1 (blocked 1 7) ≡ ascii "7 append 5 1 blocked 1 0000000000000007\n"
+blocked-access : stepLine 7 3 5 1 (blocked 1 7 255) ≡ ascii "7 append 5 1 blocked 1 0000000000000007 255\n"
 unfolding stepLine operationWord answerWord answerFields verdictWord line decimal decimalIn hexadecimal digits digit ascii
 blocked-access = refl
 
 -- the longest line
-longest-line : stepLine 18446744073709551615 7 18446744073709551615 18446744073709551615 (blocked 18446744073709551615 18446744073709551615)
-    ≡ ascii "18446744073709551615 volatile 18446744073709551615 18446744073709551615 blocked 18446744073709551615 ffffffffffffffff\n"
+longest-line : stepLine 18446744073709551615 7 18446744073709551615 18446744073709551615 (blocked 18446744073709551615 18446744073709551615 255)
+    ≡ ascii "18446744073709551615 volatile 18446744073709551615 18446744073709551615 blocked 18446744073709551615 ffffffffffffffff 255\n"
 unfolding stepLine operationWord answerWord answerFields verdictWord line decimal decimalIn hexadecimal digits digit ascii
 longest-line = refl
 

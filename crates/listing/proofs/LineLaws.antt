@@ -1,5 +1,5 @@
 -- The lines as their parts one behind the other, and their lengths. Theorems restates what the lines' lengths are at most.
-use Prim.Native.Nat.{ℕ, _+_, _≤_}
+use Prim.Native.Nat.{ℕ, _+_, _≤_, _<_}
 use native.Mathlib.Omega.{arith}
 use mathlib.Core.Path.{_≡_}
 use mathlib.Core.Bool.{Bool, true, false, cond}
@@ -12,10 +12,11 @@ use Rattle.answers.specs.declared.Verdict.{Verdict}
 use Rattle.answers.specs.declared.Verdict.the-variants.{Quiet, Alert, Blocked}
 use Rattle.answers.specs.declared.Answer.{Answer}
 use Rattle.answers.specs.declared.Answer.the-variants.{Given, Refused}
-use Rattle.listing.specs.Text.{decimalLimit, decimal}
+use Rattle.answers.specs.Answers.{positionOf}
+use Rattle.listing.specs.Text.{decimalLimit, decimal, tagDigits, hexadecimal}
 use Rattle.listing.specs.Lines.{space, newline, line, spaced, operationWord, verdictWord, answerWord, answerFields, heading, stepLine, shortLine, totalLine, policyLine}
-use Rattle.listing.specs.Buffer.{wordLeast, operationLimit, verdictLimit, accessLimit, answerLimit, lineLimit}
-use Rattle.listing.proofs.TextLaws.{decimal-length, decimal-some, hexadecimal-length}
+use Rattle.listing.specs.Buffer.{wordLeast, operationLimit, verdictLimit, accessLimit, positionLimit, answerLimit, lineLimit}
+use Rattle.listing.proofs.TextLaws.{decimal-length, decimal-few, decimal-some, hexadecimal-length}
 
 -- ---- texts
 
@@ -31,9 +32,10 @@ pub access-text : (s w p o : List ℕ)
 unfolding spaced
 access-text s w p o = simp append-assoc
 
-pub verdict-text : (w d h : List ℕ) → ((w ++ (space ∷ [])) ++ (d ++ (space ∷ []))) ++ (h ++ (newline ∷ [])) ≡ line w (d ∷ h ∷ [])
+pub verdict-text : (w d h k : List ℕ)
+    → (((w ++ (space ∷ [])) ++ (d ++ (space ∷ []))) ++ (h ++ (space ∷ []))) ++ (k ++ (newline ∷ [])) ≡ line w (d ∷ h ∷ k ∷ [])
 unfolding line
-verdict-text w d h = simp append-assoc
+verdict-text w d h k = simp append-assoc
 
 pub step-text : (step code p o : ℕ) (x : Answer)
     → spaced (decimal step ∷ operationWord code ∷ decimal p ∷ decimal o ∷ []) ++ line (answerWord x) (answerFields x) ≡ stepLine step code p o x
@@ -57,6 +59,9 @@ number-length n e = simp length-append (omega (arith, decimal-length n))
 
 pub number-least : (n e : ℕ) → 2 ≤ length (decimal n ++ (e ∷ []))
 number-least n e = simp length-append (omega (arith, decimal-some n))
+
+pub tag-length : (t e : ℕ) → length (hexadecimal t ++ (e ∷ [])) ≡ tagDigits + 1
+tag-length t e = simp length-append (omega (arith, hexadecimal-length t))
 
 cond-either : (P : List ℕ → Type 0) (b : Bool) (x y : List ℕ) → P x → P y → P (cond b x y)
 cond-either P true x y p q = p
@@ -96,17 +101,24 @@ verdict-bounds Blocked = (omega arith, omega arith)
 pub verdict-length : (v : Verdict) → length (verdictWord v ++ (space ∷ [])) ≤ verdictLimit + 1
 verdict-length v = simp length-append (omega (arith, verdict-bounds v))
 
-pub answer-bounds : (x : Answer) → (2 ≤ length (line (answerWord x) (answerFields x))) × (length (line (answerWord x) (answerFields x)) ≤ answerLimit)
-unfolding answerWord answerFields line ascii
-answer-bounds (Given verdict received) = (
-  simp length-append (omega arith),
-  simp length-append (omega (arith, verdict-bounds verdict, decimal-length (received .receiver), hexadecimal-length (received .tag))),
-)
-answer-bounds (Refused number) = (simp length-append (omega arith), simp length-append (omega (arith, decimal-length number)))
+pub position-length : (n : ℕ) → n < 256 → length (decimal n) ≤ positionLimit
+position-length n h = decimal-few 2 n (omega arith)
 
-pub step-length : (step code p o : ℕ) (x : Answer) → length (stepLine step code p o x) ≤ lineLimit
-step-length step code p o x =
-    rw (← step-text step code p o x, length-append) (omega (arith, access-length step code p o, answer-bounds x))
+pub answer-least : (x : Answer) → 2 ≤ length (line (answerWord x) (answerFields x))
+unfolding answerWord answerFields line ascii
+answer-least (Given verdict received) = simp length-append (omega arith)
+answer-least (Refused number) = simp length-append (omega arith)
+
+pub answer-length : (x : Answer) → positionOf x < 256 → length (line (answerWord x) (answerFields x)) ≤ answerLimit
+unfolding answerWord answerFields line ascii
+answer-length (Given verdict received) h =
+    simp length-append
+    (omega (arith, verdict-bounds verdict, decimal-length (received .receiver), hexadecimal-length (received .tag), position-length (received .position) h))
+answer-length (Refused number) h = simp length-append (omega (arith, decimal-length number))
+
+pub step-length : (step code p o : ℕ) (x : Answer) → positionOf x < 256 → length (stepLine step code p o x) ≤ lineLimit
+step-length step code p o x h =
+    rw (← step-text step code p o x, length-append) (omega (arith, access-length step code p o, answer-length x h))
 
 pub heading-length : length heading ≤ lineLimit
 unfolding heading line ascii

@@ -182,6 +182,16 @@ length-three n l h =
     let b : n < 10 ^ decimalLimit = omega arith in
     omega (arith, decimal-longer n s b, length-two (n / 10) u t)
 
+-- numbers of two and of three digits
+pub decimal-two : (n : ℕ) → 10 ≤ n → n < 100 → decimal n ≡ digit (n / 10) ∷ digit (n % 10) ∷ []
+decimal-two n l h =
+    let t : n / 10 < 10 = omega arith in
+    let b : n < 10 ^ decimalLimit = omega arith in
+    decimal-above n l b ∙ ap (λ (x : List ℕ). x ++ (digit (n % 10) ∷ [])) (decimal-below (n / 10) t)
+
+pub decimal-three : (n : ℕ) → 100 ≤ n → n < 1000 → digits 10 3 n ≡ decimal n
+decimal-three n l h = rw (length-three n l h) at (decimal-digits n)
+
 -- ---- digits as the bytes of a number
 
 -- a shift by whole bytes drops them
@@ -218,7 +228,7 @@ short-number n k x e p =
     ∙ digits-drop 10 k m n
     ∙ decimal-digits n
 
-low-digit : (n : ℕ) → digit (n % 10) ≡ zeroCode + n % 10
+pub low-digit : (n : ℕ) → digit (n % 10) ≡ zeroCode + n % 10
 low-digit n = let l : n % 10 < 10 = omega arith in digit-low (n % 10) l
 
 -- each is below the bound

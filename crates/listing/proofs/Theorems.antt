@@ -9,7 +9,7 @@ use lib.ListN.{length, getD}
 use Rattle.fields.specs.Ascii.{ascii}
 use Rattle.answers.specs.declared.Answer.{Answer}
 use Rattle.answers.specs.Refusals.{operationRecord}
-use Rattle.answers.specs.Answers.{refused}
+use Rattle.answers.specs.Answers.{positionOf, refused}
 use Rattle.listing.specs.Text.{digit, decimalLimit, decimalIn, decimal, tagDigits, hexadecimal, decimalValue}
 use Rattle.listing.specs.Lines.{line, operationWord, verdictWord, answerWord, answerFields, heading, stepLine, shortLine, totalLine, policyLine}
 use Rattle.listing.specs.Buffer.{lineLimit, WroteWithSpare}
@@ -58,8 +58,8 @@ pub short-step : (step : ℕ) → shortLine step ≡ stepLine step 0 0 0 (refuse
 unfolding shortLine stepLine line operationWord answerWord answerFields verdictWord decimal decimalIn digit ascii
 short-step step = refl
 
--- no line has more bytes than the functions ask room for
-pub step-fits : (step code p o : ℕ) (x : Answer) → length (stepLine step code p o x) ≤ lineLimit
+-- no line has more bytes than the functions ask room for; a position is a byte
+pub step-fits : (step code p o : ℕ) (x : Answer) → positionOf x < 256 → length (stepLine step code p o x) ≤ lineLimit
 step-fits = lines.step-length
 
 pub heading-fits : length heading ≤ lineLimit

@@ -50,9 +50,13 @@ verdictLimit = 7
 abbrev pub accessLimit : ℕ
 accessLimit = (decimalLimit + 1) * 3 + (operationLimit + 1)
 
+-- the most digits of a position, which is a byte
+abbrev pub positionLimit : ℕ
+positionLimit = 3
+
 -- the most bytes of the fields behind them, each with the byte behind it
 abbrev pub answerLimit : ℕ
-answerLimit = (verdictLimit + 1) + (decimalLimit + 1) + (tagDigits + 1)
+answerLimit = (verdictLimit + 1) + (decimalLimit + 1) + (tagDigits + 1) + (positionLimit + 1)
 
 -- the most bytes of a line
 abbrev pub lineLimit : ℕ

@@ -54,14 +54,16 @@ unfoldable pub answerWord : Answer → List ℕ
 answerWord (Given verdict received) = verdictWord verdict
 answerWord (Refused number) = ascii "refused"
 
--- "receiver, tag in 16 hexadecimal digits (small letters), or the refusal number": the fields behind it
+-- "receiver, tag in 16 hexadecimal digits (small letters), or the refusal number": the fields behind it; the position "as a last
+-- field" of "steps not refused" (change request No. 12)
 unfoldable pub answerFields : Answer → List (List ℕ)
-answerFields (Given verdict received) = decimal (received .receiver) ∷ hexadecimal (received .tag) ∷ []
+answerFields (Given verdict received) = decimal (received .receiver) ∷ hexadecimal (received .tag) ∷ decimal (received .position) ∷ []
 answerFields (Refused number) = decimal number ∷ []
 
--- "The first line names the fields"
+-- "The first line names the fields"; the last is "headed `pos`" (change request No. 12)
 unfoldable pub heading : List ℕ
-heading = line (ascii "step") (ascii "op" ∷ ascii "p" ∷ ascii "o" ∷ ascii "verdict" ∷ ascii "at" ∷ ascii "tag" ∷ [])
+heading =
+    line (ascii "step") (ascii "op" ∷ ascii "p" ∷ ascii "o" ∷ ascii "verdict" ∷ ascii "at" ∷ ascii "tag" ∷ ascii "pos" ∷ [])
 
 -- "Fields: step, operation, p, o, verdict, receiver, tag .., or the refusal number"
 unfoldable pub stepLine : ℕ → ℕ → ℕ → ℕ → Answer → List ℕ

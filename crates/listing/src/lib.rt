@@ -3,14 +3,16 @@
 // public ones; a part of a step's line may change up to four bytes behind it, which the next part overwrites.
 ghost use mathlib.Core.Path.{_≡_};
 ghost use mathlib.Core.List.{[], _∷_, _++_};
-ghost use Prim.Native.Nat.{_+_, _≤_, _<_};
+ghost use Prim.Native.Nat.{_+_, _%_, _≤_, _<_};
 ghost use lib.ListN.{length};
 ghost use Rattle.fields.specs.Bytes.{bytesOf};
 ghost use Rattle.fields.specs.Writing.{Wrote};
-ghost use Rattle.listing.specs.Text.{digits, decimalLimit, decimal, tagDigits, hexadecimal};
+ghost use Rattle.answers.specs.declared.Answer.the-variants.{Given};
+ghost use Rattle.listing.specs.Text.{digit, digits, decimalLimit, decimal, tagDigits, hexadecimal};
 ghost use Rattle.listing.specs.Lines.{space, newline, line, spaced, operationWord, verdictWord, answerWord, answerFields, heading, stepLine, shortLine, totalLine, policyLine};
-ghost use Rattle.listing.specs.Buffer.{WroteWithSpare, wordLeast, wordLimit, wordOf, lettersOf, Spells, operationLimit, accessLimit, answerLimit, lineLimit};
+ghost use Rattle.listing.specs.Buffer.{WroteWithSpare, wordLeast, wordLimit, wordOf, lettersOf, Spells, operationLimit, accessLimit, positionLimit, answerLimit, lineLimit};
 use answers::Answer;
+use answers::Received;
 use answers::Verdict;
 
 // The code of the digit 0.
@@ -174,12 +176,39 @@ fn put_number(out: &mut [u8], at: usize, n: u64, end: u8) -> usize
     next + 1
 }
 
-// A tag and the end of its line.
+// A tag and the space behind it.
 fn put_tag(out: &mut [u8], at: usize, tag: u64) -> usize
     requires { ⌜ at + tagDigits < length (now out) ⌝ }
-    ensures { λ r. ⌜ Wrote (hexadecimal tag ++ (newline ∷ [])) (now (out .entry)) (now (out .exit)) at r ⌝ }
+    ensures { λ r. ⌜ Wrote (hexadecimal tag ++ (space ∷ [])) (now (out .entry)) (now (out .exit)) at r ⌝ }
 {
     let next = put_hexadecimal(out, at, tag);
+    out[next] = SPACE;
+    next + 1
+}
+
+// The last digit of a number and the end of its line.
+fn put_last_digit(out: &mut [u8], at: usize, n: u8) -> usize
+    requires { ⌜ at + 1 < length (now out) ⌝ }
+    ensures { λ r. ⌜ Wrote (digit (n % 10) ∷ newline ∷ []) (now (out .entry)) (now (out .exit)) at r ⌝ }
+{
+    out[at] = ZERO + n % 10;
+    out[at + 1] = NEWLINE;
+    at + 2
+}
+
+// A position and the end of its line: one digit in most lines, three where there is none.
+fn put_position(out: &mut [u8], at: usize, n: u8) -> usize
+    requires { ⌜ at + positionLimit < length (now out) ⌝ }
+    ensures { λ r. ⌜ Wrote (decimal n ++ (newline ∷ [])) (now (out .entry)) (now (out .exit)) at r ⌝ }
+{
+    if n < 10 {
+        return put_last_digit(out, at, n);
+    }
+    if n < 100 {
+        out[at] = ZERO + n / 10;
+        return put_last_digit(out, at + 1, n);
+    }
+    let next = put_group(out, at, n as u64);
     out[next] = NEWLINE;
     next + 1
 }
@@ -290,14 +319,15 @@ fn put_access(out: &mut [u8], at: usize, step: u64, code: u64, p: u64, o: u64) -
     put_container_number(out, object, o)
 }
 
-// A verdict's word, the receiver and its tag.
-fn put_verdict(out: &mut [u8], at: usize, verdict: Verdict, receiver: u64, tag: u64) -> usize
+// A verdict's word, the receiver, its tag and the position.
+fn put_verdict(out: &mut [u8], at: usize, verdict: Verdict, received: Received) -> usize
     requires { ⌜ at + answerLimit ≤ length (now out) ⌝ }
-    ensures { λ r. ⌜ Wrote (line (verdictWord verdict) (decimal receiver ∷ hexadecimal tag ∷ [])) (now (out .entry)) (now (out .exit)) at r ⌝ }
+    ensures { λ r. ⌜ Wrote (line (answerWord (Given verdict received)) (answerFields (Given verdict received))) (now (out .entry)) (now (out .exit)) at r ⌝ }
 {
     let to = put_word(out, at, verdict_word(verdict));
-    let end = put_container_number(out, to, receiver);
-    put_tag(out, end, tag)
+    let tag = put_container_number(out, to, received.receiver as u64);
+    let position = put_tag(out, tag, received.tag);
+    put_position(out, position, received.position)
 }
 
 // The fields of a step's line from the verdict on.
@@ -306,13 +336,7 @@ fn put_answer(out: &mut [u8], at: usize, answer: Answer) -> usize
     ensures { λ r. ⌜ Wrote (line (answerWord answer) (answerFields answer)) (now (out .entry)) (now (out .exit)) at r ⌝ }
 {
     match answer {
-        Answer::Given(verdict, received) => put_verdict(
-            out,
-            at,
-            verdict,
-            received.receiver as u64,
-            received.tag,
-        ),
+        Answer::Given(verdict, received) => put_verdict(out, at, verdict, received),
         Answer::Refused(number) => put_named(out, at, b"refused ", number as u64, NEWLINE),
     }
 }
@@ -322,7 +346,7 @@ pub fn put_heading(out: &mut [u8], at: usize) -> usize
     requires { ⌜ at + lineLimit ≤ length (now out) ⌝ }
     ensures { λ r. ⌜ Wrote heading (now (out .entry)) (now (out .exit)) at r ⌝ }
 {
-    put_text(out, at, b"step op p o verdict at tag\n")
+    put_text(out, at, b"step op p o verdict at tag pos\n")
 }
 
 // A step's line.

@@ -4,7 +4,7 @@ use mathlib.Core.Path.{_≡_, refl, sym, ap, _∙_}
 use mathlib.Core.Logic.{_≢_}
 use mathlib.Core.Bool.{Bool, true, false, not, cond, _&&_}
 use mathlib.Core.List.{List, _∷_}
-use Rattle.rules.specs.Rules.{covers}
+use Rattle.rules.specs.Rules.{covers, coverPlace}
 use Rattle.image.specs.Limits.{isGuarded}
 use Rattle.lists.proofs.Bools.{clash}
 use Rattle.session.specs.Rows.{Row}
@@ -13,7 +13,7 @@ use Rattle.lists.specs.Conditions.{numbersOf}
 use Rattle.lists.proofs.Conditions.{given-among}
 use Rattle.chains.specs.History.{Step, read, write, append, exec, fork, newFile, newVolatile, end, delete, receiver}
 use Rattle.answers.specs.declared.Answer.{Answer}
-use Rattle.answers.specs.Answers.{quiet, alert, blocked, isAlert, receiverOf, tagOf, alertNumber, blockedNumber, answerNumber}
+use Rattle.answers.specs.Answers.{quiet, alert, blocked, isAlert, receiverOf, tagOf, positionOf, alertNumber, blockedNumber, answerNumber}
 use Rattle.chains.specs.Demand.{judged}
 use Rattle.chains.specs.Table.{State, freeRow, newFileRow, newVolatileRow, entry, earlyConditions, tableConditions, alerts, blocks, verdict}
 use Rattle.operations.specs.Effects.{sessionConditions}
@@ -25,28 +25,28 @@ use Rattle.monitor.proofs.StepLaws.{refused-answer}
 -- "Codes 1 to 5 answer alert if the receiver's permit rule does not cover its tag afterwards, else quiet"; blocked in the place of
 -- alert if the receiver is guarded (change request No. 9)
 pub verdict-judged : (t : Step) (w : Row) → judged t ≡ true
-    → verdict t w ≡ cond (covers (w .permit) (w .tag)) (quiet (receiver t) (w .tag)) (cond (isGuarded (w .kind)) (blocked (receiver t) (w .tag)) (alert (receiver t) (w .tag)))
+    → verdict t w ≡ cond (covers (w .permit) (w .tag)) quiet (cond (isGuarded (w .kind)) blocked alert) (receiver t) (w .tag) (coverPlace (w .permit) (w .tag))
 unfolding verdict blocks alerts
 verdict-judged t w j = rw j (by (isGuarded (w .kind)) (covers (w .permit) (w .tag)))
   where
-    by : (g b : Bool) → _≡_ {A = Answer} (cond (g && not b) (blocked (receiver t) (w .tag)) (cond (not b) (alert (receiver t) (w .tag)) (quiet (receiver t) (w .tag))))
-        (cond b (quiet (receiver t) (w .tag)) (cond g (blocked (receiver t) (w .tag)) (alert (receiver t) (w .tag))))
+    by : (g b : Bool) → _≡_ {A = Answer} (cond (g && not b) blocked (cond (not b) alert quiet) (receiver t) (w .tag) (coverPlace (w .permit) (w .tag)))
+        (cond b quiet (cond g blocked alert) (receiver t) (w .tag) (coverPlace (w .permit) (w .tag)))
     by true true = refl
     by true false = refl
     by false true = refl
     by false false = refl
 
 pub verdict-put : (t : Step) (w : Row) → judged t ≡ true → blocks t w ≡ false
-    → verdict t w ≡ cond (covers (w .permit) (w .tag)) (quiet (receiver t) (w .tag)) (alert (receiver t) (w .tag))
+    → verdict t w ≡ cond (covers (w .permit) (w .tag)) quiet alert (receiver t) (w .tag) (coverPlace (w .permit) (w .tag))
 unfolding verdict alerts
 verdict-put t w j f = rw (f, j) (by (covers (w .permit) (w .tag)))
   where
-    by : (b : Bool) → _≡_ {A = Answer} (cond (not b) (alert (receiver t) (w .tag)) (quiet (receiver t) (w .tag))) (cond b (quiet (receiver t) (w .tag)) (alert (receiver t) (w .tag)))
+    by : (b : Bool) → _≡_ {A = Answer} (cond (not b) alert quiet (receiver t) (w .tag) (coverPlace (w .permit) (w .tag))) (cond b quiet alert (receiver t) (w .tag) (coverPlace (w .permit) (w .tag)))
     by true = refl
     by false = refl
 
 -- "6 and 7 answer quiet", with "empty tag"; 8 and 9 "answer quiet with tag 0"
-pub new-quiet : (σ : State) (t : Step) → judged t ≡ false → verdict t (entry σ t .row) ≡ quiet (receiver t) 0
+pub new-quiet : (σ : State) (t : Step) → judged t ≡ false → verdict t (entry σ t .row) ≡ quiet (receiver t) 0 (coverPlace (entry σ t .row .permit) 0)
 unfolding entry verdict blocks alerts isGuarded freeRow newFileRow newVolatileRow
 new-quiet σ (read p o) e = clash refl e
 new-quiet σ (write p o) e = clash refl e
@@ -76,5 +76,5 @@ pub number-refused : (s r : List ℕ) → refusalOf s r ≢ 0
 number-refused s r n = (ap answerNumber (refused-answer s r n), never-alert s r, never-blocked s r)
 
 -- "A refusal returns its number, zeros elsewhere"
-pub refused-zeros : (s r : List ℕ) → refusalOf s r ≢ 0 → (isAlert (stepAnswer s r) ≡ false) × (receiverOf (stepAnswer s r) ≡ 0) × (tagOf (stepAnswer s r) ≡ 0)
-refused-zeros s r n = (ap isAlert (refused-answer s r n), ap receiverOf (refused-answer s r n), ap tagOf (refused-answer s r n))
+pub refused-zeros : (s r : List ℕ) → refusalOf s r ≢ 0 → (isAlert (stepAnswer s r) ≡ false) × (receiverOf (stepAnswer s r) ≡ 0) × (tagOf (stepAnswer s r) ≡ 0) × (positionOf (stepAnswer s r) ≡ 0)
+refused-zeros s r n = (ap isAlert (refused-answer s r n), ap receiverOf (refused-answer s r n), ap tagOf (refused-answer s r n), ap positionOf (refused-answer s r n))

@@ -11,8 +11,9 @@ use Rattle.lists.proofs.Bools.{and-in, and-0, and-1, clash, refuted}
 use Rattle.fields.specs.Bytes.{Bytes}
 use Rattle.answers.specs.Answers.{quiet, alert, blocked, isBlocked, isRefused}
 use Rattle.answers.proofs.Cases.{blocked-given}
-use Rattle.rules.specs.Rules.{covers}
+use Rattle.rules.specs.Rules.{covers, noPosition}
 use Rattle.rules.proofs.SetLaws.{or-has}
+use Rattle.rules.proofs.CoverLaws.{place-missed}
 use Rattle.image.specs.Limits.{isGuarded}
 use Rattle.image.specs.Image.{checkOf, policyIn}
 use Rattle.image.proofs.Decode.{accepted-sound}
@@ -65,9 +66,12 @@ module _ (s r : List ℕ) where
     unfolding blocks
     blocked-step = guarded-written (view s) (stepAsked r) (passed (view s) (stepAsked r) (step-table s r blocked-unrefused)) (and-0 (isGuarded (row .kind)) (alerts (stepAsked r) row) blocking)
 
-    -- "with the receiver and the tag it would have had"
-    pub blocked-answer : stepAnswer s r ≡ blocked (receiver (stepAsked r)) (entry (view s) (stepAsked r) .row .tag)
-    blocked-answer = made-answer s r blocked-unrefused ∙ verdict-blocked (stepAsked r) row blocking
+    -- "with the receiver and the tag it would have had", and no position
+    pub blocked-answer : stepAnswer s r ≡ blocked (receiver (stepAsked r)) (entry (view s) (stepAsked r) .row .tag) noPosition
+    unfolding alerts
+    blocked-answer =
+        made-answer s r blocked-unrefused ∙ verdict-blocked (stepAsked r) row blocking
+        ∙ ap (blocked (receiver (stepAsked r)) (row .tag)) (place-missed (row .permit) (row .tag) (not-true (covers (row .permit) (row .tag)) (and-1 (judged (stepAsked r)) (blocks-alerts (stepAsked r) row blocking))))
 
     -- "and changes nothing"
     pub blocked-nothing : stepEffect s r ≡ s

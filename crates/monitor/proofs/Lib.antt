@@ -5,6 +5,7 @@ pub mod Leaving
 pub mod Guarded
 pub mod StepLaws
 pub mod AnswerLaws
+pub mod PositionLaws
 pub mod BehalfLaws
 pub mod LeavingLaws
 pub mod UserLaws

@@ -39,7 +39,7 @@ read-image = record { long = refl; unrefused = refl; spelled = refl }
 
 -- from the bytes of the image and of the trace, on a buffer of zeros that the start fills
 pub listing : runAnswers (startEffect image (replicate sessionLength 0)) trace
-    ≡ quiet 4 4 ∷ quiet 0 5 ∷ quiet 5 5 ∷ alert 1 7 ∷ quiet 1 0 ∷ refused 12 ∷ []
+    ≡ quiet 4 4 0 ∷ quiet 0 5 0 ∷ quiet 5 5 0 ∷ alert 1 7 255 ∷ quiet 1 0 0 ∷ refused 12 ∷ []
 listing =
     ap (λ (s : List ℕ). runAnswers s trace) (effect-start image (replicate sessionLength 0) (read-image .unrefused) .1 ∙ ap startOf (read-image .spelled))
     ∙ checked-runs .listing

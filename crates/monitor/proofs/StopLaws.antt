@@ -45,18 +45,18 @@ stopped (a ∷ l) q = by (isQuiet a) refl (stopped l) q
     by true e h q = let g = h q in (suc (g .0), ap suc (g .1), and-in e (g .2), g .3)
     by false e h q = (0, refl, refl, refl)
 
-pub all-quiet : (l : List Answer) → isQuiet (stopAnswer l) ≡ true → (stopAnswer l ≡ quiet 0 0) × (stopCount l ≡ length l) × (every isQuiet l ≡ true)
+pub all-quiet : (l : List Answer) → isQuiet (stopAnswer l) ≡ true → (stopAnswer l ≡ quiet 0 0 0) × (stopCount l ≡ length l) × (every isQuiet l ≡ true)
 unfolding stopAnswer stopCount every
 all-quiet [] q = (refl, refl, refl)
 all-quiet (a ∷ l) q = by (isQuiet a) refl (all-quiet l) q
   where
-    by : (b : Bool) → isQuiet a ≡ b → (isQuiet (stopAnswer l) ≡ true → (stopAnswer l ≡ quiet 0 0) × (stopCount l ≡ length l) × (every isQuiet l ≡ true))
+    by : (b : Bool) → isQuiet a ≡ b → (isQuiet (stopAnswer l) ≡ true → (stopAnswer l ≡ quiet 0 0 0) × (stopCount l ≡ length l) × (every isQuiet l ≡ true))
         → isQuiet (cond b (stopAnswer l) a) ≡ true
-        → (cond b (stopAnswer l) a ≡ quiet 0 0) × (cond b (suc (stopCount l)) 1 ≡ suc (length l)) × (every isQuiet (a ∷ l) ≡ true)
+        → (cond b (stopAnswer l) a ≡ quiet 0 0 0) × (cond b (suc (stopCount l)) 1 ≡ suc (length l)) × (every isQuiet (a ∷ l) ≡ true)
     by true e h q = let g = h q in (g .0, ap suc (g .1), and-in e (g .2))
     by false e h q = clash q e
 
-pub quiet-stop : (l : List Answer) → every isQuiet l ≡ true → stopAnswer l ≡ quiet 0 0
+pub quiet-stop : (l : List Answer) → every isQuiet l ≡ true → stopAnswer l ≡ quiet 0 0 0
 unfolding stopAnswer every
 quiet-stop [] q = refl
 quiet-stop (a ∷ l) q = let h : isQuiet a ≡ true = and-0 (isQuiet a) (every isQuiet l) q in rw h (quiet-stop l (and-1 (isQuiet a) q))
@@ -72,7 +72,7 @@ module _ (f : Answer → Bool) (quiets : (a : Answer) → isQuiet a ≡ true →
   -- none is taken only if there is none
   none-taken : (s : List ℕ) (rs : List (List ℕ)) → take (stopCount (runAnswers s rs)) rs ≡ [] → f (stopAnswer (runAnswers s rs)) ≡ false
   unfolding stopAnswer stopCount runAnswers
-  none-taken s [] e = quiets (quiet 0 0) refl
+  none-taken s [] e = quiets (quiet 0 0 0) refl
   none-taken s (x ∷ rs) e = by (isQuiet (stepOn s x .1)) e
     where
       by : (b : Bool) → take (cond b (suc (stopCount (runAnswers (stepOn s x .0) rs))) 1) (x ∷ rs) ≡ [] → f (cond b (stopAnswer (runAnswers (stepOn s x .0) rs)) (stepOn s x .1)) ≡ false
@@ -126,7 +126,7 @@ step-numbered s r g = by (eqb (refusalOf s r) 0) refl
 
 stop-numbered : (s : List ℕ) (rs : List (List ℕ)) → sessionLengthGood s ≡ true → Numbered (stopAnswer (runAnswers s rs))
 unfolding stopAnswer runAnswers stepOn
-stop-numbered s [] g = given-numbered (quiet 0 0) refl
+stop-numbered s [] g = given-numbered (quiet 0 0 0) refl
 stop-numbered s (x ∷ rs) g = by (isQuiet (stepAnswer s x)) (stop-numbered (stepEffect s x) rs (step-keeps s x g))
   where
     by : (b : Bool) → Numbered (stopAnswer (runAnswers (stepEffect s x) rs)) → Numbered (cond b (stopAnswer (runAnswers (stepEffect s x) rs)) (stepAnswer s x))

@@ -31,7 +31,7 @@ pub record StopsAt (s : List ℕ) (rs : List (List ℕ)) (a : Answer) (n : ℕ) 
   pub counted : stopCount (runAnswers s rs) ≡ n
   pub left : stopEffect s rs ≡ s′
 
-stops-none : (s : List ℕ) → StopsAt s [] (quiet 0 0) 0 s
+stops-none : (s : List ℕ) → StopsAt s [] (quiet 0 0 0) 0 s
 unfolding stopEffect runAnswers runEffect stopAnswer stopCount
 stops-none s = record { told = refl; counted = refl; left = refl }
 
@@ -103,10 +103,10 @@ module _ (s₀ t s x s′ : List ℕ) (taken at : ℕ) (a : Answer) (h : Running
       }
 
 pub run-end : (s₀ t s : List ℕ) (taken at : ℕ) → Running s₀ t s taken at → length t ≤ at
-    → (w : Ran) → w ≡ record { answer = quiet 0 0; taken = taken } → (w ≡ ran s₀ t) × (s ≡ ranEffect s₀ t)
+    → (w : Ran) → w ≡ record { answer = quiet 0 0 0; taken = taken } → (w ≡ ran s₀ t) × (s ≡ ranEffect s₀ t)
 run-end s₀ t s taken at h l w we =
     let z : taken ≡ taken + 0 = omega arith in
-    whole s₀ t s taken at h (quiet 0 0) 0 s (rw (no-record t at l) (stops-none s)) w (we ∙ ap (λ (k : ℕ). record { answer = quiet 0 0; taken = k }) z)
+    whole s₀ t s taken at h (quiet 0 0 0) 0 s (rw (no-record t at l) (stops-none s)) w (we ∙ ap (λ (k : ℕ). record { answer = quiet 0 0 0; taken = k }) z)
 
 pub run-9 : (s t : List ℕ) → (length s ≡ sessionLength → ⊥) → (w : Ran) → w ≡ record { answer = refused lentLength; taken = 0 } → (w ≡ ran s t) × (s ≡ ranEffect s t)
 unfolding ran ranEffect sessionLengthGood runEffect

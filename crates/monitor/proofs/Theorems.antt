@@ -5,10 +5,11 @@
 use Prim.Native.Nat.{ℕ, suc, _*_, _<_}
 use native.Mathlib.Omega.{arith}
 use mathlib.Core.Path.{_≡_, refl, sym, ap, _∙_}
-use mathlib.Core.Logic.{_↔_, _≢_, ⊎-elim}
-use mathlib.Core.Bool.{true, false, cond}
+use mathlib.Core.Logic.{_⊎_, _↔_, _≢_, ⊎-elim}
+use mathlib.Core.Bool.{true, false, cond, _||_}
 use mathlib.Core.List.{List, [], _∷_, _++_}
 use mathlib.Core.Option.{Option, some}
+use lib.Dec.{eqb}
 use lib.ListN.{length, take, drop, getElem?}
 use borrow.Author.Tests.{eqb-true, eq-eqb}
 use Rattle.lists.specs.Lists.{elem, every}
@@ -18,15 +19,16 @@ use Rattle.lists.proofs.Conditions.{given-among, given-none}
 use Rattle.fields.specs.Bytes.{Bytes}
 use Rattle.answers.specs.Refusals.{operationRecord, lentLength, row, noProcess, wrongKind, notFree, notDeclared, otherUser, overLimit}
 use Rattle.answers.specs.declared.Answer.{Answer}
-use Rattle.answers.specs.Answers.{quiet, alert, refused, isQuiet, isAlert, isBlocked, isRefused, accepted, receiverOf, tagOf, answerNumber}
+use Rattle.answers.specs.Answers.{quiet, alert, refused, isQuiet, isAlert, isBlocked, isRefused, accepted, receiverOf, tagOf, positionOf, answerNumber}
 use Rattle.answers.proofs.Cases.{given-cases, accepted-unblocked, alert-number, blocked-number, accepted-number}
 use Rattle.rules.specs.Sets.{atom}
-use Rattle.rules.specs.Rules.{covers}
+use Rattle.rules.specs.Rules.{covers, noPosition, coverPlace}
+use Rattle.rules.specs.Answers.{mixtureLimit}
 use Rattle.image.specs.Limits.{containerLimit, userLimit, isFree, isFile, isStore}
 use Rattle.image.specs.Image.{checkOf, policyIn}
 use Rattle.image.specs.Normal.{meaning}
 use Rattle.session.specs.Limits.{sessionLength, nobody}
-use Rattle.session.specs.Rows.{rowWords, containerRowGood, userRowGood, containerRow, userRow}
+use Rattle.session.specs.Rows.{Row, rowWords, containerRowGood, userRowGood, containerRow, userRow}
 use Rattle.session.specs.Session.{startOf, startAnswer, startEffect, sessionLengthGood}
 use Rattle.image.proofs.Decode.{accepted-sound}
 use Rattle.session.proofs.Canonical.{effect-start}
@@ -34,7 +36,7 @@ use Rattle.chains.specs.History.{Step, read, write, append, exec, fork, newFile
 use Rattle.chains.specs.Chains.{Governs, Reaches, Forbidden}
 use Rattle.chains.specs.Behalf.{onBehalf}
 use Rattle.chains.specs.Demand.{judged, historyOf, Demand3, TagTold, TakenAnew}
-use Rattle.chains.specs.Table.{State, fitsNeed, entry, isSome, processGood, objectGood, kindGood, freeGood, userGood, behalfFits, meetGood, earlyConditions, tableConditions, begin}
+use Rattle.chains.specs.Table.{State, fitsNeed, ruleOr, entry, isSome, processGood, objectGood, kindGood, freeGood, userGood, behalfFits, meetGood, earlyConditions, tableConditions, begin}
 use Rattle.chains.proofs.KindLaws.{process-used}
 use Rattle.chains.proofs.Theorems as chains
 use Rattle.records.specs.Records.{recordLength, recordGood, stepOf}
@@ -48,6 +50,7 @@ use Rattle.monitor.specs.Runs.{stepOn, runAnswers, runEffect, historyIn}
 use Rattle.monitor.specs.Stops.{ran, ranEffect}
 use Rattle.monitor.proofs.StepLaws.{numbers, refused-at, refused-answer, refused-effect, step-long, step-record, step-receiver, step-laid, effect-long, made-answer, made-effect, answered, answered-zero, accepted-zero, accepted-free, faithful}
 use Rattle.monitor.proofs.AnswerLaws as answers
+use Rattle.monitor.proofs.PositionLaws as positions
 use Rattle.monitor.proofs.AnswerLaws.{verdict-put, new-quiet}
 use Rattle.monitor.proofs.BehalfLaws.{Other, behalf-fails, other-same, process-named}
 use Rattle.monitor.proofs.StartView.{start-valid, start-view, begun-declared}
@@ -153,7 +156,7 @@ module _ (s t : List ℕ) (g : sessionLengthGood s ≡ true) where
 
   -- Or all records are taken, and each is answered quiet.
   pub ran-through : isQuiet (ran s t .answer) ≡ true
-      → (ran s t .answer ≡ quiet 0 0) × (ran s t .taken ≡ length (traceRecords t)) × (every isQuiet (runAnswers s (traceRecords t)) ≡ true)
+      → (ran s t .answer ≡ quiet 0 0 0) × (ran s t .taken ≡ length (traceRecords t)) × (every isQuiet (runAnswers s (traceRecords t)) ≡ true)
   ran-through q =
       let h = all-quiet (runAnswers s (traceRecords t)) (rw (ran-good s t g) at q) in
       rw (ran-good s t g) (h .0, h .1 ∙ length-run s (traceRecords t), h .2)
@@ -467,14 +470,53 @@ module _ (s r : List ℕ) (a : accepted (stepAnswer s r) ≡ true) where
   -- "Codes 1 to 5 answer alert if the receiver's permit rule does not cover its tag afterwards, else quiet"
   pub answer-judged : judged (stepAsked r) ≡ true
       → stepAnswer s r
-      ≡ cond (covers (entry (view s) (stepAsked r) .row .permit) (entry (view s) (stepAsked r) .row .tag))
-      (quiet (receiver (stepAsked r)) (entry (view s) (stepAsked r) .row .tag))
-      (alert (receiver (stepAsked r)) (entry (view s) (stepAsked r) .row .tag))
+      ≡ cond (covers (entry (view s) (stepAsked r) .row .permit) (entry (view s) (stepAsked r) .row .tag)) quiet alert (receiver (stepAsked r))
+      (entry (view s) (stepAsked r) .row .tag)
+      (coverPlace (entry (view s) (stepAsked r) .row .permit) (entry (view s) (stepAsked r) .row .tag))
   answer-judged j = made-answer s r e ∙ verdict-put (stepAsked r) (entry (view s) (stepAsked r) .row) j (accepted-free s r a)
 
   -- "6 and 7 answer quiet", with "empty tag"; 8 and 9 "answer quiet with tag 0"
-  pub answer-new : judged (stepAsked r) ≡ false → stepAnswer s r ≡ quiet (receiver (stepAsked r)) 0
+  pub answer-new : judged (stepAsked r) ≡ false
+      → stepAnswer s r ≡ quiet (receiver (stepAsked r)) 0 (coverPlace (entry (view s) (stepAsked r) .row .permit) 0)
   answer-new j = made-answer s r e ∙ new-quiet (view s) (stepAsked r) j
+
+-- ---- the position (change request No. 12): of every step that is not refused, whether it was made or blocked
+
+module _ (s r : List ℕ) (g : isRefused (stepAnswer s r) ≡ false) where
+  -- it is that of the first mixture that covers, in the permit rule and for the tag of the row that the step makes or, blocked, would have
+  -- made
+  pub position-told : positionOf (stepAnswer s r) ≡ coverPlace (entry (view s) (stepAsked r) .row .permit) (entry (view s) (stepAsked r) .row .tag)
+  position-told = positions.told s r (answered-zero s r g)
+
+  -- of an accepted step, in the session afterwards
+  pub position-held : accepted (stepAnswer s r) ≡ true
+      → positionOf (stepAnswer s r)
+      ≡ coverPlace (view (stepEffect s r) .row (receiver (stepAsked r)) .permit) (view (stepEffect s r) .row (receiver (stepAsked r)) .tag)
+  position-held a = position-told ∙ ap (λ (w : Row). coverPlace (w .permit) (w .tag)) (sym (positions.seen s r (answered-zero s r g) a))
+
+  -- "0 to 7 .. or 255"
+  pub position-range : (positionOf (stepAnswer s r) < mixtureLimit) ⊎ (positionOf (stepAnswer s r) ≡ noPosition)
+  position-range = positions.ranged s r (answered-zero s r g)
+
+  -- codes 1 to 5 answer quiet exactly if it is the place of a mixture of the permit rule
+  pub position-quiet : judged (stepAsked r) ≡ true
+      → (isQuiet (stepAnswer s r) ≡ true) ↔ (positionOf (stepAnswer s r) < length (entry (view s) (stepAsked r) .row .permit))
+  position-quiet = positions.quiet-within s r (answered-zero s r g)
+
+  -- an alert has 255, and so has what is blocked
+  pub position-none : (isAlert (stepAnswer s r) || isBlocked (stepAnswer s r)) ≡ true → positionOf (stepAnswer s r) ≡ noPosition
+  position-none = positions.forbidden-none s r (answered-zero s r g)
+
+  -- codes 6 and 7: each mixture covers the empty tag, so it is the first; 255 where the user's rule has none
+  pub position-file : (p o u : ℕ) → stepAsked r ≡ newFile p o u → positionOf (stepAnswer s r) ≡ cond (eqb (length (ruleOr (view s .user u))) 0) noPosition 0
+  position-file = positions.file-told s r (answered-zero s r g)
+
+  pub position-volatile : (p o : ℕ) → stepAsked r ≡ newVolatile p o → positionOf (stepAnswer s r) ≡ 0
+  position-volatile = positions.volatile-told s r (answered-zero s r g)
+
+  -- "codes 8 and 9 giving 255"
+  pub position-left : (p o : ℕ) → (stepAsked r ≡ end p) ⊎ (stepAsked r ≡ delete p o) → positionOf (stepAnswer s r) ≡ noPosition
+  position-left = positions.left-told s r (answered-zero s r g)
 
 -- the answer as one number: 0 quiet, 256 alert, 257 blocked, else the refusal, which is none of these
 pub number-accepted : (s r : List ℕ) → accepted (stepAnswer s r) ≡ true → answerNumber (stepAnswer s r) ≡ cond (isAlert (stepAnswer s r)) 256 0
@@ -486,8 +528,9 @@ number-blocked s r b = blocked-number (stepAnswer s r) b
 pub number-refused : (s r : List ℕ) → refusalOf s r ≢ 0 → (answerNumber (stepAnswer s r) ≡ refusalOf s r) × (refusalOf s r ≢ 256) × (refusalOf s r ≢ 257)
 number-refused = answers.number-refused
 
--- "zeros elsewhere"
-pub refused-zeros : (s r : List ℕ) → refusalOf s r ≢ 0 → (isAlert (stepAnswer s r) ≡ false) × (receiverOf (stepAnswer s r) ≡ 0) × (tagOf (stepAnswer s r) ≡ 0)
+-- "zeros elsewhere", and the position 0
+pub refused-zeros : (s r : List ℕ) → refusalOf s r ≢ 0
+    → (isAlert (stepAnswer s r) ≡ false) × (receiverOf (stepAnswer s r) ≡ 0) × (tagOf (stepAnswer s r) ≡ 0) × (positionOf (stepAnswer s r) ≡ 0)
 refused-zeros = answers.refused-zeros
 
 -- each accepted record spells a step, so that the history has it

@@ -13,7 +13,7 @@ use Rattle.monitor.specs.Runs.{runAnswers, runEffect}
 
 -- the first answer that is not quiet; quiet, with zeros, if there is none
 unfoldable pub stopAnswer : List Answer → Answer
-stopAnswer [] = quiet 0 0
+stopAnswer [] = quiet 0 0 0
 stopAnswer (a ∷ l) = cond (isQuiet a) (stopAnswer l) a
 
 -- how many answers there are up to and with it; all if there is none

@@ -60,6 +60,7 @@ pub fn run(session: &mut [u64], trace: &[u8]) -> Ran
             Received {
                 receiver: 0,
                 tag: 0,
+                position: 0,
             },
         ),
         taken: taken,

@@ -5,19 +5,22 @@ use mathlib.Core.Bool.{Bool, true, false, not, cond, _&&_}
 use mathlib.Core.List.{List, [], _∷_}
 use native.Mathlib.Omega.{arith}
 use lib.Bits.{bitOr}
+use lib.Dec.{eqb}
 use lib.ListN.{length, getD, take, drop, replicate}
 use borrow.Author.Tests.{eq-eqb, le-leb, not-true, not-false}
 use borrow.Rule.Slice.PartMut.{putMid}
 use Rattle.lists.specs.Lists.{every}
+use Rattle.lists.proofs.Bools.{and-1}
 use Rattle.answers.specs.Refusals.{overLimit}
 use Rattle.answers.specs.declared.Answer.{Answer}
 use Rattle.answers.specs.declared.Answer.the-variants.{Given}
 use Rattle.answers.specs.Answers.{received, refused, quiet, alert, blocked}
 use Rattle.rules.specs.Sets.{dataOf, runningOf}
-use Rattle.rules.specs.Rules.{covers, meet, unrestricted}
+use Rattle.rules.specs.Rules.{covers, noPosition, coverFrom, coverPlace, meet, unrestricted}
 use Rattle.rules.specs.Answers.{dataWidth, tagWidth, mixtureLimit, padded, boundedOf}
 use Rattle.rules.specs.declared.Bounded.{Bounded}
 use Rattle.rules.proofs.BoundedLaws.{bounded-some, padded-take}
+use Rattle.rules.proofs.CoverLaws.{place-missed, place-empty}
 use Rattle.image.specs.Limits.{containerLimit, userLimit, fileKind, volatileKind, processKind, isGuarded, isProcess}
 use Rattle.image.specs.Policy.{unrestrictedRule}
 use Rattle.rule_words.specs.Words.{ruleWidth, ruleOf, wordsOf}
@@ -94,7 +97,7 @@ verdict-covers : (t : Step) (w : Row) → blocks t w ≡ false → judged t ≡ 
 unfolding verdict alerts coverAnswer
 verdict-covers t w f j = rw (f, j) (by (covers (w .permit) (w .tag)))
   where
-    by : (b : Bool) → _≡_ {A = Answer} (Given (coverVerdict b) (received (receiver t) (w .tag))) (cond (not b) (alert (receiver t) (w .tag)) (quiet (receiver t) (w .tag)))
+    by : (b : Bool) → _≡_ {A = Answer} (Given (coverVerdict b) (received (receiver t) (w .tag) (coverPlace (w .permit) (w .tag)))) (cond (not b) alert quiet (receiver t) (w .tag) (coverPlace (w .permit) (w .tag)))
     by true = refl
     by false = refl
 
@@ -106,7 +109,7 @@ unblocked t w j = rw j (by (isGuarded (w .kind)))
     by true = refl
     by false = refl
 
-verdict-unjudged : (t : Step) (w : Row) → judged t ≡ false → quiet (receiver t) (w .tag) ≡ verdict t w
+verdict-unjudged : (t : Step) (w : Row) → judged t ≡ false → quiet (receiver t) (w .tag) (coverPlace (w .permit) (w .tag)) ≡ verdict t w
 unfolding verdict alerts
 verdict-unjudged t w j = rw (unblocked t w j, j)
 
@@ -194,7 +197,7 @@ module _ (s : List ℕ) (c d t : ℕ) (h : UsedAt s c) (m : Bounded) (em : m ≡
   unfolding withheldAnswer
   withheld-over f = rw (shared-fits ∙ f)
 
-  pub withheld-fits : m .fits ≡ true → (a : Answer) → a ≡ blocked c t → a ≡ withheldAnswer s c d t
+  pub withheld-fits : m .fits ≡ true → (a : Answer) → a ≡ blocked c t noPosition → a ≡ withheldAnswer s c d t
   unfolding withheldAnswer
   withheld-fits f a ea = ea ∙ rw (shared-fits ∙ f)
 
@@ -222,10 +225,15 @@ module _ (s : List ℕ) (c d t : ℕ) (step : Step) (j : judged step ≡ true) (
     either true = refl
     either false = refl
 
+    -- what is blocked is not covered
+    withheld-missed : coverPlace (view s .row c .permit) t ≡ noPosition
+    unfolding absorbed
+    withheld-missed = place-missed (view s .row c .permit) t (not-true (covers (view s .row c .permit) t) (and-1 (isGuarded (view s .row c .kind)) (sym (guard-blocks step (absorbed s c d t) j) ∙ b)))
+
     withheld-late : (a : Answer) → a ≡ withheldAnswer s c d t → Done s step a s
     unfolding lateAnswer lateEffect madeAnswer madeEffect withheldAnswer verdict absorbed
     withheld-late a ea =
-        (ea ∙ ap (λ (k : ℕ). cond (fits (sharedRun s c d)) (blocked k t) (refused overLimit)) (sym er) ∙ rw (ew, eg, b), rw (ew, b) (sym (either (meetGood (view s) step))))
+        (ea ∙ ap (λ (k : ℕ). cond (fits (sharedRun s c d)) (blocked k t noPosition) (refused overLimit)) (sym er) ∙ rw (ew, eg, b, withheld-missed), rw (ew, b) (sym (either (meetGood (view s) step))))
 
 one-fits : (r : List ℕ) → every fits (r ∷ []) ≡ fits r
 unfolding every
@@ -262,9 +270,14 @@ module _ (s : List ℕ) (p o : ℕ) where
   unfolding entry writeRow guardsAt
   write-blocks t et = guard-blocks (write p o) (writeRow (view s .row p) (view s .row o)) refl ∙ rw et
 
-  pub write-blocked : (t : ℕ) → t ≡ view s .row p .tag → guardsAt s o t ≡ true → (a : Answer) → a ≡ blocked o t → Done s (write p o) a s
+  -- what is blocked is not covered
+  write-missed : (t : ℕ) → t ≡ view s .row p .tag → guardsAt s o t ≡ true → coverPlace (view s .row o .permit) (view s .row p .tag) ≡ noPosition
+  unfolding guardsAt
+  write-missed t et g = rw et at (place-missed (view s .row o .permit) t (not-true (covers (view s .row o .permit) t) (and-1 (isGuarded (view s .row o .kind)) g)))
+
+  pub write-blocked : (t : ℕ) → t ≡ view s .row p .tag → guardsAt s o t ≡ true → (a : Answer) → a ≡ blocked o t noPosition → Done s (write p o) a s
   unfolding lateAnswer lateEffect madeAnswer madeEffect verdict entry writeRow meetGood every
-  write-blocked t et g a ea = (ea ∙ rw (write-blocks t et ∙ g, et), rw (write-blocks t et ∙ g))
+  write-blocked t et g a ea = (ea ∙ rw (write-blocks t et ∙ g, et, write-missed t et g), rw (write-blocks t et ∙ g))
 
   pub write-done : Ready s (write p o) → (m : Bounded) → m ≡ boundedOf (view s .row p .run) → (t : ℕ) → t ≡ view s .row p .tag → guardsAt s o t ≡ false → (a : Answer) (ws : List ℕ)
       → a ≡ coverAnswer o (rowOf (lent s o) .permit) t → ws ≡ contentWords (lent s o) t m → Done s (write p o) a (returned s o ws)
@@ -350,19 +363,25 @@ all-short : length (unrestricted tagWidth) ≤ mixtureLimit
 unfolding unrestricted
 all-short = omega arith
 
+-- the position of the empty tag in the rule of a `Bounded`
+empty-place : (r : List ℕ) (m : Bounded) → m ≡ boundedOf r → length r ≤ mixtureLimit → (k : ℕ) → k ≡ cond (eqb (m .count) 0) noPosition 0 → k ≡ coverPlace r 0
+empty-place r m e l k ek = ek ∙ rw (e, bounded-some r (le-leb (length r) mixtureLimit l)) (sym (place-empty r))
+
 pub file-done : (s : List ℕ) (p o u : ℕ) → Ready s (newFile p o u) → (m : Bounded) → m ≡ boundedOf (ruleOr (view s .user u)) → (n : Bounded) → n ≡ boundedOf (unrestricted tagWidth) → (ws : List ℕ)
-    → ws ≡ newWords fileKind 0 m n nobody → Done s (newFile p o u) (quiet o 0) (returned s o ws)
+    → ws ≡ newWords fileKind 0 m n nobody → (k : ℕ) → k ≡ cond (eqb (m .count) 0) noPosition 0 → Done s (newFile p o u) (quiet o 0 k) (returned s o ws)
 unfolding entry newFileRow unrestrictedRule meetGood every isGuarded
-file-done s p o u h m em n en ws ew =
+file-done s p o u h m em n en ws ew k ek =
     let w : Row = newFileRow (ruleOr (view s .user u)) in
-    new-done s (newFile p o u) refl w refl refl m n (quiet o 0) ws em (rule-short s u (ready-user s (newFile p o u) h u refl)) en all-short
-    (verdict-unjudged (newFile p o u) w refl) ew
+    let short : length (ruleOr (view s .user u)) ≤ mixtureLimit = rule-short s u (ready-user s (newFile p o u) h u refl) in
+    new-done s (newFile p o u) refl w refl refl m n (quiet o 0 k) ws em short en all-short
+    (ap (quiet o 0) (empty-place (ruleOr (view s .user u)) m em short k ek) ∙ verdict-unjudged (newFile p o u) w refl) ew
 
 pub volatile-done : (s : List ℕ) (p o : ℕ) (m : Bounded) → m ≡ boundedOf (unrestricted tagWidth) → (ws : List ℕ)
-    → ws ≡ newWords volatileKind 0 m m nobody → Done s (newVolatile p o) (quiet o 0) (returned s o ws)
-unfolding entry newVolatileRow unrestrictedRule meetGood every isGuarded
+    → ws ≡ newWords volatileKind 0 m m nobody → Done s (newVolatile p o) (quiet o 0 0) (returned s o ws)
+unfolding entry newVolatileRow unrestrictedRule unrestricted meetGood every isGuarded
 volatile-done s p o m em ws ew =
-    new-done s (newVolatile p o) refl newVolatileRow refl refl m m (quiet o 0) ws em all-short em all-short (verdict-unjudged (newVolatile p o) newVolatileRow refl) ew
+    new-done s (newVolatile p o) refl newVolatileRow refl refl m m (quiet o 0 0) ws em all-short em all-short
+    (ap (quiet o 0) (sym (place-empty (unrestricted tagWidth))) ∙ verdict-unjudged (newVolatile p o) newVolatileRow refl) ew
 
 -- ---- what leaves
 
@@ -377,7 +396,7 @@ cleared s c l h ws e = row-returned s c ws ∙ ap (putRow s c) (e ∙ ap (λ (n 
 
 -- a step that frees its receiver's row
 pub left-done : (s : List ℕ) (t : Step) → entry (view s) t .row ≡ freeRow → meetGood (view s) t ≡ true → judged t ≡ false → (a : Answer) (s₁ : List ℕ)
-    → (a ≡ quiet (receiver t) 0) × (s₁ ≡ putRow s (receiver t) freeWords) → Done s t a s₁
-unfolding lateAnswer lateEffect madeAnswer madeEffect freeRow
+    → (a ≡ quiet (receiver t) 0 noPosition) × (s₁ ≡ putRow s (receiver t) freeWords) → Done s t a s₁
+unfolding lateAnswer lateEffect madeAnswer madeEffect freeRow coverPlace coverFrom
 left-done s t er g j a s₁ (ea, es) =
     (ea ∙ verdict-unjudged t freeRow j ∙ ap (verdict t) (sym er) ∙ rw g, es ∙ ap (putRow s (receiver t)) (sym free-words ∙ ap rowWords (sym er)) ∙ rw (g, unblocked t (entry (view s) t .row) j))

@@ -1,11 +1,11 @@
 -- The row that an accepted step puts passes the row test of the session, and reads back as it was put.
 use Prim.Native.Nat.{ℕ, _≤_, _<_}
 use native.Mathlib.Omega.{arith}
-use mathlib.Core.Path.{_≡_, refl}
+use mathlib.Core.Path.{_≡_, refl, subst}
 use mathlib.Core.Bool.{true}
 use mathlib.Core.List.{List, [], _∷_}
 use lib.Dec.{eqb}
-use lib.ListN.{length}
+use lib.ListN.{length, getD, take, drop, length-take, length-drop}
 use borrow.Author.Tests.{eq-eqb, lt-ltb}
 use Rattle.lists.specs.Lists.{every}
 use Rattle.lists.proofs.Bools.{and-0, and-in, or-1}
@@ -15,8 +15,8 @@ use Rattle.rules.proofs.RuleLaws.{normal-normal}
 use Rattle.rules.proofs.MeetAll.{normal-one}
 use Rattle.image.specs.Limits.{userLimit, fileKind, volatileKind, processKind, isFree, isFile, isVolatile, isProcess, isStore, usedKind}
 use Rattle.image.specs.Policy.{unrestrictedRule}
-use Rattle.rule_words.specs.Words.{ruleOf, wordsOf, allZero}
-use Rattle.session.specs.Limits.{rowWidth, nobody}
+use Rattle.rule_words.specs.Words.{ruleWidth, ruleOf, wordsOf, allZero}
+use Rattle.session.specs.Limits.{rowWidth, permitAt, nobody}
 use Rattle.session.specs.Rows.{Row, rowOf, rowWords, permitWords, runWords, behalfGood, containerRowGood, InUse, userRow}
 use Rattle.session.proofs.RowLaws.{nobody-good, row-length, row-words, row-good, good-declared}
 use Rattle.chains.specs.History.{Step, read, write, append, exec, fork, newFile, newVolatile, end, delete}
@@ -33,6 +33,16 @@ pub record Laid (w : Row) : Type 0 where
   pub long : length (rowWords w) ≡ rowWidth
   pub said : rowOf (rowWords w) ≡ w
   pub good : containerRowGood (rowWords w) ≡ true
+
+-- their permit rules have at most 8 mixtures
+pub laid-short : (w : Row) → Laid w → length (w .permit) ≤ mixtureLimit
+unfolding rowOf ruleOf permitWords
+laid-short w W =
+    subst (λ (x : Row). length (x .permit) ≤ mixtureLimit) (W .said)
+    (short (rowWords w))
+  where
+    short : (ws : List ℕ) → length (rowOf ws .permit) ≤ mixtureLimit
+    short ws = omega (arith, length-take (getD (permitWords ws) 0 0) (drop 1 (permitWords ws)), length-drop 1 (permitWords ws), length-take ruleWidth (drop permitAt ws))
 
 pub laid-used : (w : Row) → InUse w → Laid w
 laid-used w W = record {

@@ -15,6 +15,7 @@ use Rattle.answers.specs.declared.Answer.{Answer}
 use Rattle.answers.specs.Answers.{quiet, refused}
 use Rattle.image.specs.Limits.{userLimit}
 use Rattle.session.specs.Rows.{freeWords, putRow}
+use Rattle.rules.specs.Rules.{noPosition}
 use Rattle.chains.specs.History.{Step, end, delete}
 use Rattle.chains.specs.Table.{entry, meetGood, earlyConditions, tableConditions}
 use Rattle.records.specs.declared.Request.{Request}
@@ -90,7 +91,7 @@ done-as s q t e a s₁ d = subst (λ (x : Step). Done s x a s₁) (sym e) d
 
 -- an end or a delete, which frees the row of o
 pub released : (s : List ℕ) (q : Request) → (stepIn q ≡ end (q .o)) ⊎ (stepIn q ≡ delete (q .p) (q .o)) → (a : Answer) (s₁ : List ℕ)
-    → (a ≡ quiet (q .o) 0) × (s₁ ≡ putRow s (q .o) freeWords) → Done s (stepIn q) a s₁
+    → (a ≡ quiet (q .o) 0 noPosition) × (s₁ ≡ putRow s (q .o) freeWords) → Done s (stepIn q) a s₁
 unfolding entry meetGood every
 released s q (inl e) a s₁ h = done-as s q (end (q .o)) e a s₁ (left-done s (end (q .o)) refl refl refl a s₁ h)
 released s q (inr e) a s₁ h = done-as s q (delete (q .p) (q .o)) e a s₁ (left-done s (delete (q .p) (q .o)) refl refl refl a s₁ h)

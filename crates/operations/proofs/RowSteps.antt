@@ -1,7 +1,7 @@
 -- What is read of the session, and what is written to a row of it.
 use Prim.Native.Nat.{ℕ, zero, suc, _+_, _-_, _*_, _≤_, _<_}
 use mathlib.Core.Path.{_≡_, refl, sym, subst, ap, ap₂, _∙_}
-use mathlib.Core.Bool.{Bool, true, cond, _&&_}
+use mathlib.Core.Bool.{Bool, true, not, cond, _&&_}
 use mathlib.Core.Option.{none, some}
 use mathlib.Core.List.{List, [], _∷_, _++_, append-assoc}
 use native.Mathlib.Omega.{arith}
@@ -12,11 +12,12 @@ use lib.Dec.{eqb}
 use borrow.Author.Tests.{eqb-true, leb-true}
 use Rattle.lists.proofs.Bools.{and-0, and-1}
 use borrow.Rule.Slice.PartMut.{putMid}
-use Rattle.rules.specs.Rules.{covers, meet, refines}
+use Rattle.rules.specs.Rules.{noPosition, coverPlace, meet, refines}
 use Rattle.rules.specs.Answers.{mixtureLimit, padded, boundedOf}
 use Rattle.rules.specs.declared.Bounded.{Bounded}
 use Rattle.rules.proofs.BoundedLaws.{bounded-test, bounded-fits}
 use Rattle.rules.proofs.RuleLaws.{meet-comm}
+use Rattle.rules.proofs.CoverLaws.{place-tells, place-limit}
 use Rattle.rules.proofs.RefineLaws.{refines-meet}
 use Rattle.rules.proofs.MeetLaws.{meet-one}
 use Rattle.session.specs.Limits.{rowWidth, userWidth, usersAt, kindAt, tagAt, permitAt, runAt, behalfAt, userRuleAt}
@@ -377,7 +378,16 @@ module _ (k t : ℕ) (p m : Bounded) (b : ℕ) (lp : length (p .mixtures) ≡ mi
 
 -- ---- whether the permit rule covers the tag
 
-pub judged-by : (row rule : List ℕ) (c : ℕ) (b : Bool) (v : Verdict) → rule ≡ ruleOf (permitWords row) → b ≡ covers rule (getD row tagAt 0) → v ≡ coverVerdict b
-    → _≡_ {A = Answer} (Given v (received c (getD row tagAt 0))) (coverAnswer c (rowOf row .permit) (rowOf row .tag))
+-- the place of a mixture is a small number
+pub judged-small : (row rule : List ℕ) (k t : ℕ) → Readable (permitWords row) → rule ≡ ruleOf (permitWords row) → k ≡ coverPlace rule t → k < 256
+judged-small row rule k t h e f =
+    let l : length rule ≤ mixtureLimit = rw e (omega (arith, h .1, rule-length (permitWords row) (h .0) (h .1))) in
+    omega (arith, f, place-limit rule t (omega arith))
+
+pub judged-by : (row rule : List ℕ) (c k : ℕ) (v : Verdict) → Readable (permitWords row) → rule ≡ ruleOf (permitWords row) → k ≡ coverPlace rule (getD row tagAt 0) → v ≡ coverVerdict (not (eqb k noPosition))
+    → _≡_ {A = Answer} (Given v (received c (getD row tagAt 0) k)) (coverAnswer c (rowOf row .permit) (rowOf row .tag))
 unfolding coverAnswer rowOf
-judged-by row rule c b v e f g = rw (g, f, e)
+judged-by row rule c k v h e f g =
+    let place : k ≡ coverPlace (ruleOf (permitWords row)) (getD row tagAt 0) = f ∙ ap (λ (x : List ℕ). coverPlace x (getD row tagAt 0)) e in
+    let covered = place-tells (ruleOf (permitWords row)) (getD row tagAt 0) (omega (arith, h .1, rule-length (permitWords row) (h .0) (h .1))) k place in
+    ap₂ (λ (x : Verdict) (y : ℕ). Given x (received c (getD row tagAt 0) y)) (g ∙ ap coverVerdict covered) place

@@ -14,7 +14,7 @@ use Rattle.answers.specs.declared.Answer.the-variants.{Given}
 use Rattle.answers.specs.declared.Verdict.{Verdict}
 use Rattle.answers.specs.declared.Verdict.the-variants.{Quiet, Alert}
 use Rattle.answers.specs.Answers.{received, blocked, refused}
-use Rattle.rules.specs.Rules.{covers, meet}
+use Rattle.rules.specs.Rules.{covers, noPosition, coverPlace, meet}
 use Rattle.rules.specs.declared.Bounded.{Bounded}
 use Rattle.image.specs.Limits.{containerLimit, userLimit, processKind, isFree, isGuarded}
 use Rattle.rule_words.specs.Words.{ruleWidth, keptWell}
@@ -97,9 +97,9 @@ abbrev pub coverVerdict : Bool → Verdict
 coverVerdict true = Quiet
 coverVerdict false = Alert
 
--- the answer by whether the permit rule covers the tag
+-- the answer by whether, and at which position, the permit rule covers the tag
 unfoldable pub coverAnswer : ℕ → List ℕ → ℕ → Answer
-coverAnswer c permit tag = Given (coverVerdict (covers permit tag)) (received c tag)
+coverAnswer c permit tag = Given (coverVerdict (covers permit tag)) (received c tag (coverPlace permit tag))
 
 -- ---- container c takes in what d has, as a reader or a file that is appended to does: the tag t, and the meet of both run rules
 
@@ -124,7 +124,7 @@ guardsAt s c t = isGuarded (view s .row c .kind) && not (covers (view s .row c .
 
 -- then an append of d is answered blocked, "15 being tested before it"
 unfoldable pub withheldAnswer : List ℕ → ℕ → ℕ → ℕ → Answer
-withheldAnswer s c d t = cond (fits (sharedRun s c d)) (blocked c t) (refused overLimit)
+withheldAnswer s c d t = cond (fits (sharedRun s c d)) (blocked c t noPosition) (refused overLimit)
 
 -- ---- process p becomes what runs o for u: the run rule and the running atoms of o beside p's data atoms, under the permit rule m
 

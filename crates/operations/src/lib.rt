@@ -9,7 +9,7 @@ ghost use lib.ListN.{length, getD, take};
 ghost use Rattle.lists.specs.Conditions.{firstFailed};
 ghost use Rattle.answers.specs.Answers.{quiet, blocked};
 ghost use Rattle.answers.specs.Refusals.{otherUser};
-ghost use Rattle.rules.specs.Rules.{meet};
+ghost use Rattle.rules.specs.Rules.{noPosition, meet};
 ghost use Rattle.rules.specs.Answers.{mixtureLimit, boundedOf};
 ghost use Rattle.image.specs.Limits.{containerLimit, processKind, lastKind};
 ghost use Rattle.rule_words.specs.Words.{ruleOf};
@@ -31,6 +31,7 @@ use records::Code;
 use records::Request;
 use rule_words::RULE_WIDTH;
 use rules::Bounded;
+use rules::NO_POSITION;
 use session::BEHALF_AT;
 use session::DECLARED;
 use session::KIND_AT;
@@ -228,15 +229,24 @@ fn verdict_of(covered: bool) -> Verdict
     Verdict::Alert
 }
 
-// Whether the row's permit rule covers its tag.
+// Whether the row's permit rule covers its tag, and at which position.
 fn judge(row: &[u64], receiver: usize) -> Answer
     requires { ⌜ (length (now row) ≡ rowWidth) × (getD (permitWords (now row)) 0 0 ≤ mixtureLimit) ⌝ }
     ensures { λ r. ⌜ r ≡ coverAnswer receiver (rowOf (now (row .entry)) .permit) (rowOf (now (row .entry)) .tag) ⌝ }
 {
     let tag = row[TAG_AT];
     let rule = rule_words::rule_of(&row[PERMIT_AT..PERMIT_AT + RULE_WIDTH]);
-    let verdict = verdict_of(rules::covers(rule, tag));
-    Answer::Given(verdict, Received { receiver, tag })
+    let place = rules::cover_place(rule, tag);
+    let verdict = verdict_of(place != NO_POSITION);
+    let position = place as u8;
+    Answer::Given(
+        verdict,
+        Received {
+            receiver,
+            tag,
+            position,
+        },
+    )
 }
 
 // Gives the receiver's row a tag and a run rule, and answers.
@@ -286,11 +296,28 @@ fn guards(s: &[u64], c: usize, tag: u64) -> bool
     !rules::covers(rule, tag)
 }
 
-// The answer to an access that is blocked.
+// The answer to an access that is blocked: no mixture covers the tag.
 fn blocked(receiver: usize, tag: u64) -> Answer
-    ensures { λ r. ⌜ r ≡ blocked receiver tag ⌝ }
+    ensures { λ r. ⌜ r ≡ blocked receiver tag noPosition ⌝ }
 {
-    Answer::Given(Verdict::Blocked, Received { receiver, tag })
+    Answer::Given(
+        Verdict::Blocked,
+        Received {
+            receiver,
+            tag,
+            position: NO_POSITION as u8,
+        },
+    )
+}
+
+// The position of the empty tag in a rule of so many mixtures, each of which covers it.
+fn empty_position(count: usize) -> u8
+    ensures { λ r. ⌜ r ≡ cond (eqb count 0) noPosition 0 ⌝ }
+{
+    if count == 0 {
+        return NO_POSITION as u8;
+    }
+    0
 }
 
 // The answer to an append into a container that guards itself from the tag: 15 comes first.
@@ -421,6 +448,7 @@ fn new_file(s: &mut [u64], p: usize, o: usize, u: usize) -> Answer
     ensures { λ r. ⌜ (r ≡ lateAnswer (now (s .entry)) (newFile p o u)) × (now (s .exit) ≡ lateEffect (now (s .entry)) (newFile p o u)) ⌝ }
 {
     let permit = rule_at(s, USERS_AT + u * USER_WIDTH + USER_RULE_AT);
+    let position = empty_position(permit.count);
     let all = rules::unrestricted();
     let b = o * ROW_WIDTH;
     session::put_row(&mut s[b..b + ROW_WIDTH], FILE_KIND, 0, permit, all, NOBODY);
@@ -429,6 +457,7 @@ fn new_file(s: &mut [u64], p: usize, o: usize, u: usize) -> Answer
         Received {
             receiver: o,
             tag: 0,
+            position,
         },
     )
 }
@@ -446,14 +475,15 @@ fn new_volatile(s: &mut [u64], p: usize, o: usize) -> Answer
         Received {
             receiver: o,
             tag: 0,
+            position: 0,
         },
     )
 }
 
-// Codes 8 and 9: the container leaves, and its number is free.
+// Codes 8 and 9: the container leaves, and its number is free; a free row has no mixture.
 fn release(s: &mut [u64], c: usize) -> Answer
     requires { ⌜ (length (now s) ≡ sessionLength) × (c < containerLimit) ⌝ }
-    ensures { λ r. ⌜ (r ≡ quiet c 0) × (now (s .exit) ≡ putRow (now (s .entry)) c freeWords) ⌝ }
+    ensures { λ r. ⌜ (r ≡ quiet c 0 noPosition) × (now (s .exit) ≡ putRow (now (s .entry)) c freeWords) ⌝ }
 {
     let a = c * ROW_WIDTH;
     rule_words::clear(&mut s[a..a + ROW_WIDTH]);
@@ -462,6 +492,7 @@ fn release(s: &mut [u64], c: usize) -> Answer
         Received {
             receiver: c,
             tag: 0,
+            position: NO_POSITION as u8,
         },
     )
 }

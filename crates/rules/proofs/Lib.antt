@@ -3,6 +3,7 @@ pub mod Theorems
 -- other crates cite these
 pub mod SetLaws
 pub mod RuleLaws
+pub mod CoverLaws
 pub mod MeetAll
 pub mod MeetLaws
 pub mod RefineLaws

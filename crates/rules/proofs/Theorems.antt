@@ -1,19 +1,23 @@
 -- What is proved of sets and rules, at any width: the statements, each with the law that proves it.
 -- `holds`, `covers`, `normal`, `meet` and the others are the definitions of specs/Sets.antt and specs/Rules.antt;
 -- `Ascending`, `Antichain` and `Within` those of specs/Order.antt.
+use native.Mathlib.Omega.{arith}
 use Prim.Native.Nat.{ℕ, _+_, _-_, _^_, _≤_, _<_, min, max}
 use mathlib.Core.Path.{_≡_, sym, ap, _∙_}
 use mathlib.Core.Logic.{_↔_}
-use mathlib.Core.Bool.{true, _&&_}
+use mathlib.Core.Bool.{true, false, not, _&&_}
 use mathlib.Core.List.{List, [], _++_, List·Memᴰ}
 use lib.Bits.{bitAnd, bitOr}
+use lib.Dec.{eqb}
 use lib.ListN.{length, getD, take}
 use Rattle.rules.specs.Sets.{atom, holds, dataOf, runningOf}
-use Rattle.rules.specs.Rules.{covers, normal, meet, unrestricted, meetAll, allCover, refines}
+use Rattle.rules.specs.Rules.{covers, noPosition, coverPlace, normal, meet, unrestricted, meetAll, allCover, refines}
 use Rattle.lists.specs.Lists.{elem, sameList}
 use Rattle.rules.specs.Order.{Ascending, Antichain, Within}
+use Rattle.rules.specs.Answers.{mixtureLimit}
 use Rattle.rules.proofs.SetLaws as sets
 use Rattle.rules.proofs.RuleLaws as rules
+use Rattle.rules.proofs.CoverLaws as places
 use Rattle.rules.proofs.MeetAll as all
 use Rattle.lists.proofs.Same as same
 use Rattle.rules.proofs.RefineLaws as refine
@@ -80,6 +84,25 @@ covers-by-one r t =
 -- once a mixture holds the tag, those behind it need not be looked at
 pub covers-up-to : (r : List ℕ) (i t : ℕ) → i < length r → holds (getD r i 0) t ≡ true → covers (take (i + 1) r) t ≡ covers r t
 covers-up-to = rules.covers-first
+
+-- ---- the position of the first mixture that covers (change request No. 12)
+
+-- a rule covers a tag exactly when it gives a position
+pub cover-place : (r : List ℕ) (t : ℕ) → length r ≤ mixtureLimit → covers r t ≡ not (eqb (coverPlace r t) noPosition)
+cover-place r t l = places.place-covers r t (omega arith)
+
+-- the mixture there holds the tag, and none before it does
+pub cover-first : (r : List ℕ) (t : ℕ) → covers r t ≡ true
+    → (coverPlace r t < length r) × (holds (getD r (coverPlace r t) 0) t ≡ true) × ((i : ℕ) → i < coverPlace r t → holds (getD r i 0) t ≡ false)
+cover-first r t h = let f : places.First r t (coverPlace r t) = places.place-found r t h in (f .inside, f .over, f .before)
+
+-- "in ascending order": it is the least that does
+pub cover-least : (r : List ℕ) (t m : ℕ) → Ascending r → elem m r ≡ true → holds m t ≡ true → getD r (coverPlace r t) 0 ≤ m
+cover-least r t m a e h = places.place-least r t m a (rules.covers-by m r t e h) e h
+
+-- without one the position is 255
+pub cover-none : (r : List ℕ) (t : ℕ) → covers r t ≡ false → coverPlace r t ≡ noPosition
+cover-none = places.place-missed
 
 -- ---- the normal form
 

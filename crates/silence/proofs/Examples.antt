@@ -7,7 +7,7 @@ use lib.Bits.{bitOr}
 use lib.ListN.{replicate}
 use native.Mathlib.Omega.{arith}
 use Rattle.rules.specs.Sets.{atom, holds, dataOf, runningOf}
-use Rattle.rules.specs.Rules.{covers, distinct, heldIn, unheldIn, insert, sort, normal, intersections, meet, unrestricted}
+use Rattle.rules.specs.Rules.{covers, coverFrom, coverPlace, distinct, heldIn, unheldIn, insert, sort, normal, intersections, meet, unrestricted}
 use Rattle.lists.specs.Lists.{elem, sameList, every}
 use Rattle.lists.specs.Conditions.{firstFailed}
 use Rattle.lists.specs.Counting.{someBelow, allBelow}
@@ -108,8 +108,8 @@ session : startOf (policyIn (derivedImage reads writes 3)) ≡ sessionOf (record
 unfolding startOf
 session = ap (λ (p : Policy). sessionOf (meaning p)) (derived-read reads writes 3 good .1) ∙ ap sessionOf (derived-means reads writes 3 good)
 
-run : runAnswers (sessionOf (record { places = places; users = unrestrictedRule ∷ [] })) (front ++ (last ∷ [])) ≡ quiet 3 1 ∷ quiet 1 3 ∷ quiet 4 4 ∷ alert 1 7 ∷ []
-unfolding holds dataOf runningOf covers elem distinct heldIn unheldIn insert sort normal intersections meet unrestricted
+run : runAnswers (sessionOf (record { places = places; users = unrestrictedRule ∷ [] })) (front ++ (last ∷ [])) ≡ quiet 3 1 0 ∷ quiet 1 3 0 ∷ quiet 4 4 0 ∷ alert 1 7 255 ∷ []
+unfolding holds dataOf runningOf covers coverFrom coverPlace elem distinct heldIn unheldIn insert sort normal intersections meet unrestricted
     sameList padded isFree isGuarded isFile isVolatile isProcess isStore numberIn bytesOf field unrestrictedRule
     ruleOf wordsOf allZero isNormal keptWell rowWords freeWords permitWords runWords
     rowOf usedKind behalfGood containerRowGood userWords isDeclared userRuleWords userRuleOf userRowGood containerRow userRow
@@ -121,5 +121,5 @@ unfolding holds dataOf runningOf covers elem distinct heldIn unheldIn insert sor
 run = refl
 
 -- and the last raises an alert: object 1 has the tag 7, and its permit rule the mixtures 3 and 6
-pub two-writers-alert : runAnswers (startOf (policyIn (derivedImage reads writes 3))) (front ++ (last ∷ [])) ≡ quiet 3 1 ∷ quiet 1 3 ∷ quiet 4 4 ∷ alert 1 7 ∷ []
+pub two-writers-alert : runAnswers (startOf (policyIn (derivedImage reads writes 3))) (front ++ (last ∷ [])) ≡ quiet 3 1 0 ∷ quiet 1 3 0 ∷ quiet 4 4 0 ∷ alert 1 7 255 ∷ []
 two-writers-alert = ap (λ (s : List ℕ). runAnswers s (front ++ (last ∷ []))) session ∙ run

@@ -34,19 +34,19 @@ traceBytes =
     ∷ []
 
 abbrev pub given : List Answer
-given = quiet 4 4 ∷ quiet 0 5 ∷ quiet 5 5 ∷ alert 1 7 ∷ quiet 1 0 ∷ refused 12 ∷ []
+given = quiet 4 4 0 ∷ quiet 0 5 0 ∷ quiet 5 5 0 ∷ alert 1 7 255 ∷ quiet 1 0 0 ∷ refused 12 ∷ []
 
 pub answered : runAnswers (startOf (policyIn image)) (traceRecords traceBytes) ≡ given
 unfolding traceRecords cut
 answered = ap (λ p. runAnswers (startOf p) trace) (read-image .spelled) ∙ checked-runs .listing
 
 spelled : heading ++ (linesOf noTally (traceRecords traceBytes) given ++ totalOf (countedAll noTally given))
-    ≡ ascii "step op p o verdict at tag\n1 read 4 2 quiet 4 0000000000000004\n2 append 4 0 quiet 0 0000000000000005\n3 read 5 0 quiet 5 0000000000000005\n4 append 5 1 alert 1 0000000000000007\n5 write 6 1 quiet 1 0000000000000000\n6 read 6 9 refused 12\ntotal 6 alerts 1 refused 1\n"
+    ≡ ascii "step op p o verdict at tag pos\n1 read 4 2 quiet 4 0000000000000004 0\n2 append 4 0 quiet 0 0000000000000005 0\n3 read 5 0 quiet 5 0000000000000005 0\n4 append 5 1 alert 1 0000000000000007 255\n5 write 6 1 quiet 1 0000000000000000 0\n6 read 6 9 refused 12\ntotal 6 alerts 1 refused 1\n"
 unfolding traceRecords cut requestIn numberIn field counted countedAll recordLine linesOf totalOf heading stepLine totalLine operationWord answerWord answerFields verdictWord line decimal decimalIn hexadecimal digits digit ascii
 spelled = refl
 
 pub listing : listingOf image traceBytes
-    ≡ ascii "step op p o verdict at tag\n1 read 4 2 quiet 4 0000000000000004\n2 append 4 0 quiet 0 0000000000000005\n3 read 5 0 quiet 5 0000000000000005\n4 append 5 1 alert 1 0000000000000007\n5 write 6 1 quiet 1 0000000000000000\n6 read 6 9 refused 12\ntotal 6 alerts 1 refused 1\n"
+    ≡ ascii "step op p o verdict at tag pos\n1 read 4 2 quiet 4 0000000000000004 0\n2 append 4 0 quiet 0 0000000000000005 0\n3 read 5 0 quiet 5 0000000000000005 0\n4 append 5 1 alert 1 0000000000000007 255\n5 write 6 1 quiet 1 0000000000000000 0\n6 read 6 9 refused 12\ntotal 6 alerts 1 refused 1\n"
 unfolding listingOf partText partTally
 listing =
     rw (eq-eqb (checkOf image) 0 (effect-start image (replicate sessionLength 0) (read-image .unrefused) .0), answered) spelled

@@ -20,6 +20,8 @@ use Rattle.records.proofs.TraceLaws.{next-record, no-record, record-length}
 use Rattle.monitor.specs.Steps.{stepAnswer, stepEffect}
 use Rattle.monitor.specs.Runs.{stepOn, runAnswers, runEffect}
 use Rattle.listing.specs.Buffer.{lineLimit}
+use Rattle.answers.specs.Answers.{positionOf}
+use Rattle.monitor.proofs.PositionLaws.{small}
 use Rattle.listing.specs.Lines.{stepLine, shortLine}
 use Rattle.listing.proofs.Theorems.{step-fits, short-fits}
 use Rattle.trace_listing.specs.declared.Listed.{Listed}
@@ -40,12 +42,12 @@ module _ (step : ℕ) (bytes : List ℕ) (answer : Answer) where
   short-line l h = wrote-as (rw (ne-eqb (length bytes) recordLength l)) h
 
   -- it has room where there is room for a line
-  pub record-fits : length (recordLine step bytes answer) ≤ lineLimit
+  pub record-fits : positionOf answer < 256 → length (recordLine step bytes answer) ≤ lineLimit
   unfolding recordLine
-  record-fits = by (eqb (length bytes) recordLength)
+  record-fits h = by (eqb (length bytes) recordLength)
     where
       by : (b : Bool) → length (cond b (stepLine step (requestIn bytes .code) (requestIn bytes .p) (requestIn bytes .o) answer) (shortLine step)) ≤ lineLimit
-      by true = step-fits step (requestIn bytes .code) (requestIn bytes .p) (requestIn bytes .o) answer
+      by true = step-fits step (requestIn bytes .code) (requestIn bytes .p) (requestIn bytes .o) answer h
       by false = short-fits step
 
 -- ---- the loop over the records of a part
@@ -106,10 +108,13 @@ module _ (part : List ℕ) (t₀ : Tally) (s₀ before s out : List ℕ) (run : 
     unfolding runEffect stepOn
     next-leaves = rw (se, xe) (rw (next-record part at l) at (h .leaves))
 
+    fits : length (recordLine (more (run .tally .records)) x a) ≤ lineLimit
+    fits = record-fits (more (run .tally .records)) x a (rw ae (small s x))
+
     next-room : run′ .end + lineLimit * left (length part) (at + length x) ≤ bufferSize
     next-room =
         let e : length x ≡ length (take recordLength (drop at part)) = ap length xe in
-        omega (arith, h .room, w .line .ends, record-fits (more (run .tally .records)) x a, length-take recordLength (drop at part), length-drop at part)
+        omega (arith, h .room, w .line .ends, fits, length-take recordLength (drop at part), length-drop at part)
 
     pub listing-next : length s′ ≡ length s → Listing part t₀ s₀ before s′ out′ run′ (at + length x)
     listing-next e =
@@ -117,7 +122,7 @@ module _ (part : List ℕ) (t₀ : Tally) (s₀ before s out : List ℕ) (run : 
           front = h .front ++ recordLine (more (run .tally .records)) x a;
           within = record-length part x at l xe .1;
           session = e ∙ h .session;
-          long = wrote-length (omega (arith, line-room, record-fits (more (run .tally .records)) x a)) (w .line) ∙ h .long;
+          long = wrote-length (omega (arith, line-room, fits)) (w .line) ∙ h .long;
           begun = h .begun;
           room = next-room;
           wrote = wrote-join (omega arith) (h .wrote) (w .line);

@@ -14,7 +14,7 @@ use records::RECORD_LENGTH;
 // The bytes of a part at most: 512 records.
 pub const PART_LIMIT: usize = 4096;
 
-// The bytes of a buffer: 512 lines of at most 118 bytes fit.
+// The bytes of a buffer: 512 lines of at most 122 bytes fit.
 pub const BUFFER_SIZE: usize = 65536;
 
 // The tally of the records so far, and the place behind their lines.

@@ -6,7 +6,7 @@ use lib.ListN.{length}
 use Rattle.listing.specs.Text.{decimal}
 use Rattle.listing.specs.Lines.{spaced, operationWord}
 use Rattle.listing.proofs.BufferLaws.{wrote-spare, spare-none, spare-join, spare-as}
-use Rattle.listing.proofs.LineLaws.{step-text, access-length, answer-bounds}
+use Rattle.listing.proofs.LineLaws.{step-text, access-length, answer-least}
 use borrow.Author.Needs.{needs}
 use Rattle.listing.proofs.put_step.Statement.{statement}
 use Rattle.listing.proofs.put_step.Tie as tie
@@ -26,7 +26,7 @@ returns c =
     spare-none
     (spare-as
     (step-text (a .step) (a .code) (a .p) (a .o) (a .answer))
-    (spare-join {x = x} 0 (omega (arith, answer-bounds (a .answer))) (access .ensures) answer))
+    (spare-join {x = x} 0 (omega (arith, answer-least (a .answer))) (access .ensures) answer))
 
 pub put-step-spec : {M : Type 1} → statement M
 put-step-spec = tie.close (tie.spec (λ c κs. search needs) put-answer-requires (λ c. search needs) returns)

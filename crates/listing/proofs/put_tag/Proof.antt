@@ -1,8 +1,8 @@
--- The digits and the newline, one behind the other.
+-- The digits and the space, one behind the other.
 use Prim.Native.Nat.{_≤_, _<_}
 use native.Mathlib.Omega.{arith}
 use lib.ListN.{length}
-use Rattle.listing.specs.Lines.{newline}
+use Rattle.listing.specs.Lines.{space}
 use Rattle.listing.proofs.TextLaws.{hexadecimal-length}
 use Rattle.fields.proofs.WritingLaws.{wrote-join, wrote-byte}
 use borrow.Author.Needs.{needs}
@@ -21,7 +21,7 @@ returns c =
     let p = c .before .before .put-hexadecimal in
     let h : a .at ≤ length (a .out .now) = omega arith in
     let l : p .result < length (p .last .0) = omega (arith, hexadecimal-length (a .tag)) in
-    wrote-join h (p .ensures) (wrote-byte newline (p .result) (p .last .0) l)
+    wrote-join h (p .ensures) (wrote-byte space (p .result) (p .last .0) l)
 
 pub put-tag-spec : {M : Type 1} → statement M
 put-tag-spec =

@@ -4,12 +4,18 @@ use Rattle.operations.proofs.guards.Statement.{statement}
 use Rattle.operations.proofs.guards.Tie as tie
 use Rattle.operations.proofs.RowSteps.{kept-readable, kept-lent, permit-kept}
 use Rattle.operations.proofs.EffectLaws.{guards-not, guards-told}
+use Rattle.rule_words.proofs.KeptWords.{kept-short}
 
 returns : tie.Need-returns
 returns c = let start = c .before .before .before .before in guards-not (start .args .s .now) (start .args .c) (start .args .tag) (start .pre) _ (c .before .is-guarded .ensures) (c .if1 .taken)
 
 rule-of-requires : tie.Need-rule-of-requires
 rule-of-requires c κs = let start = c .before .before .before .before .before in kept-readable _ (kept-lent (start .args .s .now) _ (permit-kept (start .args .s .now) (start .args .c) (start .pre) .kept))
+
+covers-requires : tie.Need-covers-requires
+covers-requires c κs =
+    let start = c .before .before .before .before .before .before in
+    rw (c .rule-of .ensures) (kept-short _ (kept-lent (start .args .s .now) _ (permit-kept (start .args .s .now) (start .args .c) (start .pre) .kept) .well))
 
 returns-2 : tie.Need-returns-2
 returns-2 c = let start = c .before .before .before .before .before .before .before in guards-told (start .args .s .now) (start .args .c) (start .args .tag) (start .pre) _ (c .before .before .before .before .is-guarded .ensures) (c .before .before .before .if1 .left) _ (c .before .rule-of .ensures) _ (c .covers .ensures)
@@ -32,5 +38,5 @@ guards-spec =
     (λ c. search needs)
     (λ c. search needs)
     rule-of-requires
-    (λ c κs. search needs)
+    covers-requires
     returns-2)

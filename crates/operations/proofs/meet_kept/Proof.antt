@@ -16,12 +16,20 @@ rule-of-requires c κs = kept-readable (c .before .before .args .a .now) (c .bef
 rule-of-requires-2 : tie.Need-rule-of-requires-2
 rule-of-requires-2 c κs = kept-readable (c .before .before .before .args .b .now) (c .before .before .before .pre .1)
 
+refines-requires : tie.Need-refines-requires
+refines-requires c κs = rw (c .rule-of2 .ensures) (kept-short (c .before .before .before .before .args .b .now) (c .before .before .before .before .pre .1 .well))
+
 returns : tie.Need-returns
 returns c =
     let start = c .before .before .before .before .before .before .before in
     c .rule-copy .ensures ∙ ap boundedOf (meet-first (start .args .a .now) (start .args .b .now) (start .pre .0) (sym
     (c .before .before .refines .ensures ∙ ap₂ refines (c .before .before .before .before .rule-of .ensures)
     (c .before .before .before .rule-of2 .ensures)) ∙ c .before .if1 .taken))
+
+refines-requires-2 : tie.Need-refines-requires-2
+refines-requires-2 c κs =
+    let start = c .before .before .before .before .before .before in
+    rw (c .before .before .before .rule-of .ensures) (kept-short (start .args .a .now) (start .pre .0 .well))
 
 returns-2 : tie.Need-returns-2
 returns-2 c =
@@ -48,10 +56,10 @@ meet-kept-spec =
     (tie.spec
     rule-of-requires
     rule-of-requires-2
-    (λ c κs. search needs)
+    refines-requires
     (λ c κs. search needs)
     returns
-    (λ c κs. search needs)
+    refines-requires-2
     (λ c κs. search needs)
     returns-2
     meet-requires

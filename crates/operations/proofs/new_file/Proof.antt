@@ -46,12 +46,13 @@ part-put-row-end c = search needs
 returns : tie.Need-returns
 unfolding entry newWords boundedWords
 returns c =
-    let start = c .before .before .before .before .before .before .before .before in
+    let start = c .before .before .before .before .before .before .before .before .before in
     let s = start .args .s .now in
     file-done s (start .args .p) (start .args .o) (start .args .u) (start .pre) _ (copied s _ _ _ (user-kept-as s
     (start .args .u) (ready-user s (newFile (start .args .p) (start .args .o) (start .args .u)) (start .pre)
-    (start .args .u) refl)) (c .before .before .before .before .before .rule-at .ensures)) _
+    (start .args .u) refl)) (c .before .before .before .before .before .before .rule-at .ensures)) _
     (c .before .before .before .before .unrestricted .ensures) _ (c .before .before .put-row .ensures)
+    _ (c .before .before .before .before .before .empty-position .ensures)
 
 pub new-file-spec : {M : Type 1} → statement M
 new-file-spec =
@@ -61,6 +62,7 @@ new-file-spec =
     add-rule-at
     add-rule-at-2
     rule-at-requires
+    (λ c κs. search needs)
     (λ c κs. search needs)
     mul-b
     add-put-row
