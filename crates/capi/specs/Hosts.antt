@@ -12,11 +12,11 @@ use Rattle.monitor.specs.declared.Ran.{Ran}
 abbrev pub unlessRefused : Bool → ℕ → ℕ → ℕ
 unlessRefused refused value old = cond refused old value
 
--- receiver and tag after an answer; in a refusal they are as they were
+-- receiver, tag and position after an answer; in a refusal they are as they were
 abbrev pub receivedAfter : Answer → Received → Received
 receivedAfter a old = cond (isRefused a) old (receivedOf a)
 
--- receiver and tag after a run, which writes them in an alert and where it is blocked
+-- receiver, tag and position after a run, which writes them in an alert and where it is blocked
 abbrev pub stopAfter : Answer → Received → Received
 stopAfter a old = cond (isAlert a || isBlocked a) (receivedOf a) old
 

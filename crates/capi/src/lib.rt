@@ -19,8 +19,8 @@ use matrix::Consistency;
 // The number of a matrix that is not consistent.
 const INCONSISTENT: u32 = 1;
 
-// 0.1.0: major times 65536, minor times 256, patch.
-const VERSION: u32 = 256;
+// 0.2.0: major times 65536, minor times 256, patch.
+const VERSION: u32 = 512;
 
 // The version of the library.
 #[no_mangle]
@@ -54,20 +54,21 @@ pub extern "C" fn yaslaurel_session_start(image: &[u8], session: &mut [u64]) -> 
     session::start(image, session)
 }
 
-// 0 quiet, 256 alert, 257 blocked, with receiver and tag; else the refusal. The session changes in a quiet answer and in an alert alone,
-// and in a refusal everything is as it was.
+// 0 quiet, 256 alert, 257 blocked, with receiver, tag and position, which is 255 where no mixture covers the tag; else the refusal. The
+// session changes in a quiet answer and in an alert alone, and in a refusal everything is as it was.
 #[no_mangle]
 pub extern "C" fn yaslaurel_step(
     session: &mut [u64],
     bytes: &[u8],
     receiver: &mut u64,
     tag: &mut u64,
+    position: &mut u32,
 ) -> u32
     ensures { λ r. ⌜
         (r ≡ answerNumber (stepAnswer (now (session .entry)) (now (bytes .entry))))
         × (now (session .exit) ≡ stepEffect (now (session .entry)) (now (bytes .entry)))
-        × (received (now (receiver .exit)) (now (tag .exit))
-        ≡ receivedAfter (stepAnswer (now (session .entry)) (now (bytes .entry))) (received (now (receiver .entry)) (now (tag .entry)))) ⌝ }
+        × (received (now (receiver .exit)) (now (tag .exit)) (now (position .exit))
+        ≡ receivedAfter (stepAnswer (now (session .entry)) (now (bytes .entry))) (received (now (receiver .entry)) (now (tag .entry)) (now (position .entry)))) ⌝ }
 {
     let answer = monitor::step(session, bytes);
     if answers::is_refused(answer) {
@@ -76,11 +77,13 @@ pub extern "C" fn yaslaurel_step(
     let received = answers::received_of(answer);
     *receiver = received.receiver as u64;
     *tag = received.tag;
+    *position = received.position as u32;
     answers::number(answer)
 }
 
 // The records one behind the other, up to and with the first that is not answered quiet: 0 if each was, 256 alert or 257 blocked, with
-// receiver and tag, or that record's refusal; taken is how many were run, that one among them. 9 comes first, and everything is as it was.
+// receiver, tag and position, or that record's refusal; taken is how many were run, that one among them. 9 comes first, and everything is
+// as it was.
 #[no_mangle]
 pub extern "C" fn yaslaurel_run(
     session: &mut [u64],
@@ -88,13 +91,14 @@ pub extern "C" fn yaslaurel_run(
     taken: &mut usize,
     receiver: &mut u64,
     tag: &mut u64,
+    position: &mut u32,
 ) -> u32
     ensures { λ r. ⌜
         (r ≡ answerNumber (ran (now (session .entry)) (now (records .entry)) .answer))
         × (now (session .exit) ≡ ranEffect (now (session .entry)) (now (records .entry)))
         × (now (taken .exit) ≡ takenAfter (ran (now (session .entry)) (now (records .entry))) (now (taken .entry)))
-        × (received (now (receiver .exit)) (now (tag .exit))
-        ≡ stopAfter (ran (now (session .entry)) (now (records .entry)) .answer) (received (now (receiver .entry)) (now (tag .entry)))) ⌝ }
+        × (received (now (receiver .exit)) (now (tag .exit)) (now (position .exit))
+        ≡ stopAfter (ran (now (session .entry)) (now (records .entry)) .answer) (received (now (receiver .entry)) (now (tag .entry)) (now (position .entry)))) ⌝ }
 {
     let ran = monitor::run(session, records);
     let answer = ran.answer;
@@ -109,6 +113,7 @@ pub extern "C" fn yaslaurel_run(
     let received = answers::received_of(answer);
     *receiver = received.receiver as u64;
     *tag = received.tag;
+    *position = received.position as u32;
     number
 }
 

@@ -28,11 +28,11 @@ returns-2 c =
 
 returns-3 : tie.Need-returns-3
 returns-3 c =
-    let run = c .before .before .before .before .before .before .before .run .ensures in
-    let number = c .before .before .before .before .number .ensures ∙ ap (λ (x : Ran). answerNumber (x .answer)) (run .0) in
-    let taken = ne-eqb _ _ (λ z. c .before .before .before .if1 .left (number ∙ z)) in
-    let forbidden = ap (λ (x : Ran). isAlert (x .answer) || isBlocked (x .answer)) (sym (run .0)) ∙ sym (c .before .before .is-forbidden .ensures) ∙ not-false _ (c .before .if2 .left) in
-    (number, run .1, rw taken (ap (λ (x : Ran). x .taken) (run .0)), rw forbidden (c .received-of .ensures ∙ ap (λ (x : Ran). receivedOf (x .answer)) (run .0)))
+    let run = c .before .before .before .before .before .before .before .before .run .ensures in
+    let number = c .before .before .before .before .before .number .ensures ∙ ap (λ (x : Ran). answerNumber (x .answer)) (run .0) in
+    let taken = ne-eqb _ _ (λ z. c .before .before .before .before .if1 .left (number ∙ z)) in
+    let forbidden = ap (λ (x : Ran). isAlert (x .answer) || isBlocked (x .answer)) (sym (run .0)) ∙ sym (c .before .before .before .is-forbidden .ensures) ∙ not-false _ (c .before .before .if2 .left) in
+    (number, run .1, rw taken (ap (λ (x : Ran). x .taken) (run .0)), rw forbidden (c .before .received-of .ensures ∙ ap (λ (x : Ran). receivedOf (x .answer)) (run .0)))
 
 pub yaslaurel-run-spec : {M : Type 1} → statement M
 yaslaurel-run-spec =
@@ -46,5 +46,6 @@ yaslaurel-run-spec =
     (λ c. search needs)
     returns-2
     (λ c κs. search needs)
+    (λ c. search needs)
     (λ c. search needs)
     returns-3)

@@ -13,9 +13,9 @@ returns c =
 
 returns-2 : tie.Need-returns-2
 returns-2 c =
-    let step = c .before .before .before .before .before .before .step .ensures in
-    let gives = ap isRefused (sym (step .0)) ∙ sym (c .before .before .before .is-refused .ensures) ∙ c .before .before .if1 .left in
-    (c .number2 .ensures ∙ ap answerNumber (step .0), step .1, rw gives (c .before .received-of .ensures ∙ ap receivedOf (step .0)))
+    let step = c .before .before .before .before .before .before .before .step .ensures in
+    let gives = ap isRefused (sym (step .0)) ∙ sym (c .before .before .before .before .is-refused .ensures) ∙ c .before .before .before .if1 .left in
+    (c .number2 .ensures ∙ ap answerNumber (step .0), step .1, rw gives (c .before .before .received-of .ensures ∙ ap receivedOf (step .0)))
 
 pub yaslaurel-step-spec : {M : Type 1} → statement M
 yaslaurel-step-spec =
@@ -27,6 +27,7 @@ yaslaurel-step-spec =
     (λ c. search needs)
     returns
     (λ c κs. search needs)
+    (λ c. search needs)
     (λ c κs. search needs)
     (λ c. search needs)
     returns-2)
