@@ -11,7 +11,7 @@ use Rattle.lists.proofs.Bools.{and-in, and-0, and-1, clash, refuted}
 use Rattle.fields.specs.Bytes.{Bytes}
 use Rattle.answers.specs.Answers.{quiet, alert, blocked, isBlocked, isRefused}
 use Rattle.answers.proofs.Cases.{blocked-given}
-use Rattle.rules.specs.Rules.{covers, noPosition}
+use Rattle.rules.specs.Rules.{covers, noPosition, coverPlace}
 use Rattle.rules.proofs.SetLaws.{or-has}
 use Rattle.rules.proofs.CoverLaws.{place-missed}
 use Rattle.image.specs.Limits.{isGuarded}
@@ -80,11 +80,9 @@ module _ (s r : List ℕ) where
   -- Codes 1 to 5 that are not refused: quiet if the permit rule covers the tag, else blocked or alert by the receiver's kind.
   pub answer-given-judged : refusalOf s r ≡ 0 → judged (stepAsked r) ≡ true
       → stepAnswer s r
-      ≡ cond (covers (entry (view s) (stepAsked r) .row .permit) (entry (view s) (stepAsked r) .row .tag))
-      (quiet (receiver (stepAsked r)) (entry (view s) (stepAsked r) .row .tag))
-      (cond (isGuarded (entry (view s) (stepAsked r) .row .kind))
-      (blocked (receiver (stepAsked r)) (entry (view s) (stepAsked r) .row .tag))
-      (alert (receiver (stepAsked r)) (entry (view s) (stepAsked r) .row .tag)))
+      ≡ cond (covers (entry (view s) (stepAsked r) .row .permit) (entry (view s) (stepAsked r) .row .tag)) quiet
+      (cond (isGuarded (entry (view s) (stepAsked r) .row .kind)) blocked alert) (receiver (stepAsked r)) (entry (view s) (stepAsked r) .row .tag)
+      (coverPlace (entry (view s) (stepAsked r) .row .permit) (entry (view s) (stepAsked r) .row .tag))
   answer-given-judged e j = made-answer s r e ∙ verdict-judged (stepAsked r) row j
 
   -- "Blocked is given in just those cases", by the rows: a write or an append is not refused, its object is guarded, and its permit rule
