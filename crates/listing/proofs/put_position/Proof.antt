@@ -5,7 +5,7 @@ use mathlib.Core.Path.{_≡_, sym, ap, _∙_}
 use mathlib.Core.List.{[], _∷_, _++_}
 use lib.ListN.{length, set, length-set}
 use Rattle.fields.proofs.WritingLaws.{wrote-join, wrote-byte, wrote-as, wrote-length}
-use Rattle.listing.specs.Text.{digit, decimal}
+use Rattle.listing.specs.Text.{digit}
 use Rattle.listing.specs.Lines.{newline}
 use Rattle.listing.proofs.TextLaws.{zeroCode, digit-low, digits-length, decimal-below, decimal-two, decimal-three}
 use Rattle.listing.proofs.BufferLaws.{spare-none, spare-byte, spare-as}
