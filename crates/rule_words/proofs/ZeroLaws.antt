@@ -1,7 +1,7 @@
 -- The test that words are 0.
 use Prim.Native.Nat.{ℕ, zero, suc, _+_, _-_, _≤_, _<_, max}
 use mathlib.Core.Path.{_≡_, refl, sym, ap, ap₂, _∙_}
-use mathlib.Core.Bool.{Bool, true, _&&_, and-assoc, and-true}
+use mathlib.Core.Bool.{Bool, true, false, _&&_, and-assoc, and-false, and-true}
 use mathlib.Core.List.{List, [], _∷_}
 use native.Mathlib.Omega.{arith}
 use native.Mathlib.Numerals.{add-one}
@@ -10,7 +10,7 @@ use lib.Dec.{eqb}
 use lib.Pow.{pow-pos}
 use lib.ListN.{length, getD, take, drop, replicate, length-drop, drop-of-length-le}
 use lib.Seq.{take-all, drop-cons}
-use borrow.Author.Tests.{eqb-true, eq-eqb}
+use borrow.Author.Tests.{eqb-true, eq-eqb, ne-eqb}
 use Rattle.lists.proofs.Bools.{and-in, and-0, and-1, same-test}
 use Rattle.rules.proofs.SetLaws.{atom-or, atom-above, ext}
 use Rattle.rules.specs.Sets.{atom}
@@ -66,9 +66,28 @@ module _ (l : List ℕ) (u i : ℕ) (inv : (eqb u 0 && allZero (drop i l)) ≡ a
   unfolding allZero
   zero-ended h = sym (and-true (eqb u 0)) ∙ (rw (drop-of-length-le l h) at inv)
 
--- the union of seven words is empty
-pub seven : (w : List ℕ) → length w ≡ ruleWidth
-    → eqb (bitOr (bitOr (bitOr (bitOr (bitOr (bitOr (getD w 2 0) (getD w 3 0)) (getD w 4 0)) (getD w 5 0)) (getD w 6 0)) (getD w 7 0)) (getD w 8 0)) 0 ≡ allZero (drop 2 w)
+or-zero-3 : (a b c : ℕ) → eqb (bitOr (bitOr a b) c) 0 ≡ ((eqb a 0 && eqb b 0) && eqb c 0)
+or-zero-3 a b c = or-zero (bitOr a b) c ∙ ap (λ (t : Bool). t && eqb c 0) (or-zero a b)
+
+or-zero-4 : (a b c d : ℕ) → eqb (bitOr (bitOr (bitOr a b) c) d) 0 ≡ (((eqb a 0 && eqb b 0) && eqb c 0) && eqb d 0)
+or-zero-4 a b c d = or-zero (bitOr (bitOr a b) c) d ∙ ap (λ (t : Bool). t && eqb d 0) (or-zero-3 a b c)
+
+-- seven tests by turns: the first, third, fifth and seventh, then the others
+by-turns : (a b c d e f g : Bool) → ((((a && c) && e) && g) && ((b && d) && f)) ≡ (a && (b && (c && (d && (e && (f && (g && true)))))))
+by-turns false b c d e f g = refl
+by-turns true b false d e f g = sym (and-false b)
+by-turns true b true d false f g = sym (ap (λ (t : Bool). b && t) (and-false d) ∙ and-false b)
+by-turns true b true d true f false = sym (ap (λ (t : Bool). b && (d && t)) (and-false f) ∙ ap (λ (t : Bool). b && t) (and-false d) ∙ and-false b)
+by-turns true b true d true f true = and-assoc b d f ∙ ap (λ (t : Bool). b && (d && t)) (sym (and-true f))
+
+-- the unions of the words behind a single mixture, every other one in each
+abbrev evens : List ℕ → ℕ
+evens w = bitOr (bitOr (bitOr (getD w 2 0) (getD w 4 0)) (getD w 6 0)) (getD w 8 0)
+
+abbrev odds : List ℕ → ℕ
+odds w = bitOr (bitOr (getD w 3 0) (getD w 5 0)) (getD w 7 0)
+
+seven : (w : List ℕ) → length w ≡ ruleWidth → (eqb (evens w) 0 && eqb (odds w) 0) ≡ allZero (drop 2 w)
 unfolding allZero
 seven w e =
     let s2 : allZero (drop 2 w) ≡ (eqb (getD w 2 0) 0 && allZero (drop 3 w)) = zero-turn w 2 (omega arith) in
@@ -79,7 +98,15 @@ seven w e =
     let s7 : allZero (drop 7 w) ≡ (eqb (getD w 7 0) 0 && allZero (drop 8 w)) = zero-turn w 7 (omega arith) in
     let s8 : allZero (drop 8 w) ≡ (eqb (getD w 8 0) 0 && allZero (drop 9 w)) = zero-turn w 8 (omega arith) in
     let s9 : allZero (drop 9 w) ≡ true = ap allZero (drop-of-length-le w {i = 9} (omega arith)) in
-    rw (s2, s3, s4, s5, s6, s7, s8, s9) (simp (or-zero, and-assoc, and-true))
+    rw (s2, s3, s4, s5, s6, s7, s8, s9)
+    (ap₂ _&&_ (or-zero-4 (getD w 2 0) (getD w 4 0) (getD w 6 0) (getD w 8 0)) (or-zero-3 (getD w 3 0) (getD w 5 0) (getD w 7 0))
+    ∙ by-turns (eqb (getD w 2 0) 0) (eqb (getD w 3 0) 0) (eqb (getD w 4 0) 0) (eqb (getD w 5 0) 0) (eqb (getD w 6 0) 0) (eqb (getD w 7 0) 0) (eqb (getD w 8 0) 0))
+
+pub seven-not : (w : List ℕ) → length w ≡ ruleWidth → (evens w ≡ 0 → ⊥) → false ≡ allZero (drop 2 w)
+seven-not w e h = sym (ap (λ (t : Bool). t && eqb (odds w) 0) (ne-eqb (evens w) 0 h)) ∙ seven w e
+
+pub seven-if : (w : List ℕ) → length w ≡ ruleWidth → evens w ≡ 0 → eqb (odds w) 0 ≡ allZero (drop 2 w)
+seven-if w e h = sym (ap (λ (t : Bool). t && eqb (odds w) 0) (eq-eqb (evens w) 0 h)) ∙ seven w e
 
 -- the words from k on, as they are lent
 pub zero-part : (ws : List ℕ) (k : ℕ) → allZero (take (length ws - k) (drop k ws)) ≡ allZero (drop k ws)
