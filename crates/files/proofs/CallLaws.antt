@@ -2,12 +2,13 @@
 use Prim.Native.Nat.{ℕ, _+_, _-_, _≤_, _<_}
 use native.Mathlib.Omega.{arith}
 use mathlib.Core.Path.{_≡_, refl, sym, ap, subst, _∙_}
-use mathlib.Core.Bool.{Bool, true, false, true≢false}
+use mathlib.Core.Bool.{Bool, true, false}
 use mathlib.Core.Logic.{inl, inr}
 use mathlib.Core.List.{List, _++_}
 use lib.ListN.{length, take, drop, length-take, length-drop}
 use lib.Seq.{take-add, take-all, take-length, length-take-le, take-append-add, take-append-le}
 use borrow.Rule.Slice.PartMut.{midOf, postOf, putMid, take-put, same-len-mid}
+use Rattle.lists.proofs.Bools.{never}
 use Rattle.files.specs.declared.Move.{Move}
 use Rattle.files.specs.declared.Move.the-variants.{Moved, Again, Failed}
 use lib.IntN.{ℤ}
@@ -15,9 +16,6 @@ use Rattle.files.specs.declared.Opened.{Opened}
 use Rattle.files.specs.declared.Opened.the-variants as opened
 use Rattle.files.specs.declared.Part.{Part}
 use Rattle.files.specs.Calls.{Told, DoneOrTold, Handed, handed-none, handed-then, handed-as, Taken, taken-none, taken-then, taken-as, EndsAt, Absent, WroteSome, ReadSome, PartRead, FileLoaded, OpenedAs, OpenedFile}
-
-pub never : {X : Type 0} → false ≡ true → X
-never e = absurd (true≢false (sym e))
 
 -- ---- done, or told
 
@@ -128,8 +126,8 @@ module _ (name begun : List ℕ) (a : ℕ) (buffer : List ℕ) (b done : ℕ) (h
             let e : done + n ≡ done = omega arith in
             record {
               within = omega (arith, r .within);
-              full = λ x. absurd (true≢false x);
-              going = λ x. absurd (true≢false x);
+              full = λ x. never (sym x);
+              going = λ x. never (sym x);
               taken = λ _. taken-as (ap (λ (x : ℕ). take x (putMid done (length buffer - done) buffer ys)) e) (r .taken);
               ends = λ _ _. v .2 z (omega (arith, room, h .within, u));
               told = λ g. never (sym g);

@@ -4,7 +4,8 @@ use mathlib.Core.Path.{refl, sym, _∙_}
 use mathlib.Core.Logic.{inl, inr}
 use denote.Ref.{now}
 use Rattle.files.specs.Calls.{OpenedAs}
-use Rattle.files.proofs.CallLaws.{loaded-part, missing-as, opened-as, failed-open, went, never}
+use Rattle.lists.proofs.Bools.{never}
+use Rattle.files.proofs.CallLaws.{loaded-part, missing-as, opened-as, failed-open, went}
 use borrow.Author.Needs.{needs}
 use Rattle.files.proofs.load.Statement.{statement}
 use Rattle.files.proofs.load.Tie as tie

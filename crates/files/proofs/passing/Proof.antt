@@ -1,7 +1,7 @@
 -- `files::passing`. Where it answers false the error was told.
 use mathlib.Core.Path.{sym}
 use borrow.Author.Needs.{needs}
-use Rattle.files.proofs.CallLaws.{never}
+use Rattle.lists.proofs.Bools.{never}
 use Rattle.files.proofs.passing.Statement.{statement}
 use Rattle.files.proofs.passing.Tie as tie
 
