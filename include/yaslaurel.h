@@ -47,7 +47,7 @@
  *   1   the image is under YASLAUREL_HEADER_LENGTH or over YASLAUREL_IMAGE_LIMIT bytes
  *   2   the image's leading number, or the offsets and lengths of its four sections
  *   3   a section's length is no multiple of its record, or it has too many records
- *   4   a rule record of the image
+ *   4   a rule record of the image: its mixtures, or an owner who is no user of the image
  *   5   a container record of the image
  *   6   a user's rule number in the image
  *   7   the operation record: length, code, zero byte, user set wrongly, container over 255, user over 15, an end (code
@@ -113,7 +113,7 @@
 
 /* The version of this header, in one number to compare with. yaslaurel_version gives the library's. */
 #define YASLAUREL_VERSION_MAJOR 0u
-#define YASLAUREL_VERSION_MINOR 2u
+#define YASLAUREL_VERSION_MINOR 3u
 #define YASLAUREL_VERSION_PATCH 0u
 #define YASLAUREL_VERSION                                                                                              \
     (YASLAUREL_VERSION_MAJOR * 65536u + YASLAUREL_VERSION_MINOR * 256u + YASLAUREL_VERSION_PATCH)
@@ -135,7 +135,7 @@
  * length of each section, 16 bits each: 0 containers, 1 users, 2 rules, 3 mixtures. A section starts at or after the end
  * of the one before. The number of a container, a user, a rule or a mixture is its place in its section, from 0.
  */
-#define YASLAUREL_LEADING 4u         /* the number that an image begins with */
+#define YASLAUREL_LEADING 5u         /* the number that an image begins with */
 #define YASLAUREL_HEADER_LENGTH 18u  /* also of the smallest image */
 #define YASLAUREL_IMAGE_LIMIT 20480u /* of the longest image */
 #define YASLAUREL_SECTIONS 4u
@@ -149,7 +149,7 @@
  */
 #define YASLAUREL_CONTAINER_LENGTH 6u /* kind (8 bits), atom (8), permit rule (16), run rule (16) */
 #define YASLAUREL_USER_LENGTH 2u      /* rule (16) */
-#define YASLAUREL_RULE_LENGTH 4u      /* first mixture (16), count (16); the firsts never fall */
+#define YASLAUREL_RULE_LENGTH 6u      /* first mixture (16), count (16), owner (16); the firsts never fall */
 #define YASLAUREL_MIXTURE_LENGTH 8u   /* atoms (64) */
 #define YASLAUREL_CONTAINERS 256u
 #define YASLAUREL_USERS 16u
@@ -167,6 +167,7 @@
 /* What stands for none. */
 #define YASLAUREL_NO_ATOM 255u        /* no atom of a container */
 #define YASLAUREL_UNRESTRICTED 65535u /* no rule: every tag is covered */
+#define YASLAUREL_NO_OWNER 65535u     /* of a rule: nobody; else a user of the image */
 #define YASLAUREL_NO_USER 65535u      /* no user of an operation, or of a container */
 
 /* Bytes that an output for an image must hold. */
@@ -294,7 +295,8 @@ uint32_t yaslaurel_image_check(const uint8_t *image, size_t image_len);
 
 /*
  * Writes the normal image of a policy image. It comes to the front of `out`; the bytes behind it stay. Two accepted images
- * have the same normal image exactly when they start equal sessions. `out` is other memory than `image`.
+ * have the same normal image exactly when they start equal sessions and have the same owner at every use of a rule. `out` is
+ * other memory than `image`.
  *
  * Returns the length of the normal image (YASLAUREL_HEADER_LENGTH to YASLAUREL_OUTPUT_LENGTH), else 9, then 1 to 6. The
  * two ranges do not meet.

@@ -695,11 +695,14 @@ fn main() -> io::Result<()> {
     operations();
     cover::cover();
     batches();
+    let one_atom: Vec<Vec<u64>> = (0..16).map(|atom| vec![1 << atom]).collect();
     images(&[
         (format!("smallest, {HEADER} bytes"), work::image(&[], &[], &[])),
         ("typical, 160 containers, rules of 1".into(), work::policy(1, 6)),
         ("typical, 160 containers, rules of 8".into(), work::policy(8, 6)),
         (format!("largest, {OUTPUT_LENGTH} bytes"), work::policy_of_files(CONTAINERS.most, RULE_MIXTURES, 5)),
+        ("16 rules of 8, each of 16 owners".into(), work::policy_of_owners(&work::random_rules(16, RULE_MIXTURES, 5))),
+        ("16 rules of one atom, each of 16 owners".into(), work::policy_of_owners(&one_atom)),
     ]);
     println!("\nBy the number of files, each with rules of 2 mixtures of its own:");
     let sizes = [1, 4, 16, 64, 256];

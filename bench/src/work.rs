@@ -1,6 +1,6 @@
 //! What is timed: sessions, records, images, matrices and texts of profiles of several sizes.
 
-use yaslaurel::layout::image::{HEADER, LEADING, NO_ATOM, UNRESTRICTED, USERS};
+use yaslaurel::layout::image::{HEADER, LEADING, NO_ATOM, NO_OWNER, UNRESTRICTED, USERS};
 use yaslaurel::layout::record;
 
 /// A small generator of random numbers.
@@ -73,8 +73,18 @@ pub fn rule(mixtures: usize, variant: usize) -> Vec<u64> {
         .collect()
 }
 
-/// An image: containers as (kind, atom, permit, run), users, rules.
+/// An image: containers as (kind, atom, permit, run), users, rules that nobody owns.
 pub fn image(containers: &[(u8, u8, u16, u16)], users: &[u16], rules: &[Vec<u64>]) -> Vec<u8> {
+    owned_image(containers, users, rules, |_| NO_OWNER)
+}
+
+/// The same, with an owner of each rule by its number.
+fn owned_image(
+    containers: &[(u8, u8, u16, u16)],
+    users: &[u16],
+    rules: &[Vec<u64>],
+    owner: impl Fn(usize) -> u16,
+) -> Vec<u8> {
     let mut sections: [Vec<u8>; 4] = Default::default();
     let [for_containers, for_users, for_rules, for_mixtures] = &mut sections;
     for (kind, atom, permit, run) in containers {
@@ -86,9 +96,10 @@ pub fn image(containers: &[(u8, u8, u16, u16)], users: &[u16], rules: &[Vec<u64>
         for_users.extend(user.to_le_bytes());
     }
     let mut first = 0u16;
-    for rule in rules {
+    for (number, rule) in rules.iter().enumerate() {
         for_rules.extend(first.to_le_bytes());
         for_rules.extend((rule.len() as u16).to_le_bytes());
+        for_rules.extend(owner(number).to_le_bytes());
         for_mixtures.extend(rule.iter().flat_map(|mixture| mixture.to_le_bytes()));
         first += rule.len() as u16;
     }
@@ -135,12 +146,27 @@ pub fn guarded_appends(process: usize) -> Vec<[u8; record::LENGTH]> {
 
 /// A policy of so many files, each with two rules of its own of so many mixtures, and users as many as there can be.
 pub fn policy_of_files(files: usize, mixtures: usize, seed: u64) -> Vec<u8> {
+    files_with(&random_rules(files, mixtures, seed), |_| NO_OWNER)
+}
+
+/// So many rules of so many mixtures.
+pub fn random_rules(count: usize, mixtures: usize, seed: u64) -> Vec<Vec<u64>> {
     let mut r = Random(seed);
-    let rules: Vec<Vec<u64>> = (0..files).map(|_| (0..mixtures).map(|_| r.word()).collect()).collect();
-    let number = |i: usize| i as u16;
+    (0..count).map(|_| (0..mixtures).map(|_| r.word()).collect()).collect()
+}
+
+/// A policy whose rules differ in the owner alone from others: each of these rules once for every user, and files as many as rules.
+pub fn policy_of_owners(rules: &[Vec<u64>]) -> Vec<u8> {
+    let each: Vec<Vec<u64>> = rules.iter().flat_map(|rule| vec![rule.clone(); USERS.most]).collect();
+    files_with(&each, |number| (number % USERS.most) as u16)
+}
+
+/// A file for each rule, which is one file's permit rule and another's run rule, and users as many as there can be.
+fn files_with(rules: &[Vec<u64>], owner: impl Fn(usize) -> u16) -> Vec<u8> {
+    let (files, number) = (rules.len(), |i: usize| i as u16);
     let containers: Vec<_> = (0..files).map(|i| (1, (i % 32) as u8, number(i), number(files - 1 - i))).collect();
     let users: Vec<u16> = (0..files.min(USERS.most)).map(number).collect();
-    image(&containers, &users, &rules)
+    owned_image(&containers, &users, rules, owner)
 }
 
 /// The bytes of a record.

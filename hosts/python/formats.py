@@ -4,7 +4,7 @@ Nothing here is judged: an image or a record that will be refused can be spelled
 
 import struct
 
-LEADING = 4  # the number that an image begins with
+LEADING = 5  # the number that an image begins with
 
 # The header of an image: the leading number, then offset and length of each section. Stored numbers are little-endian.
 HEADER = struct.Struct("<9H")
@@ -13,7 +13,7 @@ HEADER = struct.Struct("<9H")
 RECORDS = {
     "containers": struct.Struct("<BBHH"),  # kind, atom, permit rule, run rule
     "users": struct.Struct("<H"),  # rule
-    "rules": struct.Struct("<HH"),  # first mixture, count
+    "rules": struct.Struct("<HHH"),  # first mixture, count, owner
     "mixtures": struct.Struct("<Q"),
 }
 
@@ -27,6 +27,7 @@ RUNNING = 32  # how far the running atom of a data atom is behind it
 NO_ATOM = 255
 UNRESTRICTED = 65535
 NO_USER = 65535
+NO_OWNER = 65535
 NO_POSITION = 255  # of an answer: no mixture holds the tag
 
 
@@ -48,9 +49,9 @@ class Policy:
     def user(self, rule=UNRESTRICTED):
         self.add("users", rule)
 
-    def rule(self, mixtures):
+    def rule(self, mixtures, owner=NO_OWNER):
         """A rule whose mixtures stand behind those of the rule before it."""
-        self.add("rules", self.count("mixtures"), len(mixtures))
+        self.add("rules", self.count("mixtures"), len(mixtures), owner)
         for mixture in mixtures:
             self.add("mixtures", mixture)
 

@@ -31,7 +31,7 @@ class Permits:
     def __init__(self, image):
         found = sections(image)
         mixtures = [mixture for (mixture,) in found["mixtures"]]
-        rules = [normal(mixtures[first:first + count]) for first, count in found["rules"]]
+        rules = [normal(mixtures[first:first + count]) for first, count, _ in found["rules"]]
         rule = lambda number: [EVERYTHING] if number == UNRESTRICTED else rules[number]
         self.users = [rule(number) for (number,) in found["users"]]
         self.permit, self.run = {}, {}

@@ -62,7 +62,15 @@ static inline uint8_t *put_other(uint8_t *at, uint64_t kind)
 
 static inline uint8_t *put_user(uint8_t *at, uint64_t rule) { return put(at, rule, YASLAUREL_USER_LENGTH); }
 
-static inline uint8_t *put_rule(uint8_t *at, uint64_t first, uint64_t count) { return put(put(at, first, 2), count, 2); }
+static inline uint8_t *put_owned_rule(uint8_t *at, uint64_t first, uint64_t count, uint64_t owner)
+{
+    return put(put(put(at, first, 2), count, 2), owner, 2);
+}
+
+static inline uint8_t *put_rule(uint8_t *at, uint64_t first, uint64_t count)
+{
+    return put_owned_rule(at, first, count, YASLAUREL_NO_OWNER);
+}
 
 static inline uint8_t *put_mixture(uint8_t *at, uint64_t mixture) { return put(at, mixture, YASLAUREL_MIXTURE_LENGTH); }
 

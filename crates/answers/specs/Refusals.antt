@@ -1,12 +1,12 @@
--- The refusal numbers (the paper, "Refused because of the input" and "Refused because of the session"; change requests No. 1 and 6),
--- each named once.
+-- The refusal numbers (the paper, "Refused because of the input" and "Refused because of the session"; change requests No. 1, 6 and
+-- 10), each named once.
 use Prim.Native.Nat.{ℕ}
 
 -- "1 image under 18 or over 20,480 bytes"
 abbrev pub imageLength : ℕ
 imageLength = 1
 
--- "2 the leading 4 or the pairs"
+-- 2: the leading number "or the pairs"; "Every image now leads with a 16-bit 5, and 2 refuses the old 4" (No. 10)
 abbrev pub sections : ℕ
 sections = 2
 
@@ -34,7 +34,7 @@ operationRecord = 7
 abbrev pub matrix : ℕ
 matrix = 8
 
--- "9 session of wrong length or output .. under 18,994 bytes"
+-- "9 session of wrong length or output" for a normal image that does not "hold 19,506 bytes"
 abbrev pub lentLength : ℕ
 lentLength = 9
 

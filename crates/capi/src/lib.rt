@@ -19,8 +19,8 @@ use matrix::Consistency;
 // The number of a matrix that is not consistent.
 const INCONSISTENT: u32 = 1;
 
-// 0.2.0: major times 65536, minor times 256, patch.
-const VERSION: u32 = 512;
+// 0.3.0: major times 65536, minor times 256, patch.
+const VERSION: u32 = 768;
 
 // The version of the library.
 #[no_mangle]

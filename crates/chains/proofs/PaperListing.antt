@@ -11,8 +11,8 @@ use Rattle.rules.specs.Sets.{atom, holds, dataOf}
 use Rattle.rules.specs.Rules.{covers, coverFrom, coverPlace, distinct, heldIn, unheldIn, insert, sort, normal, intersections, meet, unrestricted}
 use Rattle.lists.specs.Conditions.{firstFailed}
 use Rattle.lists.specs.Lists.{elem, every}
-use Rattle.image.specs.Limits.{isGuarded, isFree, isFile, isVolatile, isProcess, isStore, fileKind, processKind, noAtom, unrestrictedNumber}
-use Rattle.image.specs.Policy.{Container, Policy, unrestrictedRule, ruleAt, named, containerGood, ruleGood, Sound}
+use Rattle.image.specs.Limits.{isGuarded, isFree, isFile, isVolatile, isProcess, isStore, fileKind, processKind, noAtom, unrestrictedNumber, noOwner}
+use Rattle.image.specs.Policy.{Container, Policy, unrestrictedRule, ruleAt, named, ownerGood, containerGood, ruleGood, Sound}
 use Rattle.image.specs.Normal.{normalAt, placeOf, meaning}
 use Rattle.chains.specs.History.{Step, read, write, append, History, start, _▸_}
 use Rattle.chains.specs.Chains.{dataAtom, Chain, readAtom, appendAny}
@@ -34,6 +34,7 @@ P = record {
   containers = object 0 ∷ object 1 ∷ object 2 ∷ object 3 ∷ subject ∷ subject ∷ subject ∷ [];
   users = unrestrictedNumber ∷ [];
   rules = (5 ∷ []) ∷ (3 ∷ []) ∷ (4 ∷ []) ∷ (10 ∷ []) ∷ [];
+  owners = noOwner ∷ noOwner ∷ noOwner ∷ noOwner ∷ [];
 }
 
 abbrev steps : List Step
@@ -103,7 +104,7 @@ chain = (
 )
 
 sound : Sound P
-unfolding every ruleGood containerGood named isFile isVolatile isProcess
+unfolding every ruleGood containerGood named ownerGood isFile isVolatile isProcess
 sound = record {
   fewContainers = omega arith;
   fewUsers = omega arith;
@@ -111,6 +112,8 @@ sound = record {
   rulesGood = refl;
   containersGood = refl;
   usersGood = refl;
+  ownersLong = refl;
+  ownersGood = refl;
 }
 
 -- and after the write of step 4 it is none

@@ -19,15 +19,13 @@ use Rattle.fields.specs.Writing.{overwritten, Wrote}
 use Rattle.fields.proofs.WritingLaws.{wrote-join}
 use Rattle.fields.proofs.RowWriting.{wrote-whole}
 use Rattle.fields.proofs.ByteLaws.{bytes-length}
-use Rattle.rules.specs.Rules.{normal}
 use Rattle.rules.specs.Answers.{dataWidth}
 use Rattle.rules.proofs.RuleLaws.{normal-normal}
-use Rattle.rule_words.specs.Words.{wordsOf}
-use Rattle.image.specs.Limits.{unrestrictedNumber, containerSize, userSize, outputBound}
+use Rattle.image.specs.Limits.{unrestrictedNumber, noOwner, containerSize, userSize, outputBound}
 use Rattle.image.specs.Policy.{Policy, Sound}
 use Rattle.image.specs.Normal.{containerBytes, normalImage}
 use Rattle.image.proofs.Encode.{container-wide}
-use Rattle.normaliser.specs.Writer.{formWidth, formWords, policyAt, Tabled, Answered}
+use Rattle.normaliser.specs.Writer.{unowned, formWidth, formRow, normalUse, formWords, policyAt, Tabled, Answered}
 use Rattle.normaliser.proofs.WriterLaws.{producer-tabled, producer-wrote, normal-short}
 use Rattle.normaliser.proofs.AnswerLaws.{refused-answer, refused-effect, wrote-answer}
 use Rattle.profiles.specs.Profiles.{Profile}
@@ -36,8 +34,8 @@ use Rattle.profiles.specs.LineWords.{textWords, Judged}
 use Rattle.profiles.specs.declared.ScannedText.{ScannedText}
 use Rattle.confinement.specs.Confinement.{pathsOf, rulesOf, filesFrom, initialProcess, profilePolicy}
 use Rattle.confinement.specs.Images.{profilesIn, limitsGood, profileConditions, profileImage, profileAnswer, profileEffect}
-use Rattle.confinement.specs.Tables.{PathTable, ProgramTable, mixtures, ruleFrom, formsFrom, shortRule, FormsPut, tablePolicy, Tabulated, PolicyWritten}
-use Rattle.confinement.proofs.PolicyLaws.{profile-sound}
+use Rattle.confinement.specs.Tables.{PathTable, ProgramTable, mixtures, ruleFrom, plainRow, formsFrom, shortRule, FormsPut, tablePolicy, Tabulated, PolicyWritten}
+use Rattle.confinement.proofs.PolicyLaws.{profile-none, profile-sound}
 use Rattle.confinement.proofs.FormLaws.{fileRows, files-size}
 use Rattle.confinement.proofs.TablePolicy.{rules-are, tables-policy}
 
@@ -59,10 +57,13 @@ module _ (own modes : List ℕ) (n m : ℕ) where
   unfolding tablePolicy
   over-limit h e out = record { over = λ o. (refl, refl); fits = λ t. clash t (sym (h .told) ∙ e) }
 
-forms-normal : (f : ℕ → List ℕ) (j n : ℕ) → map normal (formsFrom f j n) ≡ formsFrom f j n
-unfolding formsFrom
-forms-normal f j zero = refl
-forms-normal f j (suc n) = ap₂ _∷_ (normal-normal (f j)) (forms-normal f (suc j) n)
+forms-rows : (f : ℕ → List ℕ) (j n : ℕ) → map plainRow (formsFrom f j n) ≡ map formRow (map normalUse (map unowned (formsFrom f j n)))
+unfolding formsFrom normalUse unowned
+forms-rows f j zero = refl
+forms-rows f j (suc n) = ap₂ _∷_ (ap plain (sym (normal-normal (f j)))) (forms-rows f (suc j) n)
+  where
+    plain : List ℕ → List ℕ
+    plain r = formRow (record { owner = noOwner; mixtures = r })
 
 front-is : {x before after : List ℕ} {n : ℕ} → Wrote x before after 0 n → take (n - 0) after ≡ x
 unfolding overwritten
@@ -102,23 +103,23 @@ module _ (ps : List Profile) (own modes : List ℕ) (n m : ℕ) (t : Tabulated p
       users-are = wrote-whole (two ∙ sym (bytes-length userSize unrestrictedNumber)) u ∙ sym (joined-one (bytesOf userSize unrestrictedNumber))
 
       module _ {forms : List ℕ} {b : Bool} (h : FormsPut (ruleOf own modes n m) (2 * n) forms b) (fit : b ≡ true) where
-        words-are : take (2 * n * formWidth - 0) forms ≡ formWords (profilePolicy ps .rules)
+        words-are : take (2 * n * formWidth - 0) forms ≡ formWords (map unowned (profilePolicy ps .rules))
         unfolding profilePolicy formWords
         words-are =
             let z : 2 * n * formWidth - 0 ≡ 2 * n * formWidth = omega arith in
             ap (λ (k : ℕ). take k forms) z
             ∙ h .words fit
-            ∙ ap (λ (l : List (List ℕ)). joined (map wordsOf l)) (sym (forms-normal (ruleOf own modes n m) 0 (2 * n)) ∙ ap (map normal) (rules-are ps own modes n m t))
+            ∙ ap joined (forms-rows (ruleOf own modes n m) 0 (2 * n) ∙ ap (λ (l : List (List ℕ)). map formRow (map normalUse (map unowned l))) (rules-are ps own modes n m t))
 
         sound : Sound (profilePolicy ps)
         sound = profile-sound ps (limits (sym (h .told) ∙ fit))
 
         pub tables-tabled : Tabled (take (end - 0) after) users (take (2 * n * formWidth - 0) forms)
-        tables-tabled = rw (containers-are, users-are, words-are) (producer-tabled (profilePolicy ps) sound)
+        tables-tabled = rw (containers-are, users-are, words-are) (producer-tabled (profilePolicy ps) sound (profile-none ps))
 
         pub tables-wrote : {first last : List ℕ} {r : ℕ} → Answered (policyAt (take (end - 0) after) users (take (2 * n * formWidth - 0) forms)) first last r
             → Wrote (normalImage (profilePolicy ps)) first last 0 r
-        tables-wrote w = producer-wrote (profilePolicy ps) sound (rw (containers-are, users-are, words-are) at w)
+        tables-wrote w = producer-wrote (profilePolicy ps) sound (profile-none ps) (rw (containers-are, users-are, words-are) at w)
 
         pub tables-small : {first last : List ℕ} {r : ℕ} → Answered (policyAt (take (end - 0) after) users (take (2 * n * formWidth - 0) forms)) first last r → r ≤ outputBound
         tables-small w = omega (arith, tables-wrote w .ends, normal-short (profilePolicy ps) sound)

@@ -10,9 +10,9 @@ use Rattle.lists.specs.Lists.{every, elem, sameList, joined, knownBy, positionB
 use Rattle.rules.specs.Sets.{atom, holds}
 use Rattle.rules.specs.Rules.{distinct, heldIn, unheldIn, insert, sort, normal, unrestricted}
 use Rattle.fields.specs.Bytes.{bytesOf}
-use Rattle.image.specs.Limits.{fileKind, processKind, noAtom, unrestrictedNumber}
-use Rattle.image.specs.Policy.{Container, Policy, unrestrictedRule, ruleAt}
-use Rattle.image.specs.Normal.{normalAt, placeOf, meaning, placeUses, uses, noted, numbered, numberOf, containerOf, writtenBy, policyOf, normalPolicy, containerBytes, spanBytes, spansOf, pair, header, framed, encode, normalImage}
+use Rattle.image.specs.Limits.{fileKind, processKind, noAtom, unrestrictedNumber, noOwner}
+use Rattle.image.specs.Policy.{Container, Policy, unrestrictedRule, ruleAt, ownerAt}
+use Rattle.image.specs.Normal.{normalAt, useAt, ownedPlace, owned, placeUses, uses, sameUse, freeUse, noted, numbered, numberOf, containerOf, writtenBy, writtenUses, policyOf, normalPolicy, containerBytes, spanBytes, spansOf, pair, header, framed, encode, normalImage}
 use Rattle.profiles.specs.Profiles.{Mode, mode-r, mode-w, mode-a, mode-l, mode-m, mode-ix, mode-px, mode-Px, mode-ux, mode-Ux, Entry, Profile, modeText, slash}
 use Rattle.confinement.specs.Confinement.{namesOf, withPath, withPaths, pathsOf, isOneOf, someOf, reading, executing, writing, unconfined, inheriting, confined, modesAmong, modesOn, fileAtoms, atomsFrom, runMixture, programsWith, profilesAt, orElse, ifSome, permitMixtures, runMixtures, rulesFrom, rulesOf, filesFrom, initialProcess, profilePolicy}
 use Rattle.confinement.specs.Images.{limitsGood}
@@ -185,25 +185,26 @@ policy =
           ∷ [];
       users = unrestrictedNumber ∷ [];
       rules = (1 ∷ []) ∷ (0x900000006 ∷ []) ∷ (4 ∷ []) ∷ (8 ∷ []) ∷ (0x800000010 ∷ []) ∷ (0x800000030 ∷ []) ∷ [];
+      owners = noOwner ∷ noOwner ∷ noOwner ∷ noOwner ∷ noOwner ∷ noOwner ∷ [];
     }
 
 policy-is : normalPolicy (profilePolicy document) ≡ policy
 unfolding profilePolicy filesFrom initialProcess ascii modeText namesOf withPath withPaths pathsOf isOneOf someOf reading executing writing unconfined inheriting confined modesAmong modesOn fileAtoms atomsFrom runMixture programsWith profilesAt orElse ifSome permitMixtures runMixtures rulesFrom rulesOf
-    normalPolicy policyOf writtenBy containerOf numberOf positionBy numbered noted knownBy uses placeUses meaning placeOf normalAt ruleAt sameList unrestrictedRule unrestricted normal sort insert distinct elem unheldIn heldIn holds
+    normalPolicy policyOf writtenBy writtenUses containerOf numberOf positionBy numbered noted knownBy sameUse freeUse uses placeUses owned ownedPlace useAt ownerAt normalAt ruleAt sameList unrestrictedRule unrestricted normal sort insert distinct elem unheldIn heldIn holds
 policy-is = refl
 
 pub image-is : normalImage (profilePolicy document) ≡ encode policy
 unfolding normalImage
 image-is = ap encode policy-is
 
--- an image of 134 bytes
-pub image-length : length (normalImage (profilePolicy document)) ≡ 134
+-- an image of 146 bytes
+pub image-length : length (normalImage (profilePolicy document)) ≡ 146
 unfolding encode framed header pair containerBytes spanBytes spansOf bytesOf joined
 image-length = ap length image-is
 
 -- no profile: an image of 26 bytes
 pub empty-length : length (normalImage (profilePolicy [])) ≡ 26
 unfolding profilePolicy filesFrom initialProcess namesOf withPaths pathsOf rulesFrom rulesOf
-    normalImage normalPolicy policyOf writtenBy containerOf numberOf positionBy numbered noted knownBy uses placeUses meaning placeOf normalAt ruleAt sameList unrestrictedRule unrestricted normal sort insert distinct elem unheldIn heldIn holds
+    normalImage normalPolicy policyOf writtenBy writtenUses containerOf numberOf positionBy numbered noted knownBy sameUse freeUse uses placeUses owned ownedPlace useAt ownerAt normalAt ruleAt sameList unrestrictedRule unrestricted normal sort insert distinct elem unheldIn heldIn holds
     encode framed header pair containerBytes spanBytes spansOf bytesOf joined
 empty-length = refl

@@ -1,4 +1,4 @@
--- The words of rules one behind the other, as long as each fits; files one behind the other.
+-- The rows of rules one behind the other, as long as each fits; files one behind the other.
 use Prim.Native.Nat.{ℕ, zero, suc, _+_, _-_, _*_, _≤_, _<_}
 use native.Mathlib.Omega.{arith}
 use native.Mathlib.Numerals.{add-one}
@@ -20,14 +20,14 @@ use Rattle.image.proofs.Encode.{container-wide}
 use Rattle.fields.proofs.RowWriting.{part-wrote, RowsWritten, rows-start, rows-room, rows-next, rows-end}
 use Rattle.rules.specs.Rules.{normal}
 use Rattle.rules.specs.Answers.{mixtureLimit}
-use Rattle.rule_words.specs.Words.{wordsOf}
-use Rattle.normaliser.specs.Writer.{formWidth}
-use Rattle.rule_words.proofs.WordLaws.{words-nine}
+use Rattle.normaliser.specs.Writer.{unowned, formWidth}
+use Rattle.normaliser.proofs.FormLaws.{row-long}
+use Rattle.image.specs.Limits.{noOwner}
 use Rattle.image.specs.Limits.{containerSize}
 use Rattle.image.specs.Policy.{Container}
 use Rattle.image.specs.Normal.{containerBytes}
 use Rattle.confinement.specs.Confinement.{filesFrom}
-use Rattle.confinement.specs.Tables.{formsFrom, shortRule, ruleCount, FormPut, FormsPut}
+use Rattle.confinement.specs.Tables.{plainRow, formsFrom, shortRule, ruleCount, FormPut, FormsPut}
 
 -- ---- lists of normal forms
 
@@ -52,12 +52,16 @@ forms-at f j (suc n) (suc i) h =
 
 -- ---- the loop
 
+plain-long : (r : List ℕ) → length r ≤ mixtureLimit → length (plainRow r) ≡ formWidth
+unfolding unowned
+plain-long r h = row-long (record { owner = noOwner; mixtures = r }) h
+
 pub record Forming (f : ℕ → List ℕ) (count : ℕ) (forms : List ℕ) (i : ℕ) : Type 0 where
   pub place : i ≤ count
   pub most : count ≤ ruleCount
   pub long : length forms ≡ ruleCount * formWidth
   pub fits : every shortRule (formsFrom f 0 i) ≡ true
-  pub front : take (i * formWidth) forms ≡ joined (map wordsOf (formsFrom f 0 i))
+  pub front : take (i * formWidth) forms ≡ joined (map plainRow (formsFrom f 0 i))
 
 pub forming-start : (f : ℕ → List ℕ) (count : ℕ) (forms : List ℕ) → count ≤ ruleCount → length forms ≡ ruleCount * formWidth → Forming f count forms 0
 unfolding formsFrom joined
@@ -94,11 +98,11 @@ module _ (f : ℕ → List ℕ) (count : ℕ) (forms : List ℕ) (i : ℕ) (h : 
       zero-i : 0 + i ≡ i
       zero-i = omega arith
 
-      x-is : x ≡ wordsOf (normal (f i))
+      x-is : x ≡ plainRow (normal (f i))
       x-is = w .words ∙ rw e
 
       x-long : length x ≡ formWidth
-      x-long = ap length x-is ∙ words-nine (normal (f i)) (leb-true (length (normal (f i))) mixtureLimit (sym (w .told) ∙ e))
+      x-long = ap length x-is ∙ plain-long (normal (f i)) (leb-true (length (normal (f i))) mixtureLimit (sym (w .told) ∙ e))
 
       next-place : (i + 1) * formWidth ≡ i * formWidth + formWidth
       next-place = omega arith
@@ -108,13 +112,13 @@ module _ (f : ℕ → List ℕ) (count : ℕ) (forms : List ℕ) (i : ℕ) (h : 
           let r : i * formWidth ≤ length forms = omega (arith, form-room) in
           omega (arith, length-append (take (i * formWidth) forms) x, length-take-le (i * formWidth) forms r, x-long)
 
-      rows : joined (map wordsOf (formsFrom f 0 (i + 1))) ≡ joined (map wordsOf (formsFrom f 0 i)) ++ wordsOf (normal (f i))
+      rows : joined (map plainRow (formsFrom f 0 (i + 1))) ≡ joined (map plainRow (formsFrom f 0 i)) ++ plainRow (normal (f i))
       rows =
-          ap (λ (n : ℕ). joined (map wordsOf (formsFrom f 0 n))) (add-one i)
-          ∙ ap (λ (l : List (List ℕ)). joined (map wordsOf l)) (forms-snoc f 0 i ∙ ap (λ (k : ℕ). formsFrom f 0 i ++ (normal (f k) ∷ [])) zero-i)
-          ∙ ap joined (map-append wordsOf (formsFrom f 0 i) (normal (f i) ∷ []))
-          ∙ joined-append (map wordsOf (formsFrom f 0 i)) (wordsOf (normal (f i)) ∷ [])
-          ∙ ap (λ (l : List ℕ). joined (map wordsOf (formsFrom f 0 i)) ++ l) (joined-one (wordsOf (normal (f i))))
+          ap (λ (n : ℕ). joined (map plainRow (formsFrom f 0 n))) (add-one i)
+          ∙ ap (λ (l : List (List ℕ)). joined (map plainRow l)) (forms-snoc f 0 i ∙ ap (λ (k : ℕ). formsFrom f 0 i ++ (normal (f k) ∷ [])) zero-i)
+          ∙ ap joined (map-append plainRow (formsFrom f 0 i) (normal (f i) ∷ []))
+          ∙ joined-append (map plainRow (formsFrom f 0 i)) (plainRow (normal (f i)) ∷ [])
+          ∙ ap (λ (l : List ℕ). joined (map plainRow (formsFrom f 0 i)) ++ l) (joined-one (plainRow (normal (f i))))
 
       put : Wrote x forms (putMid (i * formWidth) (i * formWidth + formWidth - i * formWidth) forms x) (i * formWidth) (i * formWidth + formWidth)
       put = part-wrote forms x (i * formWidth) formWidth x-long

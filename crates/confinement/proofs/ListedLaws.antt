@@ -3,16 +3,21 @@ use Prim.Native.Nat.{ℕ, _-_, _/_, _%_, _^_, _≤_}
 use native.Mathlib.Omega.{arith}
 use mathlib.Core.Path.{_≡_, refl, sym, ap, _∙_, subst}
 use mathlib.Core.Bool.{Bool, true, false, not, cond}
-use mathlib.Core.List.{List, [], _∷_}
+use mathlib.Core.List.{List, [], _∷_, _++_}
 use lib.Dec.{leb}
 use lib.ListN.{length, take, set, replicate, length-set, length-take}
 use lib.Seq.{take-suc-set}
 use borrow.Author.Tests.{leb-true, not-true, not-false, eq-eqb, ne-eqb}
+use borrow.Rule.Slice.PartMut.{putMid}
 use Rattle.rules.specs.Rules.{normal, unrestricted}
 use Rattle.rules.specs.Answers.{dataWidth, tagWidth, mixtureLimit, padded, boundedOf}
 use Rattle.rules.specs.declared.Bounded.{Bounded}
-use Rattle.rule_words.proofs.WordLaws.{bounded-words}
+use Rattle.rule_words.specs.Words.{ruleWidth, wordsOf}
+use Rattle.rule_words.proofs.WordLaws.{words-nine, bounded-words}
+use Rattle.image.specs.Limits.{noOwner}
 use Rattle.image.specs.Policy.{unrestrictedRule}
+use Rattle.normaliser.specs.Writer.{unowned, formWidth, formRow}
+use Rattle.normaliser.proofs.FormLaws.{row-put}
 use Rattle.confinement.specs.Confinement.{orElse}
 use Rattle.confinement.specs.Tables.{columnAt, ifAny, permitFrom, runFrom, Listed, FormPut, ruleFrom}
 
@@ -80,10 +85,14 @@ module _ (r : List ℕ) (b : Bounded) (e : b ≡ boundedOf (normal r)) where
   pub form-over : (before : List ℕ) → not (b .fits) ≡ true → FormPut r before before false
   form-over before h = record { told = sym (not-true (b .fits) h) ∙ fits-told; words = refl }
 
-  pub form-put : (before after : List ℕ) → not (b .fits) ≡ false → after ≡ b .count ∷ b .mixtures → FormPut r before after true
-  form-put before after h w =
+  pub form-put : (before : List ℕ) {ws : List ℕ} → length before ≡ formWidth → not (b .fits) ≡ false → ws ≡ b .count ∷ b .mixtures
+      → FormPut r before (set (putMid 0 (ruleWidth - 0) before ws) ruleWidth noOwner) true
+  unfolding formRow unowned
+  form-put before {ws} l h w =
       let f : true ≡ leb (length (normal r)) mixtureLimit = sym (not-false (b .fits) h) ∙ fits-told in
-      record { told = f; words = w ∙ bounded-words (normal r) b e (leb-true (length (normal r)) mixtureLimit (sym f)) }
+      let n : length (normal r) ≤ mixtureLimit = leb-true (length (normal r)) mixtureLimit (sym f) in
+      let x : ws ≡ wordsOf (normal r) = w ∙ bounded-words (normal r) b e n in
+      record { told = f; words = row-put before ws noOwner l (ap length x ∙ words-nine (normal r) n) ∙ ap (λ (y : List ℕ). y ++ (noOwner ∷ [])) x }
 
 -- ---- a list that is handed on
 

@@ -9,12 +9,13 @@ use mathlib.Core.List.{List, [], _∷_}
 use lib.Pow.{pow-pos}
 use lib.Bits.{bitOr}
 use lib.ListN.{length, getD}
-use Rattle.lists.specs.Lists.{known, position}
+use Rattle.lists.specs.Lists.{known, position, sameList}
 use Rattle.lists.proofs.Bools.{clash}
+use Rattle.lists.proofs.Same.{same-eq}
+use Rattle.lists.proofs.Known.{position-at, position-lt}
 use Rattle.rules.specs.Sets.{atom}
 use Rattle.rules.specs.Answers.{dataWidth}
 use Rattle.rules.proofs.SetLaws.{atom-or, atom-above, single-same, single-other, or-has}
-use Rattle.image.proofs.Numbering.{position-at, position-lt}
 use Rattle.profiles.specs.Profiles.{Mode, Profile}
 use Rattle.confinement.specs.Confinement.{someOf, reading, executing, modesOn, fileAtoms, atomsFrom, runMixture}
 use Rattle.confinement.proofs.PathLaws.{Distinct}
@@ -108,7 +109,7 @@ module _ (ns : List (List ℕ)) (few : length ns ≤ dataWidth) (apart : Distinc
   own-running = (to (ℕ-discrete at k), from)
     where
       to : Dec (at ≡ k) → atom (2 ^ (dataWidth + at)) (dataWidth + k) ≡ 1 → getD ns k [] ≡ p .path
-      to (yes e) h = ap (λ (n : ℕ). getD ns n []) (sym e) ∙ position-at (p .path) ns own
+      to (yes e) h = ap (λ (n : ℕ). getD ns n []) (sym e) ∙ position-at sameList same-eq [] (p .path) ns own
       to (no d) h = absurd (omega (arith, single-other (dataWidth + at) (dataWidth + k) (λ e. d (omega arith))))
 
       from : getD ns k [] ≡ p .path → atom (2 ^ (dataWidth + at)) (dataWidth + k) ≡ 1
@@ -135,4 +136,4 @@ pub run-none : (ns : List (List ℕ)) (p : Profile) → known (p .path) ns ≡ t
 unfolding runMixture
 run-none ns p own i h =
     let at : ℕ = position (p .path) ns in
-    omega (arith, atom-or (2 ^ (dataWidth + at)) (atomsFrom 0 ns p) i, single-other (dataWidth + at) i (h at (position-lt (p .path) ns own) .1), atoms-other p 0 ns i (λ j a b. h j (omega arith)))
+    omega (arith, atom-or (2 ^ (dataWidth + at)) (atomsFrom 0 ns p) i, single-other (dataWidth + at) i (h at (position-lt sameList (p .path) ns own) .1), atoms-other p 0 ns i (λ j a b. h j (omega arith)))

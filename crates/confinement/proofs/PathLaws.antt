@@ -12,8 +12,7 @@ use Rattle.lists.specs.Lists.{every, sameList, known, knownBy, position, positi
 use Rattle.lists.proofs.Bools.{or-0, or-1, clash, same-test}
 use Rattle.lists.proofs.Same.{same-refl, same-eq}
 use Rattle.lists.proofs.Every.{every-0, every-1, every-nil, every-cons, every-right}
-use Rattle.image.proofs.Numbering.{known-more, known-last, position-at}
-use Rattle.image.proofs.FirstUses.{position-stays}
+use Rattle.lists.proofs.Known.{known-more, known-last, position-at, position-stays}
 use Rattle.profiles.specs.Profiles.{Profile}
 use Rattle.confinement.specs.Confinement.{namesOf, withPath, withPaths, pathsOf}
 
@@ -25,7 +24,7 @@ path-kept q x ns h = by (known x ns)
   where
     by : (b : Bool) → known q (cond b ns (ns ++ (x ∷ []))) ≡ true
     by true = h
-    by false = known-more q ns (x ∷ []) h
+    by false = known-more sameList q ns (x ∷ []) h
 
 pub path-added : (q : List ℕ) (ns : List (List ℕ)) → known q (withPath ns q) ≡ true
 unfolding withPath
@@ -33,7 +32,7 @@ path-added q ns = by (known q ns) refl
   where
     by : (b : Bool) → known q ns ≡ b → known q (cond b ns (ns ++ (q ∷ []))) ≡ true
     by true e = e
-    by false e = known-last q ns
+    by false e = known-last sameList q ns (same-refl q)
 
 -- ---- many
 
@@ -108,7 +107,7 @@ distinct-path ns q d = by (known q ns) refl
         here k h = on (decLt k (length ns))
           where
             on : Dec (k < length ns) → position (getD (ns ++ (q ∷ [])) k []) (ns ++ (q ∷ [])) ≡ k
-            on (yes l) = rw (before-at ns (q ∷ []) k l) (position-stays (getD ns k []) ns (q ∷ []) (known-at ns k l) ∙ d .placed k l)
+            on (yes l) = rw (before-at ns (q ∷ []) k l) (position-stays sameList (getD ns k []) ns (q ∷ []) (known-at ns k l) ∙ d .placed k l)
             on (no l) =
                 let z : k ≡ length ns = omega (arith, length-append ns (q ∷ [])) in
                 rw (z, last-at ns q) (position-new q ns e)
@@ -127,5 +126,5 @@ pub number-tells : (ns : List (List ℕ)) → Distinct ns → (x : List ℕ) →
     → eqb (position x ns) k ≡ sameList (getD ns k []) x
 number-tells ns d x h k l =
     same-test (eqb (position x ns) k) (sameList (getD ns k []) x)
-    (λ e. let z : position x ns ≡ k = eqb-true (position x ns) k e in rw (← z, position-at x ns h) (same-refl x))
+    (λ e. let z : position x ns ≡ k = eqb-true (position x ns) k e in rw (← z, position-at sameList same-eq [] x ns h) (same-refl x))
     (λ e. let z : getD ns k [] ≡ x = same-eq (getD ns k []) x e in eq-eqb (position x ns) k (rw (← z) (d .placed k l)))

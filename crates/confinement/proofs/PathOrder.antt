@@ -12,8 +12,7 @@ use Rattle.lists.specs.Lists.{every, sameList, known, knownBy, position}
 use Rattle.lists.proofs.Bools.{or-0, or-1, or-cases, clash, refuted}
 use Rattle.lists.proofs.Same.{same-refl, same-eq}
 use Rattle.lists.proofs.Every.{every-nil, every-cons, every-imp, every-append}
-use Rattle.image.proofs.Numbering.{known-more, known-last, position-lt, position-at}
-use Rattle.image.proofs.FirstUses.{known-every, position-stays}
+use Rattle.lists.proofs.Known.{known-more, known-last, known-every, position-lt, position-at, position-stays}
 use Rattle.profiles.specs.Profiles.{Profile}
 use Rattle.confinement.specs.Confinement.{namesOf, withPath, withPaths, pathsOf}
 use Rattle.confinement.specs.Sentences.{Names}
@@ -29,10 +28,10 @@ record Appeared (t us : List (List ℕ)) : Type 0 where
 -- one more name
 module _ (t us : List (List ℕ)) (g : Appeared t us) (r : List ℕ) where
   old-place : (k : ℕ) → k < length t → position (getD t k []) (us ++ (r ∷ [])) ≡ position (getD t k []) us
-  old-place k l = position-stays (getD t k []) us (r ∷ []) (g .named k l)
+  old-place k l = position-stays sameList (getD t k []) us (r ∷ []) (g .named k l)
 
   old-named : (k : ℕ) → k < length t → known (getD t k []) (us ++ (r ∷ [])) ≡ true
-  old-named k l = known-more (getD t k []) us (r ∷ []) (g .named k l)
+  old-named k l = known-more sameList (getD t k []) us (r ∷ []) (g .named k l)
 
   old-rising : (j k : ℕ) → j < k → k < length t → position (getD t j []) (us ++ (r ∷ [])) < position (getD t k []) (us ++ (r ∷ []))
   old-rising j k l m = omega (arith, old-place j (omega arith), old-place k m, g .rising j k l m)
@@ -40,14 +39,14 @@ module _ (t us : List (List ℕ)) (g : Appeared t us) (r : List ℕ) where
   -- it is new: it stands behind those so far, in both lists
   module _ (new : known r t ≡ false) where
     new-place : position r (us ++ (r ∷ [])) ≡ length us
-    new-place = position-new r us (refuted (known r us) (λ p. clash (known-every (λ q. known q t) r us p (g .listed)) new))
+    new-place = position-new r us (refuted (known r us) (λ p. clash (known-every sameList same-eq (λ q. known q t) r us p (g .listed)) new))
 
     new-named : (k : ℕ) → k < length (t ++ (r ∷ [])) → known (getD (t ++ (r ∷ [])) k []) (us ++ (r ∷ [])) ≡ true
     new-named k l = by (decLt k (length t))
       where
         by : Dec (k < length t) → known (getD (t ++ (r ∷ [])) k []) (us ++ (r ∷ [])) ≡ true
         by (yes m) = rw (List·getD-append t (r ∷ []) [] k m) (old-named k m)
-        by (no m) = let e : k ≡ length t = omega (arith, length-append t (r ∷ [])) in rw (e, getD-append-seam t r [] []) (known-last r us)
+        by (no m) = let e : k ≡ length t = omega (arith, length-append t (r ∷ [])) in rw (e, getD-append-seam t r [] []) (known-last sameList r us (same-refl r))
 
     new-rising : (j k : ℕ) → j < k → k < length (t ++ (r ∷ [])) → position (getD (t ++ (r ∷ [])) j []) (us ++ (r ∷ [])) < position (getD (t ++ (r ∷ [])) k []) (us ++ (r ∷ []))
     new-rising j k l m = rw (List·getD-append t (r ∷ []) [] j before) (by (decLt k (length t)))
@@ -59,7 +58,7 @@ module _ (t us : List (List ℕ)) (g : Appeared t us) (r : List ℕ) where
         by (yes n) = rw (List·getD-append t (r ∷ []) [] k n) (old-rising j k l n)
         by (no n) =
             let e : k ≡ length t = omega (arith, length-append t (r ∷ [])) in
-            rw (e, getD-append-seam t r [] []) (omega (arith, old-place j before, position-lt (getD t j []) us (g .named j before), new-place))
+            rw (e, getD-append-seam t r [] []) (omega (arith, old-place j before, position-lt sameList (getD t j []) us (g .named j before), new-place))
 
   appeared-next : Appeared (withPath t r) (us ++ (r ∷ []))
   unfolding withPath
@@ -147,8 +146,8 @@ paths-exactly ps q = (to, from)
   where
     to : known q (pathsOf ps) ≡ true → (p : Profile) × List·Memᴰ p ps × Names p q
     to h =
-        let n : known (getD (pathsOf ps) (position q (pathsOf ps)) []) (namesOf ps) ≡ true = appeared ps .named (position q (pathsOf ps)) (position-lt q (pathsOf ps) h) in
-        named-by q ps (known-member q (namesOf ps) (rw (position-at q (pathsOf ps) h) at n))
+        let n : known (getD (pathsOf ps) (position q (pathsOf ps)) []) (namesOf ps) ≡ true = appeared ps .named (position q (pathsOf ps)) (position-lt sameList q (pathsOf ps) h) in
+        named-by q ps (known-member q (namesOf ps) (rw (position-at sameList same-eq [] q (pathsOf ps) h) at n))
 
     from : (p : Profile) × List·Memᴰ p ps × Names p q → known q (pathsOf ps) ≡ true
-    from (p, m, n) = known-every (λ x. known x (pathsOf ps)) q (namesOf ps) (member-known q (namesOf ps) (names-in q ps p m n)) (appeared ps .listed)
+    from (p, m, n) = known-every sameList same-eq (λ x. known x (pathsOf ps)) q (namesOf ps) (member-known q (namesOf ps) (names-in q ps p m n)) (appeared ps .listed)

@@ -2,23 +2,23 @@
 use Prim.Native.Nat.{ℕ, suc, _+_, _*_, _^_, _≤_, _<_}
 use native.Mathlib.Omega.{arith}
 use mathlib.Core.Path.{_≡_, refl, ap, _∙_}
-use mathlib.Core.Bool.{Bool, true, false, cond}
+use mathlib.Core.Bool.{Bool, true, false, cond, _||_}
 use mathlib.Core.List.{List, [], _∷_, map}
 use lib.Pow.{pow-lt, pow-pos}
 use lib.Bits.{bitOr, or-lt}
 use lib.Dec.{eqb, ltb, leb}
-use lib.ListN.{length, length-append}
+use lib.ListN.{length, replicate, length-append, length-replicate}
 use borrow.Author.Tests.{lt-ltb, leb-true}
-use Rattle.lists.specs.Lists.{every, elem, known, position}
+use Rattle.lists.specs.Lists.{every, elem, known, position, sameList}
 use Rattle.lists.proofs.Bools.{and-in, and-0, and-1, or-0, or-1}
 use Rattle.lists.proofs.Elem.{elem-here, elem-there}
-use Rattle.lists.proofs.Every.{every-0, every-1, every-nil, every-cons, every-append, every-elem}
+use Rattle.lists.proofs.Every.{every-0, every-1, every-nil, every-cons, every-append, every-replicate, every-elem}
+use Rattle.lists.proofs.Known.{position-lt}
 use Rattle.rules.specs.Rules.{normal, unrestricted}
 use Rattle.rules.specs.Answers.{dataWidth, tagWidth, mixtureLimit}
 use Rattle.rules.proofs.RuleLaws.{normal-among}
-use Rattle.image.specs.Limits.{isFile, isVolatile, isProcess, unrestrictedNumber}
-use Rattle.image.specs.Policy.{unrestrictedRule, named, containerGood, ruleGood, Sound}
-use Rattle.image.proofs.Numbering.{position-lt}
+use Rattle.image.specs.Limits.{isFile, isVolatile, isProcess, unrestrictedNumber, noOwner}
+use Rattle.image.specs.Policy.{unrestrictedRule, ownerGood, named, containerGood, ruleGood, Sound}
 use Rattle.profiles.specs.Profiles.{Mode, Profile}
 use Rattle.confinement.specs.Confinement.{pathsOf, someOf, reading, executing, writing, unconfined, inheriting, confined, modesOn, fileAtoms, atomsFrom, runMixture, programsWith, profilesAt, orElse, ifSome, permitMixtures, runMixtures, rulesFrom, rulesOf, filesFrom, initialProcess, profilePolicy}
 use Rattle.confinement.specs.Images.{limitsGood}
@@ -49,7 +49,7 @@ module _ (ns : List (List ℕ)) (few : length ns ≤ dataWidth) where
   pub run-lt : (p : Profile) → known (p .path) ns ≡ true → runMixture ns p < 2 ^ tagWidth
   unfolding runMixture
   run-lt p h =
-      let l : dataWidth + position (p .path) ns < tagWidth = omega (arith, position-lt (p .path) ns h) in
+      let l : dataWidth + position (p .path) ns < tagWidth = omega (arith, position-lt sameList (p .path) ns h) in
       or-lt tagWidth (2 ^ (dataWidth + position (p .path) ns)) (atomsFrom 0 ns p) (pow-lt l) (atoms-lt 0 ns p (omega arith))
 
   abbrev own : Profile → Bool
@@ -169,6 +169,15 @@ process-good : (n : ℕ) → containerGood n initialProcess ≡ true
 unfolding containerGood initialProcess isFile isVolatile isProcess
 process-good n = refl
 
+-- nobody owns a rule
+pub profile-none : (ps : List Profile) → profilePolicy ps .owners ≡ replicate (length (profilePolicy ps .rules)) noOwner
+unfolding profilePolicy
+profile-none ps = refl
+
+pub profile-nobody : (ps : List Profile) → every (eqb noOwner) (profilePolicy ps .owners) ≡ true
+unfolding profilePolicy
+profile-nobody ps = every-replicate (eqb noOwner) (length (rulesOf ps)) noOwner refl
+
 module _ (ps : List Profile) (ok : limitsGood ps ≡ true) where
   pub few-paths : length (pathsOf ps) ≤ dataWidth
   unfolding limitsGood
@@ -183,7 +192,7 @@ module _ (ps : List Profile) (ok : limitsGood ps ≡ true) where
   rules-count = rules-length (pathsOf ps) ps 0 (pathsOf ps)
 
   pub profile-sound : Sound (profilePolicy ps)
-  unfolding profilePolicy
+  unfolding profilePolicy ownerGood
   profile-sound =
       record {
         fewContainers = omega (arith, length-append (filesFrom 0 (pathsOf ps)) (initialProcess ∷ []), files-length 0 (pathsOf ps), few-paths);
@@ -197,4 +206,6 @@ module _ (ps : List Profile) (ok : limitsGood ps ≡ true) where
         usersGood =
             every-cons (named (length (rulesOf ps))) unrestrictedNumber [] (unfold named in or-1 (ltb unrestrictedNumber (length (rulesOf ps))) true refl)
             (every-nil (named (length (rulesOf ps))));
+        ownersLong = length-replicate {A = ℕ} (length (rulesOf ps)) noOwner;
+        ownersGood = every-replicate (λ o. ltb o 1 || eqb o noOwner) (length (rulesOf ps)) noOwner refl;
       }

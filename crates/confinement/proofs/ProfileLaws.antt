@@ -8,20 +8,23 @@ use lib.Dec.{eqb}
 use lib.ListN.{length, getD, drop}
 use lib.Seq.{getD-drop, drop-drop}
 use borrow.Author.Tests.{ne-eqb}
+use Rattle.lists.specs.Lists.{every}
 use Rattle.rules.specs.Rules.{normal}
 use Rattle.rules.specs.Answers.{dataWidth}
 use Rattle.rules.proofs.RuleLaws.{normal-normal}
 use Rattle.fields.specs.Bytes.{Bytes}
-use Rattle.image.specs.Limits.{fileKind, processKind, noAtom, unrestrictedNumber}
+use Rattle.image.specs.Limits.{fileKind, processKind, noAtom, unrestrictedNumber, noOwner}
 use Rattle.image.specs.Policy.{unrestrictedRule, ruleAt, Sound}
 use Rattle.image.specs.Image.{policyIn, checkOf}
-use Rattle.image.specs.Normal.{Place, Meaning, normalAt, placeOf, meaning, policyOf, normalPolicy, encode, normalImage}
+use Rattle.image.specs.Normal.{Place, normalAt, placeOf, meaning, Owned, owned, ownersAt, policyOf, normalPolicy, encode, normalImage}
 use Rattle.image.proofs.Encode.{read-encode, encode-bytes}
-use Rattle.image.proofs.WrittenMeaning.{Encodable, meaning-encodable, normal-unrestricted, policy-sound, policy-means}
+use Rattle.image.proofs.WrittenMeaning.{normal-unrestricted}
+use Rattle.image.proofs.WrittenOwners.{Ownable, owned-ownable, policy-sound, policy-owns}
+use Rattle.image.proofs.OwnerLaws.{owned-parts, none-used, none-written}
 use Rattle.profiles.specs.Profiles.{Profile}
 use Rattle.confinement.specs.Confinement.{pathsOf, permitMixtures, runMixtures, rulesFrom, rulesOf, filesFrom, initialProcess, profilePolicy}
 use Rattle.confinement.specs.Images.{limitsGood}
-use Rattle.confinement.proofs.PolicyLaws.{few-paths, profile-sound}
+use Rattle.confinement.proofs.PolicyLaws.{few-paths, profile-nobody, profile-sound}
 
 -- ---- the places of a policy
 
@@ -89,14 +92,17 @@ module _ (ps : List Profile) (ok : limitsGood ps ≡ true) where
 
   -- ---- its normal image
 
-  encodable : Encodable (meaning (profilePolicy ps))
-  encodable = meaning-encodable (profilePolicy ps) (profile-sound ps ok)
+  ownable : Ownable (owned (profilePolicy ps))
+  ownable = owned-ownable (profilePolicy ps) (profile-sound ps ok)
 
   normal-sound : Sound (normalPolicy (profilePolicy ps))
-  normal-sound = unfold normalPolicy in policy-sound (meaning (profilePolicy ps)) encodable
+  normal-sound = unfold normalPolicy in policy-sound (owned (profilePolicy ps)) ownable
+
+  same-owned : owned (normalPolicy (profilePolicy ps)) ≡ owned (profilePolicy ps)
+  same-owned = unfold normalPolicy in policy-owns (owned (profilePolicy ps)) ownable
 
   same-meaning : meaning (normalPolicy (profilePolicy ps)) ≡ meaning (profilePolicy ps)
-  same-meaning = unfold normalPolicy in policy-means (meaning (profilePolicy ps)) encodable
+  same-meaning = owned-parts (normalPolicy (profilePolicy ps)) (profilePolicy ps) .0 same-owned .0
 
   pub profile-read : (checkOf (normalImage (profilePolicy ps)) ≡ 0) × (policyIn (normalImage (profilePolicy ps)) ≡ normalPolicy (profilePolicy ps))
   profile-read = unfold normalImage in read-encode (normalPolicy (profilePolicy ps)) normal-sound
@@ -105,7 +111,14 @@ module _ (ps : List Profile) (ok : limitsGood ps ≡ true) where
   profile-bytes = unfold normalImage in encode-bytes (normalPolicy (profilePolicy ps))
 
   pub profile-normal : normalImage (normalPolicy (profilePolicy ps)) ≡ normalImage (profilePolicy ps)
-  profile-normal = unfold normalImage normalPolicy in ap (λ (m : Meaning). encode (policyOf m)) same-meaning
+  profile-normal = unfold normalImage normalPolicy in ap (λ (m : Owned). encode (policyOf m)) same-owned
+
+  -- no rule of it has an owner
+  pub profile-unowned : every (eqb noOwner) (policyIn (normalImage (profilePolicy ps)) .owners) ≡ true
+  profile-unowned = rw (profile-read .1) (none-written (profilePolicy ps) (profile-nobody ps))
+
+  pub profile-owners : every (eqb noOwner) (ownersAt (policyIn (normalImage (profilePolicy ps)))) ≡ true
+  profile-owners = none-used (policyIn (normalImage (profilePolicy ps))) profile-unowned
 
   pub profile-means : meaning (normalPolicy (profilePolicy ps))
       ≡ record { places = filePlaces (pathsOf ps) ps 0 (pathsOf ps) ++ (processPlace ∷ []); users = unrestrictedRule ∷ [] }

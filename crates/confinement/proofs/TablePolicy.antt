@@ -6,19 +6,19 @@ use mathlib.Core.List.{List, [], _∷_, _++_, map}
 use lib.Dec.{eqb}
 use lib.ListN.{length, getD, take, replicate, length-map}
 use borrow.Author.Tests.{eq-eqb, ne-eqb}
-use Rattle.lists.specs.Lists.{known, position}
+use Rattle.lists.specs.Lists.{known, position, sameList}
 use Rattle.lists.proofs.Every.{every-getD}
+use Rattle.lists.proofs.Known.{position-lt}
 use Rattle.rules.specs.Rules.{normal}
 use Rattle.rules.specs.Answers.{dataWidth}
-use Rattle.image.specs.Limits.{unrestrictedNumber}
+use Rattle.image.specs.Limits.{unrestrictedNumber, noOwner}
 use Rattle.image.specs.Policy.{Container}
-use Rattle.image.proofs.Numbering.{position-lt}
 use Rattle.profiles.specs.Profiles.{Profile}
 use Rattle.confinement.specs.Confinement.{pathsOf, runMixture, permitMixtures, runMixtures, rulesFrom, rulesOf, filesFrom, initialProcess, profilePolicy}
 use Rattle.confinement.specs.Tables.{noProfile, mixtures, columnAt, ruleFrom, formsFrom, tablePolicy, Tabulated}
 use Rattle.confinement.proofs.PathLaws.{profiles-known, paths-distinct, number-tells}
 use Rattle.confinement.proofs.TableLaws.{bitsOn, permit-from, run-from, table-runs, table-column, table-own}
-use Rattle.confinement.proofs.FormLaws.{files-same}
+use Rattle.confinement.proofs.FormLaws.{files-same, forms-length}
 
 -- ---- rules by turns
 
@@ -54,7 +54,7 @@ module _ (ps : List Profile) (own modes : List ℕ) (n m : ℕ) (t : Tabulated p
   own-less j l =
       let p = t .programs in
       let k = every-getD (λ q. known (q .path) (pathsOf ps)) ps j noProfile (omega (arith, p .count)) (profiles-known ps) in
-      omega (arith, p .owns j l, position-lt (getD ps j noProfile .path) (pathsOf ps) k, few)
+      omega (arith, p .owns j l, position-lt sameList (getD ps j noProfile .path) (pathsOf ps) k, few)
 
   pub runs-are : mixtures own modes n m ≡ map (runMixture (pathsOf ps)) ps
   runs-are = ap (λ (k : ℕ). mixtures own modes k m) (t .paths) ∙ table-runs (pathsOf ps) ps own modes m (t .programs) few
@@ -103,4 +103,5 @@ module _ (ps : List Profile) (own modes : List ℕ) (n m : ℕ) (t : Tabulated p
         containers = (ap (λ (k : ℕ). filesFrom 0 (replicate k []) ++ (initialProcess ∷ [])) (t .paths) ∙ ap (λ (l : List Container). l ++ (initialProcess ∷ [])) (sym (files-same 0 (pathsOf ps)))) i;
         users = unrestrictedNumber ∷ [];
         rules = rules-are i;
+        owners = (ap (λ (k : ℕ). replicate {A = ℕ} k noOwner) (sym (forms-length ruleAt 0 (2 * n)) ∙ ap length rules-are)) i;
       }

@@ -14,9 +14,8 @@ use lib.Seq.{drop-cons, getD-append-seam, getD-set-same, getD-set-other}
 use borrow.Author.Tests.{eqb-true, eq-eqb}
 use Rattle.lists.specs.Lists.{sameList, known, position}
 use Rattle.lists.proofs.Bools.{refuted, clash}
+use Rattle.lists.proofs.Known.{position-lt, position-stays}
 use Rattle.rules.specs.Answers.{dataWidth}
-use Rattle.image.proofs.Numbering.{position-lt}
-use Rattle.image.proofs.FirstUses.{position-stays}
 use Rattle.profiles.specs.Profiles.{Entry, Profile}
 use Rattle.profiles.specs.Reading.{Line, linesOf}
 use Rattle.profiles.specs.Scanning.{modeBits}
@@ -96,7 +95,7 @@ path-position q x ns h = by (known x ns)
   where
     by : (b : Bool) → position q (cond b ns (ns ++ (x ∷ []))) ≡ position q ns
     by true = refl
-    by false = position-stays q ns (x ∷ []) h
+    by false = position-stays sameList q ns (x ∷ []) h
 
 paths-position : (q : List ℕ) (ns xs : List (List ℕ)) → known q ns ≡ true → position q (withPaths ns xs) ≡ position q ns
 unfolding withPaths
@@ -127,7 +126,7 @@ module _ (t starts sizes : List ℕ) (n start size : ℕ) (g : Places t starts s
 
   module _ (l : n ≤ k) where
     new : known sought ns ≡ false
-    new = refuted (known sought ns) (λ p. omega (arith, position-lt sought ns p, paths-length t starts sizes 0 n))
+    new = refuted (known sought ns) (λ p. omega (arith, position-lt sameList sought ns p, paths-length t starts sizes 0 n))
 
     pub place-full : n ≡ dataWidth → Placed t starts sizes n sought starts sizes hints dataWidth n
     place-full z =

@@ -4,7 +4,7 @@ use mathlib.Core.Path.{_≡_, refl, sym, ap, _∙_}
 use mathlib.Core.Logic.{_⊎_, _↔_}
 use native.Mathlib.Decide.{ℕ-discrete}
 use native.Mathlib.Omega.{arith}
-use lib.Dec.{leb, ltb}
+use lib.Dec.{eqb, leb, ltb}
 use mathlib.Core.Bool.{true, false}
 use mathlib.Core.List.{List, [], _∷_, _++_, List·Memᴰ}
 use lib.ListN.{length, getD, take}
@@ -13,10 +13,10 @@ use Rattle.rules.specs.Sets.{atom}
 use Rattle.rules.specs.Rules.{covers}
 use Rattle.rules.specs.Answers.{dataWidth, tagWidth}
 use Rattle.fields.specs.Bytes.{Bytes}
-use Rattle.image.specs.Limits.{fileKind, headerSize, outputBound}
+use Rattle.image.specs.Limits.{fileKind, noOwner, headerSize, outputBound}
 use Rattle.image.specs.Policy.{unrestrictedRule, Sound}
 use Rattle.image.specs.Image.{policyIn, checkOf}
-use Rattle.image.specs.Normal.{Meaning, meaning, normalPolicy, normalImage}
+use Rattle.image.specs.Normal.{Meaning, meaning, ownersAt, normalPolicy, normalImage}
 use Rattle.lists.specs.Lists.{every, elem, known, position}
 use Rattle.lists.proofs.Bools.{and-in}
 use Rattle.lists.proofs.Every.{every-elem}
@@ -146,6 +146,13 @@ module _ (ps : List Profile) (good : limitsGood ps ≡ true) where
   pub profile-means : meaning (normalPolicy (profilePolicy ps))
       ≡ record { places = filePlaces (pathsOf ps) ps 0 (pathsOf ps) ++ (processPlace ∷ []); users = unrestrictedRule ∷ [] }
   profile-means = profile.profile-means ps good
+
+  -- "Policies .. read from profiles have no owners" (change request No. 10): no rule of the image has one, so there is none at any use
+  pub profile-unowned : every (eqb noOwner) (policyIn (normalImage (profilePolicy ps)) .owners) ≡ true
+  profile-unowned = profile.profile-unowned ps good
+
+  pub profile-owners : every (eqb noOwner) (ownersAt (policyIn (normalImage (profilePolicy ps)))) ≡ true
+  profile-owners = profile.profile-owners ps good
 
   -- it is its own normal image
   pub profile-normal : normalImage (normalPolicy (profilePolicy ps)) ≡ normalImage (profilePolicy ps)

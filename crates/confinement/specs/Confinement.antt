@@ -3,10 +3,11 @@ use Prim.Native.Nat.{ℕ, suc, _+_, _*_, _^_}
 use mathlib.Core.Bool.{Bool, false, cond, _||_}
 use mathlib.Core.List.{List, [], _∷_, _++_, map}
 use lib.Bits.{bitOr}
+use lib.ListN.{length, replicate}
 use Rattle.lists.specs.Lists.{sameList, known, position}
 use Rattle.rules.specs.Rules.{normal}
 use Rattle.rules.specs.Answers.{dataWidth}
-use Rattle.image.specs.Limits.{fileKind, processKind, noAtom, unrestrictedNumber}
+use Rattle.image.specs.Limits.{fileKind, processKind, noAtom, unrestrictedNumber, noOwner}
 use Rattle.image.specs.Policy.{Container, Policy, unrestrictedRule}
 use Rattle.profiles.specs.Profiles.{Mode, mode-r, mode-w, mode-a, mode-m, mode-ix, mode-px, mode-Px, mode-ux, mode-Ux, Entry, Profile, modeText}
 
@@ -141,11 +142,13 @@ filesFrom k (q ∷ qs) = record { kind = fileKind; atom = k; permit = 2 * k; run
 unfoldable pub initialProcess : Container
 initialProcess = record { kind = processKind; atom = noAtom; permit = unrestrictedNumber; run = unrestrictedNumber }
 
--- "One unrestricted user and, behind the files, one initial process are added"
+-- "One unrestricted user and, behind the files, one initial process are added"; "Policies derived or read from profiles have no owners"
+-- (change request No. 10)
 unfoldable pub profilePolicy : List Profile → Policy
 profilePolicy ps =
     record {
       containers = filesFrom 0 (pathsOf ps) ++ (initialProcess ∷ []);
       users = unrestrictedNumber ∷ [];
       rules = rulesOf ps;
+      owners = replicate (length (rulesOf ps)) noOwner;
     }

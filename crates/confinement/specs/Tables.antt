@@ -9,14 +9,13 @@ use lib.Dec.{eqb, leb}
 use lib.ListN.{length, getD, take, drop, replicate}
 use Rattle.answers.specs.Refusals.{profileLimit}
 use Rattle.fields.specs.Writing.{Wrote}
-use Rattle.image.specs.Limits.{unrestrictedNumber}
+use Rattle.image.specs.Limits.{unrestrictedNumber, noOwner}
 use Rattle.image.specs.Policy.{Policy, unrestrictedRule}
 use Rattle.image.specs.Normal.{normalImage}
 use Rattle.rules.specs.Rules.{normal}
 use Rattle.rules.specs.Answers.{dataWidth, mixtureLimit}
 use Rattle.lists.specs.Lists.{every, joined, position}
-use Rattle.rule_words.specs.Words.{wordsOf}
-use Rattle.normaliser.specs.Writer.{formWidth}
+use Rattle.normaliser.specs.Writer.{unowned, formWidth, formRow}
 use Rattle.profiles.specs.Profiles.{Profile}
 use Rattle.profiles.specs.Scanning.{modeBits}
 use Rattle.confinement.specs.Confinement.{pathsOf, modesOn, orElse, filesFrom, initialProcess}
@@ -152,10 +151,14 @@ pub record Listed (l words : List ℕ) (m : ℕ) : Type 0 where
   pub count : m ≡ length l
   pub long : length words ≡ dataWidth
 
--- the normal form of a rule was put as words, if it fits; else all is as it was
+-- the row of a rule that nobody owns
+abbrev pub plainRow : List ℕ → List ℕ
+plainRow r = formRow (unowned r)
+
+-- the normal form of a rule was put as a row, if it fits; else all is as it was
 pub record FormPut (r before after : List ℕ) (fits : Bool) : Type 0 where
   pub told : fits ≡ leb (length (normal r)) mixtureLimit
-  pub words : after ≡ cond fits (wordsOf (normal r)) before
+  pub words : after ≡ cond fits (plainRow (normal r)) before
 
 -- ---- all rules
 
@@ -178,10 +181,10 @@ shortRule r = leb (length r) mixtureLimit
 abbrev pub ruleCount : ℕ
 ruleCount = 2 * dataWidth
 
--- the words of all rules were put, if each fits
+-- the rows of all rules were put, if each fits
 pub record FormsPut (f : ℕ → List ℕ) (count : ℕ) (forms : List ℕ) (fits : Bool) : Type 0 where
   pub told : fits ≡ every shortRule (formsFrom f 0 count)
-  pub words : fits ≡ true → take (count * formWidth) forms ≡ joined (map wordsOf (formsFrom f 0 count))
+  pub words : fits ≡ true → take (count * formWidth) forms ≡ joined (map plainRow (formsFrom f 0 count))
 
 -- ---- the policy
 
@@ -192,6 +195,7 @@ tablePolicy own modes n m =
       containers = filesFrom 0 (replicate n []) ++ (initialProcess ∷ []);
       users = unrestrictedNumber ∷ [];
       rules = formsFrom (ruleFrom (take m own) modes (mixtures own modes n m)) 0 (2 * n);
+      owners = replicate (2 * n) noOwner;
     }
 
 -- the tables are those of profiles

@@ -182,9 +182,9 @@ fn list_run(words: &mut [u64], own: &[usize], modes: &[u64], runs: &[u64], k: us
     list_inherited(words, modes, runs, k)
 }
 
-// ---- the rules as words
+// ---- the rules as rows
 
-// The normal form of the mixtures as nine words, if it fits.
+// The normal form of the mixtures as a row without an owner, if it fits.
 fn put_form(form: &mut [u64], mixtures: &[u64]) -> bool
     requires { ⌜ (length (now form) ≡ formWidth) × (length (now mixtures) ≤ dataWidth) ⌝ }
     ensures { λ r. ⌜ FormPut (now (mixtures .entry)) (now (form .entry)) (now (form .exit)) r ⌝ }
@@ -193,7 +193,8 @@ fn put_form(form: &mut [u64], mixtures: &[u64]) -> bool
     if !rule.fits {
         return false;
     }
-    rule_words::put_rule(form, rule);
+    rule_words::put_rule(&mut form[0..normaliser::OWNER_WORD], rule);
+    form[normaliser::OWNER_WORD] = image::NO_OWNER as u64;
     true
 }
 
@@ -218,7 +219,7 @@ fn put_path_rule(
     put_form(form, &words[..mixtures])
 }
 
-// The words of the first rules, if each fits.
+// The rows of the first rules, if each fits.
 fn put_rules(
     forms: &mut [u64],
     words: &mut [u64],

@@ -22,13 +22,13 @@ use Rattle.fields.proofs.ByteLaws.{bytes-length}
 use Rattle.image.specs.Limits.{unrestrictedNumber, containerSize, userSize, outputBound}
 use Rattle.image.specs.Policy.{Container, Sound}
 use Rattle.image.specs.Normal.{containerBytes}
-use Rattle.normaliser.specs.Writer.{formWidth, formWords, policyAt, Tabled, Answered}
+use Rattle.normaliser.specs.Writer.{unowned, formWidth, formWords, policyAt, Tabled, Answered}
 use Rattle.normaliser.proofs.WriterLaws.{producer-tabled, producer-wrote, normal-short}
 use Rattle.normaliser.proofs.AnswerLaws.{refused-answer, refused-effect, wrote-answer}
 use Rattle.matrix.specs.Flows.{matrixGood}
 use Rattle.matrix.proofs.GoodLaws.{good-parts}
 use Rattle.derivation.specs.Derived.{subjectProcess, derivedPolicy, derivedImage, derivedConditions, derivedAnswer, derivedEffect}
-use Rattle.derivation.proofs.DerivedLaws.{derived-sound}
+use Rattle.derivation.proofs.DerivedLaws.{derived-none, derived-sound}
 use Rattle.derivation.proofs.ContainerRows.{objectFiles, objects-count, containers-size}
 use Rattle.derivation.proofs.PermitWords.{permits, permits-size}
 
@@ -108,7 +108,7 @@ module _ (reads writes : List ℕ) (n : ℕ) (good : matrixGood reads writes n �
         length-replicate {A = Container} (length reads) subjectProcess,
       )
 
-  pub words-end : (words x : List ℕ) → x ≡ formWords (permits reads writes n) → n * formWidth ≤ length (putMid 0 (n * formWidth - 0) words x)
+  pub words-end : (words x : List ℕ) → x ≡ formWords (map unowned (permits reads writes n)) → n * formWidth ≤ length (putMid 0 (n * formWidth - 0) words x)
   words-end words x f =
       omega (arith, ap length f, permits-size reads writes n (good-parts reads writes n good .subjects), length-append x (drop (n * formWidth - 0) words))
 
@@ -135,20 +135,20 @@ module _ (reads writes : List ℕ) (n : ℕ) (good : matrixGood reads writes n �
       unfolding derivedPolicy
       users-are = wrote-whole (two ∙ sym (bytes-length userSize unrestrictedNumber)) u ∙ sym (joined-one (bytesOf userSize unrestrictedNumber))
 
-      module _ (words x : List ℕ) (f : x ≡ formWords (permits reads writes n)) where
-        words-are : take (n * formWidth - 0) (putMid 0 (n * formWidth - 0) words x) ≡ formWords (derivedPolicy reads writes n .rules)
+      module _ (words x : List ℕ) (f : x ≡ formWords (map unowned (permits reads writes n))) where
+        words-are : take (n * formWidth - 0) (putMid 0 (n * formWidth - 0) words x) ≡ formWords (map unowned (derivedPolicy reads writes n .rules))
         unfolding derivedPolicy
         words-are =
             let z : n * formWidth - 0 ≡ length x = omega (arith, ap length f, permits-size reads writes n (good-parts reads writes n good .subjects)) in
             ap (λ (k : ℕ). take k (putMid 0 (n * formWidth - 0) words x)) z ∙ take-at x (drop (n * formWidth - 0) words) (length x) refl ∙ f
 
         pub derive-tabled : Tabled (take (end - 0) after) users (take (n * formWidth - 0) (putMid 0 (n * formWidth - 0) words x))
-        derive-tabled = rw (containers-are, users-are, words-are) (producer-tabled (derivedPolicy reads writes n) S)
+        derive-tabled = rw (containers-are, users-are, words-are) (producer-tabled (derivedPolicy reads writes n) S (derived-none reads writes n))
 
         pub derive-wrote : {first last : List ℕ} {r : ℕ} → Answered (policyAt (take (end - 0) after) users (take (n * formWidth - 0) (putMid 0 (n * formWidth - 0) words x))) first last r
             → Wrote (derivedImage reads writes n) first last 0 r
         unfolding derivedImage
-        derive-wrote w = producer-wrote (derivedPolicy reads writes n) S (rw (containers-are, users-are, words-are) at w)
+        derive-wrote w = producer-wrote (derivedPolicy reads writes n) S (derived-none reads writes n) (rw (containers-are, users-are, words-are) at w)
 
   pub derived-small : {first last : List ℕ} {r : ℕ} → Wrote (derivedImage reads writes n) first last 0 r → r ≤ outputBound
   unfolding derivedImage

@@ -1,7 +1,7 @@
 -- The derived policy is one that an image can spell.
 use Prim.Native.Nat.{ℕ, zero, suc, _+_, _-_, _^_, _≤_, _<_}
 use mathlib.Core.Path.{_≡_, refl, sym, ap, ap₂, _∙_}
-use mathlib.Core.Bool.{Bool, true, false, cond}
+use mathlib.Core.Bool.{Bool, true, false, cond, _||_}
 use mathlib.Core.List.{List, [], _∷_, _++_, map}
 use native.Mathlib.Nat.{lt-of-lt-of-le, add-zero, zero-add}
 use native.Mathlib.Omega.{arith}
@@ -11,18 +11,20 @@ use lib.Dec.{eqb, ltb}
 use lib.ListN.{length, getD, replicate, length-append, length-map, length-replicate}
 use borrow.Author.Tests.{le-leb, lt-ltb, ltb-true, ne-eqb}
 use Rattle.lists.proofs.Bools.{and-in, or-0, or-1}
-use Rattle.image.specs.Limits.{isFile, isVolatile, isProcess, headerSize, outputBound}
+use Rattle.image.specs.Limits.{isFile, isVolatile, isProcess, noOwner, headerSize, outputBound}
 use Rattle.normaliser.proofs.WriterLaws.{normal-long, normal-short}
 use Rattle.lists.specs.Lists.{every, elem}
 use Rattle.rules.specs.Rules.{normal, unrestricted}
 use Rattle.lists.proofs.Elem.{elem-here}
 use Rattle.rules.proofs.RuleLaws.{normal-among}
-use Rattle.image.specs.Policy.{Container, unrestrictedRule, ruleAt, named, containerGood, ruleGood, Sound}
+use Rattle.image.specs.Policy.{Container, unrestrictedRule, ruleAt, ownerGood, named, containerGood, ruleGood, Sound}
 use Rattle.image.specs.Image.{policyIn, checkOf}
-use Rattle.image.specs.Normal.{Place, Meaning, normalAt, placeOf, meaning, policyOf, normalPolicy, encode, normalImage}
+use Rattle.image.specs.Normal.{Place, normalAt, placeOf, meaning, Owned, owned, ownersAt, policyOf, normalPolicy, encode, normalImage}
 use Rattle.image.proofs.Encode.{read-encode}
-use Rattle.image.proofs.WrittenMeaning.{Encodable, meaning-encodable, normal-unrestricted, policy-sound, policy-means}
-use Rattle.lists.proofs.Every.{every-elem, every-0, every-1, every-nil, every-cons, every-imp, every-append}
+use Rattle.image.proofs.WrittenMeaning.{Encodable, meaning-encodable, normal-unrestricted}
+use Rattle.image.proofs.WrittenOwners.{owned-ownable, policy-sound, policy-owns}
+use Rattle.image.proofs.OwnerLaws.{owned-parts, none-used, none-written}
+use Rattle.lists.proofs.Every.{every-elem, every-0, every-1, every-nil, every-cons, every-imp, every-append, every-replicate}
 use Rattle.matrix.specs.Limits.{subjectLimit}
 use Rattle.rules.specs.Answers.{mixtureLimit}
 use Rattle.matrix.specs.Flows.{has, rowsWithin}
@@ -41,10 +43,6 @@ unfolding countFrom
 every-count f g k zero h = every-nil f
 every-count f g k (suc n) h =
     every-cons f (g k) (map g (countFrom (suc k) n)) (h k (omega arith) (omega arith)) (every-count f g (suc k) n (λ b l m. h b (omega arith) (omega arith)))
-
-pub every-replicate : {A : Type 0} (f : A → Bool) (n : ℕ) (x : A) → f x ≡ true → every f (replicate n x) ≡ true
-every-replicate f zero x h = every-nil f
-every-replicate f (suc n) x h = every-cons f x (replicate n x) h (every-replicate f n x h)
 
 -- ---- the mixtures of a permit rule are sets of objects
 
@@ -125,6 +123,16 @@ filePlace reads writes b = record { kind = 1; atom = b; permit = normal (permitO
 abbrev pub processPlace : Place
 processPlace = record { kind = 3; atom = 255; permit = unrestrictedRule; run = unrestrictedRule }
 
+-- nobody owns a rule
+pub derived-none : (reads writes : List ℕ) (objects : ℕ) → derivedPolicy reads writes objects .owners ≡ replicate (length (derivedPolicy reads writes objects .rules)) noOwner
+unfolding derivedPolicy
+derived-none reads writes objects =
+    ap (λ (k : ℕ). replicate {A = ℕ} k noOwner) (sym (length-map (countFrom 0 objects) (permitOf reads writes) ∙ count-length 0 objects))
+
+derived-nobody : (reads writes : List ℕ) (objects : ℕ) → every (eqb noOwner) (derivedPolicy reads writes objects .owners) ≡ true
+unfolding derivedPolicy
+derived-nobody reads writes objects = every-replicate (eqb noOwner) objects noOwner refl
+
 module _ (reads writes : List ℕ) (objects : ℕ) (g : Good reads writes objects) where
   permit-small : (b : ℕ) → b < objects → every (small objects) (permitOf reads writes b) ≡ true
   unfolding permitOf
@@ -164,7 +172,7 @@ module _ (reads writes : List ℕ) (objects : ℕ) (g : Good reads writes object
   rules-length = length-map (countFrom 0 objects) (permitOf reads writes) ∙ count-length 0 objects
 
   pub derived-sound : Sound (derivedPolicy reads writes objects)
-  unfolding derivedPolicy
+  unfolding derivedPolicy ownerGood
   derived-sound =
       record {
         fewContainers =
@@ -178,6 +186,8 @@ module _ (reads writes : List ℕ) (objects : ℕ) (g : Good reads writes object
             (every-count (containerGood objects) objectFile 0 objects (λ b l m. file-good b (omega arith)))
             (every-replicate (containerGood objects) (length reads) subjectProcess process-good));
         usersGood = rw rules-length (user-good);
+        ownersLong = length-replicate {A = ℕ} objects noOwner ∙ sym rules-length;
+        ownersGood = every-replicate (λ o. ltb o 1 || eqb o noOwner) objects noOwner refl;
       }
     where
       user-good : every (named objects) (65535 ∷ []) ≡ true
@@ -189,16 +199,26 @@ module _ (reads writes : List ℕ) (objects : ℕ) (g : Good reads writes object
   derived-encodable = meaning-encodable (derivedPolicy reads writes objects) derived-sound
 
   normal-sound : Sound (normalPolicy (derivedPolicy reads writes objects))
-  normal-sound = unfold normalPolicy in policy-sound (meaning (derivedPolicy reads writes objects)) derived-encodable
+  normal-sound = unfold normalPolicy in policy-sound (owned (derivedPolicy reads writes objects)) (owned-ownable (derivedPolicy reads writes objects) derived-sound)
 
   pub derived-read : (checkOf (derivedImage reads writes objects) ≡ 0) × (policyIn (derivedImage reads writes objects) ≡ normalPolicy (derivedPolicy reads writes objects))
   derived-read = unfold derivedImage normalImage in read-encode (normalPolicy (derivedPolicy reads writes objects)) normal-sound
 
+  same-owned : owned (normalPolicy (derivedPolicy reads writes objects)) ≡ owned (derivedPolicy reads writes objects)
+  same-owned = unfold normalPolicy in policy-owns (owned (derivedPolicy reads writes objects)) (owned-ownable (derivedPolicy reads writes objects) derived-sound)
+
   same-meaning : meaning (normalPolicy (derivedPolicy reads writes objects)) ≡ meaning (derivedPolicy reads writes objects)
-  same-meaning = unfold normalPolicy in policy-means (meaning (derivedPolicy reads writes objects)) derived-encodable
+  same-meaning = owned-parts (normalPolicy (derivedPolicy reads writes objects)) (derivedPolicy reads writes objects) .0 same-owned .0
 
   pub derived-normal : normalImage (normalPolicy (derivedPolicy reads writes objects)) ≡ derivedImage reads writes objects
-  derived-normal = unfold derivedImage normalImage normalPolicy in ap (λ (m : Meaning). encode (policyOf m)) same-meaning
+  derived-normal = unfold derivedImage normalImage normalPolicy in ap (λ (m : Owned). encode (policyOf m)) same-owned
+
+  -- no rule of it has an owner
+  pub derived-unowned : every (eqb noOwner) (policyIn (derivedImage reads writes objects) .owners) ≡ true
+  derived-unowned = rw (derived-read .1) (none-written (derivedPolicy reads writes objects) (derived-nobody reads writes objects))
+
+  pub derived-owners : every (eqb noOwner) (ownersAt (policyIn (derivedImage reads writes objects))) ≡ true
+  derived-owners = none-used (policyIn (derivedImage reads writes objects)) derived-unowned
 
   pub derived-short : length (derivedImage reads writes objects) ≤ outputBound
   derived-short = unfold derivedImage in normal-short (derivedPolicy reads writes objects) derived-sound

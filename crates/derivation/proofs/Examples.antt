@@ -7,10 +7,10 @@ use Rattle.rules.specs.Sets.{atom, holds}
 use Rattle.lists.specs.Lists.{elem, sameList, joined, knownBy, positionBy}
 use Rattle.rules.specs.Rules.{distinct, heldIn, unheldIn, insert, sort, normal, unrestricted}
 use Rattle.fields.specs.Bytes.{bytesOf, numberIn, field}
-use Rattle.image.specs.Limits.{fileKind, processKind, noAtom, unrestrictedNumber}
-use Rattle.image.specs.Policy.{Container, Policy, unrestrictedRule, ruleAt}
+use Rattle.image.specs.Limits.{fileKind, processKind, noAtom, unrestrictedNumber, noOwner}
+use Rattle.image.specs.Policy.{Container, Policy, unrestrictedRule, ruleAt, ownerAt}
 use Rattle.image.specs.Image.{offset, size}
-use Rattle.image.specs.Normal.{normalAt, placeOf, meaning, placeUses, uses, noted, numbered, numberOf, containerOf, writtenBy, policyOf, normalPolicy, containerBytes, spanBytes, spansOf, pair, header, framed, encode, normalImage}
+use Rattle.image.specs.Normal.{normalAt, useAt, ownedPlace, owned, placeUses, uses, sameUse, freeUse, noted, numbered, numberOf, containerOf, writtenBy, writtenUses, policyOf, normalPolicy, containerBytes, spanBytes, spansOf, pair, header, framed, encode, normalImage}
 use Rattle.matrix.specs.Flows.{has}
 use Rattle.derivation.specs.Derived.{writerMixtures, orAlone, permitOf, countFrom, objectFile, subjectProcess, derivedPolicy, derivedImage}
 
@@ -38,13 +38,14 @@ policy =
       containers = file 0 ∷ file 1 ∷ file 2 ∷ file 3 ∷ process ∷ process ∷ process ∷ [];
       users = unrestrictedNumber ∷ [];
       rules = (5 ∷ []) ∷ (3 ∷ []) ∷ (4 ∷ []) ∷ (10 ∷ []) ∷ [];
+      owners = noOwner ∷ noOwner ∷ noOwner ∷ noOwner ∷ [];
     }
 
 policy-is : normalPolicy (derivedPolicy reads writes 4) ≡ policy
-unfolding derivedPolicy countFrom objectFile subjectProcess permitOf writerMixtures orAlone has atom normalPolicy policyOf writtenBy containerOf numberOf positionBy numbered noted knownBy uses placeUses meaning placeOf normalAt ruleAt unrestrictedRule unrestricted sameList normal sort insert distinct elem unheldIn heldIn holds
+unfolding derivedPolicy countFrom objectFile subjectProcess permitOf writerMixtures orAlone has atom normalPolicy policyOf writtenBy writtenUses containerOf numberOf positionBy numbered noted knownBy sameUse freeUse uses placeUses owned ownedPlace useAt ownerAt normalAt ruleAt unrestrictedRule unrestricted sameList normal sort insert distinct elem unheldIn heldIn holds
 policy-is = refl
 
--- "Image of 110 bytes, pairs (18,42), (60,2), (62,16), (78,32)"
+-- "the matrix example grows to 118" (change request No. 10): pairs (18,42), (60,2), (62,24), (86,32), a rule record having 6 bytes
 abbrev image : List ℕ
 image = derivedImage reads writes 4
 
@@ -52,14 +53,14 @@ pub image-is : image ≡ encode policy
 unfolding derivedImage normalImage
 image-is = ap encode policy-is
 
-pub image-length : length image ≡ 110
+pub image-length : length image ≡ 118
 unfolding encode framed header pair containerBytes spanBytes spansOf bytesOf joined
 image-length = ap length image-is
 
-pub image-offsets : map (offset image) (0 ∷ 1 ∷ 2 ∷ 3 ∷ []) ≡ 18 ∷ 60 ∷ 62 ∷ 78 ∷ []
+pub image-offsets : map (offset image) (0 ∷ 1 ∷ 2 ∷ 3 ∷ []) ≡ 18 ∷ 60 ∷ 62 ∷ 86 ∷ []
 unfolding encode framed header pair containerBytes spanBytes spansOf bytesOf joined offset field numberIn
 image-offsets = ap (λ (i : List ℕ). map (offset i) (0 ∷ 1 ∷ 2 ∷ 3 ∷ [])) image-is
 
-pub image-sizes : map (size image) (0 ∷ 1 ∷ 2 ∷ 3 ∷ []) ≡ 42 ∷ 2 ∷ 16 ∷ 32 ∷ []
+pub image-sizes : map (size image) (0 ∷ 1 ∷ 2 ∷ 3 ∷ []) ≡ 42 ∷ 2 ∷ 24 ∷ 32 ∷ []
 unfolding encode framed header pair containerBytes spanBytes spansOf bytesOf joined size field numberIn
 image-sizes = ap (λ (i : List ℕ). map (size i) (0 ∷ 1 ∷ 2 ∷ 3 ∷ [])) image-is

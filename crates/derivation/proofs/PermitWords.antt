@@ -15,6 +15,7 @@ use borrow.Author.Tests.{le-leb}
 use borrow.Rule.Slice.PartMut.{putMid}
 use Rattle.lists.specs.Lists.{joined, every}
 use Rattle.lists.proofs.Places.{map-at}
+use Rattle.lists.proofs.Every.{every-map}
 use Rattle.fields.specs.Writing.{overwritten}
 use Rattle.fields.proofs.RowWriting.{RowsWritten, rows-start, rows-room, rows-next, rows-end, part-wrote, wrote-whole}
 use Rattle.rules.specs.Answers.{mixtureLimit, padded, boundedOf}
@@ -24,7 +25,10 @@ use Rattle.rules.proofs.RuleLaws.{normal-length}
 use Rattle.rule_words.specs.Words.{ruleWidth, ruleOf, wordsOf, keptWell}
 use Rattle.rule_words.proofs.WordLaws.{words-nine, bounded-words}
 use Rattle.rule_words.proofs.KeptWords.{kept-normal}
-use Rattle.normaliser.specs.Writer.{formWidth, formWords}
+use Rattle.image.specs.Limits.{noOwner}
+use Rattle.image.specs.Normal.{freeUse}
+use Rattle.normaliser.specs.Writer.{unowned, formWidth, formRow, normalUse, formWords}
+use Rattle.normaliser.proofs.FormLaws.{shortUse, row-long, row-put}
 use Rattle.normaliser.proofs.WriterLaws.{words-length}
 use Rattle.matrix.specs.Limits.{subjectLimit, objectLimit}
 use Rattle.matrix.specs.Flows.{has}
@@ -177,60 +181,82 @@ module _ (reads writes : List ℕ) (n : ℕ) where
   permits = map (permitOf reads writes) (countFrom 0 n)
 
   abbrev pub permitRows : List (List ℕ)
-  permitRows = map wordsOf (map normal permits)
+  permitRows = map formRow (map normalUse (map unowned permits))
 
   permits-count : length permits ≡ n
   permits-count = length-map (countFrom 0 n) (permitOf reads writes) ∙ count-length 0 n
 
-  pub permit-rows : length permitRows ≡ n
-  permit-rows = length-map (map normal permits) wordsOf ∙ length-map permits normal ∙ permits-count
+  unowned-count : length (map unowned permits) ≡ n
+  unowned-count = length-map permits unowned ∙ permits-count
 
-  pub permit-row : (b : ℕ) → b < n → wordsOf (normal (permitOf reads writes b)) ≡ getD permitRows b []
+  pub permit-rows : length permitRows ≡ n
+  permit-rows = length-map (map normalUse (map unowned permits)) formRow ∙ length-map (map unowned permits) normalUse ∙ unowned-count
+
+  -- the row of object b
+  abbrev row : ℕ → List ℕ
+  row b = formRow (normalUse (unowned (permitOf reads writes b)))
+
+  pub permit-row : (b : ℕ) → b < n → row b ≡ getD permitRows b []
   permit-row b l =
       sym
-      (map-at wordsOf (map normal permits) b [] [] (omega (arith, length-map permits normal, permits-count))
-      ∙ ap wordsOf (map-at normal permits b [] [] (omega (arith, permits-count))
-      ∙ ap normal (map-at (permitOf reads writes) (countFrom 0 n) b 0 [] (omega (arith, count-length 0 n)) ∙ ap (permitOf reads writes) (count-at 0 n b l ∙ zero-add b))))
+      (map-at formRow (map normalUse (map unowned permits)) b freeUse [] (omega (arith, length-map (map unowned permits) normalUse, unowned-count))
+      ∙ ap formRow (map-at normalUse (map unowned permits) b freeUse freeUse (omega (arith, unowned-count))
+      ∙ ap normalUse (map-at unowned permits b [] freeUse (omega (arith, permits-count))
+      ∙ ap unowned (map-at (permitOf reads writes) (countFrom 0 n) b 0 [] (omega (arith, count-length 0 n)) ∙ ap (permitOf reads writes) (count-at 0 n b l ∙ zero-add b)))))
 
   module _ (few : length reads ≤ subjectLimit) where
-    row-long : (b : ℕ) → length (wordsOf (normal (permitOf reads writes b))) ≡ ruleWidth
-    row-long b = words-nine (normal (permitOf reads writes b)) (omega (arith, normal-length (permitOf reads writes b), few-mixtures reads writes b few))
+    words-long : (b : ℕ) → length (wordsOf (normal (permitOf reads writes b))) ≡ ruleWidth
+    words-long b = words-nine (normal (permitOf reads writes b)) (omega (arith, normal-length (permitOf reads writes b), few-mixtures reads writes b few))
 
-    permits-short : every (λ r. leb (length r) mixtureLimit) permits ≡ true
-    permits-short = every-count (λ r. leb (length r) mixtureLimit) (permitOf reads writes) 0 n (λ b l m. le-leb (length (permitOf reads writes b)) mixtureLimit (few-mixtures reads writes b few))
+    -- the words of the rule, then nobody
+    pub row-done : (b : ℕ) (zeros : List ℕ) {ws : List ℕ} → length zeros ≡ formWidth → ws ≡ wordsOf (normal (permitOf reads writes b))
+        → set (putMid 0 (ruleWidth - 0) zeros ws) ruleWidth noOwner ≡ row b
+    unfolding formRow normalUse unowned
+    row-done b zeros {ws} h e = row-put zeros ws noOwner h (ap length e ∙ words-long b) ∙ ap (λ (x : List ℕ). x ++ (noOwner ∷ [])) e
 
-    pub permits-size : length (formWords permits) ≡ n * formWidth
-    permits-size = words-length permits permits-short ∙ ap (λ (k : ℕ). k * formWidth) permits-count
+    long-row : (b : ℕ) → length (row b) ≡ formWidth
+    unfolding normalUse unowned
+    long-row b =
+        row-long (record { owner = noOwner; mixtures = normal (permitOf reads writes b) })
+        (omega (arith, normal-length (permitOf reads writes b), few-mixtures reads writes b few))
+
+    permits-short : every shortUse (map unowned permits) ≡ true
+    permits-short =
+        every-map (λ r. leb (length r) mixtureLimit) shortUse unowned permits (λ r h. unfold unowned in h)
+        (every-count (λ r. leb (length r) mixtureLimit) (permitOf reads writes) 0 n (λ b l m. le-leb (length (permitOf reads writes b)) mixtureLimit (few-mixtures reads writes b few)))
+
+    pub permits-size : length (formWords (map unowned permits)) ≡ n * formWidth
+    permits-size = words-length (map unowned permits) permits-short ∙ ap (λ (k : ℕ). k * formWidth) unowned-count
 
     pub permits-start : {words : List ℕ} → words ≡ replicate (n * formWidth) 0 → RowsWritten permitRows words 0 words 0 0
     unfolding formWords
     permits-start {words} e = rows-start permitRows words 0 (omega (arith, permits-size, ap length e, length-replicate {A = ℕ} (n * formWidth) 0))
 
     module _ {before words : List ℕ} {b : ℕ} (g : RowsWritten permitRows before 0 words (b * formWidth) b) (l : b < n) where
-      pub permits-room : b * formWidth + ruleWidth ≤ length words
-      permits-room = omega (arith, rows-room g (omega (arith, permit-rows)), ap length (permit-row b l), row-long b)
+      pub permits-room : b * formWidth + formWidth ≤ length words
+      permits-room = omega (arith, rows-room g (omega (arith, permit-rows)), ap length (permit-row b l), long-row b)
 
       -- the words of the next rule are still 0
-      pub permits-zero : before ≡ replicate (n * formWidth) 0 → take (b * formWidth + ruleWidth - b * formWidth) (drop (b * formWidth) words) ≡ replicate ruleWidth 0
+      pub permits-zero : before ≡ replicate (n * formWidth) 0 → take (b * formWidth + formWidth - b * formWidth) (drop (b * formWidth) words) ≡ replicate formWidth 0
       unfolding overwritten
       permits-zero z =
-          let w : b * formWidth + ruleWidth - b * formWidth ≡ ruleWidth = omega arith in
+          let w : b * formWidth + formWidth - b * formWidth ≡ formWidth = omega arith in
           let k : length (joined (take b permitRows)) ≡ b * formWidth = omega (arith, g .wrote .ends) in
           let d : drop (b * formWidth) words ≡ drop (b * formWidth) before =
           ap (drop (b * formWidth)) (g .wrote .buffer)
           ∙ drop-at (joined (take b permitRows)) (drop (0 + length (joined (take b permitRows))) before) (b * formWidth) k
           ∙ ap (λ (j : ℕ). drop j before) (zero-add (length (joined (take b permitRows))) ∙ k) in
-          let r : n * formWidth ≡ b * formWidth + (ruleWidth + (n - (b + 1)) * formWidth) = omega arith in
+          let r : n * formWidth ≡ b * formWidth + (formWidth + (n - (b + 1)) * formWidth) = omega arith in
           ap₂ (λ (j : ℕ) (x : List ℕ). take j x) w (d ∙ ap (drop (b * formWidth)) (z ∙ ap (λ (j : ℕ). replicate j 0) r))
-          ∙ zeros-part (b * formWidth) ruleWidth ((n - (b + 1)) * formWidth)
+          ∙ zeros-part (b * formWidth) formWidth ((n - (b + 1)) * formWidth)
 
-      pub permits-next : {ws : List ℕ} → ws ≡ wordsOf (normal (permitOf reads writes b))
-          → RowsWritten permitRows before 0 (putMid (b * formWidth) (b * formWidth + ruleWidth - b * formWidth) words ws) ((b + 1) * formWidth) (b + 1)
+      pub permits-next : {ws : List ℕ} → ws ≡ row b
+          → RowsWritten permitRows before 0 (putMid (b * formWidth) (b * formWidth + formWidth - b * formWidth) words ws) ((b + 1) * formWidth) (b + 1)
       permits-next {ws} e =
-          let m : b * formWidth + ruleWidth ≡ (b + 1) * formWidth = omega arith in
-          let w = part-wrote words ws (b * formWidth) ruleWidth (ap length e ∙ row-long b) in
+          let m : b * formWidth + formWidth ≡ (b + 1) * formWidth = omega arith in
+          let w = part-wrote words ws (b * formWidth) formWidth (ap length e ∙ long-row b) in
           rows-next g (omega (arith, permit-rows)) (e ∙ permit-row b l) (record { buffer = w .buffer; ends = sym m ∙ w .ends })
 
-    pub permits-end : {before words : List ℕ} {b : ℕ} → RowsWritten permitRows before 0 words (b * formWidth) b → before ≡ replicate (n * formWidth) 0 → n ≤ b → words ≡ formWords permits
+    pub permits-end : {before words : List ℕ} {b : ℕ} → RowsWritten permitRows before 0 words (b * formWidth) b → before ≡ replicate (n * formWidth) 0 → n ≤ b → words ≡ formWords (map unowned permits)
     unfolding formWords
     permits-end g z l = wrote-whole (ap length z ∙ length-replicate {A = ℕ} (n * formWidth) 0 ∙ sym permits-size) (rows-end g (omega (arith, permit-rows)))

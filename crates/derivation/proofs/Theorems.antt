@@ -4,16 +4,16 @@ use mathlib.Core.Path.{_≡_, refl, sym, _∙_}
 use mathlib.Core.Logic.{_↔_}
 use native.Mathlib.Decide.{ℕ-discrete}
 use native.Mathlib.Omega.{arith}
-use lib.Dec.{leb}
+use lib.Dec.{eqb, leb}
 use mathlib.Core.Bool.{true, false}
 use mathlib.Core.List.{List, [], _∷_, _++_, map}
 use lib.ListN.{length, take, replicate}
 use Rattle.rules.specs.Rules.{normal}
-use Rattle.image.specs.Limits.{fileKind, processKind, noAtom, headerSize, outputBound}
+use Rattle.image.specs.Limits.{fileKind, processKind, noAtom, noOwner, headerSize, outputBound}
 use Rattle.image.specs.Policy.{unrestrictedRule, Sound}
 use Rattle.image.specs.Image.{policyIn, checkOf}
-use Rattle.image.specs.Normal.{meaning, normalPolicy, normalImage}
-use Rattle.lists.specs.Lists.{elem}
+use Rattle.image.specs.Normal.{meaning, ownersAt, normalPolicy, normalImage}
+use Rattle.lists.specs.Lists.{elem, every}
 use Rattle.lists.specs.Conditions.{Condition, firstFailed, numbersOf, numberAt, numbersGood}
 use Rattle.lists.proofs.Conditions.{given-exactly, given-none, given-among}
 use Rattle.answers.specs.Refusals.{matrix, lentLength}
@@ -86,6 +86,13 @@ module _ (reads writes : List ℕ) (objects : ℕ) (good : matrixGood reads writ
         users = unrestrictedRule ∷ [];
       }
   derived-means = derived.derived-means reads writes objects (good-parts reads writes objects good)
+
+  -- "Policies derived .. have no owners" (change request No. 10): no rule of the image has one, so there is none at any use
+  pub derived-unowned : every (eqb noOwner) (policyIn (derivedImage reads writes objects) .owners) ≡ true
+  derived-unowned = derived.derived-unowned reads writes objects (good-parts reads writes objects good)
+
+  pub derived-owners : every (eqb noOwner) (ownersAt (policyIn (derivedImage reads writes objects))) ≡ true
+  derived-owners = derived.derived-owners reads writes objects (good-parts reads writes objects good)
 
   -- it is its own normal image
   pub derived-normal : normalImage (normalPolicy (derivedPolicy reads writes objects)) ≡ derivedImage reads writes objects

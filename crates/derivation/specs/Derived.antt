@@ -5,7 +5,7 @@ use mathlib.Core.List.{List, [], _∷_, _++_, map}
 use lib.Bits.{bitOr}
 use lib.Dec.{leb}
 use lib.ListN.{length, replicate}
-use Rattle.image.specs.Limits.{fileKind, processKind, noAtom, unrestrictedNumber, outputBound}
+use Rattle.image.specs.Limits.{fileKind, processKind, noAtom, unrestrictedNumber, noOwner, outputBound}
 use Rattle.image.specs.Policy.{Container, Policy}
 use Rattle.image.specs.Normal.{normalImage}
 use Rattle.normaliser.specs.Normaliser.{lengthUnless, writtenUnless}
@@ -45,13 +45,14 @@ objectFile b = record { kind = fileKind; atom = b; permit = b; run = unrestricte
 unfoldable pub subjectProcess : Container
 subjectProcess = record { kind = processKind; atom = noAtom; permit = unrestrictedNumber; run = unrestrictedNumber }
 
--- "one unrestricted user"
+-- "one unrestricted user"; "Policies derived or read from profiles have no owners" (change request No. 10)
 unfoldable pub derivedPolicy : List ℕ → List ℕ → ℕ → Policy
 derivedPolicy reads writes objects =
     record {
       containers = map objectFile (countFrom 0 objects) ++ replicate (length reads) subjectProcess;
       users = unrestrictedNumber ∷ [];
       rules = map (permitOf reads writes) (countFrom 0 objects);
+      owners = replicate objects noOwner;
     }
 
 unfoldable pub derivedImage : List ℕ → List ℕ → ℕ → List ℕ
@@ -59,7 +60,7 @@ derivedImage reads writes objects = normalImage (derivedPolicy reads writes obje
 
 -- ---- the answer, and the output afterwards
 
--- "In this order: 9 .. output (of normaliser or derived policy) under 18,994 bytes; .. 8 matrix"
+-- "In this order: 9 .. output (of normaliser or derived policy)" that does not "hold 19,506 bytes" (change request No. 10), then "8 matrix"
 unfoldable pub derivedConditions : List ℕ → List ℕ → ℕ → List ℕ → List Condition
 derivedConditions reads writes objects out = (leb outputBound (length out) orRefuse lentLength) ∷ (matrixGood reads writes objects orRefuse matrix) ∷ []
 

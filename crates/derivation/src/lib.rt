@@ -10,11 +10,11 @@ ghost use Rattle.rules.specs.Answers.{mixtureLimit};
 ghost use Rattle.rule_words.specs.Words.{ruleWidth, ruleOf, wordsOf};
 ghost use Rattle.image.specs.Limits.{containerSize};
 ghost use Rattle.image.specs.Normal.{containerBytes};
-ghost use Rattle.normaliser.specs.Writer.{formWidth, formWords};
+ghost use Rattle.normaliser.specs.Writer.{unowned, formWidth, formRow, normalUse, formWords};
 ghost use Rattle.matrix.specs.Limits.{subjectLimit, objectLimit};
 ghost use Rattle.derivation.specs.Derived.{permitOf, countFrom, objectFile, subjectProcess, derivedAnswer, derivedEffect};
 
-// The bytes of the most containers, and the words of the most rules.
+// The bytes of the most containers, and the words of the rows of the most rules.
 const CONTAINER_BYTES: usize = (matrix::OBJECT_LIMIT + matrix::SUBJECT_LIMIT)
     * image::CONTAINER_SIZE;
 
@@ -109,15 +109,24 @@ fn put_permit(words: &mut [u64], reads: &[u32], writes: &[u32], b: usize)
     settle(words);
 }
 
-// The permit rules of the first n objects in words of zeros.
+// The row of the permit rule of object b, which nobody owns, in a row of zeros.
+fn put_row(row: &mut [u64], reads: &[u32], writes: &[u32], b: usize)
+    requires { ⌜ (length (now writes) ≡ length (now reads)) × (length (now reads) ≤ subjectLimit) × (b < objectLimit) × (now row ≡ replicate formWidth 0) ⌝ }
+    ensures { λ _. ⌜ now (row .exit) ≡ formRow (normalUse (unowned (permitOf (now (reads .entry)) (now (writes .entry)) b))) ⌝ }
+{
+    put_permit(&mut row[0..normaliser::OWNER_WORD], reads, writes, b);
+    row[normaliser::OWNER_WORD] = image::NO_OWNER as u64;
+}
+
+// The rows of the permit rules of the first n objects, in words of zeros.
 fn put_permits(words: &mut [u64], reads: &[u32], writes: &[u32], n: usize)
     requires { ⌜ (length (now writes) ≡ length (now reads)) × (length (now reads) ≤ subjectLimit) × (n ≤ objectLimit) × (now words ≡ replicate (n * formWidth) 0) ⌝ }
-    ensures { λ _. ⌜ now (words .exit) ≡ formWords (map (permitOf (now (reads .entry)) (now (writes .entry))) (countFrom 0 n)) ⌝ }
+    ensures { λ _. ⌜ now (words .exit) ≡ formWords (map unowned (map (permitOf (now (reads .entry)) (now (writes .entry))) (countFrom 0 n))) ⌝ }
 {
     let mut b = 0;
     while b < n {
         let at = b * normaliser::FORM_WIDTH;
-        put_permit(
+        put_row(
             &mut words[at..at + normaliser::FORM_WIDTH],
             reads,
             writes,

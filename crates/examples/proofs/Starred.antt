@@ -73,11 +73,11 @@ pub record Starred : Type 0 where
   pub matrix-flows : matrixVerdict reads writes 4 ≡ record { number = 1; count = 3; source = 0; target = 3 }
   -- "Permit rules 5; 3; 4; 10."
   pub matrix-permits : map (λ b. normal (permitOf reads writes b)) (countFrom 0 4) ≡ (5 ∷ []) ∷ (3 ∷ []) ∷ (4 ∷ []) ∷ (10 ∷ []) ∷ []
-  -- "Image of 110 bytes, pairs (18,42), (60,2), (62,16), (78,32)."
-  pub matrix-image : length (derivedImage reads writes 4) ≡ 110
+  -- "the matrix example grows to 118" (change request No. 10): pairs (18,42), (60,2), (62,24), (86,32), a rule record having 6 bytes
+  pub matrix-image : length (derivedImage reads writes 4) ≡ 118
   pub matrix-bytes : derivedImage reads writes 4 ≡ image
-  pub matrix-offsets : map (offset (derivedImage reads writes 4)) (0 ∷ 1 ∷ 2 ∷ 3 ∷ []) ≡ 18 ∷ 60 ∷ 62 ∷ 78 ∷ []
-  pub matrix-sizes : map (size (derivedImage reads writes 4)) (0 ∷ 1 ∷ 2 ∷ 3 ∷ []) ≡ 42 ∷ 2 ∷ 16 ∷ 32 ∷ []
+  pub matrix-offsets : map (offset (derivedImage reads writes 4)) (0 ∷ 1 ∷ 2 ∷ 3 ∷ []) ≡ 18 ∷ 60 ∷ 62 ∷ 86 ∷ []
+  pub matrix-sizes : map (size (derivedImage reads writes 4)) (0 ∷ 1 ∷ 2 ∷ 3 ∷ []) ≡ 42 ∷ 2 ∷ 24 ∷ 32 ∷ []
 
 -- the derived image, byte by byte
 bytes : derivedImage reads writes 4 ≡ image

@@ -25,7 +25,7 @@ use Rattle.image.specs.Limits.{
   headerSize,
   imageLimit,
 }
-use Rattle.image.specs.Policy.{named, containerGood}
+use Rattle.image.specs.Policy.{named, ownerGood, containerGood}
 use Rattle.image.specs.Image.{
   offset,
   size,
@@ -33,6 +33,7 @@ use Rattle.image.specs.Image.{
   containersIn,
   usersIn,
   spansIn,
+  ownersIn,
   imageLengthGood,
   partGood,
   pairsGood,
@@ -105,7 +106,12 @@ module _ (i : List ℕ) (e : checkOf i ≡ 0) where
 
   pub accepted-spans : spansGood (length (part i 3) / mixtureSize) 0 (spansIn (part i 2)) ≡ true
   unfolding rulesGood
-  accepted-spans = tests .rules
+  accepted-spans =
+      and-0 (spansGood (length (part i 3) / mixtureSize) 0 (spansIn (part i 2))) (every (ownerGood (length (part i 1) / userSize)) (ownersIn (part i 2))) (tests .rules)
+
+  pub accepted-owners : every (ownerGood (length (part i 1) / userSize)) (ownersIn (part i 2)) ≡ true
+  unfolding rulesGood
+  accepted-owners = and-1 (spansGood (length (part i 3) / mixtureSize) 0 (spansIn (part i 2))) (tests .rules)
 
   pub accepted-containers : every (containerGood (length (part i 2) / ruleSize)) (containersIn (part i 0)) ≡ true
   unfolding containersGood

@@ -7,18 +7,18 @@ use mathlib.Core.Logic.{_⊎_, ⊎-elim}
 use native.Mathlib.Omega.{arith}
 use native.Mathlib.Nat.{mul-mod-left, mul-div-cancel}
 use lib.Dec.{eqb, leb, ltb}
-use lib.ListN.{length, take, drop, length-append}
+use lib.ListN.{length, getD, take, drop, length-append}
 use lib.Seq.{drop-at, take-append-seam}
 use borrow.Author.Tests.{eq-eqb, le-leb, lt-ltb, ltb-true, eqb-true, leb-true}
 use Rattle.lists.proofs.Bools.{and-in, and-0, and-1, or-cases}
 use Rattle.rules.specs.Answers.{dataWidth, tagWidth, mixtureLimit}
-use Rattle.image.specs.Limits.{fileKind, volatileKind, processKind, guardedKind, isFile, isVolatile, isProcess, unrestrictedNumber, noAtom, containerLimit, userLimit, ruleLimit, mixtureTotal, containerSize, userSize, ruleSize, mixtureSize, size8, size16, leadingNumber, headerSize, imageLimit, outputBound}
+use Rattle.image.specs.Limits.{fileKind, volatileKind, processKind, guardedKind, isFile, isVolatile, isProcess, unrestrictedNumber, noOwner, noAtom, containerLimit, userLimit, ruleLimit, mixtureTotal, containerSize, userSize, ruleSize, mixtureSize, size8, size16, leadingNumber, headerSize, imageLimit, outputBound}
 use Rattle.fields.specs.Bytes.{numberIn, bytesOf, field, Bytes}
 use Rattle.lists.specs.Lists.{every, joined}
-use Rattle.image.specs.Policy.{Container, Policy, named, containerGood, ruleGood, Sound}
-use Rattle.image.specs.Image.{Span, containerIn, spanIn, ruleIn, containersIn, usersIn, spansIn, mixturesIn, rulesIn, policyIn, part, wholeGood, sectionsGood, spansGood, rulesGood, containersGood, usersGood, imageConditions, checkOf}
+use Rattle.image.specs.Policy.{Container, Policy, named, ownerGood, containerGood, ruleGood, Sound}
+use Rattle.image.specs.Image.{Span, containerIn, spanIn, ruleIn, containersIn, usersIn, spansIn, mixturesIn, rulesIn, ownersIn, policyIn, part, wholeGood, sectionsGood, spansGood, rulesGood, containersGood, usersGood, imageConditions, checkOf}
 use Rattle.image.specs.Normal.{containerBytes, spanBytes, spansOf, pair, header, framed, encode}
-use Rattle.lists.proofs.Every.{every-0, every-1, every-nil, every-cons, every-append}
+use Rattle.lists.proofs.Every.{every-0, every-1, every-nil, every-cons, every-append, every-imp, every-drop}
 use Rattle.fields.proofs.ByteLaws.{bytes-length, number-bytes, joined-length, section-back, byte, bytes-byte, joined-byte, every-bytes}
 use Rattle.image.proofs.ImageRefusals.{refused-by-none}
 use Rattle.image.proofs.FramedSections.{part-0, part-1, part-2, part-3, frame-length, frame-long, frame-pairs}
@@ -87,17 +87,28 @@ pub span-wide : (r : Span) → length (spanBytes r) ≡ ruleSize
 unfolding spanBytes bytesOf
 span-wide r = refl
 
+ownerFits : ℕ → Bool
+ownerFits o = ltb o (256 ^ size16)
+
+owner-fits : (n o : ℕ) → n ≤ userLimit → ownerGood n o ≡ true → ownerFits o ≡ true
+unfolding ownerGood ownerFits
+owner-fits n o h k =
+    lt-ltb o (256 ^ size16) (⊎-elim (λ p. omega (arith, ltb-true o n p)) (λ p. omega (arith, eqb-true o noOwner p)) (or-cases (ltb o n) k))
+
 spanFits : Span → Bool
-spanFits r = ltb (r .first) (256 ^ size16) && ltb (r .count) (256 ^ size16)
+spanFits r = ltb (r .first) (256 ^ size16) && (ltb (r .count) (256 ^ size16) && ownerFits (r .owner))
 
 span-back : (r : Span) → spanFits r ≡ true → spanIn (spanBytes r) ≡ r
-unfolding spanIn spanBytes field bytesOf spanFits
+unfolding spanIn spanBytes field bytesOf spanFits ownerFits
 span-back r k =
-    let f : r .first < 256 ^ size16 = ltb-true (r .first) (256 ^ size16) (and-0 (ltb (r .first) (256 ^ size16)) (ltb (r .count) (256 ^ size16)) k) in
-    let g : r .count < 256 ^ size16 = ltb-true (r .count) (256 ^ size16) (and-1 (ltb (r .first) (256 ^ size16)) k) in
+    let f : r .first < 256 ^ size16 = ltb-true (r .first) (256 ^ size16) (and-0 (ltb (r .first) (256 ^ size16)) (ltb (r .count) (256 ^ size16) && ltb (r .owner) (256 ^ size16)) k) in
+    let j : (ltb (r .count) (256 ^ size16) && ltb (r .owner) (256 ^ size16)) ≡ true = and-1 (ltb (r .first) (256 ^ size16)) k in
+    let g : r .count < 256 ^ size16 = ltb-true (r .count) (256 ^ size16) (and-0 (ltb (r .count) (256 ^ size16)) (ltb (r .owner) (256 ^ size16)) j) in
+    let h : r .owner < 256 ^ size16 = ltb-true (r .owner) (256 ^ size16) (and-1 (ltb (r .count) (256 ^ size16)) j) in
     let e0 : numberIn (bytesOf size16 (r .first)) ≡ r .first = number-bytes size16 (r .first) f in
     let e1 : numberIn (bytesOf size16 (r .count)) ≡ r .count = number-bytes size16 (r .count) g in
-    λ i. record { first = e0 i; count = e1 i }
+    let e2 : numberIn (bytesOf size16 (r .owner)) ≡ r .owner = number-bytes size16 (r .owner) h in
+    λ i. record { first = e0 i; count = e1 i; owner = e2 i }
 
 -- ---- the rules and their mixtures
 
@@ -118,37 +129,50 @@ joined-words [] h = every-nil (λ m. ltb m (2 ^ tagWidth))
 joined-words (r ∷ rules) h =
     every-append (λ m. ltb m (2 ^ tagWidth)) r (joined rules) (and-1 (leb (length r) mixtureLimit) (every-0 ruleGood r rules h)) (joined-words rules (every-1 ruleGood r rules h))
 
-pub spans-length : (first : ℕ) (rules : List (List ℕ)) → length (spansOf first rules) ≡ length rules
+pub spans-length : (first : ℕ) (rules : List (List ℕ)) (owners : List ℕ) → length (spansOf first rules owners) ≡ length rules
 unfolding spansOf
-spans-length first [] = refl
-spans-length first (r ∷ rules) = ap suc (spans-length (first + length r) rules)
+spans-length first [] owners = refl
+spans-length first (r ∷ rules) owners = ap suc (spans-length (first + length r) rules (drop 1 owners))
 
-spans-fit : (first : ℕ) (rules : List (List ℕ)) → first + length (joined rules) < 256 ^ size16 → every spanFits (spansOf first rules) ≡ true
+-- the owner of the next rule
+head-fits : (owners : List ℕ) → every ownerFits owners ≡ true → ownerFits (getD owners 0 noOwner) ≡ true
+head-fits [] h = unfold ownerFits in refl
+head-fits (o ∷ owners) h = every-0 ownerFits o owners h
+
+spans-fit : (first : ℕ) (rules : List (List ℕ)) (owners : List ℕ) → first + length (joined rules) < 256 ^ size16 → every ownerFits owners ≡ true → every spanFits (spansOf first rules owners) ≡ true
 unfolding spansOf joined spanFits
-spans-fit first [] h = every-nil spanFits
-spans-fit first (r ∷ rules) h =
+spans-fit first [] owners h k = every-nil spanFits
+spans-fit first (r ∷ rules) owners h k =
     let e : length (r ++ joined rules) ≡ length r + length (joined rules) = length-append r (joined rules) in
-    every-cons spanFits (record { first = first; count = length r }) (spansOf (first + length r) rules)
-    (and-in (lt-ltb first (256 ^ size16) (omega arith)) (lt-ltb (length r) (256 ^ size16) (omega arith)))
-    (spans-fit (first + length r) rules (omega arith))
+    every-cons spanFits (record { first = first; count = length r; owner = getD owners 0 noOwner }) (spansOf (first + length r) rules (drop 1 owners))
+    (and-in (lt-ltb first (256 ^ size16) (omega arith)) (and-in (lt-ltb (length r) (256 ^ size16) (omega arith)) (head-fits owners k)))
+    (spans-fit (first + length r) rules (drop 1 owners) (omega arith) (every-drop ownerFits 1 owners k))
 
-spans-good : (m from first : ℕ) (rules : List (List ℕ)) → from ≤ first → first + length (joined rules) ≤ m → every ruleGood rules ≡ true → spansGood m from (spansOf first rules) ≡ true
+spans-good : (m from first : ℕ) (rules : List (List ℕ)) (owners : List ℕ) → from ≤ first → first + length (joined rules) ≤ m → every ruleGood rules ≡ true → spansGood m from (spansOf first rules owners) ≡ true
 unfolding spansGood spansOf joined
-spans-good m from first [] l h k = refl
-spans-good m from first (r ∷ rules) l h k =
+spans-good m from first [] owners l h k = refl
+spans-good m from first (r ∷ rules) owners l h k =
     let e : length (r ++ joined rules) ≡ length r + length (joined rules) = length-append r (joined rules) in
     and-in (le-leb from first l)
     (and-in (le-leb (length r) mixtureLimit (short r (every-0 ruleGood r rules k)))
     (and-in (le-leb (first + length r) m (omega arith))
-    (spans-good m first (first + length r) rules (omega arith) (omega arith) (every-1 ruleGood r rules k))))
+    (spans-good m first (first + length r) rules (drop 1 owners) (omega arith) (omega arith) (every-1 ruleGood r rules k))))
 
 -- rules that are written one behind the other are read back
-rules-back : (rules : List (List ℕ)) (p q : List ℕ) (first : ℕ) → length p ≡ first → q ≡ p ++ joined rules → map (ruleIn q) (spansOf first rules) ≡ rules
+rules-back : (rules : List (List ℕ)) (owners p q : List ℕ) (first : ℕ) → length p ≡ first → q ≡ p ++ joined rules → map (ruleIn q) (spansOf first rules owners) ≡ rules
 unfolding spansOf joined ruleIn
-rules-back [] p q first e f = refl
-rules-back (r ∷ rules) p q first e f =
+rules-back [] owners p q first e f = refl
+rules-back (r ∷ rules) owners p q first e f =
     ap₂ _∷_ (ap (λ (x : List ℕ). take (length r) (drop first x)) f ∙ ap (take (length r)) (drop-at p (r ++ joined rules) first e) ∙ take-append-seam r (joined rules))
-    (rules-back rules (p ++ r) q (first + length r) (length-append p r ∙ omega (arith, e)) (f ∙ sym (append-assoc p r (joined rules))))
+    (rules-back rules (drop 1 owners) (p ++ r) q (first + length r) (length-append p r ∙ omega (arith, e)) (f ∙ sym (append-assoc p r (joined rules))))
+
+-- and their owners
+owners-back : (first : ℕ) (rules : List (List ℕ)) (owners : List ℕ) → length owners ≡ length rules → map (λ s. s .owner) (spansOf first rules owners) ≡ owners
+unfolding spansOf
+owners-back first [] [] e = refl
+owners-back first [] (o ∷ owners) e = absurd (omega arith)
+owners-back first (r ∷ rules) [] e = absurd (omega arith)
+owners-back first (r ∷ rules) (o ∷ owners) e = ap (λ (l : List ℕ). o ∷ l) (owners-back (first + length r) rules owners (omega arith))
 
 -- ---- the whole image
 
@@ -184,18 +208,23 @@ module _ (p : Policy) (h : Sound p) where
       (λ n k. number-bytes userSize n (named-fits (length (p .rules)) n (h .fewRules) k)) (p .users) (h .usersGood)
 
   r : List ℕ
-  r = joined (map spanBytes (spansOf 0 (p .rules)))
+  r = joined (map spanBytes (spansOf 0 (p .rules) (p .owners)))
 
   r-length : length r ≡ length (p .rules) * ruleSize
   unfolding r
-  r-length = joined-length ruleSize spanBytes span-wide (spansOf 0 (p .rules)) ∙ ap (λ (n : ℕ). n * ruleSize) (spans-length 0 (p .rules))
+  r-length = joined-length ruleSize spanBytes span-wide (spansOf 0 (p .rules) (p .owners)) ∙ ap (λ (n : ℕ). n * ruleSize) (spans-length 0 (p .rules) (p .owners))
 
   all-short : length (joined (p .rules)) ≤ mixtureTotal
   all-short = omega (arith, joined-short (p .rules) (h .rulesGood), h .fewRules)
 
-  r-back : spansIn r ≡ spansOf 0 (p .rules)
+  owners-fit : every ownerFits (p .owners) ≡ true
+  owners-fit = every-imp (ownerGood (length (p .users))) ownerFits (p .owners) (λ o k. owner-fits (length (p .users)) o (h .fewUsers) k) (h .ownersGood)
+
+  r-back : spansIn r ≡ spansOf 0 (p .rules) (p .owners)
   unfolding r spansIn
-  r-back = section-back ruleSize spanBytes span-wide (omega arith) spanFits spanIn span-back (spansOf 0 (p .rules)) (spans-fit 0 (p .rules) (omega (arith, all-short)))
+  r-back =
+      section-back ruleSize spanBytes span-wide (omega arith) spanFits spanIn span-back (spansOf 0 (p .rules) (p .owners))
+      (spans-fit 0 (p .rules) (p .owners) (omega (arith, all-short)) owners-fit)
 
   m : List ℕ
   m = joined (map (bytesOf mixtureSize) (joined (p .rules)))
@@ -218,13 +247,14 @@ module _ (p : Policy) (h : Sound p) where
   encoded = refl
 
   framed-policy : policyIn (framed c u r m) ≡ p
-  unfolding policyIn rulesIn
+  unfolding policyIn rulesIn ownersIn
   framed-policy =
       let e0 : containersIn (part (framed c u r m) 0) ≡ p .containers = rw (part-0 c u r m fits) c-back in
       let e1 : usersIn (part (framed c u r m) 1) ≡ p .users = rw (part-1 c u r m fits) u-back in
       let e2 : map (ruleIn (mixturesIn (part (framed c u r m) 3))) (spansIn (part (framed c u r m) 2)) ≡ p .rules =
-      rw (part-3 c u r m fits, part-2 c u r m fits, r-back) (rules-back (p .rules) [] (mixturesIn m) 0 refl m-back) in
-      λ i. record { containers = e0 i; users = e1 i; rules = e2 i }
+      rw (part-3 c u r m fits, part-2 c u r m fits, r-back) (rules-back (p .rules) (p .owners) [] (mixturesIn m) 0 refl m-back) in
+      let e3 : map (λ s. s .owner) (spansIn (part (framed c u r m) 2)) ≡ p .owners = rw (part-2 c u r m fits, r-back) (owners-back 0 (p .rules) (p .owners) (h .ownersLong)) in
+      λ i. record { containers = e0 i; users = e1 i; rules = e2 i; owners = e3 i }
 
   framed-sections : sectionsGood (framed c u r m) ≡ true
   unfolding sectionsGood
@@ -235,11 +265,17 @@ module _ (p : Policy) (h : Sound p) where
       (and-in (whole ruleSize ruleLimit (length (p .rules)) r (omega arith) r-length (h .fewRules))
       (whole mixtureSize mixtureTotal (length (joined (p .rules))) m (omega arith) m-length all-short))))
 
+  users-count : length u / userSize ≡ length (p .users)
+  users-count = omega (arith, u-length)
+
+  framed-owners : every (ownerGood (length u / userSize)) (map (λ s. s .owner) (spansOf 0 (p .rules) (p .owners))) ≡ true
+  framed-owners = rw (users-count, owners-back 0 (p .rules) (p .owners) (h .ownersLong)) (h .ownersGood)
+
   framed-rules : rulesGood (framed c u r m) ≡ true
-  unfolding rulesGood
+  unfolding rulesGood ownersIn
   framed-rules =
-      rw (part-3 c u r m fits, part-2 c u r m fits, r-back)
-      (spans-good (length m / mixtureSize) 0 0 (p .rules) (omega arith) (omega (arith, m-length)) (h .rulesGood))
+      rw (part-3 c u r m fits, part-2 c u r m fits, part-1 c u r m fits, r-back)
+      (and-in (spans-good (length m / mixtureSize) 0 0 (p .rules) (p .owners) (omega arith) (omega (arith, m-length)) (h .rulesGood)) framed-owners)
 
   rules-count : length r / ruleSize ≡ length (p .rules)
   rules-count = omega (arith, r-length)
@@ -295,11 +331,11 @@ encode-bytes p =
     (framed-byte
     (joined (map containerBytes (p .containers)))
     (joined (map (bytesOf userSize) (p .users)))
-    (joined (map spanBytes (spansOf 0 (p .rules))))
+    (joined (map spanBytes (spansOf 0 (p .rules) (p .owners))))
     (joined (map (bytesOf mixtureSize) (joined (p .rules))))
     (joined-byte containerBytes container-byte (p .containers))
     (joined-byte (bytesOf userSize) (bytes-byte userSize) (p .users))
-    (joined-byte spanBytes span-byte (spansOf 0 (p .rules)))
+    (joined-byte spanBytes span-byte (spansOf 0 (p .rules) (p .owners)))
     (joined-byte (bytesOf mixtureSize) (bytes-byte mixtureSize) (joined (p .rules))))
   where
     container-byte : (c : Container) → every byte (containerBytes c) ≡ true
@@ -310,4 +346,7 @@ encode-bytes p =
         (every-append byte (bytesOf size16 (c .permit)) (bytesOf size16 (c .run)) (bytes-byte size16 (c .permit)) (bytes-byte size16 (c .run))))
 
     span-byte : (r : Span) → every byte (spanBytes r) ≡ true
-    span-byte r = unfold spanBytes in every-append byte (bytesOf size16 (r .first)) (bytesOf size16 (r .count)) (bytes-byte size16 (r .first)) (bytes-byte size16 (r .count))
+    span-byte r =
+        unfold spanBytes in
+        every-append byte (bytesOf size16 (r .first)) (bytesOf size16 (r .count) ++ bytesOf size16 (r .owner)) (bytes-byte size16 (r .first))
+        (every-append byte (bytesOf size16 (r .count)) (bytesOf size16 (r .owner)) (bytes-byte size16 (r .count)) (bytes-byte size16 (r .owner)))

@@ -6,6 +6,8 @@ pub mod Decode
 pub mod Encode
 pub mod FramedSections
 pub mod WrittenMeaning
+pub mod WrittenOwners
+pub mod OwnerLaws
 pub mod Numbering
 pub mod RecordsByPlace
 pub mod RulesByNumber

@@ -2,18 +2,18 @@
 use Prim.Native.Nat.{ℕ, zero, suc, _+_, _-_, _*_, _/_, _≤_, _<_}
 use mathlib.Core.Path.{_≡_, refl, sym, ap, _∙_}
 use mathlib.Core.Bool.{true, _&&_}
-use mathlib.Core.List.{List, [], _∷_}
+use mathlib.Core.List.{List, [], _∷_, map}
 use native.Mathlib.Omega.{arith}
 use lib.Dec.{leb}
 use lib.ListN.{length, getD, take, drop, length-map}
 use borrow.Author.Tests.{leb-true}
 use Rattle.lists.proofs.Bools.{and-0, and-1}
 use Rattle.fields.specs.Bytes.{numberIn, field, records}
-use Rattle.image.specs.Image.{Span, containerIn, containersIn, usersIn, spanIn, spansIn, ruleIn, rulesIn, mixturesIn, spansGood}
+use Rattle.image.specs.Image.{Span, containerIn, containersIn, usersIn, spanIn, spansIn, ruleIn, rulesIn, ownersIn, mixturesIn, spansGood}
 use Rattle.fields.proofs.FieldLaws.{field-record}
 use Rattle.fields.proofs.RecordLaws.{records-count, record-at}
 use Rattle.lists.proofs.Places.{map-at}
-use Rattle.image.specs.Limits.{containerSize, userSize, ruleSize, mixtureSize, size16, firstField, countField}
+use Rattle.image.specs.Limits.{containerSize, userSize, ruleSize, mixtureSize, size16, firstField, countField, ownerField, noOwner}
 use Rattle.rules.specs.Answers.{mixtureLimit}
 
 -- ---- how many there are
@@ -34,6 +34,10 @@ pub rules-count : (r m : List ℕ) → length (rulesIn r m) ≡ length r / ruleS
 unfolding rulesIn
 rules-count r m = length-map (spansIn r) (ruleIn (mixturesIn m)) ∙ spans-count r
 
+pub owners-count : (r : List ℕ) → length (ownersIn r) ≡ length r / ruleSize
+unfolding ownersIn
+owners-count r = length-map (spansIn r) (λ s. s .owner) ∙ spans-count r
+
 pub mixtures-count : (m : List ℕ) → length (mixturesIn m) ≡ length m / mixtureSize
 unfolding mixturesIn
 mixtures-count m = length-map (records mixtureSize m) numberIn ∙ records-count mixtureSize m
@@ -45,20 +49,21 @@ unfolding mixturesIn field
 mixture-at m k h = sym (record-at numberIn mixtureSize k m 0 h)
 
 span-zero : Span
-span-zero = record { first = 0; count = 0 }
+span-zero = record { first = 0; count = 0; owner = noOwner }
 
-span-at : (r : List ℕ) (n : ℕ) → n < length r / ruleSize → getD (spansIn r) n span-zero ≡ record { first = field r (n * ruleSize) size16; count = field r (n * ruleSize + countField) size16 }
+span-at : (r : List ℕ) (n : ℕ) → n < length r / ruleSize → getD (spansIn r) n span-zero ≡ record { first = field r (n * ruleSize) size16; count = field r (n * ruleSize + countField) size16; owner = field r (n * ruleSize + ownerField) size16 }
 unfolding spansIn spanIn
 span-at r n h = record-at spanIn ruleSize n r span-zero h ∙ parts
   where
     z : n * ruleSize + 0 ≡ n * ruleSize
     z = omega arith
 
-    parts : spanIn (take ruleSize (drop (n * ruleSize) r)) ≡ record { first = field r (n * ruleSize) size16; count = field r (n * ruleSize + countField) size16 }
+    parts : spanIn (take ruleSize (drop (n * ruleSize) r)) ≡ record { first = field r (n * ruleSize) size16; count = field r (n * ruleSize + countField) size16; owner = field r (n * ruleSize + ownerField) size16 }
     parts =
         let e : field (take ruleSize (drop (n * ruleSize) r)) firstField size16 ≡ field r (n * ruleSize) size16 = field-record r (n * ruleSize) ruleSize firstField size16 (omega arith) ∙ ap (λ (x : ℕ). field r x size16) z in
         let f : field (take ruleSize (drop (n * ruleSize) r)) countField size16 ≡ field r (n * ruleSize + countField) size16 = field-record r (n * ruleSize) ruleSize countField size16 (omega arith) in
-        λ i. record { first = e i; count = f i }
+        let g : field (take ruleSize (drop (n * ruleSize) r)) ownerField size16 ≡ field r (n * ruleSize + ownerField) size16 = field-record r (n * ruleSize) ruleSize ownerField size16 (omega arith) in
+        λ i. record { first = e i; count = f i; owner = g i }
 
 good-at : (m from : ℕ) (rs : List Span) (n : ℕ) (d : Span) → spansGood m from rs ≡ true → n < length rs → (getD rs n d .count ≤ mixtureLimit) × (getD rs n d .first + getD rs n d .count ≤ m)
 unfolding spansGood
@@ -81,3 +86,21 @@ module _ (r m : List ℕ) (h : spansGood (length m / mixtureSize) 0 (spansIn r) 
   pub rule-at : getD (rulesIn r m) n [] ≡ take (field r (n * ruleSize + countField) size16) (drop (field r (n * ruleSize) size16) (mixturesIn m))
   unfolding rulesIn
   rule-at = map-at (ruleIn (mixturesIn m)) (spansIn r) n span-zero [] inside ∙ ap (ruleIn (mixturesIn m)) (span-at r n l) ∙ (unfold ruleIn in refl)
+
+-- the owners, record by record
+pub owners-are : (r : List ℕ) → ownersIn r ≡ map (λ x. spanIn x .owner) (records ruleSize r)
+unfolding ownersIn spansIn
+owners-are r = by (records ruleSize r)
+  where
+    by : (l : List (List ℕ)) → map (λ s. s .owner) (map spanIn l) ≡ map (λ x. spanIn x .owner) l
+    by [] = refl
+    by (x ∷ l) = ap (λ (k : List ℕ). spanIn x .owner ∷ k) (by l)
+
+pub owner-record : (r : List ℕ) (n : ℕ) → spanIn (take ruleSize (drop (n * ruleSize) r)) .owner ≡ field r (n * ruleSize + ownerField) size16
+unfolding spanIn
+owner-record r n = field-record r (n * ruleSize) ruleSize ownerField size16 (omega arith)
+
+-- the owner of rule n
+pub owner-at : (r : List ℕ) (n : ℕ) → n < length r / ruleSize → getD (ownersIn r) n noOwner ≡ field r (n * ruleSize + ownerField) size16
+unfolding ownersIn
+owner-at r n l = map-at (λ s. s .owner) (spansIn r) n span-zero noOwner (omega (arith, spans-count r)) ∙ ap (λ (s : Span). s .owner) (span-at r n l)

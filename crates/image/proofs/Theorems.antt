@@ -1,30 +1,31 @@
 -- THE POLICY IMAGE: what is proved. Each statement is spelled out here and proved by a citation.
 use Prim.Native.Nat.{ℕ, _≤_, _<_}
 use native.Mathlib.Omega.{arith}
-use mathlib.Core.Path.{_≡_, ap, _∙_}
+use mathlib.Core.Path.{_≡_, refl, sym, ap, _∙_}
 use mathlib.Core.Bool.{true, false}
-use mathlib.Core.List.{List, [], _∷_}
+use mathlib.Core.List.{List, [], _∷_, map}
 use mathlib.Core.Logic.{_↔_, _≢_}
 use lib.ListN.{length, getD}
-use Rattle.lists.specs.Lists.{elem, known, position}
+use Rattle.lists.specs.Lists.{elem, knownBy, positionBy}
 use Rattle.lists.specs.Conditions.{numbersOf, numberAt}
 use Rattle.lists.proofs.Conditions.{given-among}
 use Rattle.lists.proofs.Bools.{clash}
-use Rattle.lists.proofs.Same.{same-refl}
+use Rattle.lists.proofs.Known.{known-every}
 use Rattle.answers.specs.Refusals.{imageLength, sections, recordCount, ruleRecord, containerRecord, userRule}
 use Rattle.fields.specs.Bytes.{Bytes}
 use Rattle.rules.specs.Rules.{normal}
-use Rattle.rule_words.specs.Words.{isNormal}
 use Rattle.rule_words.proofs.WordLaws.{normal-is}
 use Rattle.image.specs.Limits.{headerSize, outputBound}
-use Rattle.image.specs.Policy.{Policy, Sound, unrestrictedRule}
+use Rattle.image.specs.Policy.{Policy, Sound}
 use Rattle.image.specs.Image.{policyIn, imageLengthGood, pairsGood, sectionsGood, rulesGood, containersGood, usersGood, imageConditions, checkOf}
-use Rattle.image.specs.Normal.{meaning, uses, writtenBy, policyOf, normalPolicy, encode, normalImage}
+use Rattle.image.specs.Normal.{meaning, Owned, owned, uses, ownersAt, sameUse, freeUse, writtenUses, writtenBy, policyOf, normalPolicy, encode, normalImage}
 use Rattle.image.proofs.ImageRefusals.{refused-at, refused-by-none}
 use Rattle.image.proofs.Encode as encoded
 use Rattle.image.proofs.Decode as decoded
-use Rattle.image.proofs.WrittenMeaning.{meaning-encodable, policy-sound, policy-means}
-use Rattle.image.proofs.FirstUses.{Firsts, firsts, known-every, uses-normal}
+use Rattle.image.proofs.Numbering.{use-refl, use-eq}
+use Rattle.image.proofs.WrittenOwners.{Ownable, owned-ownable, policy-sound, policy-owns}
+use Rattle.image.proofs.OwnerLaws.{bareOf, meaning-owned}
+use Rattle.image.proofs.FirstUses.{Firsts, firsts, useNormal, uses-normal}
 
 -- ---- REFUSALS: an image is refused by a number exactly when its condition is the first of the six that fails
 
@@ -82,9 +83,12 @@ accepted-sound = decoded.accepted-sound
 -- ---- THE NORMAL IMAGE of an accepted image
 
 module _ (i : List ℕ) (b : Bytes i) (e : checkOf i ≡ 0) where
+  ownable : Ownable (owned (policyIn i))
+  ownable = owned-ownable (policyIn i) (accepted-sound i b e)
+
   normal-sound : Sound (normalPolicy (policyIn i))
   unfolding normalPolicy
-  normal-sound = policy-sound (meaning (policyIn i)) (meaning-encodable (policyIn i) (accepted-sound i b e))
+  normal-sound = policy-sound (owned (policyIn i)) ownable
 
   -- it is accepted, and spells the normal policy
   pub normal-accepted : checkOf (normalImage (policyIn i)) ≡ 0
@@ -95,7 +99,7 @@ module _ (i : List ℕ) (b : Bytes i) (e : checkOf i ≡ 0) where
   unfolding normalImage
   normal-spells = encode-spells (normalPolicy (policyIn i)) normal-sound
 
-  -- it is bytes, at least the 18 of the header; "Its length is at most 18,994"
+  -- it is bytes, at least the 18 of the header; "must hold 19,506 bytes"
   pub normal-bytes : Bytes (normalImage (policyIn i))
   unfolding normalImage
   normal-bytes = encoded.encode-bytes (normalPolicy (policyIn i))
@@ -108,39 +112,57 @@ module _ (i : List ℕ) (b : Bytes i) (e : checkOf i ≡ 0) where
   unfolding normalImage
   normal-short = encoded.encode-short (normalPolicy (policyIn i)) normal-sound
 
-  -- the normal policy means the same
-  pub normal-means : meaning (normalPolicy (policyIn i)) ≡ meaning (policyIn i)
+  -- the normal policy owns the same, so it means the same and has the same owners
+  pub normal-owned : owned (normalPolicy (policyIn i)) ≡ owned (policyIn i)
   unfolding normalPolicy
-  normal-means = policy-means (meaning (policyIn i)) (meaning-encodable (policyIn i) (accepted-sound i b e))
+  normal-owned = policy-owns (owned (policyIn i)) ownable
+
+  pub normal-means : meaning (normalPolicy (policyIn i)) ≡ meaning (policyIn i)
+  normal-means = meaning-owned (normalPolicy (policyIn i)) ∙ ap bareOf normal-owned ∙ sym (meaning-owned (policyIn i))
+
+  -- the owner at every use of a rule is kept
+  pub normal-owners : ownersAt (policyIn (normalImage (policyIn i))) ≡ ownersAt (policyIn i)
+  normal-owners = ap ownersAt normal-spells ∙ (unfold ownersAt in ap (λ (m : Owned). map (λ u. u .owner) (uses m)) normal-owned)
 
   -- it is its own normal image
   pub normal-fixed : normalImage (policyIn (normalImage (policyIn i))) ≡ normalImage (policyIn i)
-  normal-fixed = ap normalImage normal-spells ∙ (unfold normalImage normalPolicy in ap (λ m. encode (policyOf m)) normal-means)
+  normal-fixed = ap normalImage normal-spells ∙ (unfold normalImage normalPolicy in ap (λ (m : Owned). encode (policyOf m)) normal-owned)
 
--- ---- ITS RULES, of any policy: in the order of their first use among the containers' rules and then the users'
+-- ---- ITS RULES with their owners, of any policy: in the order of their first use among the containers' rules and then the users'
 
 module _ (p : Policy) where
-  rules-firsts : Firsts (normalPolicy p .rules) (uses (meaning p))
+  rules-firsts : Firsts (writtenUses (owned p)) (uses (owned p))
+  unfolding writtenUses
+  rules-firsts = firsts (uses (owned p))
+
+  -- these are the rules and the owners that are written
+  pub rules-mixtures : normalPolicy p .rules ≡ map (λ u. u .mixtures) (writtenUses (owned p))
   unfolding normalPolicy policyOf writtenBy
-  rules-firsts = firsts (uses (meaning p))
+  rules-mixtures = refl
+
+  pub rules-owners : normalPolicy p .owners ≡ map (λ u. u .owner) (writtenUses (owned p))
+  unfolding normalPolicy policyOf writtenBy
+  rules-owners = refl
 
   -- "unused rules dropped"
-  pub rules-used : (k : ℕ) → k < length (normalPolicy p .rules) → known (getD (normalPolicy p .rules) k []) (uses (meaning p)) ≡ true
+  pub rules-used : (k : ℕ) → k < length (writtenUses (owned p)) → knownBy sameUse (getD (writtenUses (owned p)) k freeUse) (uses (owned p)) ≡ true
   rules-used = rules-firsts .used
 
   -- "rules in normal form"
-  pub rules-normal : (k : ℕ) → k < length (normalPolicy p .rules) → normal (getD (normalPolicy p .rules) k []) ≡ getD (normalPolicy p .rules) k []
-  rules-normal k l = normal-is (getD (normalPolicy p .rules) k []) (known-every isNormal (getD (normalPolicy p .rules) k []) (uses (meaning p)) (rules-used k l) (uses-normal p))
+  pub rules-normal : (k : ℕ) → k < length (writtenUses (owned p)) → normal (getD (writtenUses (owned p)) k freeUse .mixtures) ≡ getD (writtenUses (owned p)) k freeUse .mixtures
+  rules-normal k l =
+      normal-is (getD (writtenUses (owned p)) k freeUse .mixtures)
+      (unfold useNormal in known-every sameUse use-eq useNormal (getD (writtenUses (owned p)) k freeUse) (uses (owned p)) (rules-used k l) (uses-normal p))
 
-  -- "unrestricted rules written as 65535"
-  pub rules-restricted : (k : ℕ) → k < length (normalPolicy p .rules) → getD (normalPolicy p .rules) k [] ≢ unrestrictedRule
-  rules-restricted k l e = clash (rw e (same-refl unrestrictedRule)) (rules-firsts .restricted k l)
+  -- "An unrestricted rule becomes 65535 only without an owner": none that is written is unrestricted without an owner
+  pub rules-restricted : (k : ℕ) → k < length (writtenUses (owned p)) → getD (writtenUses (owned p)) k freeUse ≢ freeUse
+  rules-restricted k l e = clash (rw e (use-refl freeUse)) (rules-firsts .restricted k l)
 
   -- "numbered by first use"
-  pub rules-rising : (j k : ℕ) → j < k → k < length (normalPolicy p .rules)
-      → position (getD (normalPolicy p .rules) j []) (uses (meaning p)) < position (getD (normalPolicy p .rules) k []) (uses (meaning p))
+  pub rules-rising : (j k : ℕ) → j < k → k < length (writtenUses (owned p))
+      → positionBy sameUse (getD (writtenUses (owned p)) j freeUse) (uses (owned p)) < positionBy sameUse (getD (writtenUses (owned p)) k freeUse) (uses (owned p))
   rules-rising = rules-firsts .rising
 
-  -- "equal rules written once"
-  pub rules-once : (j k : ℕ) → j < k → k < length (normalPolicy p .rules) → getD (normalPolicy p .rules) j [] ≢ getD (normalPolicy p .rules) k []
+  -- "equal rules written once": equal in mixtures and owner
+  pub rules-once : (j k : ℕ) → j < k → k < length (writtenUses (owned p)) → getD (writtenUses (owned p)) j freeUse ≢ getD (writtenUses (owned p)) k freeUse
   rules-once j k l m e = let h = rules-rising j k l m in omega (arith, rw e at h)

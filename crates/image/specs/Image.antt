@@ -26,13 +26,14 @@ use Rattle.image.specs.Limits.{
   runField,
   firstField,
   countField,
+  ownerField,
   offsetAt,
   sizeAt,
   leadingNumber,
   headerSize,
   imageLimit,
 }
-use Rattle.image.specs.Policy.{Container, Policy, containerGood, named}
+use Rattle.image.specs.Policy.{Container, Policy, containerGood, named, ownerGood}
 
 -- ---- the four pairs and their sections: 0 containers, 1 users, 2 rules, 3 mixtures
 
@@ -56,13 +57,14 @@ containerIn r =
       run = field r runField size16;
     }
 
--- a rule record: its first mixture and its count
+-- a rule record: its first mixture, its count and its owner
 pub record Span : Type 0 where
   pub first : ℕ
   pub count : ℕ
+  pub owner : ℕ
 
 unfoldable pub spanIn : List ℕ → Span
-spanIn r = record { first = field r firstField size16; count = field r countField size16 }
+spanIn r = record { first = field r firstField size16; count = field r countField size16; owner = field r ownerField size16 }
 
 unfoldable pub ruleIn : List ℕ → Span → List ℕ
 ruleIn mixtures r = take (r .count) (drop (r .first) mixtures)
@@ -83,12 +85,17 @@ mixturesIn s = map numberIn (records mixtureSize s)
 unfoldable pub rulesIn : List ℕ → List ℕ → List (List ℕ)
 rulesIn r m = map (ruleIn (mixturesIn m)) (spansIn r)
 
+-- the owners of the rules
+unfoldable pub ownersIn : List ℕ → List ℕ
+ownersIn r = map (λ s. s .owner) (spansIn r)
+
 unfoldable pub policyIn : List ℕ → Policy
 policyIn i =
     record {
       containers = containersIn (part i 0);
       users = usersIn (part i 1);
       rules = rulesIn (part i 2) (part i 3);
+      owners = ownersIn (part i 2);
     }
 
 -- ---- the tests
@@ -101,7 +108,7 @@ imageLengthGood i = leb headerSize (length i) && leb (length i) imageLimit
 unfoldable pub partGood : List ℕ → ℕ → ℕ → Bool
 partGood i from k = leb from (offset i k) && leb (offset i k + size i k) (length i)
 
--- 2: "the leading 4 or the pairs"
+-- 2: the leading number "or the pairs"; "Every image now leads with a 16-bit 5, and 2 refuses the old 4" (change request No. 10)
 unfoldable pub pairsGood : List ℕ → Bool
 pairsGood i =
     eqb (field i 0 size16) leadingNumber
@@ -127,8 +134,10 @@ spansGood m from [] = true
 spansGood m from (r ∷ rs) =
     leb from (r .first) && (leb (r .count) mixtureLimit && (leb (r .first + r .count) m && spansGood m (r .first) rs))
 
+-- and each owner is "a declared user or 65535 for nobody"
 unfoldable pub rulesGood : List ℕ → Bool
-rulesGood i = spansGood (length (part i 3) / mixtureSize) 0 (spansIn (part i 2))
+rulesGood i =
+    spansGood (length (part i 3) / mixtureSize) 0 (spansIn (part i 2)) && every (ownerGood (length (part i 1) / userSize)) (ownersIn (part i 2))
 
 -- 5: "container record"
 unfoldable pub containersGood : List ℕ → Bool

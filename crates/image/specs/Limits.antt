@@ -57,6 +57,11 @@ noAtom = 255
 abbrev pub unrestrictedNumber : ℕ
 unrestrictedNumber = 65535
 
+-- the owner of a rule is "a declared user or 65535 for nobody"
+
+abbrev pub noOwner : ℕ
+noOwner = 65535
+
 -- ---- the sections: how many there are, how many records at most, and how many bytes each has
 
 abbrev pub sectionCount : ℕ
@@ -81,7 +86,7 @@ abbrev pub userSize : ℕ
 userSize = 2
 
 abbrev pub ruleSize : ℕ
-ruleSize = 4
+ruleSize = 6
 
 abbrev pub mixtureSize : ℕ
 mixtureSize = 8
@@ -112,11 +117,14 @@ firstField = 0
 abbrev pub countField : ℕ
 countField = 2
 
--- ---- "First a 16-bit 4, then four pairs of 16-bit offset and length .., so 18 bytes"; "At most 20,480 bytes"; a normal image
--- has "at most 18,994; the output must hold that many"
+abbrev pub ownerField : ℕ
+ownerField = 4
+
+-- ---- "Every image now leads with a 16-bit 5" (change request No. 10), "then four pairs of 16-bit offset and length .., so 18 bytes"; "At
+-- most 20,480 bytes"; "Any output for a normal image must hold 19,506 bytes" (change request No. 10)
 
 abbrev pub leadingNumber : ℕ
-leadingNumber = 4
+leadingNumber = 5
 
 abbrev pub pairSize : ℕ
 pairSize = 4
@@ -135,4 +143,4 @@ abbrev pub imageLimit : ℕ
 imageLimit = 20480
 
 abbrev pub outputBound : ℕ
-outputBound = 18994
+outputBound = 19506

@@ -7,7 +7,7 @@ use lib.Dec.{eqb, ltb, leb}
 use lib.ListN.{length, getD}
 use Rattle.rules.specs.Rules.{unrestricted}
 use Rattle.rules.specs.Answers.{dataWidth, tagWidth, mixtureLimit}
-use Rattle.image.specs.Limits.{isFile, isVolatile, isProcess, noAtom, unrestrictedNumber, containerLimit, userLimit, ruleLimit}
+use Rattle.image.specs.Limits.{isFile, isVolatile, isProcess, noAtom, unrestrictedNumber, noOwner, containerLimit, userLimit, ruleLimit}
 use Rattle.lists.specs.Lists.{every}
 
 -- a container record: kind, atom, and the numbers of its permit rule and run rule
@@ -17,11 +17,12 @@ pub record Container : Type 0 where
   pub permit : ℕ
   pub run : ℕ
 
--- containers; users, by their rule numbers; rules, by their mixtures in the image's own order
+-- containers; users, by their rule numbers; rules, by their mixtures in the image's own order; the owner of each rule
 pub record Policy : Type 0 where
   pub containers : List Container
   pub users : List ℕ
   pub rules : List (List ℕ)
+  pub owners : List ℕ
 
 -- "The unrestricted rule has the single mixture of all 64 atoms."
 unfoldable pub unrestrictedRule : List ℕ
@@ -30,6 +31,14 @@ unrestrictedRule = unrestricted tagWidth
 -- the rule with the number n: "Rule number 65535 is the unrestricted rule."
 unfoldable pub ruleAt : List (List ℕ) → ℕ → List ℕ
 ruleAt rules n = cond (eqb n unrestrictedNumber) unrestrictedRule (getD rules n [])
+
+-- the owner of the rule with the number n: "65535 itself has none"
+unfoldable pub ownerAt : List ℕ → ℕ → ℕ
+ownerAt owners n = cond (eqb n unrestrictedNumber) noOwner (getD owners n noOwner)
+
+-- an owner among n users: "a declared user or 65535 for nobody"
+unfoldable pub ownerGood : ℕ → ℕ → Bool
+ownerGood n o = ltb o n || eqb o noOwner
 
 -- a number names one of n rules, or the unrestricted one
 unfoldable pub named : ℕ → ℕ → Bool
@@ -54,3 +63,5 @@ pub record Sound (p : Policy) : Type 0 where
   pub rulesGood : every ruleGood (p .rules) ≡ true
   pub containersGood : every (containerGood (length (p .rules))) (p .containers) ≡ true
   pub usersGood : every (named (length (p .rules))) (p .users) ≡ true
+  pub ownersLong : length (p .owners) ≡ length (p .rules)
+  pub ownersGood : every (ownerGood (length (p .users))) (p .owners) ≡ true

@@ -3,6 +3,7 @@ pub mod Conditions
 pub mod Bools
 pub mod Elem
 pub mod Same
+pub mod Known
 pub mod Every
 pub mod Places
 pub mod Joined

@@ -8,7 +8,7 @@ use Rattle.rules.specs.Sets.{holds, dataOf, runningOf}
 use Rattle.rules.specs.Rules.{covers, coverFrom, coverPlace, distinct, heldIn, unheldIn, insert, sort, normal, intersections, meet, unrestricted}
 use Rattle.lists.specs.Lists.{elem, sameList, every}
 use Rattle.rules.specs.Answers.{padded}
-use Rattle.image.specs.Limits.{isFree, isGuarded, isFile, isVolatile, isProcess, isStore, fileKind, processKind, guardedKind, noAtom, unrestrictedNumber, usedKind}
+use Rattle.image.specs.Limits.{isFree, isGuarded, isFile, isVolatile, isProcess, isStore, fileKind, processKind, guardedKind, noAtom, unrestrictedNumber, noOwner, usedKind}
 use Rattle.fields.specs.Bytes.{numberIn, bytesOf, field}
 use Rattle.image.specs.Policy.{Container, Policy, unrestrictedRule, ruleAt}
 use Rattle.image.specs.Normal.{normalAt, placeOf, meaning}
@@ -44,6 +44,7 @@ P = record {
   containers = file 1 unrestrictedNumber ∷ file 2 unrestrictedNumber ∷ file noAtom unrestrictedNumber ∷ process ∷ process ∷ [];
   users = unrestrictedNumber ∷ [];
   rules = [];
+  owners = [];
 }
 
 -- three files with the atoms 1, 2 and 3, two processes and a user, all rules unrestricted
@@ -52,15 +53,16 @@ R = record {
   containers = file 1 unrestrictedNumber ∷ file 2 unrestrictedNumber ∷ file 3 unrestrictedNumber ∷ process ∷ process ∷ [];
   users = unrestrictedNumber ∷ [];
   rules = [];
+  owners = [];
 }
 
 -- a file, a process and two users, all rules unrestricted
 abbrev pub T : Policy
-T = record { containers = file 0 unrestrictedNumber ∷ process ∷ []; users = unrestrictedNumber ∷ unrestrictedNumber ∷ []; rules = [] }
+T = record { containers = file 0 unrestrictedNumber ∷ process ∷ []; users = unrestrictedNumber ∷ unrestrictedNumber ∷ []; rules = []; owners = [] }
 
 -- two files whose run rules have the mixtures 62, 61, 59 and 55, 47, 31, and a process
 abbrev pub Q : Policy
-Q = record { containers = file noAtom 0 ∷ file noAtom 1 ∷ process ∷ []; users = []; rules = (62 ∷ 61 ∷ 59 ∷ []) ∷ (55 ∷ 47 ∷ 31 ∷ []) ∷ [] }
+Q = record { containers = file noAtom 0 ∷ file noAtom 1 ∷ process ∷ []; users = []; rules = (62 ∷ 61 ∷ 59 ∷ []) ∷ (55 ∷ 47 ∷ 31 ∷ []) ∷ []; owners = noOwner ∷ noOwner ∷ [] }
 
 -- a file with the atom 1; two guarded files with the atoms 2 and 3, of which the first is permitted its own atom and the second nothing;
 -- two processes and a user, who permits the atom 2
@@ -72,11 +74,12 @@ G = record {
   containers = file 1 unrestrictedNumber ∷ guardedFile 2 0 unrestrictedNumber ∷ guardedFile 3 1 unrestrictedNumber ∷ process ∷ process ∷ [];
   users = 0 ∷ [];
   rules = (4 ∷ []) ∷ (0 ∷ []) ∷ [];
+  owners = noOwner ∷ noOwner ∷ [];
 }
 
 -- the run rules of Q, the second that of a guarded file which permits nothing at all
 abbrev pub H : Policy
-H = record { containers = file noAtom 0 ∷ guardedFile noAtom 2 1 ∷ process ∷ []; users = []; rules = (62 ∷ 61 ∷ 59 ∷ []) ∷ (55 ∷ 47 ∷ 31 ∷ []) ∷ [] ∷ [] }
+H = record { containers = file noAtom 0 ∷ guardedFile noAtom 2 1 ∷ process ∷ []; users = []; rules = (62 ∷ 61 ∷ 59 ∷ []) ∷ (55 ∷ 47 ∷ 31 ∷ []) ∷ [] ∷ []; owners = noOwner ∷ noOwner ∷ noOwner ∷ [] }
 
 -- files with the atoms 0, 1 and 3, a guarded file with the atom 2, a process and two users: the permit rules of file 1 and of the guarded
 -- file and the rule of user 0 have the mixtures 3, 5 and 6, given in another order; the rule of user 1 has none
@@ -91,6 +94,7 @@ U = record {
       ∷ [];
   users = 0 ∷ 1 ∷ [];
   rules = (6 ∷ 3 ∷ 5 ∷ []) ∷ [] ∷ [];
+  owners = noOwner ∷ noOwner ∷ [];
 }
 
 -- the derived policy of document 000's matrix: four files, three processes and a user
@@ -102,6 +106,7 @@ M = record {
   containers = object 0 ∷ object 1 ∷ object 2 ∷ object 3 ∷ process ∷ process ∷ process ∷ [];
   users = unrestrictedNumber ∷ [];
   rules = (5 ∷ []) ∷ (3 ∷ []) ∷ (4 ∷ []) ∷ (10 ∷ []) ∷ [];
+  owners = noOwner ∷ noOwner ∷ noOwner ∷ noOwner ∷ [];
 }
 
 -- the records of the listing

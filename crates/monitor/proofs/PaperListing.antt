@@ -1,4 +1,4 @@
--- The paper's listing from bytes to answers: the image of 110 bytes is not refused, and the six records of its trace, on the session
+-- The paper's listing from bytes to answers: the image of 118 bytes is not refused, and the six records of its trace, on the session
 -- that the start fills, are answered as listed.
 use Prim.Native.Nat.{ℕ}
 use mathlib.Core.Path.{_≡_, refl, ap, _∙_}
@@ -8,8 +8,8 @@ use Rattle.image.specs.Limits.{isFile, isVolatile, isProcess}
 use Rattle.fields.specs.Bytes.{numberIn, field, cut, records}
 use Rattle.lists.specs.Lists.{every}
 use Rattle.lists.specs.Conditions.{firstFailed}
-use Rattle.image.specs.Policy.{named, containerGood}
-use Rattle.image.specs.Image.{containerIn, spanIn, ruleIn, containersIn, usersIn, spansIn, mixturesIn, rulesIn, policyIn, offset, size, part, imageLengthGood, partGood, pairsGood, wholeGood, sectionsGood, spansGood, rulesGood, containersGood, usersGood, imageConditions}
+use Rattle.image.specs.Policy.{named, ownerGood, containerGood}
+use Rattle.image.specs.Image.{containerIn, spanIn, ruleIn, containersIn, usersIn, spansIn, mixturesIn, rulesIn, ownersIn, policyIn, offset, size, part, imageLengthGood, partGood, pairsGood, wholeGood, sectionsGood, spansGood, rulesGood, containersGood, usersGood, imageConditions}
 use Rattle.session.specs.Limits.{sessionLength}
 use Rattle.session.specs.Session.{startOf, sessionLengthGood, startConditions, startAnswer, startEffect}
 use Rattle.session.proofs.Canonical.{effect-start}
@@ -17,24 +17,25 @@ use Rattle.answers.specs.Answers.{quiet, alert, refused}
 use Rattle.monitor.specs.Runs.{runAnswers}
 use Rattle.monitor.proofs.Examples.{M, trace, checked-runs}
 
--- "Image of 110 bytes, pairs (18,42), (60,2), (62,16), (78,32)": the header, the sections, and the mixtures 5, 3, 4, 10
+-- "the matrix example grows to 118" (change request No. 10), pairs (18,42), (60,2), (62,24), (86,32): the header, the sections, and the
+-- mixtures 5, 3, 4, 10
 abbrev pub image : List ℕ
 image =
-    (4 ∷ 0 ∷ 18 ∷ 0 ∷ 42 ∷ 0 ∷ 60 ∷ 0 ∷ 2 ∷ 0 ∷ 62 ∷ 0 ∷ 16 ∷ 0 ∷ 78 ∷ 0 ∷ 32 ∷ 0 ∷ [])
+    (5 ∷ 0 ∷ 18 ∷ 0 ∷ 42 ∷ 0 ∷ 60 ∷ 0 ∷ 2 ∷ 0 ∷ 62 ∷ 0 ∷ 24 ∷ 0 ∷ 86 ∷ 0 ∷ 32 ∷ 0 ∷ [])
     ++ ((1 ∷ 0 ∷ 0 ∷ 0 ∷ 255 ∷ 255 ∷ 1 ∷ 1 ∷ 1 ∷ 0 ∷ 255 ∷ 255 ∷ 1 ∷ 2 ∷ 2 ∷ 0 ∷ 255 ∷ 255 ∷ 1 ∷ 3 ∷ 3 ∷ 0 ∷ 255 ∷ 255 ∷ [])
     ++ ((3 ∷ 255 ∷ 255 ∷ 255 ∷ 255 ∷ 255 ∷ 3 ∷ 255 ∷ 255 ∷ 255 ∷ 255 ∷ 255 ∷ 3 ∷ 255 ∷ 255 ∷ 255 ∷ 255 ∷ 255 ∷ [])
     ++ ((255 ∷ 255 ∷ [])
-    ++ ((0 ∷ 0 ∷ 1 ∷ 0 ∷ 1 ∷ 0 ∷ 1 ∷ 0 ∷ 2 ∷ 0 ∷ 1 ∷ 0 ∷ 3 ∷ 0 ∷ 1 ∷ 0 ∷ [])
+    ++ ((0 ∷ 0 ∷ 1 ∷ 0 ∷ 255 ∷ 255 ∷ 1 ∷ 0 ∷ 1 ∷ 0 ∷ 255 ∷ 255 ∷ 2 ∷ 0 ∷ 1 ∷ 0 ∷ 255 ∷ 255 ∷ 3 ∷ 0 ∷ 1 ∷ 0 ∷ 255 ∷ 255 ∷ [])
     ++ ((5 ∷ 0 ∷ 0 ∷ 0 ∷ 0 ∷ 0 ∷ 0 ∷ 0 ∷ 3 ∷ 0 ∷ 0 ∷ 0 ∷ 0 ∷ 0 ∷ 0 ∷ 0 ∷ [])
     ++ (4 ∷ 0 ∷ 0 ∷ 0 ∷ 0 ∷ 0 ∷ 0 ∷ 0 ∷ 10 ∷ 0 ∷ 0 ∷ 0 ∷ 0 ∷ 0 ∷ 0 ∷ 0 ∷ []))))))
 
 pub record Read : Type 0 where
-  pub long : length image ≡ 110
+  pub long : length image ≡ 118
   pub unrefused : startAnswer image (replicate sessionLength 0) ≡ 0
   pub spelled : policyIn image ≡ M
 
 pub read-image : Read
-unfolding numberIn field cut records every named containerGood isFile isVolatile isProcess containerIn spanIn ruleIn containersIn usersIn spansIn mixturesIn rulesIn policyIn offset size part imageLengthGood partGood pairsGood wholeGood sectionsGood spansGood rulesGood containersGood usersGood imageConditions firstFailed sessionLengthGood startConditions startAnswer
+unfolding numberIn field cut records every named ownerGood containerGood isFile isVolatile isProcess containerIn spanIn ruleIn containersIn usersIn spansIn mixturesIn rulesIn ownersIn policyIn offset size part imageLengthGood partGood pairsGood wholeGood sectionsGood spansGood rulesGood containersGood usersGood imageConditions firstFailed sessionLengthGood startConditions startAnswer
 read-image = record { long = refl; unrefused = refl; spelled = refl }
 
 -- from the bytes of the image and of the trace, on a buffer of zeros that the start fills

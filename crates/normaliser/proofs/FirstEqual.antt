@@ -8,15 +8,18 @@ use native.Mathlib.Nat.{add-sub-cancel-left}
 use native.Mathlib.Numerals.{add-one}
 use lib.Dec.{eqb}
 use lib.ListN.{length, getD, take, drop, length-take, length-drop}
-use lib.Seq.{drop-cons}
+use lib.Seq.{drop-cons, getD-take, length-take-le}
+use borrow.Author.Tests.{eq-eqb, ne-eqb}
 use Rattle.lists.proofs.Bools.{refuted}
 use Rattle.lists.proofs.Same.{same-refl, same-eq}
 use Rattle.lists.specs.Lists.{sameList, position, positionBy}
 use Rattle.rules.specs.Rules.{unrestricted}
 use Rattle.fields.specs.Bytes.{records}
+use Rattle.image.specs.Limits.{noOwner}
 use Rattle.image.specs.Policy.{unrestrictedRule}
-use Rattle.rule_words.specs.Words.{ruleOf}
-use Rattle.normaliser.specs.Writer.{formWidth}
+use Rattle.image.specs.Normal.{sameUse, freeUse}
+use Rattle.rule_words.specs.Words.{ruleWidth, ruleOf}
+use Rattle.normaliser.specs.Writer.{formWidth, formIn}
 use Rattle.fields.proofs.RecordLaws.{records-count}
 use Rattle.normaliser.specs.Keys.{wordsAt}
 use Rattle.normaliser.proofs.FormLaws.{words-at}
@@ -28,18 +31,56 @@ words-part forms k = rw add-sub-cancel-left
 
 -- ---- the unrestricted rule
 
-module _ (ws : List ℕ) (h : length ws ≡ formWidth) where
-  pub other-count : (getD ws 0 0 ≡ 1 → ⊥) → false ≡ sameList (ruleOf ws) unrestrictedRule
+module _ (ws : List ℕ) (h : length ws ≡ ruleWidth) where
+  other-count : (getD ws 0 0 ≡ 1 → ⊥) → false ≡ sameList (ruleOf ws) unrestrictedRule
   unfolding ruleOf unrestrictedRule unrestricted
   other-count d =
       sym (refuted (sameList (take (getD ws 0 0) (drop 1 ws)) ((2 ^ 64 - 1) ∷ []))
       (λ s. d (omega (arith, ap length (same-eq (take (getD ws 0 0) (drop 1 ws)) ((2 ^ 64 - 1) ∷ []) s), length-take (getD ws 0 0) (drop 1 ws), length-drop 1 ws))))
 
-  pub one-count : getD ws 0 0 ≡ 1 → eqb (getD ws 1 0) 18446744073709551615 ≡ sameList (ruleOf ws) unrestrictedRule
+  one-count : getD ws 0 0 ≡ 1 → eqb (getD ws 1 0) 18446744073709551615 ≡ sameList (ruleOf ws) unrestrictedRule
   unfolding ruleOf unrestrictedRule unrestricted sameList
   one-count e =
       let r : drop 1 ws ≡ getD ws 1 0 ∷ drop 2 ws = drop-cons ws 1 0 (omega arith) in
       rw (e, r) (by (eqb (getD ws 1 0) 18446744073709551615))
+    where
+      by : (b : Bool) → b ≡ (b && true)
+      by true = refl
+      by false = refl
+
+-- without an owner
+module _ (ws : List ℕ) (h : length ws ≡ formWidth) where
+  front : length (take ruleWidth ws) ≡ ruleWidth
+  front = length-take-le ruleWidth ws (omega arith)
+
+  first-word : getD (take ruleWidth ws) 0 0 ≡ getD ws 0 0
+  first-word = getD-take ruleWidth ws 0 0 (omega arith)
+
+  second-word : getD (take ruleWidth ws) 1 0 ≡ getD ws 1 0
+  second-word = getD-take ruleWidth ws 1 0 (omega arith)
+
+  other : false ≡ sameList (ruleOf (take ruleWidth ws)) unrestrictedRule → false ≡ sameUse (formIn ws) freeUse
+  unfolding sameUse formIn freeUse
+  other e = by (eqb (getD ws ruleWidth 0) noOwner) ∙ ap (λ (b : Bool). eqb (getD ws ruleWidth 0) noOwner && b) e
+    where
+      by : (b : Bool) → false ≡ (b && false)
+      by true = refl
+      by false = refl
+
+  pub row-other-count : (getD ws 0 0 ≡ 1 → ⊥) → false ≡ sameUse (formIn ws) freeUse
+  row-other-count d = other (other-count (take ruleWidth ws) front (λ e. d (sym first-word ∙ e)))
+
+  one : getD ws 0 0 ≡ 1 → eqb (getD ws 1 0) 18446744073709551615 ≡ sameList (ruleOf (take ruleWidth ws)) unrestrictedRule
+  one e = ap (λ (x : ℕ). eqb x 18446744073709551615) (sym second-word) ∙ one-count (take ruleWidth ws) front (first-word ∙ e)
+
+  pub row-other-mixture : getD ws 0 0 ≡ 1 → (getD ws 1 0 ≡ 18446744073709551615 → ⊥) → false ≡ sameUse (formIn ws) freeUse
+  row-other-mixture e d = other (sym (ne-eqb (getD ws 1 0) 18446744073709551615 d) ∙ one e)
+
+  pub row-owner : getD ws 0 0 ≡ 1 → getD ws 1 0 ≡ 18446744073709551615 → eqb (getD ws ruleWidth 0) noOwner ≡ sameUse (formIn ws) freeUse
+  unfolding sameUse formIn freeUse
+  row-owner e f =
+      by (eqb (getD ws ruleWidth 0) noOwner)
+      ∙ ap (λ (b : Bool). eqb (getD ws ruleWidth 0) noOwner && b) (sym (eq-eqb (getD ws 1 0) 18446744073709551615 f) ∙ one e)
     where
       by : (b : Bool) → b ≡ (b && true)
       by true = refl

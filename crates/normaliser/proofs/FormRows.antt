@@ -1,11 +1,10 @@
 -- The rules of an image's sections as words in normal form: the loop that fills the table, and the part of it that is lent.
 use Prim.Native.Nat.{ℕ, suc, _+_, _-_, _*_, _/_, _≤_, _<_}
-use mathlib.Core.Path.{_≡_, refl, sym, ap, _∙_}
+use mathlib.Core.Path.{_≡_, refl, sym, ap, ap₂, _∙_}
 use mathlib.Core.Bool.{Bool, true}
-use mathlib.Core.List.{List, [], _∷_, map}
+use mathlib.Core.List.{List, [], _∷_, _++_, map}
 use native.Mathlib.Omega.{arith}
-use lib.Dec.{leb}
-use lib.ListN.{length, getD, take, drop, length-map, length-take, length-append}
+use lib.ListN.{length, getD, take, drop, set, length-map, length-take, length-append}
 use lib.Seq.{take-at}
 use borrow.Author.Tests.{le-leb}
 use borrow.Rule.Slice.PartMut.{putMid}
@@ -17,29 +16,62 @@ use Rattle.fields.proofs.RowWriting.{RowsWritten, rows-start, rows-room, rows-n
 use Rattle.rules.specs.Answers.{mixtureLimit}
 use Rattle.rules.specs.Rules.{normal}
 use Rattle.rules.proofs.RuleLaws.{normal-length}
-use Rattle.rule_words.specs.Words.{wordsOf}
+use Rattle.rule_words.specs.Words.{ruleWidth, wordsOf}
 use Rattle.rule_words.proofs.WordLaws.{words-nine}
-use Rattle.image.specs.Limits.{ruleSize, mixtureSize, ruleLimit}
-use Rattle.image.specs.Image.{spansIn, mixturesIn, rulesIn, spansGood}
-use Rattle.image.specs.Normal.{normalImage}
-use Rattle.image.proofs.RecordsByPlace.{rules-count, rule-at, rule-fits}
+use Rattle.image.specs.Limits.{size16, noOwner, ruleSize, ownerField, mixtureSize, ruleLimit}
+use Rattle.image.specs.Image.{Span, spansIn, mixturesIn, ruleIn, rulesIn, ownersIn, spansGood}
+use Rattle.image.specs.Normal.{Use, freeUse, normalImage}
+use Rattle.image.proofs.RecordsByPlace.{rules-count, owner-at, rule-at, rule-fits}
 use Rattle.fields.specs.Writing.{Wrote}
-use Rattle.normaliser.specs.Writer.{formWidth, policyGiven, formWords, policyAt, Tabled, Answered}
-use Rattle.normaliser.specs.Sections.{SectionsAccepted}
+use Rattle.normaliser.specs.Writer.{formWidth, formRow, normalUse, policyGiven, formWords, policyAt, Tabled, Answered}
+use Rattle.normaliser.specs.Sections.{ownedRule, ownedIn, SectionsAccepted}
+use Rattle.normaliser.proofs.FormLaws.{shortUse, row-long, row-put}
 use Rattle.normaliser.proofs.WriterLaws.{sound-usable, words-length, words-tabled, words-answered, sound-wrote}
 
-every-place : (f : List ℕ → Bool) (xs : List (List ℕ)) → ((k : ℕ) → k < length xs → f (getD xs k []) ≡ true) → every f xs ≡ true
+every-place : (f : Use → Bool) (xs : List Use) → ((k : ℕ) → k < length xs → f (getD xs k freeUse) ≡ true) → every f xs ≡ true
 every-place f [] h = every-nil f
 every-place f (x ∷ xs) h = every-cons f x xs (h 0 (omega arith)) (every-place f xs (λ k l. h (suc k) (omega arith)))
 
+-- ---- the rules with their owners are the rules, and the owners
+
+module _ (rules mixtures : List ℕ) where
+  pub owned-mixtures : map (λ u. u .mixtures) (ownedIn rules mixtures) ≡ rulesIn rules mixtures
+  unfolding ownedIn rulesIn ownedRule
+  owned-mixtures = by (spansIn rules)
+    where
+      by : (l : List Span) → map (λ u. u .mixtures) (map (ownedRule (mixturesIn mixtures)) l) ≡ map (ruleIn (mixturesIn mixtures)) l
+      by [] = refl
+      by (s ∷ l) = ap (λ (x : List (List ℕ)). ruleIn (mixturesIn mixtures) s ∷ x) (by l)
+
+  pub owned-owners : map (λ u. u .owner) (ownedIn rules mixtures) ≡ ownersIn rules
+  unfolding ownedIn ownersIn ownedRule
+  owned-owners = by (spansIn rules)
+    where
+      by : (l : List Span) → map (λ u. u .owner) (map (ownedRule (mixturesIn mixtures)) l) ≡ map (λ s. s .owner) l
+      by [] = refl
+      by (s ∷ l) = ap (λ (x : List ℕ). s .owner ∷ x) (by l)
+
+  owned-count : length (ownedIn rules mixtures) ≡ length rules / ruleSize
+  owned-count = sym (length-map (ownedIn rules mixtures) (λ u. u .mixtures)) ∙ ap length owned-mixtures ∙ rules-count rules mixtures
+
+  module _ (k : ℕ) (l : k < length rules / ruleSize) where
+    mixtures-at : getD (ownedIn rules mixtures) k freeUse .mixtures ≡ getD (rulesIn rules mixtures) k []
+    mixtures-at = sym (map-at (λ u. u .mixtures) (ownedIn rules mixtures) k freeUse [] (omega (arith, owned-count))) ∙ ap (λ (x : List (List ℕ)). getD x k []) owned-mixtures
+
+    owner-of : getD (ownedIn rules mixtures) k freeUse .owner ≡ field rules (k * ruleSize + ownerField) size16
+    owner-of =
+        sym (map-at (λ u. u .owner) (ownedIn rules mixtures) k freeUse noOwner (omega (arith, owned-count)))
+        ∙ ap (λ (x : List ℕ). getD x k noOwner) owned-owners
+        ∙ owner-at rules k l
+
 abbrev pub wordRows : List ℕ → List ℕ → List (List ℕ)
-wordRows rules mixtures = map wordsOf (map normal (rulesIn rules mixtures))
+wordRows rules mixtures = map formRow (map normalUse (ownedIn rules mixtures))
 
 module _ (rules mixtures : List ℕ) (good : spansGood (length mixtures / mixtureSize) 0 (spansIn rules) ≡ true) where
-  abbrev given : List (List ℕ)
-  given = rulesIn rules mixtures
+  abbrev given : List Use
+  given = ownedIn rules mixtures
 
-  short-at : (k : ℕ) → k < length rules / ruleSize → length (getD given k []) ≤ mixtureLimit
+  short-at : (k : ℕ) → k < length rules / ruleSize → length (getD (rulesIn rules mixtures) k []) ≤ mixtureLimit
   short-at k l =
       omega (
         arith,
@@ -48,24 +80,44 @@ module _ (rules mixtures : List ℕ) (good : spansGood (length mixtures / mixtur
         rule-fits rules mixtures good k l,
       )
 
-  given-short : every (λ r. leb (length r) mixtureLimit) given ≡ true
-  given-short = every-place (λ r. leb (length r) mixtureLimit) given (λ k l. le-leb (length (getD given k [])) mixtureLimit (short-at k (omega (arith, rules-count rules mixtures))))
+  use-short : (k : ℕ) → k < length rules / ruleSize → length (getD given k freeUse .mixtures) ≤ mixtureLimit
+  use-short k l = omega (arith, short-at k l, ap length (mixtures-at rules mixtures k l))
+
+  given-short : every shortUse given ≡ true
+  given-short = every-place shortUse given (λ k l. le-leb (length (getD given k freeUse .mixtures)) mixtureLimit (use-short k (omega (arith, owned-count rules mixtures))))
 
   pub given-length : length (formWords given) ≡ length rules / ruleSize * formWidth
-  given-length = words-length given given-short ∙ ap (λ (n : ℕ). n * formWidth) (rules-count rules mixtures)
+  given-length = words-length given given-short ∙ ap (λ (n : ℕ). n * formWidth) (owned-count rules mixtures)
+
+  -- ---- one row: the words of the rule, then its owner
+
+  module _ (k : ℕ) (l : k < length rules / ruleSize) where
+    words-long : length (wordsOf (normal (getD (rulesIn rules mixtures) k []))) ≡ ruleWidth
+    words-long = words-nine (normal (getD (rulesIn rules mixtures) k [])) (omega (arith, normal-length (getD (rulesIn rules mixtures) k []), short-at k l))
+
+    pub row-done : (row : List ℕ) {ws : List ℕ} {owner : ℕ} → length row ≡ formWidth → ws ≡ wordsOf (normal (getD (rulesIn rules mixtures) k []))
+        → owner ≡ field rules (k * ruleSize + ownerField) size16
+        → set (putMid 0 (ruleWidth - 0) row ws) ruleWidth owner ≡ formRow (normalUse (getD given k freeUse))
+    unfolding formRow normalUse
+    row-done row {ws} {owner} h e f =
+        row-put row ws owner h (ap length e ∙ words-long)
+        ∙ ap₂ (λ (x : List ℕ) (o : ℕ). x ++ (o ∷ [])) (e ∙ ap (λ (r : List ℕ). wordsOf (normal r)) (sym (mixtures-at rules mixtures k l))) (f ∙ sym (owner-of rules mixtures k l))
 
   -- ---- row by row
 
   word-rows : length (wordRows rules mixtures) ≡ length rules / ruleSize
-  word-rows = length-map (map normal given) wordsOf ∙ length-map given normal ∙ rules-count rules mixtures
+  word-rows = length-map (map normalUse given) formRow ∙ length-map given normalUse ∙ owned-count rules mixtures
 
-  word-row : (k : ℕ) → k < length rules / ruleSize → wordsOf (normal (getD given k [])) ≡ getD (wordRows rules mixtures) k []
+  word-row : (k : ℕ) → k < length rules / ruleSize → formRow (normalUse (getD given k freeUse)) ≡ getD (wordRows rules mixtures) k []
   word-row k l =
-      sym (map-at wordsOf (map normal given) k [] [] (omega (arith, length-map given normal, rules-count rules mixtures))
-      ∙ ap wordsOf (map-at normal given k [] [] (omega (arith, rules-count rules mixtures))))
+      sym (map-at formRow (map normalUse given) k freeUse [] (omega (arith, length-map given normalUse, owned-count rules mixtures))
+      ∙ ap formRow (map-at normalUse given k freeUse freeUse (omega (arith, owned-count rules mixtures))))
 
-  word-long : (k : ℕ) → k < length rules / ruleSize → length (wordsOf (normal (getD given k []))) ≡ formWidth
-  word-long k l = words-nine (normal (getD given k [])) (omega (arith, normal-length (getD given k []), short-at k l))
+  word-long : (k : ℕ) → k < length rules / ruleSize → length (formRow (normalUse (getD given k freeUse))) ≡ formWidth
+  unfolding normalUse
+  word-long k l =
+      row-long (record { owner = getD given k freeUse .owner; mixtures = normal (getD given k freeUse .mixtures) })
+      (omega (arith, normal-length (getD given k freeUse .mixtures), use-short k l))
 
   pub forms-start : (forms : List ℕ) → length forms ≡ length rules / ruleSize * formWidth → RowsWritten (wordRows rules mixtures) forms 0 forms 0 0
   unfolding formWords
@@ -75,7 +127,7 @@ module _ (rules mixtures : List ℕ) (good : spansGood (length mixtures / mixtur
     pub forms-room : k < length rules / ruleSize → k * formWidth + formWidth ≤ length forms
     forms-room l = omega (arith, rows-room g (omega (arith, word-rows)), ap length (word-row k l), word-long k l)
 
-    pub forms-next : k < length rules / ruleSize → {ws : List ℕ} → ws ≡ wordsOf (normal (getD given k []))
+    pub forms-next : k < length rules / ruleSize → {ws : List ℕ} → ws ≡ formRow (normalUse (getD given k freeUse))
         → RowsWritten (wordRows rules mixtures) forms₀ 0 (putMid (k * formWidth) (k * formWidth + formWidth - k * formWidth) forms ws) ((k + 1) * formWidth) (k + 1)
     forms-next l {ws} e =
         let n : k * formWidth + formWidth ≡ (k + 1) * formWidth = omega arith in
@@ -92,12 +144,12 @@ pub front-long : (words : List ℕ) (n : ℕ) → n ≤ length words → length 
 front-long words n h = let z : n - 0 ≡ n = omega arith in omega (arith, length-take (n - 0) words)
 
 module _ (containers users rules mixtures : List ℕ) (a : SectionsAccepted containers users rules mixtures) where
-  abbrev policy-rules : List (List ℕ)
-  policy-rules = rulesIn rules mixtures
+  abbrev policy-rules : List Use
+  policy-rules = ownedIn rules mixtures
 
   pub rules-few : length rules / ruleSize ≤ ruleLimit
   unfolding policyGiven
-  rules-few = omega (arith, a .sound .fewRules, rules-count rules mixtures)
+  rules-few = omega (arith, a .sound .fewRules, owned-count rules mixtures, length-map policy-rules (λ u. u .mixtures))
 
   module _ (words : List ℕ) {x : List ℕ} (e : x ≡ formWords policy-rules) where
     filled-part : take (length rules / ruleSize * formWidth - 0) (putMid 0 (length rules / ruleSize * formWidth - 0) words x) ≡ formWords policy-rules

@@ -1,7 +1,7 @@
 -- The sections one behind the other, and the header in front of them.
 use Prim.Native.Nat.{ℕ, _+_, _-_, _*_, _/_, _≤_}
 use mathlib.Core.Path.{_≡_, refl, ap, _∙_}
-use mathlib.Core.List.{List, _++_, map}
+use mathlib.Core.List.{List, _++_, map, append-assoc}
 use native.Mathlib.Omega.{arith}
 use lib.ListN.{length, length-append}
 use Rattle.lists.specs.Lists.{joined}
@@ -11,7 +11,7 @@ use Rattle.fields.proofs.WritingLaws.{wrote-join, wrote-as, wrote-length, wrote
 use Rattle.fields.proofs.ByteLaws.{bytes-length}
 use Rattle.fields.proofs.RowWriting.{wrote-front}
 use Rattle.image.specs.Limits.{size8, size16, pairSize, leadingNumber, headerSize, containerSize, userSize, ruleSize, mixtureSize}
-use Rattle.image.specs.Normal.{containerBytes, pair, header, framed}
+use Rattle.image.specs.Normal.{containerBytes, spanBytes, pair, header, framed}
 use Rattle.normaliser.specs.Tables.{formAt}
 use Rattle.normaliser.specs.Sections.{pairBytes, headerBytes, containerSection, userSection, ruleSection, mixtureSection, Writable}
 use Rattle.normaliser.proofs.SectionRows as rows
@@ -38,6 +38,13 @@ unfolding containerBytes pairBytes
 container-wrote kind atom permit run {before = before} {s = s} {at = at} {a = a} h x y z =
     let l : a ≤ length s = omega (arith, wrote-ends 1 kind x, wrote-length (omega (arith, bytes-length 1 kind)) x) in
     wrote-join (omega arith) x (wrote-join l y z)
+
+pub rule-record-wrote : (first count owner : ℕ) {before mid after : List ℕ} {at n next : ℕ} → at + ruleSize ≤ length before
+    → Wrote (pairBytes first count) before mid at n → Wrote (bytesOf size16 owner) mid after n next
+    → Wrote (spanBytes (record { first = first; count = count; owner = owner })) before after at next
+unfolding spanBytes pairBytes
+rule-record-wrote first count owner h x y =
+    wrote-as (append-assoc (bytesOf size16 first) (bytesOf size16 count) (bytesOf size16 owner)) (wrote-join (omega arith) x y)
 
 -- a header from its number and its pairs
 pub header-wrote : (c u r m : ℕ) {s t v w x after : List ℕ} {a b d e n : ℕ} → headerSize ≤ length s

@@ -2,7 +2,7 @@
 use Prim.Native.Nat.{ℕ, zero, suc, _+_, _-_, _*_, _/_, _%_, _^_, _≤_, _<_}
 use mathlib.Core.Path.{_≡_, refl, sym, ap, _∙_}
 use mathlib.Core.Bool.{Bool, true, false, cond}
-use mathlib.Core.List.{List, [], _∷_}
+use mathlib.Core.List.{List, _∷_}
 use native.Mathlib.Omega.{arith}
 use native.Mathlib.Decide.{ℕ-discrete}
 use native.Mathlib.Nat.{suc-mul, mul-le-mul-right}
@@ -12,14 +12,14 @@ use lib.ListN.{length, getD, drop, set, replicate, length-set, length-replicate,
 use lib.Seq.{drop-cons, getD-set-same, getD-set-other}
 use Rattle.lists.proofs.Bools.{refuted}
 use Rattle.lists.proofs.Same.{same-eq}
-use Rattle.lists.specs.Lists.{sameList, position, positionBy}
+use Rattle.lists.proofs.Known.{position-most}
+use Rattle.lists.specs.Lists.{sameList, position}
 use Rattle.image.specs.Limits.{unrestrictedNumber}
 use Rattle.fields.specs.Bytes.{records}
-use Rattle.image.specs.Policy.{unrestrictedRule}
-use Rattle.rule_words.specs.Words.{ruleOf}
+use Rattle.image.specs.Normal.{sameUse, freeUse}
 use Rattle.fields.proofs.RecordLaws.{records-count}
-use Rattle.normaliser.specs.Writer.{formWidth, useLimit}
-use Rattle.normaliser.specs.Tables.{formAt, classOf, Classified}
+use Rattle.normaliser.specs.Writer.{formWidth, formIn, useLimit}
+use Rattle.normaliser.specs.Tables.{useOf, classOf, Classified}
 use Rattle.normaliser.specs.Keys.{wordsAt, mixed, keyLimit, spread, keyOf, Keyed}
 use Rattle.normaliser.proofs.FirstEqual.{Seeking, seek-start, seek-next, seek-end}
 
@@ -123,10 +123,10 @@ module _ (forms keys : List ℕ) (k h : ℕ) (g : Keyed forms keys k) (e : h ≡
       seeks (suc j) m = rw (add-one j) at (seek-next forms k j b (seeks j (omega arith)) (omega arith) (unlike j (omega arith)))
 
       -- it is the first with its words
-      pub class-new : (r : ℕ) → r ≡ cond (sameList (ruleOf (wordsAt forms k)) unrestrictedRule) unrestrictedNumber k → r ≡ classOf forms k
-      unfolding classOf formAt
+      pub class-new : (r : ℕ) → r ≡ cond (sameUse (formIn (wordsAt forms k)) freeUse) unrestrictedNumber k → r ≡ classOf forms k
+      unfolding classOf useOf
       class-new r f =
-          f ∙ ap (cond (sameList (ruleOf (wordsAt forms k)) unrestrictedRule) unrestrictedNumber) (seek-end forms k k b (seeks k (omega arith)) (omega arith))
+          f ∙ ap (cond (sameUse (formIn (wordsAt forms k)) freeUse) unrestrictedNumber) (seek-end forms k k b (seeks k (omega arith)) (omega arith))
 
   -- a rule has this key
   pub keyed-old : (getD keys h 0 ≡ 0 → ⊥) → Keyed forms keys (k + 1)
@@ -140,30 +140,21 @@ module _ (forms keys : List ℕ) (k h : ℕ) (g : Keyed forms keys k) (e : h ≡
 
 -- rules with the same words have the same class
 same-class : (forms : List ℕ) (j k : ℕ) → wordsAt forms k ≡ wordsAt forms j → classOf forms j ≡ classOf forms k
-unfolding classOf formAt
+unfolding classOf useOf
 same-class forms j k e = rw e
 
 pub class-old : (forms classes : List ℕ) (j k : ℕ) → Classified forms classes k → j < k → true ≡ sameList (wordsAt forms k) (wordsAt forms j) → getD classes j 0 ≡ classOf forms k
 class-old forms classes j k t l s = t .is j l ∙ same-class forms j k (same-eq (wordsAt forms k) (wordsAt forms j) (sym s))
 
-pub class-sought : (forms : List ℕ) (k r first : ℕ) → r ≡ cond (sameList (ruleOf (wordsAt forms k)) unrestrictedRule) unrestrictedNumber first → first ≡ position (wordsAt forms k) (records formWidth forms) → r ≡ classOf forms k
-unfolding classOf formAt
-class-sought forms k r first e f = e ∙ ap (cond (sameList (ruleOf (wordsAt forms k)) unrestrictedRule) unrestrictedNumber) f
+pub class-sought : (forms : List ℕ) (k r first : ℕ) → r ≡ cond (sameUse (formIn (wordsAt forms k)) freeUse) unrestrictedNumber first → first ≡ position (wordsAt forms k) (records formWidth forms) → r ≡ classOf forms k
+unfolding classOf useOf
+class-sought forms k r first e f = e ∙ ap (cond (sameUse (formIn (wordsAt forms k)) freeUse) unrestrictedNumber) f
 
 -- a class is a number of 16 bits
-position-most : (r : List ℕ) (t : List (List ℕ)) → position r t ≤ length t
-unfolding positionBy
-position-most r [] = omega arith
-position-most r (x ∷ t) = by (sameList r x) (position-most r t)
-  where
-    by : (b : Bool) → position r t ≤ length t → cond b 0 (suc (position r t)) ≤ suc (length t)
-    by true h = omega arith
-    by false h = omega arith
-
 pub class-fits : (forms : List ℕ) (k : ℕ) → length forms / formWidth ≤ useLimit → classOf forms k < 2 ^ 16
 unfolding classOf
-class-fits forms k l = by (sameList (formAt forms k) unrestrictedRule)
+class-fits forms k l = by (sameUse (useOf forms k) freeUse)
   where
     by : (b : Bool) → cond b unrestrictedNumber (position (wordsAt forms k) (records formWidth forms)) < 2 ^ 16
     by true = omega arith
-    by false = omega (arith, position-most (wordsAt forms k) (records formWidth forms), records-count formWidth forms)
+    by false = omega (arith, position-most sameList (wordsAt forms k) (records formWidth forms), records-count formWidth forms)

@@ -1,4 +1,4 @@
--- WriterLaws is the file that other producers of a policy cite. Theorems is the file to read. The others serve inside.
+-- WriterLaws, and FormLaws for rows, are the files that other producers of a policy cite. Theorems is the file to read. The others serve inside.
 pub mod Theorems
 pub mod WriterLaws
 pub mod AnswerLaws

@@ -1,6 +1,6 @@
 -- The cases of `normalise`: a short output, a refused image, an accepted one.
 use Prim.Native.Nat.{ℕ, _≤_, _<_}
-use mathlib.Core.Path.{_≡_, refl, sym, _∙_}
+use mathlib.Core.Path.{_≡_, sym, _∙_}
 use mathlib.Core.List.{List}
 use native.Mathlib.Omega.{arith}
 use lib.Dec.{leb}
@@ -12,13 +12,14 @@ use Rattle.answers.specs.Refusals.{lentLength}
 use Rattle.fields.specs.Bytes.{Bytes}
 use Rattle.fields.specs.Writing.{Wrote}
 use Rattle.image.specs.Limits.{outputBound}
-use Rattle.image.specs.Image.{rulesIn, part, policyIn, imageConditions, checkOf}
+use Rattle.image.specs.Image.{containersIn, usersIn, part, policyIn, imageConditions, checkOf}
 use Rattle.image.specs.Normal.{normalImage}
 use Rattle.image.proofs.AcceptedImage.{accepted-spans}
 use Rattle.image.proofs.Decode.{accepted-sound}
 use Rattle.normaliser.specs.Normaliser.{normalConditions, normalAnswer, normalEffect}
 use Rattle.normaliser.specs.Writer.{policyGiven}
-use Rattle.normaliser.specs.Sections.{SectionsAccepted}
+use Rattle.normaliser.specs.Sections.{ownedIn, SectionsAccepted}
+use Rattle.normaliser.proofs.FormRows.{owned-mixtures, owned-owners}
 use Rattle.normaliser.proofs.WriterLaws.{normal-short}
 use Rattle.normaliser.proofs.AnswerLaws.{refused-answer, refused-effect, wrote-answer}
 
@@ -55,9 +56,15 @@ module _ (i out : List ℕ) where
 
 -- what an image that is not refused gives
 module _ (i : List ℕ) (e : checkOf i ≡ 0) where
-  pub sections-policy : policyGiven (part i 0) (part i 1) (rulesIn (part i 2) (part i 3)) ≡ policyIn i
+  pub sections-policy : policyGiven (part i 0) (part i 1) (ownedIn (part i 2) (part i 3)) ≡ policyIn i
   unfolding policyGiven policyIn
-  sections-policy = refl
+  sections-policy =
+      λ j. record {
+        containers = containersIn (part i 0);
+        users = usersIn (part i 1);
+        rules = owned-mixtures (part i 2) (part i 3) j;
+        owners = owned-owners (part i 2) (part i 3) j;
+      }
 
   module _ (b : Bytes i) where
     pub sections-accepted : SectionsAccepted (part i 0) (part i 1) (part i 2) (part i 3)

@@ -6,7 +6,7 @@ use mathlib.Core.List.{List, [], _∷_, _++_, map}
 use native.Mathlib.Omega.{arith}
 use lib.Dec.{ltb}
 use lib.ListN.{length, getD, take, drop, length-append, length-take, length-drop, length-map}
-use lib.Seq.{drop-drop, getD-take, getD-drop}
+use lib.Seq.{drop-drop, take-take, getD-take, getD-drop}
 use borrow.Author.Tests.{ltb-true, leb-true}
 use Rattle.lists.proofs.Bools.{and-0, and-1}
 use Rattle.lists.specs.Lists.{joined, every}
@@ -19,15 +19,15 @@ use Rattle.fields.specs.Writing.{Wrote}
 use Rattle.fields.proofs.ByteLaws.{bytes-length, joined-length}
 use Rattle.fields.proofs.FieldLaws.{take-mid}
 use Rattle.fields.proofs.RowWriting.{RowsWritten, rows-start, rows-room, rows-next}
-use Rattle.rule_words.specs.Words.{ruleOf}
-use Rattle.normaliser.specs.Writer.{formWidth}
-use Rattle.image.specs.Limits.{ruleSize, mixtureSize}
+use Rattle.rule_words.specs.Words.{ruleWidth, ruleOf}
+use Rattle.normaliser.specs.Writer.{formWidth, formIn}
+use Rattle.image.specs.Limits.{noOwner, ruleSize, mixtureSize}
 use Rattle.image.specs.Image.{Span}
 use Rattle.image.specs.Normal.{spanBytes, spansOf}
 use Rattle.image.proofs.Encode.{span-wide, spans-length}
 use Rattle.normaliser.specs.Keys.{wordsAt}
-use Rattle.normaliser.specs.Tables.{formAt, formGood}
-use Rattle.normaliser.specs.Sections.{pairBytes, mixtureBytes, mixtureSection}
+use Rattle.normaliser.specs.Tables.{useOf, formAt, formOwner, formGood}
+use Rattle.normaliser.specs.Sections.{mixtureBytes, mixtureSection}
 
 -- ---- one rule
 
@@ -40,16 +40,17 @@ module _ (forms : List ℕ) (v : ℕ) (h : formGood forms v ≡ true) where
   unfolding formGood
   form-small = leb-true (getD forms (v * formWidth) 0) mixtureLimit (and-1 (ltb v (length forms / formWidth)) h)
 
-  first-word : getD (take formWidth (drop (v * formWidth) forms)) 0 0 ≡ getD forms (v * formWidth) 0
+  first-word : getD (take ruleWidth (drop (v * formWidth) forms)) 0 0 ≡ getD forms (v * formWidth) 0
   first-word =
       let z : v * formWidth + 0 ≡ v * formWidth = omega arith in
-      getD-take formWidth (drop (v * formWidth) forms) 0 0 (omega arith) ∙ getD-drop (v * formWidth) forms 0 0 ∙ ap (λ (x : ℕ). getD forms x 0) z
+      getD-take ruleWidth (drop (v * formWidth) forms) 0 0 (omega arith) ∙ getD-drop (v * formWidth) forms 0 0 ∙ ap (λ (x : ℕ). getD forms x 0) z
 
   form-is : formAt forms v ≡ take (getD forms (v * formWidth) 0) (drop (v * formWidth + 1) forms)
-  unfolding formAt wordsAt ruleOf
+  unfolding formAt useOf formIn wordsAt ruleOf
   form-is =
-      ap (λ (n : ℕ). take n (drop 1 (take formWidth (drop (v * formWidth) forms)))) first-word
-      ∙ take-mid (drop (v * formWidth) forms) formWidth 1 (getD forms (v * formWidth) 0) (omega (arith, form-small))
+      ap (λ (x : List ℕ). take (getD x 0 0) (drop 1 x)) (take-take ruleWidth formWidth (drop (v * formWidth) forms) (omega arith))
+      ∙ ap (λ (n : ℕ). take n (drop 1 (take ruleWidth (drop (v * formWidth) forms)))) first-word
+      ∙ take-mid (drop (v * formWidth) forms) ruleWidth 1 (getD forms (v * formWidth) 0) (omega (arith, form-small))
       ∙ ap (take (getD forms (v * formWidth) 0)) (drop-drop 1 (v * formWidth) forms)
 
   form-count : length (formAt forms v) ≡ getD forms (v * formWidth) 0
@@ -57,11 +58,16 @@ module _ (forms : List ℕ) (v : ℕ) (h : formGood forms v ≡ true) where
       ap length form-is
       ∙ omega (arith, length-take (getD forms (v * formWidth) 0) (drop (v * formWidth + 1) forms), length-drop (v * formWidth + 1) forms, form-small, form-in)
 
--- what is known of rule v: its words stand in the table, its count is that of its mixtures, and they are lent as a part
+  owner-is : formOwner forms v ≡ getD forms (v * formWidth + ruleWidth) 0
+  unfolding formOwner useOf formIn wordsAt
+  owner-is = getD-take formWidth (drop (v * formWidth) forms) ruleWidth 0 (omega arith) ∙ getD-drop (v * formWidth) forms ruleWidth 0
+
+-- what is known of rule v: its row stands in the table, its count is that of its mixtures, and they are lent as a part
 pub record RuleHere (forms : List ℕ) (v : ℕ) : Type 0 where
   pub inside : v < length forms / formWidth
   pub small : getD forms (v * formWidth) 0 ≤ mixtureLimit
   pub count : length (formAt forms v) ≡ getD forms (v * formWidth) 0
+  pub owner : formOwner forms v ≡ getD forms (v * formWidth + ruleWidth) 0
   pub part : take (v * formWidth + 1 + getD forms (v * formWidth) 0 - (v * formWidth + 1)) (drop (v * formWidth + 1) forms) ≡ formAt forms v
 
 -- the part of the words that is lent
@@ -73,24 +79,31 @@ form-part forms v h =
 pub rule-here : (forms order : List ℕ) (j : ℕ) → every (formGood forms) order ≡ true → j < length order → RuleHere forms (getD order j 0)
 rule-here forms order j h l =
     let g : formGood forms (getD order j 0) ≡ true = every-getD (formGood forms) order j 0 l h in
-    record { inside = form-in forms (getD order j 0) g; small = form-small forms (getD order j 0) g; count = form-count forms (getD order j 0) g; part = form-part forms (getD order j 0) g }
+    record { inside = form-in forms (getD order j 0) g; small = form-small forms (getD order j 0) g; count = form-count forms (getD order j 0) g; owner = owner-is forms (getD order j 0) g; part = form-part forms (getD order j 0) g }
 
 -- ---- rules one behind the other
 
 nothing : Span
-nothing = record { first = 0; count = 0 }
+nothing = record { first = 0; count = 0; owner = noOwner }
 
-spans-at : (f : ℕ) (rules : List (List ℕ)) (j : ℕ) → j < length rules → getD (spansOf f rules) j nothing ≡ record { first = f + length (joined (take j rules)); count = length (getD rules j []) }
+after-first : (owners : List ℕ) (j : ℕ) → getD (drop 1 owners) j noOwner ≡ getD owners (suc j) noOwner
+after-first [] j = refl
+after-first (o ∷ owners) j = refl
+
+spans-at : (f : ℕ) (rules : List (List ℕ)) (owners : List ℕ) (j : ℕ) → j < length rules
+    → getD (spansOf f rules owners) j nothing ≡ record { first = f + length (joined (take j rules)); count = length (getD rules j []); owner = getD owners j noOwner }
 unfolding spansOf joined
-spans-at f [] j l = absurd (omega arith)
-spans-at f (r ∷ rules) zero l = let e : f ≡ f + 0 = omega arith in λ i. record { first = e i; count = length r }
-spans-at f (r ∷ rules) (suc j) l =
-    spans-at (f + length r) rules j (omega arith) ∙ more
+spans-at f [] owners j l = absurd (omega arith)
+spans-at f (r ∷ rules) owners zero l = let e : f ≡ f + 0 = omega arith in λ i. record { first = e i; count = length r; owner = getD owners 0 noOwner }
+spans-at f (r ∷ rules) owners (suc j) l =
+    spans-at (f + length r) rules (drop 1 owners) j (omega arith) ∙ more
   where
-    more : _≡_ {A = Span} (record { first = f + length r + length (joined (take j rules)); count = length (getD rules j []) }) (record { first = f + length (r ++ joined (take j rules)); count = length (getD rules j []) })
+    more : _≡_ {A = Span} (record { first = f + length r + length (joined (take j rules)); count = length (getD rules j []); owner = getD (drop 1 owners) j noOwner })
+        (record { first = f + length (r ++ joined (take j rules)); count = length (getD rules j []); owner = getD owners (suc j) noOwner })
     more =
         let e : f + length r + length (joined (take j rules)) ≡ f + length (r ++ joined (take j rules)) = omega (arith, length-append r (joined (take j rules))) in
-        λ i. record { first = e i; count = length (getD rules j []) }
+        let o : getD (drop 1 owners) j noOwner ≡ getD owners (suc j) noOwner = after-first owners j in
+        λ i. record { first = e i; count = length (getD rules j []); owner = o i }
 
 pub mixtures-size : (r : List ℕ) → length (mixtureBytes r) ≡ length r * mixtureSize
 unfolding mixtureBytes
@@ -100,21 +113,24 @@ module _ (forms order : List ℕ) where
   abbrev pub rules : List (List ℕ)
   rules = map (formAt forms) order
 
+  abbrev pub owners : List ℕ
+  owners = map (formOwner forms) order
+
   rule-is : (j : ℕ) → j < length order → getD rules j [] ≡ formAt forms (getD order j 0)
   rule-is j l = map-at (formAt forms) order j 0 [] l
 
   -- ---- rule records
 
   abbrev pub spanRows : List (List ℕ)
-  spanRows = map spanBytes (spansOf 0 rules)
+  spanRows = map spanBytes (spansOf 0 rules owners)
 
   pub spans-count : length spanRows ≡ length order
-  spans-count = length-map (spansOf 0 rules) spanBytes ∙ spans-length 0 rules ∙ length-map order (formAt forms)
+  spans-count = length-map (spansOf 0 rules owners) spanBytes ∙ spans-length 0 rules owners ∙ length-map order (formAt forms)
 
   pub spans-size : length (joined spanRows) ≡ length order * ruleSize
   spans-size =
-      joined-length ruleSize spanBytes span-wide (spansOf 0 rules)
-      ∙ ap (λ (n : ℕ). n * ruleSize) (spans-length 0 rules ∙ length-map order (formAt forms))
+      joined-length ruleSize spanBytes span-wide (spansOf 0 rules owners)
+      ∙ ap (λ (n : ℕ). n * ruleSize) (spans-length 0 rules owners ∙ length-map order (formAt forms))
 
   -- j of the rule records are written, and first is the number of their mixtures
   pub record SpansWritten (before : List ℕ) (start : ℕ) (out : List ℕ) (at first j : ℕ) : Type 0 where
@@ -132,27 +148,27 @@ module _ (forms order : List ℕ) where
     abbrev count : ℕ
     count = getD forms (getD order j 0 * formWidth) 0
 
-    span-row : pairBytes first count ≡ getD spanRows j []
-    span-row =
-        pair-span
-        ∙ ap spanBytes same
-        ∙ sym (map-at spanBytes (spansOf 0 rules) j nothing [] (omega (arith, spans-length 0 rules, length-map order (formAt forms))))
-      where
-        pair-span : pairBytes first count ≡ spanBytes (record { first = first; count = count })
-        pair-span = unfold pairBytes spanBytes in refl
+    abbrev owner : ℕ
+    owner = getD forms (getD order j 0 * formWidth + ruleWidth) 0
 
-        same : record { first = first; count = count } ≡ getD (spansOf 0 rules) j nothing
+    abbrev span : Span
+    span = record { first = first; count = count; owner = owner }
+
+    span-row : spanBytes span ≡ getD spanRows j []
+    span-row =
+        ap spanBytes same
+        ∙ sym (map-at spanBytes (spansOf 0 rules owners) j nothing [] (omega (arith, spans-length 0 rules owners, length-map order (formAt forms))))
+      where
+        same : span ≡ getD (spansOf 0 rules owners) j nothing
         same =
             let a : first ≡ 0 + length (joined (take j rules)) = omega (arith, g .sum) in
             let b : count ≡ length (getD rules j []) = sym (ap length (rule-is j l) ∙ h .count) in
-            (λ i. record { first = a i; count = b i }) ∙ sym (spans-at 0 rules j (omega (arith, length-map order (formAt forms))))
+            let o : owner ≡ getD owners j noOwner = sym (map-at (formOwner forms) order j 0 noOwner l ∙ h .owner) in
+            (λ i. record { first = a i; count = b i; owner = o i }) ∙ sym (spans-at 0 rules owners j (omega (arith, length-map order (formAt forms))))
 
     pub spans-room : at + ruleSize ≤ length out
     spans-room =
-        omega (arith, rows-room (g .rows) (omega (arith, spans-count)), ap length span-row, pair-long)
-      where
-        pair-long : length (pairBytes first count) ≡ ruleSize
-        pair-long = unfold pairBytes bytesOf in refl
+        omega (arith, rows-room (g .rows) (omega (arith, spans-count)), ap length span-row, span-wide span)
 
     sum-next : length (joined (take (j + 1) rules)) ≡ first + count
     sum-next =
@@ -160,7 +176,7 @@ module _ (forms order : List ℕ) where
         ∙ length-append (joined (take j rules)) (getD rules j [])
         ∙ omega (arith, ap length (rule-is j l), h .count, g .sum)
 
-    pub spans-next : {after : List ℕ} {next : ℕ} → Wrote (pairBytes first count) out after at next → SpansWritten before start after next (first + count) (j + 1)
+    pub spans-next : {after : List ℕ} {next : ℕ} → Wrote (spanBytes span) out after at next → SpansWritten before start after next (first + count) (j + 1)
     spans-next w =
         record {
           rows = rows-next (g .rows) (omega (arith, spans-count)) span-row w;

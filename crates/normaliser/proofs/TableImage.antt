@@ -2,7 +2,7 @@
 use Prim.Native.Nat.{ℕ, _+_, _/_, _≤_, _<_}
 use mathlib.Core.Path.{_≡_, refl, sym, ap, ap₂, _∙_}
 use mathlib.Core.Bool.{true, false}
-use mathlib.Core.List.{List, [], _++_, map}
+use mathlib.Core.List.{List, [], _∷_, _++_, map}
 use native.Mathlib.Omega.{arith}
 use lib.Dec.{leb}
 use lib.ListN.{length, take, length-map}
@@ -15,9 +15,9 @@ use Rattle.fields.specs.Writing.{overwritten, Wrote}
 use Rattle.image.specs.Limits.{ruleLimit, userSize, mixtureSize, outputBound}
 use Rattle.image.specs.Policy.{Container, Policy}
 use Rattle.image.specs.Image.{containersIn, usersIn}
-use Rattle.image.specs.Normal.{normalAt, placeOf, meaning, numberOf, containerOf, writtenBy, policyOf, normalPolicy, containerBytes, spanBytes, spansOf, framed, encode, normalImage}
+use Rattle.image.specs.Normal.{Use, useAt, ownedPlace, owned, numberOf, containerOf, writtenBy, writtenUses, policyOf, normalPolicy, containerBytes, spanBytes, spansOf, framed, encode, normalImage}
 use Rattle.normaliser.specs.Writer.{formWidth, policyGiven, formsIn, policyAt, containerUses, Tabled, rulesNeeded, writerAnswer, writerEffect, Answered}
-use Rattle.normaliser.specs.Tables.{formAt, Classified, classAt, classNamed, withClasses, Ordered, found}
+use Rattle.normaliser.specs.Tables.{useOf, formAt, formOwner, Classified, classAt, classNamed, withClasses, Ordered, found}
 use Rattle.normaliser.specs.Sections.{containerSection, userSection, ruleSection, mixtureBytes, mixtureSection, Writable}
 use Rattle.normaliser.proofs.FirstUse.{classes-grow}
 use Rattle.normaliser.proofs.FormLaws.{forms-count}
@@ -32,7 +32,7 @@ module _ (containers users forms : List ℕ) (t : Tabled containers users forms)
   userClasses classes = map (classAt classes) (usersIn users)
 
   -- the rules that are written
-  abbrev rules : List (List ℕ)
+  abbrev rules : List Use
   rules = new.T containers users forms t
 
   abbrev policy : Policy
@@ -80,15 +80,31 @@ module _ (containers users forms : List ℕ) (t : Tabled containers users forms)
     placesRoom : length (formsIn forms) ≤ length places
     placesRoom = omega (arith, n .room, forms-count forms)
 
-    written-rules : map (formAt forms) (take m order) ≡ rules
-    written-rules = ap (map (formAt forms)) numbers ∙ new.forms-back containers users forms t
+    written-rules : map (useOf forms) (take m order) ≡ rules
+    written-rules = ap (map (useOf forms)) numbers ∙ new.forms-back containers users forms t
+
+    written-mixtures : map (formAt forms) (take m order) ≡ map (λ u. u .mixtures) rules
+    unfolding formAt
+    written-mixtures = by (take m order) ∙ ap (map (λ u. u .mixtures)) written-rules
+      where
+        by : (l : List ℕ) → map (formAt forms) l ≡ map (λ u. u .mixtures) (map (useOf forms) l)
+        by [] = refl
+        by (v ∷ l) = ap (λ (x : List (List ℕ)). useOf forms v .mixtures ∷ x) (by l)
+
+    written-owners : map (formOwner forms) (take m order) ≡ map (λ u. u .owner) rules
+    unfolding formOwner
+    written-owners = by (take m order) ∙ ap (map (λ u. u .owner)) written-rules
+      where
+        by : (l : List ℕ) → map (formOwner forms) l ≡ map (λ u. u .owner) (map (useOf forms) l)
+        by [] = refl
+        by (v ∷ l) = ap (λ (x : List ℕ). useOf forms v .owner ∷ x) (by l)
 
     all-numbers : every (found classes places) (containerUses (containersIn containers) ++ usersIn users) ≡ true
     all-numbers = new.all-found containers users forms t classes (n .told) order places m (n .ordered) numbers placesRoom (omega (arith, n .told .room, forms-count forms))
 
-    normal-is : normalPolicy policy ≡ writtenBy rules (meaning policy)
-    unfolding normalPolicy policyOf
-    normal-is = ap (λ (r : List (List ℕ)). writtenBy r (meaning policy)) (new.uses-are containers users forms t)
+    normal-is : normalPolicy policy ≡ writtenBy rules (owned policy)
+    unfolding normalPolicy policyOf writtenUses
+    normal-is = ap (λ (r : List Use). writtenBy r (owned policy)) (new.uses-are containers users forms t)
 
     count : length (take m order) ≡ m
     count = length-take-le m order (n .ordered .room)
@@ -98,8 +114,8 @@ module _ (containers users forms : List ℕ) (t : Tabled containers users forms)
     unfolding rulesNeeded
     needed = ap (λ (p : Policy). length (p .rules)) normal-is ∙ same ∙ count
       where
-        same : length (writtenBy rules (meaning policy) .rules) ≡ length (take m order)
-        same = unfold writtenBy in (sym (ap length written-rules) ∙ length-map (take m order) (formAt forms))
+        same : length (writtenBy rules (owned policy) .rules) ≡ length (take m order)
+        same = unfold writtenBy in (sym (ap length written-mixtures) ∙ length-map (take m order) (formAt forms))
 
     pub tables-writable : (out : List ℕ) → m ≤ ruleLimit → outputBound ≤ length out → Writable containers users forms classes places (take m order) out
     unfolding policyAt policyGiven
@@ -116,32 +132,32 @@ module _ (containers users forms : List ℕ) (t : Tabled containers users forms)
                 t .usable .fewUsers,
                 users-count users,
                 count,
-                ap (λ (x : List (List ℕ)). length (joined x)) written-rules,
+                ap (λ (x : List (List ℕ)). length (joined x)) written-mixtures,
                 ap length written-rules,
-                length-map (take m order) (formAt forms),
+                length-map (take m order) (useOf forms),
                 new.T-short containers users forms t,
               );
         }
 
     abbrev containerPart : List ℕ
-    containerPart = joined (map containerBytes (map (containerOf rules) (map (placeOf (formsIn forms)) (containersIn containers))))
+    containerPart = joined (map containerBytes (map (containerOf rules) (map (ownedPlace policy) (containersIn containers))))
 
     abbrev userPart : List ℕ
-    userPart = joined (map (bytesOf userSize) (map (numberOf rules) (map (normalAt (formsIn forms)) (usersIn users))))
+    userPart = joined (map (bytesOf userSize) (map (numberOf rules) (map (useAt policy) (usersIn users))))
 
     -- the sections from the tables are those of the normal policy
     pub image-is : framed (containerSection containers classes places) (userSection users classes places) (ruleSection forms (take m order)) (mixtureSection forms (take m order)) ≡ normalImage policy
     unfolding normalImage containerSection userSection ruleSection mixtureSection mixtureBytes
     image-is =
-        ap₂ (λ (c u : List ℕ). framed c u (joined (map spanBytes (spansOf 0 (map (formAt forms) (take m order))))) (joined (map (bytesOf mixtureSize) (joined (map (formAt forms) (take m order))))))
+        ap₂ (λ (c u : List ℕ). framed c u (joined (map spanBytes (spansOf 0 (map (formAt forms) (take m order)) (map (formOwner forms) (take m order))))) (joined (map (bytesOf mixtureSize) (joined (map (formAt forms) (take m order))))))
         (ap (λ (x : List Container). joined (map containerBytes x)) (new.containers-are containers users forms t classes (n .told) order places m (n .ordered) numbers placesRoom))
         (ap (λ (x : List ℕ). joined (map (bytesOf userSize) x)) (new.users-are containers users forms t classes (n .told) order places m (n .ordered) numbers placesRoom))
-        ∙ ap (λ (x : List (List ℕ)). framed containerPart userPart (joined (map spanBytes (spansOf 0 x))) (joined (map (bytesOf mixtureSize) (joined x)))) written-rules
+        ∙ ap₂ (λ (x : List (List ℕ)) (o : List ℕ). framed containerPart userPart (joined (map spanBytes (spansOf 0 x o))) (joined (map (bytesOf mixtureSize) (joined x)))) written-mixtures written-owners
         ∙ back
         ∙ ap encode (sym normal-is)
       where
-        back : framed containerPart userPart (joined (map spanBytes (spansOf 0 rules))) (joined (map (bytesOf mixtureSize) (joined rules))) ≡ encode (writtenBy rules (meaning policy))
-        back = unfold encode writtenBy meaning policyAt policyGiven in refl
+        back : framed containerPart userPart (joined (map spanBytes (spansOf 0 (map (λ u. u .mixtures) rules) (map (λ u. u .owner) rules)))) (joined (map (bytesOf mixtureSize) (joined (map (λ u. u .mixtures) rules)))) ≡ encode (writtenBy rules (owned policy))
+        back = unfold encode writtenBy owned policyAt policyGiven in refl
 
     -- ---- the answer
 

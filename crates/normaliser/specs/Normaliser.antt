@@ -23,7 +23,7 @@ writtenUnless (suc n) s out = out
 
 -- ---- the normaliser
 
--- "9 .. output (of normaliser or derived policy) under 18,994 bytes", then what an image is refused for
+-- "9 .. output (of normaliser or derived policy)" that does not "hold 19,506 bytes" (change request No. 10), then what an image is refused for
 unfoldable pub normalConditions : List ℕ → List ℕ → List Condition
 normalConditions i out = (leb outputBound (length out) orRefuse lentLength) ∷ imageConditions i
 

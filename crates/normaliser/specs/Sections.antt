@@ -8,12 +8,12 @@ use Rattle.lists.specs.Lists.{joined, every}
 use Rattle.fields.specs.Bytes.{bytesOf}
 use Rattle.image.specs.Limits.{size16, leadingNumber, headerSize, containerSize, userSize, ruleSize, mixtureSize}
 use Rattle.image.specs.Policy.{Container, Sound}
-use Rattle.image.specs.Image.{containersIn, usersIn, spansIn, rulesIn, spansGood}
-use Rattle.image.specs.Normal.{containerBytes, spanBytes, spansOf}
+use Rattle.image.specs.Image.{Span, containersIn, usersIn, spansIn, ruleIn, mixturesIn, spansGood}
+use Rattle.image.specs.Normal.{Use, containerBytes, spanBytes, spansOf}
 use Rattle.normaliser.specs.Writer.{containerUses, policyGiven}
-use Rattle.normaliser.specs.Tables.{formAt, formGood, found, newNumber}
+use Rattle.normaliser.specs.Tables.{formAt, formOwner, formGood, found, newNumber}
 
--- ---- two numbers of 16 bits: a rule record, or the offset and length of a section
+-- ---- two numbers of 16 bits: the two rules of a container, or the offset and length of a section
 
 unfoldable pub pairBytes : ℕ → ℕ → List ℕ
 pairBytes a b = bytesOf size16 a ++ bytesOf size16 b
@@ -42,7 +42,7 @@ unfoldable pub userSection : List ℕ → List ℕ → List ℕ → List ℕ
 userSection users classes places = joined (map (bytesOf userSize) (map (newNumber classes places) (usersIn users)))
 
 unfoldable pub ruleSection : List ℕ → List ℕ → List ℕ
-ruleSection forms order = joined (map spanBytes (spansOf 0 (map (formAt forms) order)))
+ruleSection forms order = joined (map spanBytes (spansOf 0 (map (formAt forms) order) (map (formOwner forms) order)))
 
 -- the bytes of mixtures
 unfoldable pub mixtureBytes : List ℕ → List ℕ
@@ -59,7 +59,14 @@ pub record Writable (containers users forms classes places order out : List ℕ)
   pub room : headerSize + length containers / containerSize * containerSize + length users / userSize * userSize
       + length order * ruleSize + length (joined (map (formAt forms) order)) * mixtureSize ≤ length out
 
+-- the rules of the sections of rules and mixtures, with their owners
+unfoldable pub ownedRule : List ℕ → Span → Use
+ownedRule mixtures s = record { owner = s .owner; mixtures = ruleIn mixtures s }
+
+unfoldable pub ownedIn : List ℕ → List ℕ → List Use
+ownedIn r m = map (ownedRule (mixturesIn m)) (spansIn r)
+
 -- the four sections of an image that is accepted
 pub record SectionsAccepted (containers users rules mixtures : List ℕ) : Type 0 where
-  pub sound : Sound (policyGiven containers users (rulesIn rules mixtures))
+  pub sound : Sound (policyGiven containers users (ownedIn rules mixtures))
   pub spans : spansGood (length mixtures / mixtureSize) 0 (spansIn rules) ≡ true

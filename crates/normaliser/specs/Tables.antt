@@ -5,20 +5,26 @@ use mathlib.Core.Bool.{Bool, true, cond, _&&_, _||_}
 use mathlib.Core.List.{List, [], _∷_, _++_}
 use lib.Dec.{eqb, ltb, leb}
 use lib.ListN.{length, getD, take}
-use Rattle.lists.specs.Lists.{elem, sameList, position}
+use Rattle.lists.specs.Lists.{elem, position}
 use Rattle.rules.specs.Answers.{mixtureLimit}
 use Rattle.image.specs.Limits.{unrestrictedNumber}
 use Rattle.fields.specs.Bytes.{records}
-use Rattle.image.specs.Policy.{unrestrictedRule, named}
-use Rattle.normaliser.specs.Writer.{formWidth, useLimit}
+use Rattle.image.specs.Policy.{named}
+use Rattle.image.specs.Normal.{Use, sameUse, freeUse}
+use Rattle.normaliser.specs.Writer.{formWidth, formIn, useLimit}
 use Rattle.normaliser.specs.Keys.{wordsAt, Keyed}
-use Rattle.rule_words.specs.Words.{ruleOf}
 
 -- ---- the rules
 
--- rule k
+-- rule k with its owner, its mixtures, and its owner
+unfoldable pub useOf : List ℕ → ℕ → Use
+useOf forms k = formIn (wordsAt forms k)
+
 unfoldable pub formAt : List ℕ → ℕ → List ℕ
-formAt forms k = ruleOf (wordsAt forms k)
+formAt forms k = useOf forms k .mixtures
+
+unfoldable pub formOwner : List ℕ → ℕ → ℕ
+formOwner forms k = useOf forms k .owner
 
 -- there is a rule v, and its count is that of a rule
 unfoldable pub formGood : List ℕ → ℕ → Bool
@@ -26,10 +32,10 @@ formGood forms v = ltb v (length forms / formWidth) && leb (getD forms (v * form
 
 -- ---- classes of equal rules
 
--- the class of rule k: the number of the first rule with its words; the unrestricted number if it is unrestricted
+-- the class of rule k: the number of the first rule with its words; the unrestricted number if it is unrestricted without an owner
 unfoldable pub classOf : List ℕ → ℕ → ℕ
 classOf forms k =
-    cond (sameList (formAt forms k) unrestrictedRule) unrestrictedNumber (position (wordsAt forms k) (records formWidth forms))
+    cond (sameUse (useOf forms k) freeUse) unrestrictedNumber (position (wordsAt forms k) (records formWidth forms))
 
 -- the table has the classes of the first n rules
 pub record Classified (forms classes : List ℕ) (n : ℕ) : Type 0 where

@@ -3,26 +3,26 @@ ghost use mathlib.Core.Path.{_≡_};
 ghost use mathlib.Core.Bool.{true, cond};
 ghost use mathlib.Core.List.{[], map};
 ghost use Prim.Native.Nat.{_+_, _*_, _/_, _≤_, _<_};
-ghost use lib.ListN.{length, take};
-ghost use Rattle.lists.specs.Lists.{sameList, joined, every, position};
+ghost use lib.ListN.{length, getD, take};
+ghost use Rattle.lists.specs.Lists.{joined, every, position};
 ghost use Rattle.fields.specs.Bytes.{records};
 ghost use Rattle.fields.specs.Writing.{Wrote};
 ghost use Rattle.image.specs.Limits.{pairSize, unrestrictedNumber, containerSize, userSize, ruleSize, mixtureSize, headerSize, outputBound};
-ghost use Rattle.image.specs.Policy.{unrestrictedRule};
-ghost use Rattle.image.specs.Image.{containersIn, usersIn, spansIn, rulesIn, spansGood};
-ghost use Rattle.image.specs.Normal.{containerBytes, framed, normalImage};
-ghost use Rattle.rule_words.specs.Words.{ruleOf};
+ghost use Rattle.image.specs.Image.{containersIn, usersIn, spansIn, spansGood};
+ghost use Rattle.image.specs.Normal.{containerBytes, spanBytes, framed, normalImage, sameUse, freeUse};
 ghost use Rattle.normaliser.specs.Normaliser.{normalAnswer, normalEffect};
-ghost use Rattle.normaliser.specs.Writer.{formWidth, useLimit, containerUses, policyGiven, policyAt, formWords, Tabled, Answered};
+ghost use Rattle.normaliser.specs.Writer.{formWidth, formRow, normalUse, formIn, useLimit, containerUses, policyGiven, policyAt, formWords, Tabled, Answered};
 ghost use Rattle.normaliser.specs.Keys.{wordsAt, mixed, keyLimit, keyOf, Keyed};
 ghost use Rattle.normaliser.specs.Tables.{formAt, formGood, classOf, Classified, classAt, classNamed, withClass, withClasses, Ordered, Placeable, newNumber, found, Cleared, fewRules};
-ghost use Rattle.normaliser.specs.Sections.{pairBytes, headerBytes, containerSection, userSection, ruleSection, mixtureBytes, mixtureSection, Writable, SectionsAccepted};
+ghost use Rattle.normaliser.specs.Sections.{pairBytes, headerBytes, containerSection, userSection, ruleSection, mixtureBytes, mixtureSection, Writable, ownedIn, SectionsAccepted};
 
 // The bytes that an output has at least.
-pub const OUTPUT_BOUND: usize = 18994;
+pub const OUTPUT_BOUND: usize = 19506;
 
-// The words of a rule's row.
-pub const FORM_WIDTH: usize = rule_words::RULE_WIDTH;
+// The words of a rule's row: those of the rule, and behind them its owner.
+pub const FORM_WIDTH: usize = rule_words::RULE_WIDTH + 1;
+
+pub const OWNER_WORD: usize = rule_words::RULE_WIDTH;
 
 // The most uses of a rule: two for each container, one for each user. A policy has no more rules to write.
 pub const USE_LIMIT: usize = 528;
@@ -34,9 +34,14 @@ const FEW_KEYS: usize = 64;
 
 const MANY_KEYS: usize = 2048;
 
+// The words of the rows of few rules, and of as many as an image can have.
+const FEW_WORDS: usize = FEW_RULES * FORM_WIDTH;
+
+const MANY_WORDS: usize = image::RULE_LIMIT * FORM_WIDTH;
+
 // ---- records
 
-// Two numbers of 16 bits: a rule record, or the offset and length of a section.
+// Two numbers of 16 bits: the two rules of a container, or the offset and length of a section.
 fn put_pair(out: &mut [u8], at: usize, a: usize, b: usize) -> usize
     requires { ⌜ at + pairSize ≤ length (now out) ⌝ }
     ensures { λ r. ⌜ Wrote (pairBytes a b) (now (out .entry)) (now (out .exit)) at r ⌝ }
@@ -62,17 +67,29 @@ pub fn put_container(
     put_pair(out, b, permit, run)
 }
 
+// A rule record.
+fn put_rule_record(out: &mut [u8], at: usize, first: usize, count: usize, owner: usize) -> usize
+    requires { ⌜ at + ruleSize ≤ length (now out) ⌝ }
+    ensures { λ r. ⌜ Wrote (spanBytes (record { first = first; count = count; owner = owner })) (now (out .entry)) (now (out .exit)) at r ⌝ }
+{
+    let next = put_pair(out, at, first, count);
+    fields::put16(out, next, owner)
+}
+
 // ---- classes of equal rules
 
-// The words are those of the unrestricted rule.
+// The row is that of the unrestricted rule without an owner.
 fn is_unrestricted(words: &[u64]) -> bool
     requires { ⌜ length (now words) ≡ formWidth ⌝ }
-    ensures { λ r. ⌜ r ≡ sameList (ruleOf (now (words .entry))) unrestrictedRule ⌝ }
+    ensures { λ r. ⌜ r ≡ sameUse (formIn (now (words .entry))) freeUse ⌝ }
 {
     if words[0] != 1 {
         return false;
     }
-    words[1] == rules::ALL_ATOMS
+    if words[1] != rules::ALL_ATOMS {
+        return false;
+    }
+    words[OWNER_WORD] as usize == image::NO_OWNER
 }
 
 // The first rule with the words of rule k.
@@ -95,7 +112,7 @@ fn first_same(forms: &[u64], k: usize) -> usize
 // The class of a rule, given the first rule with its words.
 fn class_by(words: &[u64], first: usize) -> usize
     requires { ⌜ length (now words) ≡ formWidth ⌝ }
-    ensures { λ r. ⌜ r ≡ cond (sameList (ruleOf (now (words .entry))) unrestrictedRule) unrestrictedNumber first ⌝ }
+    ensures { λ r. ⌜ r ≡ cond (sameUse (formIn (now (words .entry))) freeUse) unrestrictedNumber first ⌝ }
 {
     if is_unrestricted(words) {
         return image::UNRESTRICTED_NUMBER;
@@ -300,7 +317,8 @@ fn write_spans(out: &mut [u8], start: usize, forms: &[u64], order: &[u16]) -> us
     while j < order.len() {
         let v = (order[j] as usize) * FORM_WIDTH;
         let count = forms[v] as usize;
-        at = put_pair(out, at, first, count);
+        let owner = forms[v + OWNER_WORD] as usize;
+        at = put_rule_record(out, at, first, count, owner);
         first += count;
         j += 1;
     }
@@ -455,16 +473,25 @@ pub fn write_policy(containers: &[u8], users: &[u8], forms: &[u64], out: &mut [u
 
 // ---- the normaliser
 
+// Rule k of an image's sections in normal form, with its owner.
+fn put_row(row: &mut [u64], rules: &[u8], mixtures: &[u8], k: usize)
+    requires { ⌜ (length (now row) ≡ formWidth) × (k < length (now rules) / ruleSize) × (spansGood (length (now mixtures) / mixtureSize) 0 (spansIn (now rules)) ≡ true) ⌝ }
+    ensures { λ _. ⌜ now (row .exit) ≡ formRow (normalUse (getD (ownedIn (now (rules .entry)) (now (mixtures .entry))) k freeUse)) ⌝ }
+{
+    image::put_own_rule(&mut row[0..OWNER_WORD], rules, mixtures, k);
+    row[OWNER_WORD] = fields::read16(rules, k * image::RULE_SIZE + image::OWNER_FIELD) as u64;
+}
+
 // The rules of an image's sections, in normal form.
 fn fill_forms(forms: &mut [u64], rules: &[u8], mixtures: &[u8])
     requires { ⌜ (length (now forms) ≡ length (now rules) / ruleSize * formWidth) × (spansGood (length (now mixtures) / mixtureSize) 0 (spansIn (now rules)) ≡ true) ⌝ }
-    ensures { λ _. ⌜ now (forms .exit) ≡ formWords (rulesIn (now (rules .entry)) (now (mixtures .entry))) ⌝ }
+    ensures { λ _. ⌜ now (forms .exit) ≡ formWords (ownedIn (now (rules .entry)) (now (mixtures .entry))) ⌝ }
 {
     let n = rules.len() / image::RULE_SIZE;
     let mut k: usize = 0;
     while k < n {
         let at = k * FORM_WIDTH;
-        image::put_own_rule(&mut forms[at..at + FORM_WIDTH], rules, mixtures, k);
+        put_row(&mut forms[at..at + FORM_WIDTH], rules, mixtures, k);
         k += 1;
     }
 }
@@ -478,9 +505,9 @@ fn rewrite_few(
     out: &mut [u8],
 ) -> usize
     requires { ⌜ SectionsAccepted (now containers) (now users) (now rules) (now mixtures) × (length (now rules) / ruleSize ≤ fewRules) × (outputBound ≤ length (now out)) ⌝ }
-    ensures { λ r. ⌜ Wrote (normalImage (policyGiven (now (containers .entry)) (now (users .entry)) (rulesIn (now (rules .entry)) (now (mixtures .entry))))) (now (out .entry)) (now (out .exit)) 0 r ⌝ }
+    ensures { λ r. ⌜ Wrote (normalImage (policyGiven (now (containers .entry)) (now (users .entry)) (ownedIn (now (rules .entry)) (now (mixtures .entry))))) (now (out .entry)) (now (out .exit)) 0 r ⌝ }
 {
-    let mut forms = [0u64; 144];
+    let mut forms = [0u64; FEW_WORDS];
     let n = rules.len() / image::RULE_SIZE * FORM_WIDTH;
     fill_forms(&mut forms[0..n], rules, mixtures);
     write_few(containers, users, &forms[0..n], out)
@@ -495,9 +522,9 @@ fn rewrite_many(
     out: &mut [u8],
 ) -> usize
     requires { ⌜ SectionsAccepted (now containers) (now users) (now rules) (now mixtures) × (outputBound ≤ length (now out)) ⌝ }
-    ensures { λ r. ⌜ Wrote (normalImage (policyGiven (now (containers .entry)) (now (users .entry)) (rulesIn (now (rules .entry)) (now (mixtures .entry))))) (now (out .entry)) (now (out .exit)) 0 r ⌝ }
+    ensures { λ r. ⌜ Wrote (normalImage (policyGiven (now (containers .entry)) (now (users .entry)) (ownedIn (now (rules .entry)) (now (mixtures .entry))))) (now (out .entry)) (now (out .exit)) 0 r ⌝ }
 {
-    let mut forms = [0u64; 2304];
+    let mut forms = [0u64; MANY_WORDS];
     let n = rules.len() / image::RULE_SIZE * FORM_WIDTH;
     fill_forms(&mut forms[0..n], rules, mixtures);
     write_many(containers, users, &forms[0..n], out)
@@ -506,7 +533,7 @@ fn rewrite_many(
 // The normal image of the policy of an image's sections: its length.
 fn rewrite(containers: &[u8], users: &[u8], rules: &[u8], mixtures: &[u8], out: &mut [u8]) -> usize
     requires { ⌜ SectionsAccepted (now containers) (now users) (now rules) (now mixtures) × (outputBound ≤ length (now out)) ⌝ }
-    ensures { λ r. ⌜ Wrote (normalImage (policyGiven (now (containers .entry)) (now (users .entry)) (rulesIn (now (rules .entry)) (now (mixtures .entry))))) (now (out .entry)) (now (out .exit)) 0 r ⌝ }
+    ensures { λ r. ⌜ Wrote (normalImage (policyGiven (now (containers .entry)) (now (users .entry)) (ownedIn (now (rules .entry)) (now (mixtures .entry))))) (now (out .entry)) (now (out .exit)) 0 r ⌝ }
 {
     if rules.len() / image::RULE_SIZE <= FEW_RULES {
         rewrite_few(containers, users, rules, mixtures, out)

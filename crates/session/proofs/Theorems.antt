@@ -16,13 +16,13 @@ use Rattle.lists.specs.Conditions.{numbersOf}
 use Rattle.lists.proofs.Conditions.{given-among}
 use Rattle.answers.specs.Refusals.{imageLength, sections, recordCount, ruleRecord, containerRecord, userRule, lentLength}
 use Rattle.image.specs.Image.{policyIn, imageConditions, checkOf}
-use Rattle.image.specs.Normal.{normalImage}
+use Rattle.image.specs.Normal.{ownersAt, normalImage}
 use Rattle.session.specs.Limits.{sessionLength, rowWidth, userWidth}
 use Rattle.session.specs.Rows.{Row, rowWords, freeWords, containerRowGood, InUse, userWords, undeclaredWords, userRowGood, containerRow, userRow}
 use Rattle.session.specs.Session.{startOf, sessionLengthGood, startConditions, startAnswer, startEffect}
 use Rattle.session.proofs.GoodRows.{row-says, says-row, user-says, says-user}
 use Rattle.image.proofs.Decode.{accepted-sound}
-use Rattle.session.proofs.Canonical.{normal-check, normal-same-start, same-start, same-image, started-effect}
+use Rattle.session.proofs.Canonical.{normal-check, normal-same-start, normal-same-owners, same-start, same-owners, same-image, started-effect}
 use Rattle.session.proofs.StartRefusals.{refused-9, given-by-image}
 use Rattle.session.proofs.StartLaws.{start-length, start-rows-good, start-users-good}
 
@@ -49,16 +49,25 @@ module _ (i s : List ℕ) where
 
 -- ---- CANONICITY
 
--- two images that are not refused have the same normal image exactly when they start equal sessions
+-- two images that are not refused have the same normal image exactly when they start equal sessions and have the same owner at
+-- every use of a rule
 pub canonical : (i j : List ℕ) → Bytes i → Bytes j → checkOf i ≡ 0 → checkOf j ≡ 0
-    → (normalImage (policyIn i) ≡ normalImage (policyIn j)) ↔ (startOf (policyIn i) ≡ startOf (policyIn j))
+    → (normalImage (policyIn i) ≡ normalImage (policyIn j)) ↔ ((startOf (policyIn i) ≡ startOf (policyIn j)) × (ownersAt (policyIn i) ≡ ownersAt (policyIn j)))
 canonical i j b d e f =
-    (same-start (policyIn i) (policyIn j) (accepted-sound i b e) (accepted-sound j d f), same-image (policyIn i) (policyIn j) (accepted-sound i b e) (accepted-sound j d f))
+    let h = accepted-sound i b e in
+    let k = accepted-sound j d f in (
+      λ z. (same-start (policyIn i) (policyIn j) h k z, same-owners (policyIn i) (policyIn j) h k z),
+      λ z. same-image (policyIn i) (policyIn j) h k (z .0) (z .1),
+    )
 
 -- the same of the numbers that the start leaves in two lent sessions of the right length, whatever stood there
 pub canonical-effect : (i j s t : List ℕ) → Bytes i → Bytes j → checkOf i ≡ 0 → checkOf j ≡ 0 → length s ≡ sessionLength → length t ≡ sessionLength
-    → (normalImage (policyIn i) ≡ normalImage (policyIn j)) ↔ (startEffect i s ≡ startEffect j t)
+    → (normalImage (policyIn i) ≡ normalImage (policyIn j)) ↔ ((startEffect i s ≡ startEffect j t) × (ownersAt (policyIn i) ≡ ownersAt (policyIn j)))
 canonical-effect i j s t b d e f l m = rw (started-effect i s e l, started-effect j t f m) (canonical i j b d e f)
+
+-- the normal image has the same owner at every use of a rule
+pub normal-owners : (i : List ℕ) → Bytes i → checkOf i ≡ 0 → ownersAt (policyIn (normalImage (policyIn i))) ≡ ownersAt (policyIn i)
+normal-owners i b e = normal-same-owners (policyIn i) (accepted-sound i b e)
 
 -- the normal image starts the same session
 pub normal-starts : (i : List ℕ) → Bytes i → checkOf i ≡ 0 → startOf (policyIn (normalImage (policyIn i))) ≡ startOf (policyIn i)

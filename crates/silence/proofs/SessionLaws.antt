@@ -12,8 +12,8 @@ use Rattle.answers.specs.declared.Answer.{Answer}
 use Rattle.answers.specs.Answers.{isRefused}
 use Rattle.image.specs.Policy.{Policy, Sound}
 use Rattle.image.specs.Image.{policyIn}
-use Rattle.image.specs.Normal.{meaning, normalPolicy}
-use Rattle.image.proofs.WrittenMeaning.{meaning-encodable, policy-sound}
+use Rattle.image.specs.Normal.{owned, normalPolicy}
+use Rattle.image.proofs.WrittenOwners.{owned-ownable, policy-sound}
 use Rattle.session.specs.Session.{startOf}
 use Rattle.matrix.specs.Flows.{has, matrixGood}
 use Rattle.matrix.proofs.GoodLaws.{Good, good-parts}
@@ -92,7 +92,7 @@ module _ (reads writes : List ℕ) (objects : ℕ) (good : matrixGood reads writ
   P-is = derived-read reads writes objects good .1
 
   P-sound : Sound P
-  P-sound = subst Sound (sym P-is) (unfold normalPolicy in policy-sound (meaning (derivedPolicy reads writes objects)) (meaning-encodable (derivedPolicy reads writes objects) (derived-sound reads writes objects good)))
+  P-sound = subst Sound (sym P-is) (unfold normalPolicy in policy-sound (owned (derivedPolicy reads writes objects)) (owned-ownable (derivedPolicy reads writes objects) (derived-sound reads writes objects good)))
 
   pub valid : Valid (startOf P)
   valid = start-valid P P-sound

@@ -1,4 +1,4 @@
--- The paper's listing, every byte: the listing of document 000's image of 110 bytes and of the trace of six records.
+-- The paper's listing, every byte: the listing of document 000's image of 118 bytes and of the trace of six records.
 use Prim.Native.Nat.{ℕ}
 use mathlib.Core.Path.{_≡_, refl, ap, _∙_}
 use mathlib.Core.List.{List, [], _∷_, _++_}

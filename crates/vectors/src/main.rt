@@ -15,7 +15,7 @@ fn line(name: &[u8], number: u64) {
 
 // "Empty policy: 18 bytes."
 fn empty_policy() {
-    let image: [u8; HEADER_SIZE] = [4, 0, 18, 0, 0, 0, 18, 0, 0, 0, 18, 0, 0, 0, 18, 0, 0, 0];
+    let image: [u8; HEADER_SIZE] = [5, 0, 18, 0, 0, 0, 18, 0, 0, 0, 18, 0, 0, 0, 18, 0, 0, 0];
     let mut session = [0u64; SESSION_LENGTH];
     line(b"empty policy, check", image::check(&image) as u64);
     line(
@@ -28,6 +28,33 @@ fn empty_policy() {
         b"empty policy, length of the normal image",
         normaliser::normalise(&image, &mut out) as u64,
     );
+}
+
+// "Every image now leads with a 16-bit 5, and 2 refuses the old 4."
+fn old_image() {
+    let image: [u8; HEADER_SIZE] = [4, 0, 18, 0, 0, 0, 18, 0, 0, 0, 18, 0, 0, 0, 18, 0, 0, 0];
+    line(
+        b"empty policy that leads with 4, check",
+        image::check(&image) as u64,
+    );
+}
+
+// "a 16-bit owner last, a declared user or 65535 for nobody; 4 checks it": one rule without a mixture, no user.
+fn owners() {
+    let mut image = [0u8; 24];
+    image[0] = 5;
+    image[2] = 18;
+    image[6] = 18;
+    image[10] = 18;
+    image[12] = 6;
+    image[14] = 24;
+    line(
+        b"unused rule of user 0, no user declared, check",
+        image::check(&image) as u64,
+    );
+    image[22] = 255;
+    image[23] = 255;
+    line(b"unused rule of nobody, check", image::check(&image) as u64);
 }
 
 // "Code 9 with a short session: 9."
@@ -47,5 +74,7 @@ fn short_session() {
 
 fn main() {
     empty_policy();
+    old_image();
+    owners();
     short_session();
 }

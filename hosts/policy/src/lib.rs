@@ -10,6 +10,7 @@ mod statement;
 mod steps;
 mod story;
 mod token;
+mod upgrade;
 
 pub use folder::{read_names, write_folder};
 pub use profiles::{profile_paths, ProfileFault};
@@ -17,6 +18,7 @@ pub use show::show;
 pub use steps::{Holder, Step, Steps};
 pub use story::Story;
 pub use token::quoted;
+pub use upgrade::{upgraded, UpgradeError};
 
 use std::error::Error;
 use std::fmt;

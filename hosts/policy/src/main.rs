@@ -7,7 +7,7 @@ use std::io::{self, IsTerminal, Read, Write};
 use std::path::{Path, PathBuf};
 use std::process::ExitCode;
 
-use policy_text::{profile_paths, read_names, show, write_folder, Story};
+use policy_text::{profile_paths, read_names, show, upgraded, write_folder, Story};
 use yaslaurel::{normalise, profiles_policy, Policy, Refusal};
 
 const HELP: &str = "\
@@ -15,6 +15,7 @@ policy check IMAGE                  says whether a policy image is accepted, and
 policy normal IMAGE [-o FILE]       writes the normal image, to standard output without -o
 policy show IMAGE [-n FOLDER]       prints sources, rules, containers and users, with the names that FOLDER has
 policy profiles TEXT [-o FILE]      writes the image of a text of profiles, or tells the line at fault
+policy upgrade OLD [-o FILE]        writes the image of an earlier edition (one that begins with 4) as one of this, without owners
 policy make STORY [-o FOLDER]       writes policy.bin, trace.bin and the names of a story into FOLDER, or this folder
 policy help, policy --version
 
@@ -140,6 +141,11 @@ fn profiles(arguments: &Arguments) -> Result<(), Failure> {
     }
 }
 
+fn upgrade(arguments: &Arguments) -> Result<(), Failure> {
+    let image = upgraded(&arguments.load()?).map_err(|error| Refused(arguments.said(error)))?;
+    arguments.write_image(&image)
+}
+
 fn make(arguments: &Arguments) -> Result<(), Failure> {
     let file = arguments.file.display();
     let story = Story::read(&arguments.load()?).map_err(|error| Refused(format!("{file}:{error}")))?;
@@ -157,6 +163,7 @@ fn run(arguments: &[OsString]) -> Result<(), Failure> {
         "normal" => normal(&read(Some("-o"))?),
         "show" => show_image(&read(Some("-n"))?),
         "profiles" => profiles(&read(Some("-o"))?),
+        "upgrade" => upgrade(&read(Some("-o"))?),
         "make" => make(&read(Some("-o"))?),
         "help" | "--help" => print(HELP.as_bytes()),
         "--version" => print(concat!("policy ", env!("CARGO_PKG_VERSION"), "\n").as_bytes()),

@@ -6,8 +6,8 @@ use yaslaurel::{Kind, Mixture, Policy, Rule, Source};
 
 use crate::quoted;
 
-/// The policy as text: its sources, its rules with their mixtures spelled out, its containers and its users, each in the order
-/// of its numbers. The rule at place k of [`Policy::rules`] is called `rule-k`.
+/// The policy as text: its sources, its rules with their mixtures spelled out, its containers, its users and the owners of rules, each in
+/// the order of its numbers. The rule at place k of [`Policy::rules`] is called `rule-k`.
 ///
 /// The text is a story that makes the same policy, if each source is carried by some file. A comment names those that are not.
 ///
@@ -20,7 +20,7 @@ use crate::quoted;
 /// ```
 #[must_use]
 pub fn show(policy: &Policy) -> String {
-    let parts = [loose(policy), sources(policy), rules(policy), containers(policy), users(policy)];
+    let parts = [loose(policy), sources(policy), rules(policy), containers(policy), users(policy), owners(policy)];
     let parts: Vec<String> = parts.into_iter().filter(|part| !part.is_empty()).collect();
     parts.join("\n")
 }
@@ -51,6 +51,9 @@ fn rule_name(place: usize) -> String {
 }
 
 fn mixtures(policy: &Policy, rule: &Rule) -> String {
+    if rule.is_unrestricted() {
+        return " everything".into();
+    }
     rule.mixtures().iter().map(|mixture| format!(" {{{}}}", mixture_text(policy, *mixture))).collect()
 }
 
@@ -82,6 +85,11 @@ fn containers(policy: &Policy) -> String {
         format!("{word} {}{guarded}{source}{rules}\n", quoted(name))
     });
     lines.collect()
+}
+
+fn owners(policy: &Policy) -> String {
+    let owned = (0..policy.rules().len()).filter_map(|place| Some((place, policy.rule_owner(place as u16)?)));
+    owned.map(|(place, owner)| format!("owner {} {}\n", rule_name(place), quoted(&policy.user_name(owner)))).collect()
 }
 
 fn users(policy: &Policy) -> String {

@@ -12,14 +12,47 @@ pub struct Part {
 /// What a line says, by names. The same words as in `docs/FORMATS.md`.
 #[derive(Clone, Debug, PartialEq, Eq)]
 pub enum Statement {
-    Source { name: String },
-    Rule { name: String, mixtures: Vec<Vec<Part>> },
-    File { name: String, guarded: bool, source: Option<String>, permit: Option<String>, run: Option<String> },
-    Permit { file: String, mixtures: Vec<Vec<Part>> },
-    Volatile { name: String },
-    Process { name: String },
-    User { name: String, rule: Option<String>, uid: Option<u32> },
-    Step { operation: String, process: String, object: String, user: Option<String> },
+    Source {
+        name: String,
+    },
+    /// Without mixtures it is unrestricted: `everything`.
+    Rule {
+        name: String,
+        mixtures: Option<Vec<Vec<Part>>>,
+    },
+    Owner {
+        rule: String,
+        user: String,
+    },
+    File {
+        name: String,
+        guarded: bool,
+        source: Option<String>,
+        permit: Option<String>,
+        run: Option<String>,
+    },
+    Permit {
+        file: String,
+        owner: Option<String>,
+        mixtures: Vec<Vec<Part>>,
+    },
+    Volatile {
+        name: String,
+    },
+    Process {
+        name: String,
+    },
+    User {
+        name: String,
+        rule: Option<String>,
+        uid: Option<u32>,
+    },
+    Step {
+        operation: String,
+        process: String,
+        object: String,
+        user: Option<String>,
+    },
 }
 
 /// The statement of a line; nothing for a line without one.
@@ -98,7 +131,7 @@ impl Words<'_> {
     }
 
     fn statement(&mut self) -> Result<Statement, String> {
-        let wrong = self.wrong("source, rule, file, permit, volatile, process, user or step");
+        let wrong = self.wrong("source, rule, file, permit, volatile, process, user, owner or step");
         let [Token::Word(word), rest @ ..] = self.tokens else { return wrong };
         self.tokens = rest;
         Ok(match *word {
@@ -106,13 +139,19 @@ impl Words<'_> {
             "rule" => {
                 let name = self.name("the name of a rule")?;
                 self.mark('=')?;
-                Statement::Rule { name, mixtures: self.mixtures()? }
+                let everything = self.takes(Token::Word("everything"));
+                Statement::Rule { name, mixtures: if everything { None } else { Some(self.mixtures()?) } }
+            }
+            "owner" => {
+                Statement::Owner { rule: self.name("the name of a rule")?, user: self.name("the name of a user")? }
             }
             "file" => self.file()?,
             "permit" => {
                 let file = self.name("the name of a file")?;
+                let mut owner = None;
+                self.option("by", &mut owner)?;
                 self.mark(':')?;
-                Statement::Permit { file, mixtures: self.permitted()? }
+                Statement::Permit { file, owner, mixtures: self.permitted()? }
             }
             "volatile" => Statement::Volatile { name: self.name("the name of a volatile")? },
             "process" => Statement::Process { name: self.name("the name of a process")? },

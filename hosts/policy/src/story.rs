@@ -96,6 +96,14 @@ fn carried(statements: &[Result<Option<Statement>, String>]) -> HashSet<String> 
     sources.collect()
 }
 
+/// Where a rule is used.
+#[derive(Clone, Copy)]
+enum RuleUse {
+    Permit(u8),
+    Run(u8),
+    User(u8),
+}
+
 /// What has been read so far.
 #[derive(Default)]
 struct Reader {
@@ -104,6 +112,10 @@ struct Reader {
     carried: HashSet<String>,
     policy: Policy,
     rules: HashMap<String, Rule>,
+    /// The owner of a rule, by its name.
+    owners: HashMap<String, u8>,
+    /// Where a rule is used, by its name.
+    uses: Vec<(RuleUse, String)>,
     /// The line of each source, rule, container, permit rule and user.
     lines: HashMap<(&'static str, String), usize>,
     uids: Vec<(u32, u8)>,
@@ -124,16 +136,19 @@ impl Reader {
             (Statement::Step { operation, process, object, user }, _) => self.step(&operation, process, object, user),
             (_, Some(line)) => Err(format!("a step was at line {line}, expected only steps behind it")),
             (Statement::Source { name }, None) => self.source(&name),
-            (Statement::Rule { name, mixtures }, None) => self.rule(name, &mixtures),
+            (Statement::Rule { name, mixtures }, None) => self.rule(name, mixtures.as_deref()),
+            (Statement::Owner { rule, user }, None) => self.owner(&rule, &user),
             (Statement::File { name, guarded, source, permit, run }, None) => {
                 self.file(&name, source, permit, run)?;
                 let number = self.file_number(&name)?;
                 self.policy.set_guarded(number, guarded).map_err(said)
             }
-            (Statement::Permit { file, mixtures }, None) => {
+            (Statement::Permit { file, owner, mixtures }, None) => {
                 let rule = self.rule_of(&mixtures)?;
+                let owner = owner.map(|user| self.user_named(&user)).transpose()?;
                 let number = self.file_number(&file)?;
-                self.permit(number, &file, rule)
+                self.permit(number, &file, rule)?;
+                self.policy.set_permit_owner(number, owner).map_err(said)
             }
             (Statement::Volatile { name }, None) => self.container(&name, Kind::Volatile),
             (Statement::Process { name }, None) => self.container(&name, Kind::Process),
@@ -170,11 +185,41 @@ impl Reader {
         self.policy.set_source(number, source).map_err(said)
     }
 
-    fn rule(&mut self, name: String, mixtures: &[Vec<Part>]) -> Result<(), String> {
+    fn rule(&mut self, name: String, mixtures: Option<&[Vec<Part>]>) -> Result<(), String> {
         self.declare("the rule", &name)?;
-        let rule = self.rule_of(mixtures)?;
+        let rule = mixtures.map_or(Ok(Rule::unrestricted()), |mixtures| self.rule_of(mixtures))?;
         self.rules.insert(name, rule);
         Ok(())
+    }
+
+    /// Gives a rule an owner, at all its uses, above and below.
+    fn owner(&mut self, rule: &str, user: &str) -> Result<(), String> {
+        self.rule_named(rule)?;
+        let owner = self.user_named(user)?;
+        self.declare("the owner of", rule)?;
+        self.owners.insert(rule.into(), owner);
+        let uses: Vec<RuleUse> = self.uses.iter().filter(|(_, name)| name == rule).map(|(used, _)| *used).collect();
+        uses.into_iter().try_for_each(|used| self.set_owner(used, owner))
+    }
+
+    fn set_owner(&mut self, used: RuleUse, owner: u8) -> Result<(), String> {
+        let set = match used {
+            RuleUse::Permit(file) => self.policy.set_permit_owner(file, Some(owner)),
+            RuleUse::Run(file) => self.policy.set_run_owner(file, Some(owner)),
+            RuleUse::User(user) => self.policy.set_user_rule_owner(user, Some(owner)),
+        };
+        set.map_err(said)
+    }
+
+    /// Notes that a rule is used by its name, and gives it its owner there.
+    fn used(&mut self, used: RuleUse, rule: &str) -> Result<(), String> {
+        self.uses.push((used, rule.into()));
+        self.owners.get(rule).copied().map_or(Ok(()), |owner| self.set_owner(used, owner))
+    }
+
+    fn user_named(&self, name: &str) -> Result<u8, String> {
+        let user = self.policy.user_named(name);
+        user.ok_or_else(|| format!("there is no user `{name}`, expected one of a line above"))
     }
 
     fn rule_of(&self, mixtures: &[Vec<Part>]) -> Result<Rule, String> {
@@ -232,10 +277,12 @@ impl Reader {
         if let Some(permit) = permit {
             let rule = self.rule_named(&permit)?;
             self.permit(number, name, rule)?;
+            self.used(RuleUse::Permit(number), &permit)?;
         }
         if let Some(run) = run {
             let rule = self.rule_named(&run)?;
             self.policy.set_run_rule(number, rule).map_err(said)?;
+            self.used(RuleUse::Run(number), &run)?;
         }
         Ok(())
     }
@@ -253,8 +300,11 @@ impl Reader {
 
     fn user(&mut self, name: &str, rule: Option<&str>, uid: Option<u32>) -> Result<(), String> {
         self.declare("the user", name)?;
-        let rule = rule.map_or(Ok(Rule::unrestricted()), |rule| self.rule_named(rule))?;
-        let number = self.policy.user(name, rule).map_err(said)?;
+        let value = rule.map_or(Ok(Rule::unrestricted()), |rule| self.rule_named(rule))?;
+        let number = self.policy.user(name, value).map_err(said)?;
+        if let Some(rule) = rule {
+            self.used(RuleUse::User(number), rule)?;
+        }
         if let Some(uid) = uid {
             self.declare("the uid", &uid.to_string())?;
             self.uids.push((uid, number));
@@ -265,10 +315,7 @@ impl Reader {
     fn step(&mut self, word: &str, process: String, object: String, user: Option<String>) -> Result<(), String> {
         let number = match &user {
             None => None,
-            Some(name) => {
-                let number = self.policy.user_named(name);
-                Some(number.ok_or_else(|| format!("there is no user `{name}`, expected one of a line above"))?)
-            }
+            Some(name) => Some(self.user_named(name)?),
         };
         let policy = &self.policy;
         let numbers = self.numbers.get_or_insert_with(|| Steps::new(policy));

@@ -10,7 +10,7 @@ pub mod atom {
 /// A policy image, in bytes.
 pub mod image {
     /// The number that an image begins with.
-    pub const LEADING: u16 = 4;
+    pub const LEADING: u16 = 5;
 
     /// Bytes of the leading number and of the offsets and lengths of the sections, and so of the smallest image.
     pub const HEADER: usize = 2 + 4 * SECTIONS.len();
@@ -54,8 +54,8 @@ pub mod image {
     pub const CONTAINERS: Section = Section { place: 0, record: 6, most: 256 };
     /// A record: the number of a rule.
     pub const USERS: Section = Section { place: 1, record: 2, most: 16 };
-    /// A record: first mixture, count.
-    pub const RULES: Section = Section { place: 2, record: 4, most: 256 };
+    /// A record: first mixture, count, owner.
+    pub const RULES: Section = Section { place: 2, record: 6, most: 256 };
     /// A record: a mixture.
     pub const MIXTURES: Section = Section { place: 3, record: 8, most: 2_048 };
 
@@ -75,6 +75,11 @@ pub mod image {
     pub const FIRST: usize = 0;
     /// Where a rule's record has the count of its mixtures.
     pub const COUNT: usize = 2;
+    /// Where a rule's record has its owner.
+    pub const OWNER: usize = 4;
+
+    /// The owner of a rule that nobody owns.
+    pub const NO_OWNER: u16 = 65535;
 
     /// The atom of a container that has none.
     pub const NO_ATOM: u8 = 255;

@@ -192,7 +192,8 @@ pub fn check(image: &[u8]) -> Result<(), Refusal> {
     }
 }
 
-/// The normal image of a policy image. Two accepted images have the same one exactly when they start equal sessions.
+/// The normal image of a policy image. Two accepted images have the same one exactly when they start equal sessions and have the
+/// same owner at every use of a rule.
 ///
 /// ```
 /// // One byte behind the last section is ignored.
@@ -528,7 +529,7 @@ pub fn matrix_silent(reads: &[u32], writes: &[u32], objects: u32) -> Result<bool
 ///
 /// ```
 /// let image = yaslaurel::matrix_policy(&[5, 3, 2], &[1, 2, 10], 4)?;
-/// assert_eq!(image.len(), 110);
+/// assert_eq!(image.len(), 118);
 /// assert_eq!(yaslaurel::normalise(&image)?, image);
 /// # Ok::<(), yaslaurel::Refusal>(())
 /// ```

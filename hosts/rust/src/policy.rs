@@ -37,11 +37,15 @@ pub struct Policy {
     containers: Vec<PolicyContainer>,
     user_names: Names,
     users: Vec<Option<u16>>,
-    /// The different rules that were named, but for the unrestricted one.
+    /// The different rules that are used, but for the unrestricted one without an owner. Two equal ones with different owners
+    /// are different.
     rules: Vec<Rule>,
+    /// The owner of each.
+    owners: Vec<Option<u8>>,
 }
 
-/// A container as a policy declares it. A rule is its place in [`Policy::rules`], or nothing for the unrestricted one.
+/// A container as a policy declares it. A rule is its place in [`Policy::rules`], or nothing for the unrestricted one that nobody
+/// owns.
 #[derive(Clone, Copy, Debug, PartialEq, Eq)]
 #[non_exhaustive]
 pub struct PolicyContainer {
@@ -95,6 +99,14 @@ impl fmt::Display for PolicyError {
 }
 
 impl Error for PolicyError {}
+
+/// Where a rule is used: by a file, as one of its two rules, or by a user.
+#[derive(Clone, Copy)]
+enum Used {
+    Permit(u8),
+    Run(u8),
+    User(u8),
+}
 
 /// Names of which no two are equal.
 #[derive(Clone, Debug, Default, PartialEq, Eq)]
@@ -193,14 +205,13 @@ impl Policy {
     /// [`PolicyError::NameTaken`] by another user, [`PolicyError::TooManyUsers`], or [`PolicyError::TooManyRules`].
     pub fn user(&mut self, name: &str, rule: impl Into<Rule>) -> Result<u8, PolicyError> {
         let number = self.user_names.add(name, image::USERS.most, PolicyError::TooManyUsers)?;
-        match self.rule_number(rule.into()) {
-            Ok(rule) => self.users.push(rule),
-            Err(error) => {
-                self.user_names.0.pop();
-                return Err(error);
-            }
+        self.users.push(None);
+        let set = self.set_use(Used::User(number), rule.into(), None);
+        if set.is_err() {
+            self.user_names.0.pop();
+            self.users.pop();
         }
-        Ok(number)
+        set.map(|()| number)
     }
 
     /// Lets a file carry a source at the start. Two files may carry one.
@@ -229,9 +240,32 @@ impl Policy {
     ///
     /// [`PolicyError::NotAFile`], [`PolicyError::NotThere`], or [`PolicyError::TooManyRules`].
     pub fn set_permit_rule(&mut self, file: u8, rule: impl Into<Rule>) -> Result<(), PolicyError> {
-        self.file_mut(file)?;
-        self.file_mut(file)?.permit = self.rule_number(rule.into())?;
-        Ok(())
+        self.set_rule(Used::Permit(file), rule.into())
+    }
+
+    /// Says which user has set a file's permit rule; nobody for nothing. The rule means the same, and equal rules of different
+    /// owners stay apart in the image.
+    ///
+    /// ```
+    /// use yaslaurel::{Mixture, Policy, Rule};
+    /// let mut policy = Policy::new();
+    /// let (north, member) = (policy.source("north")?, policy.user("member", Rule::unrestricted())?);
+    /// for name in ["statement", "report"] {
+    ///     let file = policy.file(name)?;
+    ///     policy.set_permit_rule(file, Mixture::of([north]))?;
+    /// }
+    /// assert_eq!(policy.rules().len(), 1);
+    /// policy.set_permit_owner(0, Some(member))?;
+    /// assert_eq!(policy.rules().len(), 2);
+    /// assert_eq!((policy.rule_owner(0), policy.rule_owner(1)), (None, Some(member)));
+    /// # Ok::<(), yaslaurel::PolicyError>(())
+    /// ```
+    ///
+    /// # Errors
+    ///
+    /// [`PolicyError::NotAFile`], [`PolicyError::NotThere`] of the file or the user, or [`PolicyError::TooManyRules`].
+    pub fn set_permit_owner(&mut self, file: u8, owner: Option<u8>) -> Result<(), PolicyError> {
+        self.set_owner(Used::Permit(file), owner)
     }
 
     /// Says what a process may hold without an alert that runs a file.
@@ -240,9 +274,64 @@ impl Policy {
     ///
     /// [`PolicyError::NotAFile`], [`PolicyError::NotThere`], or [`PolicyError::TooManyRules`].
     pub fn set_run_rule(&mut self, file: u8, rule: impl Into<Rule>) -> Result<(), PolicyError> {
-        self.file_mut(file)?;
-        self.file_mut(file)?.run = self.rule_number(rule.into())?;
-        Ok(())
+        self.set_rule(Used::Run(file), rule.into())
+    }
+
+    /// Says which user has set a file's run rule; nobody for nothing.
+    ///
+    /// # Errors
+    ///
+    /// As [`set_permit_owner`](Policy::set_permit_owner).
+    pub fn set_run_owner(&mut self, file: u8, owner: Option<u8>) -> Result<(), PolicyError> {
+        self.set_owner(Used::Run(file), owner)
+    }
+
+    /// Says which user has set a user's rule; nobody for nothing.
+    ///
+    /// # Errors
+    ///
+    /// [`PolicyError::NotThere`] of one of the users, or [`PolicyError::TooManyRules`].
+    pub fn set_user_rule_owner(&mut self, user: u8, owner: Option<u8>) -> Result<(), PolicyError> {
+        self.set_owner(Used::User(user), owner)
+    }
+
+    /// Another rule at a use, of the same owner.
+    fn set_rule(&mut self, used: Used, rule: Rule) -> Result<(), PolicyError> {
+        let before = *self.use_mut(used)?;
+        let owner = self.owner_of(before);
+        self.set_use(used, rule, owner)
+    }
+
+    /// Another owner of the rule at a use, who must be a user.
+    fn set_owner(&mut self, used: Used, owner: Option<u8>) -> Result<(), PolicyError> {
+        let before = *self.use_mut(used)?;
+        let rule = self.rule_of(before);
+        if let Some(user) = owner {
+            self.use_mut(Used::User(user))?;
+        }
+        self.set_use(used, rule, owner)
+    }
+
+    /// Another rule and owner at a use; the rule before is dropped if nothing else uses it.
+    fn set_use(&mut self, used: Used, rule: Rule, owner: Option<u8>) -> Result<(), PolicyError> {
+        let number = self.rule_number(rule, owner);
+        let before = std::mem::replace(self.use_mut(used)?, number);
+        self.drop_unused();
+        if self.rules.len() <= image::RULES.most {
+            return Ok(());
+        }
+        // None was dropped, so the number before is that of its rule still.
+        *self.use_mut(used)? = before;
+        self.drop_unused();
+        Err(PolicyError::TooManyRules)
+    }
+
+    fn use_mut(&mut self, used: Used) -> Result<&mut Option<u16>, PolicyError> {
+        match used {
+            Used::Permit(file) => Ok(&mut self.file_mut(file)?.permit),
+            Used::Run(file) => Ok(&mut self.file_mut(file)?.run),
+            Used::User(user) => self.users.get_mut(usize::from(user)).ok_or(PolicyError::NotThere(user)),
+        }
     }
 
     /// Gives a source another name.
@@ -281,19 +370,44 @@ impl Policy {
         }
     }
 
-    /// The place of a rule, which equal rules share.
-    fn rule_number(&mut self, rule: Rule) -> Result<Option<u16>, PolicyError> {
-        if rule.is_unrestricted() {
-            return Ok(None);
+    /// The rule at a place.
+    fn rule_of(&self, place: Option<u16>) -> Rule {
+        place.map_or_else(Rule::unrestricted, |place| self.rules[usize::from(place)].clone())
+    }
+
+    /// Its owner.
+    fn owner_of(&self, place: Option<u16>) -> Option<u8> {
+        place.and_then(|place| self.owners[usize::from(place)])
+    }
+
+    /// The place of a rule with an owner, which equal ones share.
+    fn rule_number(&mut self, rule: Rule, owner: Option<u8>) -> Option<u16> {
+        if rule.is_unrestricted() && owner.is_none() {
+            return None;
         }
-        let place = self.rules.iter().position(|other| *other == rule).unwrap_or(self.rules.len());
-        if place == image::RULES.most {
-            return Err(PolicyError::TooManyRules);
-        }
+        let same = |place: &usize| self.rules[*place] == rule && self.owners[*place] == owner;
+        let place = (0..self.rules.len()).find(same).unwrap_or(self.rules.len());
         if place == self.rules.len() {
             self.rules.push(rule);
+            self.owners.push(owner);
         }
-        Ok(Some(place as u16))
+        Some(place as u16)
+    }
+
+    /// Drops the rules that nothing uses any more.
+    fn drop_unused(&mut self) {
+        let mut uses: Vec<&mut u16> =
+            self.containers.iter_mut().flat_map(|c| [&mut c.permit, &mut c.run]).flatten().collect();
+        uses.extend(self.users.iter_mut().flatten());
+        let used: Vec<bool> =
+            (0..self.rules.len()).map(|place| uses.iter().any(|n| usize::from(**n) == place)).collect();
+        for number in uses {
+            *number = used[..usize::from(*number)].iter().filter(|used| **used).count() as u16;
+        }
+        let mut kept = used.iter();
+        self.rules.retain(|_| *kept.next().expect("as many as rules"));
+        let mut kept = used.iter();
+        self.owners.retain(|_| *kept.next().expect("as many as rules"));
     }
 }
 
@@ -318,10 +432,16 @@ impl Policy {
         self.user_names.iter().zip(self.users.iter().copied())
     }
 
-    /// The different rules that containers and users were given, but for the unrestricted one.
+    /// The different rules that containers and users have, but for the unrestricted one that nobody owns.
     #[must_use]
     pub fn rules(&self) -> &[Rule] {
         &self.rules
+    }
+
+    /// The owner of the rule at a place of [`rules`](Policy::rules).
+    #[must_use]
+    pub fn rule_owner(&self, place: u16) -> Option<u8> {
+        self.owners.get(usize::from(place)).copied().flatten()
     }
 
     /// The source of a name.
@@ -402,9 +522,10 @@ impl Policy {
         }
         sections[1].extend(self.users.iter().flat_map(|rule| number(*rule)));
         let mut first = 0_u16;
-        for rule in &self.rules {
+        for (rule, owner) in self.rules.iter().zip(&self.owners) {
             let count = rule.mixtures().len() as u16;
-            sections[2].extend([first.to_le_bytes(), count.to_le_bytes()].concat());
+            let owner = owner.map_or(image::NO_OWNER, u16::from);
+            sections[2].extend([first, count, owner].map(u16::to_le_bytes).concat());
             sections[3].extend(rule.mixtures().iter().flat_map(|mixture| mixture.bits().to_le_bytes()));
             first += count;
         }
@@ -458,8 +579,8 @@ impl Reader<'_> {
         (offset..offset + length).step_by(section.record)
     }
 
-    /// The rules by number, and the mixtures of each.
-    fn rules(&self) -> Vec<Rule> {
+    /// The rules by number with their owners, and the mixtures of each.
+    fn rules(&self) -> Vec<(Rule, Option<u8>)> {
         let mixtures = self.records(image::MIXTURES).map(|place| {
             let bytes = self.bytes[place..place + image::MIXTURES.record].try_into().expect("eight bytes");
             Mixture::from_bits(u64::from_le_bytes(bytes))
@@ -468,7 +589,10 @@ impl Reader<'_> {
         let rules = self.records(image::RULES).map(|place| {
             let first = usize::from(self.number(place + image::FIRST));
             let count = usize::from(self.number(place + image::COUNT));
-            Rule::new(mixtures[first..first + count].iter().copied()).expect("an accepted rule has at most 8")
+            let rule =
+                Rule::new(mixtures[first..first + count].iter().copied()).expect("an accepted rule has at most 8");
+            let owner = self.number(place + image::OWNER);
+            (rule, (owner != image::NO_OWNER).then_some(owner as u8))
         });
         rules.collect()
     }
@@ -476,7 +600,7 @@ impl Reader<'_> {
     fn policy(&self) -> Policy {
         let rules = self.rules();
         let rule = |place: usize| match self.number(place) {
-            image::UNRESTRICTED => Rule::unrestricted(),
+            image::UNRESTRICTED => (Rule::unrestricted(), None),
             number => rules[usize::from(number)].clone(),
         };
         let mut policy = Policy::new();
@@ -484,14 +608,16 @@ impl Reader<'_> {
             let kind = Kind::from_number(self.bytes[place + image::KIND]).expect("an accepted kind");
             let source = Source::from_atom(u32::from(self.bytes[place + image::ATOM]));
             let [permit, run] = [image::PERMIT, image::RUN].map(|field| rule(place + field));
-            let [permit, run] = [permit, run].map(|rule| policy.rule_number(rule).expect("no more than the image's"));
+            let [permit, run] = [permit, run].map(|(rule, owner)| policy.rule_number(rule, owner));
             // A guarded file has the name of a file.
             let word = if kind.is_file() { Kind::File } else { kind };
             policy.add_container(&format!("{word}-{number}"), kind).expect("no more than the image's");
             policy.containers[number] = PolicyContainer { kind, source, permit, run };
         }
         for (number, place) in self.records(image::USERS).enumerate() {
-            policy.user(&format!("user-{number}"), rule(place)).expect("no more than the image's");
+            policy.user(&format!("user-{number}"), Rule::unrestricted()).expect("no more than the image's");
+            let (rule, owner) = rule(place);
+            policy.users[number] = policy.rule_number(rule, owner);
         }
         let count = named_sources(&policy).max().map_or(0, |source| source.atom() + 1);
         policy.sources = Names((0..count).map(|number| format!("source-{number}")).collect());
@@ -502,6 +628,6 @@ impl Reader<'_> {
 /// The sources that files carry and rules name.
 fn named_sources(policy: &Policy) -> impl Iterator<Item = Source> + '_ {
     let carried = policy.containers.iter().filter_map(|container| container.source);
-    let mixtures = policy.rules.iter().flat_map(Rule::mixtures);
+    let mixtures = policy.rules.iter().filter(|rule| !rule.is_unrestricted()).flat_map(Rule::mixtures);
     carried.chain(mixtures.flat_map(|mixture| mixture.sources().chain(mixture.running_sources())))
 }

@@ -24,7 +24,8 @@ pub enum Refusal {
     Sections = 2,
     /// A section's length is no multiple of its record's size, or it has too many records.
     RecordCount = 3,
-    /// A rule record of the image: over 8 mixtures, a first that falls, or mixtures that are not there.
+    /// A rule record of the image: over 8 mixtures, a first that falls, mixtures that are not there, or an owner who is no user of
+    /// the image.
     RuleRecord = 4,
     /// A container record of the image: kind, atom or a rule number.
     ContainerRecord = 5,

@@ -48,6 +48,41 @@ fn a_user_whose_rule_is_one_too_many_is_not_there() {
 }
 
 #[test]
+fn a_rule_that_nothing_uses_any_more_leaves_its_place() {
+    let mut policy = largest();
+    // File 255 alone has its rule; file 0 shares one with user 0.
+    assert_eq!(policy.set_permit_owner(255, Some(15)), Ok(()));
+    let owned = policy.clone();
+    assert_eq!(policy.set_permit_owner(0, Some(15)), Err(PolicyError::TooManyRules));
+    assert_eq!(policy.set_permit_owner(1, Some(16)), Err(PolicyError::NotThere(16)));
+    assert_eq!(policy.set_user_rule_owner(16, None), Err(PolicyError::NotThere(16)));
+    assert_eq!(policy, owned);
+    let image = policy.image();
+    assert_eq!((check(&image), image.len()), (Ok(()), LONGEST_NORMAL));
+    let read = Policy::from_image(&image).unwrap();
+    let owners: Vec<Option<u8>> = (0..256).map(|place| read.rule_owner(place)).collect();
+    assert_eq!(owners, [vec![None; 255], vec![Some(15)]].concat());
+    assert_eq!(policy.set_permit_owner(255, None), Ok(()));
+    assert_eq!(policy, largest());
+}
+
+#[test]
+fn an_unrestricted_rule_has_a_place_as_long_as_someone_owns_it() {
+    let mut policy = Policy::new();
+    let file = policy.file("f").unwrap();
+    let user = policy.user("u", Rule::unrestricted()).unwrap();
+    assert_eq!(policy.set_run_owner(file, Some(user)), Ok(()));
+    assert_eq!(policy.set_user_rule_owner(user, Some(user)), Ok(()));
+    assert_eq!((policy.rules(), policy.rule_owner(0)), (&[Rule::unrestricted()][..], Some(user)));
+    assert_eq!(normalise(&policy.image()), Ok(policy.image()));
+    // Another rule at the use has the same owner.
+    assert_eq!(policy.set_run_rule(file, rule(0)), Ok(()));
+    assert_eq!((policy.rules().len(), policy.rule_owner(1)), (2, Some(user)));
+    assert_eq!(policy.set_user_rule_owner(user, None), Ok(()));
+    assert_eq!((policy.rules(), policy.rule_owner(0)), (&[rule(0)][..], Some(user)));
+}
+
+#[test]
 fn names_are_taken_once_and_only_files_have_rules() {
     let mut policy = Policy::new();
     let source = policy.source("a").unwrap();
@@ -93,7 +128,7 @@ fn rules_that_mean_the_same_are_read_from_an_image_once() {
     // Behind the header: two containers, one rule, two mixtures. A second rule is put behind the first, and the second
     // container names it; the mixtures that it names are the first rule's.
     let behind = HEADER + 2 * CONTAINERS.record + RULES.record;
-    apart.splice(behind..behind, [0, 0, 2, 0]);
+    apart.splice(behind..behind, [0, 0, 2, 0, 255, 255]);
     apart[RULES.length_at()] += RULES.record as u8;
     apart[MIXTURES.offset_at()] += RULES.record as u8;
     apart[HEADER + CONTAINERS.record + PERMIT] = 1;

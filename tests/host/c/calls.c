@@ -225,11 +225,11 @@ static void matrix_example(void)
     check(verdict(reads, 1, reads, 1, 4) == 0, "verdict: consistent");
     check(got.count == 0 && got.source == 0 && got.target == 0, "verdict: consistent gives zeros");
     mark_out();
-    check(yaslaurel_matrix_policy(reads, 3, writes, 3, 4, out, OUTPUT) == 110, "matrix policy: 110 bytes");
-    check(out_stayed_from(110), "matrix policy: the bytes behind the image stay");
-    check(yaslaurel_image_check(out, 110) == 0, "the derived policy is accepted");
+    check(yaslaurel_matrix_policy(reads, 3, writes, 3, 4, out, OUTPUT) == 118, "matrix policy: 118 bytes");
+    check(out_stayed_from(118), "matrix policy: the bytes behind the image stay");
+    check(yaslaurel_image_check(out, 118) == 0, "the derived policy is accepted");
     mark_session();
-    check(yaslaurel_session_start(out, 110, session, SESSION) == 0, "the derived policy starts a session");
+    check(yaslaurel_session_start(out, 118, session, SESSION) == 0, "the derived policy starts a session");
     check(session[SESSION] == before[SESSION], "the start leaves the number behind the session");
 }
 
@@ -288,7 +288,7 @@ static void batch_example(void)
 {
     got = unset;
     memcpy(before, session, sizeof session);
-    check(yaslaurel_session_start(out, 110, session, SESSION) == 0, "the derived policy starts a session again");
+    check(yaslaurel_session_start(out, 118, session, SESSION) == 0, "the derived policy starts a session again");
     check(run(session, SESSION, trace + 1, 3 * RECORD) == 0 && got.taken == 3 && answer_stayed(),
           "run: a batch that is quiet to its end");
     check(run(session, SESSION, trace + 1 + 3 * RECORD, 3 * RECORD) == YASLAUREL_ALERT && got.taken == 1 &&
@@ -323,8 +323,8 @@ static void leaving_example(void)
         {5, 4, 5, 0, 5, 4},                                  /* a fork takes its number */
     };
 
-    check(yaslaurel_matrix_policy(reads, 3, writes, 3, 4, out, OUTPUT) == 110 &&
-              yaslaurel_session_start(out, 110, session, SESSION) == 0,
+    check(yaslaurel_matrix_policy(reads, 3, writes, 3, 4, out, OUTPUT) == 118 &&
+              yaslaurel_session_start(out, 118, session, SESSION) == 0,
           "leaving: the session starts");
     for (size_t i = 0; i < sizeof steps / sizeof steps[0]; i++) {
         const uint8_t record[RECORD] = {steps[i].code, 0, steps[i].p, 0, steps[i].o, 0, 255, 255};
@@ -401,7 +401,7 @@ static void start_guarded(void)
 {
     static const size_t counts[YASLAUREL_SECTIONS] = {8, 1, 4, 8};
     static const uint64_t mixtures[] = {6, 2, 31, 47, 55, 59, 61, 62};
-    uint8_t image[148];
+    uint8_t image[156];
     size_t length = put_header(image, counts, NULL);
     uint8_t *at = section_at(image, CONTAINER_SECTION);
 
@@ -502,7 +502,7 @@ static void position_example(void)
         {4, 5, 0, 1, YASLAUREL_ALERT, 255},                             /* 0, 1 and the running 0, for user 1 */
         {1, 5, 9, YASLAUREL_NO_USER, YASLAUREL_REFUSED_KIND, 44},       /* a refusal leaves it */
     };
-    uint8_t image[18 + 6 * 6 + 2 * 2 + 2 * 4 + 3 * 8];
+    uint8_t image[18 + 6 * 6 + 2 * 2 + 2 * 6 + 3 * 8];
     size_t length = put_header(image, counts, NULL);
     uint8_t *at = section_at(image, CONTAINER_SECTION);
 
@@ -551,7 +551,7 @@ static void profile_example(void)
     uint32_t length = yaslaurel_profiles_policy((const uint8_t *)profiles, sizeof profiles - 1, out, OUTPUT);
     /* 6 containers, a user, and rules by first use: {0}, mailer's mixture, {1}, that mixture (also mail's permit rule),
        {3}, admin's mixture (also keys' permit rule). */
-    check(length == 18 + 6 * 6 + 2 + 5 * 4 + 5 * 8, "profiles: the length of the image");
+    check(length == 18 + 6 * 6 + 2 + 5 * 6 + 5 * 8, "profiles: the length of the image");
     check(out_stayed_from(length), "profiles: the bytes behind the example's image stay");
     check(yaslaurel_image_check(out, length) == 0, "the policy of profiles is accepted");
     check(yaslaurel_session_start(out, length, session, SESSION) == 0, "the policy of profiles starts a session");
@@ -712,7 +712,8 @@ static void random_bytes(void)
     check(good, "random bytes: every answer is one that the function can give");
 }
 
-/* A policy spelled by the header's names: a file, a volatile, a process; a user; two rules; three mixtures. */
+/* A policy spelled by the header's names: a file, a volatile, a process; a user; two rules, of which the user owns one; three
+   mixtures. */
 static size_t named_image(uint8_t *image)
 {
     static const size_t counts[YASLAUREL_SECTIONS] = {3, 1, 2, 3};
@@ -721,7 +722,7 @@ static size_t named_image(uint8_t *image)
 
     at = put_container(at, YASLAUREL_FILE, 5, 0, YASLAUREL_UNRESTRICTED);
     at = put_other(put_other(at, YASLAUREL_VOLATILE), YASLAUREL_PROCESS);
-    at = put_rule(put_rule(put_user(at, 1), 0, 1), 1, 2);
+    at = put_owned_rule(put_rule(put_user(at, 1), 0, 1), 1, 2, 0);
     at = put_mixture(put_mixture(at, 1u << 5), (uint64_t)1 << YASLAUREL_RUNNING | 1);
     put_mixture(at, 1u << (YASLAUREL_ATOMS - 1));
     return length;
@@ -730,9 +731,9 @@ static size_t named_image(uint8_t *image)
 /* The header's names against numbers that are written out: the image byte by byte, and what a session has of it. */
 static void names(void)
 {
-    static const uint8_t bytes[] = {4, 0, 18, 0, 18, 0, 36, 0, 2, 0, 38, 0, 8, 0, 46, 0, 24, 0,     /* header */
+    static const uint8_t bytes[] = {5, 0, 18, 0, 18, 0, 36, 0, 2, 0, 38, 0, 12, 0, 50, 0, 24, 0,    /* header */
                                     1, 5, 0, 0, 255, 255, 2, 255, 255, 255, 255, 255, 3, 255, 255, 255, 255, 255,
-                                    1, 0, 0, 0, 1, 0, 1, 0, 2, 0,                                   /* user, rules */
+                                    1, 0, 0, 0, 1, 0, 255, 255, 1, 0, 2, 0, 0, 0,                   /* user, rules */
                                     32, 0, 0, 0, 0, 0, 0, 0, 1, 0, 0, 0, 1, 0, 0, 0, 0, 0, 0, 128, 0, 0, 0, 0};
     const uint64_t *file = session, *volatile_row = file + YASLAUREL_CONTAINER_ROW;
     const uint64_t *process = volatile_row + YASLAUREL_CONTAINER_ROW, *none = process + YASLAUREL_CONTAINER_ROW;
@@ -753,6 +754,39 @@ static void names(void)
     check(user[YASLAUREL_USER_RULE_AT] == 2 && user[YASLAUREL_USER_RULE_AT + 1] == 0x80000000u &&
               user[YASLAUREL_USER_RULE_AT + 2] == 0x100000001u,
           "names: the user's rule, ascending");
+}
+
+/* Owners: equal rules of different owners are two, an unrestricted one with an owner keeps its record, 4 for an owner who is no user
+   of the image, and an image that leads with 4 is refused by 2. */
+static void owners(void)
+{
+    static const size_t counts[YASLAUREL_SECTIONS] = {2, 2, 4, 4};
+    uint8_t image[YASLAUREL_HEADER_LENGTH + 2 * 6 + 2 * 2 + 4 * 6 + 4 * 8];
+    size_t length = put_header(image, counts, NULL);
+    uint8_t *at = section_at(image, CONTAINER_SECTION), *rules = section_at(image, RULE_SECTION);
+
+    at = put_container(put_container(at, YASLAUREL_FILE, 0, 0, 1), YASLAUREL_FILE, 1, 2, 3);
+    put_user(put_user(at, 1), 0);
+    put_rule(put_owned_rule(put_owned_rule(put_owned_rule(rules, 0, 1, 0), 1, 1, 1), 2, 1, 0), 3, 1);
+    at = put_mixture(put_mixture(section_at(image, MIXTURE_SECTION), 6), 6);
+    put_mixture(put_mixture(at, UINT64_MAX), UINT64_MAX);
+    check(length == sizeof image && yaslaurel_image_check(image, length) == 0, "owners: the image is accepted");
+    mark_out();
+    /* 6 of user 0, 6 of user 1 and the unrestricted rule of user 0 stay; that of nobody is 65535. */
+    check(yaslaurel_image_normalise(image, length, out, OUTPUT) == length - 6 - 8, "owners: three rules are written");
+    check(get16(section_at(out, RULE_SECTION) + 4) == 0 && get16(section_at(out, RULE_SECTION) + 10) == 1 &&
+              get16(section_at(out, RULE_SECTION) + 16) == 0,
+          "owners: each with its owner");
+    check(get16(section_at(out, CONTAINER_SECTION) + 8) == 2 && get16(section_at(out, CONTAINER_SECTION) + 10) == 65535,
+          "owners: an unrestricted rule is 65535 only without an owner");
+    check(yaslaurel_image_normalise(image, length, out, OUTPUT - 1) == YASLAUREL_REFUSED_LENT_LENGTH &&
+              OUTPUT == 19506,
+          "owners: an output of 19,505 bytes is refused");
+    put(rules + 6 + 4, 2, 2);
+    check(yaslaurel_image_check(image, length) == YASLAUREL_REFUSED_RULE, "owners: no such user");
+    put(rules + 6 + 4, 1, 2);
+    put(image, 4, 2);
+    check(yaslaurel_image_check(image, length) == YASLAUREL_REFUSED_SECTIONS, "owners: an image of an earlier edition");
 }
 
 /* The record of an operation, byte by byte. */
@@ -795,8 +829,8 @@ static void large_numbers(void)
     };
     uint8_t record[RECORD];
 
-    check(yaslaurel_matrix_policy(reads, 3, writes, 3, 4, out, OUTPUT) == 110 &&
-              yaslaurel_session_start(out, 110, session, SESSION) == 0,
+    check(yaslaurel_matrix_policy(reads, 3, writes, 3, 4, out, OUTPUT) == 118 &&
+              yaslaurel_session_start(out, 118, session, SESSION) == 0,
           "record: the session starts");
     for (size_t i = 0; i < sizeof large / sizeof large[0]; i++) {
         yaslaurel_record(large[i][0], large[i][1], large[i][2], large[i][3], record);
@@ -858,6 +892,7 @@ int main(void)
     put_header(empty, (const size_t[YASLAUREL_SECTIONS]){0, 0, 0, 0}, NULL);
     check(yaslaurel_version() == YASLAUREL_VERSION, "the library has the header's version");
     names();
+    owners();
     records();
     large_numbers();
     refusal_meanings();

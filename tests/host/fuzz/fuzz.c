@@ -160,7 +160,9 @@ static size_t make_image(void)
     at = section_at(image, RULE_SECTION);
     for (size_t i = 0; i < rules; i++) {
         size_t first = mixtures * i / (rules + 1), left = mixtures - first;
-        at = put_rule(at, first, below(1 + (left < YASLAUREL_RULE_MIXTURES ? left : YASLAUREL_RULE_MIXTURES)));
+        size_t count = below(1 + (left < YASLAUREL_RULE_MIXTURES ? left : YASLAUREL_RULE_MIXTURES));
+        size_t users = counts[USER_SECTION];
+        at = put_owned_rule(at, first, count, users > 0 && percent(50) ? below(users) : YASLAUREL_NO_OWNER);
     }
     at = section_at(image, MIXTURE_SECTION);
     for (size_t i = 0; i < mixtures; i++) {

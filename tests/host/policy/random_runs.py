@@ -13,7 +13,7 @@ HERE = Path(__file__).resolve().parent
 ROOT = HERE.parents[2]
 sys.path.append(str(ROOT / "hosts" / "python"))
 
-from formats import CODES, KINDS, NO_ATOM, NO_USER, RUNNING, UNRESTRICTED, Policy, mixture, operation
+from formats import CODES, KINDS, NO_ATOM, NO_USER, RECORDS, RUNNING, UNRESTRICTED, Policy, mixture, operation
 
 STORIES, DAMAGED = 120, 400
 MAKES, LEAVES, TAKES_USER = {"fork", "new-file", "new-volatile"}, {"end", "delete"}, {"exec", "new-file"}
@@ -43,6 +43,8 @@ class RandomStory:
         for _ in range(r.randrange(4)):
             self.permit()
         self.users = [self.user(k) for k in range(r.randrange(5))]
+        for number in range(len(self.rules) if self.users else 0):
+            self.owner(number)
         for _ in range(r.randrange(30)):
             self.step()
 
@@ -111,6 +113,16 @@ class RandomStory:
         self.lines.append(f"user u{number}{text}" + (f" uid {number}" if self.r.random() < 0.3 else ""))
         self.policy.user(rule)
         return f"u{number}"
+
+    def owner(self, number):
+        """An owner line of a rule, now and then: the owner is the last field of the rule's record."""
+        if self.r.random() < 0.5:
+            user = self.r.randrange(len(self.users))
+            self.lines.append(f"owner {self.rules[number]} {self.users[user]}")
+            record, rules = RECORDS["rules"], bytearray(self.policy.sections["rules"])
+            first, count, _ = record.unpack_from(rules, number * record.size)
+            record.pack_into(rules, number * record.size, first, count, user)
+            self.policy.sections["rules"] = bytes(rules)
 
     def step(self):
         there = [number for number, name in enumerate(self.holders) if name is not None]

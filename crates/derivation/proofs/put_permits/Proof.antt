@@ -19,13 +19,13 @@ loop-holds c =
     let start = c .before .before .before in
     permits-start (start .args .reads .now) (start .args .writes .now) (start .args .n) (start .pre .1) (start .pre .3)
 
-part-put-permit-end : tie.Need-part-put-permit-end Inv-loop μ-loop
-part-put-permit-end c =
+part-put-row-end : tie.Need-part-put-row-end Inv-loop μ-loop
+part-put-row-end c =
     let start = c .before .before .before .before .before in
     permits-room (start .args .reads .now) (start .args .writes .now) (start .args .n) (start .pre .1) (c .before .loop .inv) (c .loop-test .taken)
 
-put-permit-requires : tie.Need-put-permit-requires Inv-loop μ-loop
-put-permit-requires c κs =
+put-row-requires : tie.Need-put-row-requires Inv-loop μ-loop
+put-row-requires c κs =
     let start = c .before .before .before .before .before .before in
     let zero = permits-zero (start .args .reads .now) (start .args .writes .now) (start .args .n) (start .pre .1) (c .before .before .loop .inv) (c .before .loop-test .taken) (start .pre .3) in
     (start .pre .0, start .pre .1, omega (arith, start .pre .2, c .before .loop-test .taken), zero)
@@ -33,7 +33,7 @@ put-permit-requires c κs =
 loop-again : tie.Need-loop-again Inv-loop μ-loop
 loop-again c =
     let start = c .before .before .before .before .before .before .before .before .before in
-    permits-next (start .args .reads .now) (start .args .writes .now) (start .args .n) (start .pre .1) (c .before .before .before .before .before .loop .inv) (c .before .before .before .before .loop-test .taken) (c .before .before .put-permit .ensures)
+    permits-next (start .args .reads .now) (start .args .writes .now) (start .args .n) (start .pre .1) (c .before .before .before .before .before .loop .inv) (c .before .before .before .before .loop-test .taken) (c .before .before .put-row .ensures)
 
 same-length : tie.Need-same-length Inv-loop μ-loop
 same-length c = c .before .loop .inv .long
@@ -55,8 +55,8 @@ put-permits-spec =
     (λ c. search needs)
     (λ c. search needs)
     (λ c. search needs)
-    part-put-permit-end
-    put-permit-requires
+    part-put-row-end
+    put-row-requires
     (λ c. search needs)
     (λ c. search needs)
     loop-again

@@ -18,13 +18,13 @@ loop-holds c =
     let start = c .before .before .before in
     forms-start (start .args .rules .now) (start .args .mixtures .now) (start .pre .1) _ (start .pre .0)
 
-part-put-own-rule-end : tie.Need-part-put-own-rule-end Inv-loop μ-loop
-part-put-own-rule-end c =
+part-put-row-end : tie.Need-part-put-row-end Inv-loop μ-loop
+part-put-row-end c =
     let start = c .before .before .before .before .before in
     forms-room (start .args .rules .now) (start .args .mixtures .now) (start .pre .1) (c .before .loop .inv) (c .loop-test .taken)
 
-put-own-rule-requires : tie.Need-put-own-rule-requires Inv-loop μ-loop
-put-own-rule-requires c κs =
+put-row-requires : tie.Need-put-row-requires Inv-loop μ-loop
+put-row-requires c κs =
     let start = c .before .before .before .before .before .before in
     let loop = c .before .before .loop in
     let taken = c .before .loop-test .taken in
@@ -33,7 +33,7 @@ put-own-rule-requires c κs =
 loop-again : tie.Need-loop-again Inv-loop μ-loop
 loop-again c =
     let start = c .before .before .before .before .before .before .before .before .before in
-    forms-next (start .args .rules .now) (start .args .mixtures .now) (start .pre .1) (c .before .before .before .before .before .loop .inv) (c .before .before .before .before .loop-test .taken) (c .before .before .put-own-rule .ensures)
+    forms-next (start .args .rules .now) (start .args .mixtures .now) (start .pre .1) (c .before .before .before .before .before .loop .inv) (c .before .before .before .before .loop-test .taken) (c .before .before .put-row .ensures)
 
 same-length : tie.Need-same-length Inv-loop μ-loop
 same-length c = c .before .loop .inv .long
@@ -55,8 +55,8 @@ fill-forms-spec =
     (λ c. search needs)
     (λ c. search needs)
     (λ c. search needs)
-    part-put-own-rule-end
-    put-own-rule-requires
+    part-put-row-end
+    put-row-requires
     (λ c. search needs)
     (λ c. search needs)
     loop-again

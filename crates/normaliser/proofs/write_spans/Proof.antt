@@ -43,23 +43,41 @@ shared-slice-read-count c =
     let here = rule-here (start .args .forms .now) (start .args .order .now) (c .before .before .before .loop .j) (start .pre .1) (c .before .before .loop-test .taken) in
     omega arith
 
-put-pair-requires : tie.Need-put-pair-requires Inv-loop μ-loop
-put-pair-requires c κs =
+add-owner : tie.Need-add-owner Inv-loop μ-loop
+add-owner c =
+    let start = c .before .before .before .before .before .before .before in
+    let here = rule-here (start .args .forms .now) (start .args .order .now) (c .before .before .before .loop .j) (start .pre .1) (c .before .before .loop-test .taken) in
+    omega arith
+
+mul-owner : tie.Need-mul-owner Inv-loop μ-loop
+mul-owner c =
+    let start = c .before .before .before .before .before .before .before in
+    let here = rule-here (start .args .forms .now) (start .args .order .now) (c .before .before .before .loop .j) (start .pre .1) (c .before .before .loop-test .taken) in
+    omega arith
+
+shared-slice-read-owner : tie.Need-shared-slice-read-owner Inv-loop μ-loop
+shared-slice-read-owner c =
     let start = c .before .before .before .before .before .before .before .before in
     let here = rule-here (start .args .forms .now) (start .args .order .now) (c .before .before .before .before .loop .j) (start .pre .1) (c .before .before .before .loop-test .taken) in
-    spans-room (start .args .forms .now) (start .args .order .now) (c .before .before .before .before .loop .inv) (c .before .before .before .loop-test .taken) here
+    omega arith
+
+put-rule-record-requires : tie.Need-put-rule-record-requires Inv-loop μ-loop
+put-rule-record-requires c κs =
+    let start = c .before .before .before .before .before .before .before .before .before in
+    let here = rule-here (start .args .forms .now) (start .args .order .now) (c .before .before .before .before .before .loop .j) (start .pre .1) (c .before .before .before .before .loop-test .taken) in
+    spans-room (start .args .forms .now) (start .args .order .now) (c .before .before .before .before .before .loop .inv) (c .before .before .before .before .loop-test .taken) here
 
 add-first : tie.Need-add-first Inv-loop μ-loop
 add-first c =
-    let start = c .before .before .before .before .before .before .before .before .before .before .before in
-    let here = rule-here (start .args .forms .now) (start .args .order .now) (c .before .before .before .before .before .before .before .loop .j) (start .pre .1) (c .before .before .before .before .before .before .loop-test .taken) in
-    omega (arith, c .before .before .before .before .before .before .before .loop .inv .small)
+    let start = c .before .before .before .before .before .before .before .before .before .before .before .before in
+    let here = rule-here (start .args .forms .now) (start .args .order .now) (c .before .before .before .before .before .before .before .before .loop .j) (start .pre .1) (c .before .before .before .before .before .before .before .loop-test .taken) in
+    omega (arith, c .before .before .before .before .before .before .before .before .loop .inv .small)
 
 loop-again : tie.Need-loop-again Inv-loop μ-loop
 loop-again c =
-    let start = c .before .before .before .before .before .before .before .before .before .before .before in
-    let here = rule-here (start .args .forms .now) (start .args .order .now) (c .before .before .before .before .before .before .before .loop .j) (start .pre .1) (c .before .before .before .before .before .before .loop-test .taken) in
-    spans-next (start .args .forms .now) (start .args .order .now) (c .before .before .before .before .before .before .before .loop .inv) (c .before .before .before .before .before .before .loop-test .taken) here (c .before .before .put-pair .ensures)
+    let start = c .before .before .before .before .before .before .before .before .before .before .before .before in
+    let here = rule-here (start .args .forms .now) (start .args .order .now) (c .before .before .before .before .before .before .before .before .loop .j) (start .pre .1) (c .before .before .before .before .before .before .before .loop-test .taken) in
+    spans-next (start .args .forms .now) (start .args .order .now) (c .before .before .before .before .before .before .before .before .loop .inv) (c .before .before .before .before .before .before .before .loop-test .taken) here (c .before .before .put-rule-record .ensures)
 
 same-length : tie.Need-same-length Inv-loop μ-loop
 same-length c = c .before .loop .inv .rows .long
@@ -83,7 +101,10 @@ write-spans-spec =
     mul-v-2
     mul-count
     shared-slice-read-count
-    put-pair-requires
+    add-owner
+    mul-owner
+    shared-slice-read-owner
+    put-rule-record-requires
     add-first
     (λ c. search needs)
     (λ c. search needs)

@@ -1,7 +1,7 @@
 //! Random policies, damaged images, and records that suit a session.
 
 use yaslaurel::layout::image::{
-    CONTAINERS, HEADER, LEADING, LIMIT, MIXTURES, NO_ATOM, RULES, SECTIONS, UNRESTRICTED, USERS,
+    CONTAINERS, HEADER, LEADING, LIMIT, MIXTURES, NO_ATOM, NO_OWNER, RULES, SECTIONS, UNRESTRICTED, USERS,
 };
 use yaslaurel::layout::record::{CODE, NO_USER, OBJECT, PROCESS, USER, ZERO};
 use yaslaurel::layout::session::{container, user, BEHALF, DECLARED, KIND, RULE_MIXTURES};
@@ -67,7 +67,7 @@ fn rules(r: &mut Random, class: usize, spec: &mut Spec) {
             if spec.mixtures.len() + count > MIXTURES.most {
                 break;
             }
-            spec.rules.push((spec.mixtures.len() as u16, count as u16));
+            spec.rules.push((spec.mixtures.len() as u16, count as u16, NO_OWNER));
             for _ in 0..count {
                 spec.mixtures.push(r.pick(&pool));
             }
@@ -79,7 +79,28 @@ fn rules(r: &mut Random, class: usize, spec: &mut Spec) {
         firsts.sort_unstable();
         for first in firsts {
             let count = r.between(least.min(mixtures - first), most.min(mixtures - first));
-            spec.rules.push((first as u16, count as u16));
+            spec.rules.push((first as u16, count as u16, NO_OWNER));
+        }
+    }
+}
+
+/// Owners for half of the specs that have users: of some rules or of all, of few users or of any, so that equal rules have other
+/// owners; and unrestricted rules that are owned.
+fn owners(r: &mut Random, spec: &mut Spec) {
+    if spec.users.is_empty() || r.percent(50) {
+        return;
+    }
+    let (users, owned) = (r.between(1, spec.users.len()), r.pick(&[30, 80, 100]));
+    for rule in &mut spec.rules {
+        if r.percent(owned) {
+            rule.2 = r.below(users) as u16;
+        }
+    }
+    if let (true, Some(first)) = (r.percent(40), spec.mixtures.len().checked_sub(1)) {
+        spec.mixtures[first] = u64::MAX;
+        if spec.rules.len() < RULES.most {
+            let owner = r.pick(&[NO_OWNER, 0, users as u16 - 1]);
+            spec.rules.push((first as u16, 1, owner));
         }
     }
 }
@@ -106,6 +127,7 @@ pub fn policy(r: &mut Random, class: usize) -> Spec {
     for _ in 0..count(r, class.max(1), USERS.most) {
         spec.users.push(rule_number(r, rules));
     }
+    owners(r, &mut spec);
     if r.percent(30) {
         for gap in &mut spec.gaps {
             *gap = r.below(6);
@@ -120,7 +142,7 @@ pub fn largest(r: &mut Random) -> Spec {
     Spec {
         containers: (0..CONTAINERS.most as u16).map(|i| (1, r.below(32) as u8, i, rules - 1 - i)).collect(),
         users: (0..USERS.most).map(|_| r.below(RULES.most) as u16).collect(),
-        rules: (0..rules).map(|i| (mixtures * i, mixtures)).collect(),
+        rules: (0..rules).map(|i| (mixtures * i, mixtures, r.pick(&[NO_OWNER, 0, 15]))).collect(),
         mixtures: (0..MIXTURES.most).map(|_| r.word()).collect(),
         gaps: [0, r.below(200), r.below(200), r.below(200), r.below(200)],
     }
@@ -131,9 +153,9 @@ pub fn largest(r: &mut Random) -> Spec {
 pub fn respelled(r: &mut Random, spec: &Spec) -> Spec {
     let mut other = Spec { rules: vec![], mixtures: vec![], ..spec.clone() };
     let mut moved = Vec::new();
-    for &(first, count) in &spec.rules {
+    for &(first, count, owner) in &spec.rules {
         if r.percent(20) && other.rules.len() < 200 {
-            other.rules.push((other.mixtures.len() as u16, 1));
+            other.rules.push((other.mixtures.len() as u16, 1, NO_OWNER));
             other.mixtures.push(r.word());
         }
         let mut own: Vec<u64> = spec.mixtures[usize::from(first)..usize::from(first + count)].to_vec();
@@ -144,7 +166,7 @@ pub fn respelled(r: &mut Random, spec: &Spec) -> Spec {
             own.swap(i, r.below(i + 1));
         }
         moved.push(other.rules.len() as u16);
-        other.rules.push((other.mixtures.len() as u16, own.len() as u16));
+        other.rules.push((other.mixtures.len() as u16, own.len() as u16, owner));
         other.mixtures.extend(own);
     }
     let renumber = |number: &mut u16| {
@@ -166,7 +188,11 @@ pub fn respelled(r: &mut Random, spec: &Spec) -> Spec {
 /// Breaks a spec in one place that refusals 3 to 6 look at.
 fn damage_spec(r: &mut Random, spec: &mut Spec) {
     let (rules, mixtures) = (spec.rules.len() as u16, spec.mixtures.len() as u16);
-    match r.below(10) {
+    match r.below(11) {
+        10 if rules > 0 => {
+            let (at, users) = (r.below(spec.rules.len()), spec.users.len() as u16);
+            spec.rules[at].2 = r.pick(&[0, users.saturating_sub(1), users, users + 1, 15, 16, 65534]);
+        }
         0 if rules > 0 => {
             let at = r.below(spec.rules.len());
             spec.rules[at].1 = r.pick(&[9, 10, 255, 256, 65535]);
@@ -192,7 +218,7 @@ fn damage_spec(r: &mut Random, spec: &mut Spec) {
         }
         6 => spec.users.resize(r.about(USERS.most), UNRESTRICTED),
         7 => spec.containers.resize(r.about(CONTAINERS.most), PROCESS_RECORD),
-        8 => spec.rules.resize(r.about(RULES.most), (mixtures, 0)),
+        8 => spec.rules.resize(r.about(RULES.most), (mixtures, 0, NO_OWNER)),
         _ => spec.mixtures.resize(r.about(MIXTURES.most), 1),
     }
 }

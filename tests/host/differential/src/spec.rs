@@ -1,8 +1,8 @@
 //! A policy image before it is spelled in bytes. Nothing here keeps to the limits: a spec can spell refused images.
 
 use yaslaurel::layout::image::{
-    Section, ATOM, CONTAINERS, COUNT, FIRST, HEADER, KIND, LEADING, MIXTURES, NO_ATOM, PERMIT, RULES, RUN, SECTIONS,
-    UNRESTRICTED, USERS,
+    Section, ATOM, CONTAINERS, COUNT, FIRST, HEADER, KIND, LEADING, MIXTURES, NO_ATOM, NO_OWNER, OWNER, PERMIT, RULES,
+    RUN, SECTIONS, UNRESTRICTED, USERS,
 };
 
 /// A 16-bit number of an image.
@@ -23,8 +23,8 @@ pub struct Spec {
     /// kind, atom, permit, run
     pub containers: Vec<(u8, u8, u16, u16)>,
     pub users: Vec<u16>,
-    /// first, count
-    pub rules: Vec<(u16, u16)>,
+    /// first, count, owner
+    pub rules: Vec<(u16, u16, u16)>,
     pub mixtures: Vec<u64>,
     /// Bytes before each section and behind the last.
     pub gaps: [usize; GAPS],
@@ -42,9 +42,8 @@ impl Spec {
         for user in &self.users {
             users.extend(user.to_le_bytes());
         }
-        for (first, count) in &self.rules {
-            rules.extend(first.to_le_bytes());
-            rules.extend(count.to_le_bytes());
+        for (first, count, owner) in &self.rules {
+            rules.extend([first, count, owner].map(|number| number.to_le_bytes()).concat());
         }
         for mixture in &self.mixtures {
             mixtures.extend(mixture.to_le_bytes());
@@ -73,7 +72,7 @@ impl Spec {
         Spec {
             containers: records(CONTAINERS).map(container).collect(),
             users: records(USERS).map(|r| number(r, 0)).collect(),
-            rules: records(RULES).map(|r| (number(r, FIRST), number(r, COUNT))).collect(),
+            rules: records(RULES).map(|r| (number(r, FIRST), number(r, COUNT), number(r, OWNER))).collect(),
             mixtures: records(MIXTURES).map(|r| u64::from_le_bytes(r.try_into().unwrap())).collect(),
             gaps: [0; GAPS],
         }
@@ -110,6 +109,7 @@ impl Spec {
         }
         (0..self.users.len()).for_each(|i| add(&|s| s.users[i] = UNRESTRICTED));
         (0..self.rules.len()).for_each(|i| add(&|s| s.rules[i].1 = s.rules[i].1.saturating_sub(1)));
+        (0..self.rules.len()).for_each(|i| add(&|s| s.rules[i].2 = NO_OWNER));
         for i in 0..self.mixtures.len() {
             add(&|s| s.mixtures[i] = 0);
             add(&|s| s.mixtures[i] &= 0xff);

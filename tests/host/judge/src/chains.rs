@@ -259,7 +259,8 @@ mod tests {
     /// "A write ends what o held before": file 1's own atom is gone after the write.
     #[test]
     fn a_write_ends_the_old_chain() {
-        let policy = Policy { containers: vec![file(0), file(1), process()], users: vec![], rules: vec![] };
+        let policy =
+            Policy { containers: vec![file(0), file(1), process()], users: vec![], rules: vec![], owners: vec![] };
         let history = [step(1, 2, 0), step(2, 2, 1)];
         let chains = list(&policy, &history);
         assert_eq!(information(&chains, 1, 1), 0b10);
@@ -269,7 +270,12 @@ mod tests {
     /// After an exec data in p is still there, what p ran and the run rules that came with it are not.
     #[test]
     fn an_exec_ends_what_ran() {
-        let policy = Policy { containers: vec![file(0), file(1), process()], users: vec![UNRESTRICTED], rules: vec![] };
+        let policy = Policy {
+            containers: vec![file(0), file(1), process()],
+            users: vec![UNRESTRICTED],
+            rules: vec![],
+            owners: vec![],
+        };
         let exec = |o| Record { code: 4, p: 2, o, u: Some(0) };
         let history = [exec(0), step(1, 2, 0), exec(1)];
         let chains = list(&policy, &history);
@@ -285,7 +291,12 @@ mod tests {
     /// read of it before stays.
     #[test]
     fn a_chain_ends_with_its_holder() {
-        let policy = Policy { containers: vec![file(0), file(1), process()], users: vec![UNRESTRICTED], rules: vec![] };
+        let policy = Policy {
+            containers: vec![file(0), file(1), process()],
+            users: vec![UNRESTRICTED],
+            rules: vec![],
+            owners: vec![],
+        };
         let new_file = Record { code: 6, p: 2, o: 0, u: Some(0) };
         let history =
             [step(1, 2, 0), step(9, 2, 0), new_file, step(1, 2, 1), step(3, 2, 0), step(5, 2, 3), step(8, 3, 3)];
@@ -300,7 +311,12 @@ mod tests {
     /// The rules of a number are its holder's: none between two holders, and the next one's own.
     #[test]
     fn rules_stay_with_their_holder() {
-        let mut policy = Policy { containers: vec![file(0), file(1), process()], users: vec![0], rules: vec![vec![1]] };
+        let mut policy = Policy {
+            containers: vec![file(0), file(1), process()],
+            users: vec![0],
+            rules: vec![vec![1]],
+            owners: vec![],
+        };
         policy.containers[0].permit = 0;
         policy.containers[1].run = 0;
         let user = |code, p, o| Record { code, p, o, u: Some(0) };
@@ -325,8 +341,12 @@ mod tests {
     /// A number is guarded as long as the guarded file of the image holds it.
     #[test]
     fn a_guard_leaves_with_its_file() {
-        let mut policy =
-            Policy { containers: vec![file(0), file(1), process()], users: vec![UNRESTRICTED], rules: vec![] };
+        let mut policy = Policy {
+            containers: vec![file(0), file(1), process()],
+            users: vec![UNRESTRICTED],
+            rules: vec![],
+            owners: vec![],
+        };
         policy.containers[1].kind = Kind::Guarded;
         let new_file = Record { code: 6, p: 2, o: 1, u: Some(0) };
         let history = [step(1, 2, 0), step(9, 2, 1), new_file];
@@ -338,7 +358,8 @@ mod tests {
     /// The order of steps counts: what p reads after its write does not reach the file.
     #[test]
     fn chains_rise() {
-        let policy = Policy { containers: vec![file(0), file(1), process()], users: vec![], rules: vec![] };
+        let policy =
+            Policy { containers: vec![file(0), file(1), process()], users: vec![], rules: vec![], owners: vec![] };
         let history = [step(3, 2, 1), step(1, 2, 0)];
         let chains = list(&policy, &history);
         assert_eq!(information(&chains, 1, 2), 0b10);

@@ -2,7 +2,8 @@
 
 use crate::numbers::{
     Section, CONTAINERS, CONTAINER_ATOM, CONTAINER_KIND, CONTAINER_PERMIT, CONTAINER_RUN, DATA_ATOMS, HEADER, LEADING,
-    LONGEST_IMAGE, MIXTURES, NO_ATOM, RULES, RULE_COUNT, RULE_FIRST, RULE_MIXTURES, SECTIONS, UNRESTRICTED, USERS,
+    LONGEST_IMAGE, MIXTURES, NO_ATOM, NO_OWNER, RULES, RULE_COUNT, RULE_FIRST, RULE_MIXTURES, RULE_OWNER, SECTIONS,
+    UNRESTRICTED, USERS,
 };
 use crate::rules::{unrestricted, Rule};
 
@@ -59,9 +60,23 @@ pub struct Policy {
     pub containers: Vec<Container>,
     pub users: Vec<u16>,
     pub rules: Vec<Rule>,
+    /// The owner of each rule, "a declared user or 65535 for nobody" (change request No. 10); nobody behind the end.
+    pub owners: Vec<u16>,
 }
 
 impl Policy {
+    /// The owner at a use of a rule number: "65535 itself has none".
+    pub fn owner(&self, number: u16) -> u16 {
+        let owned = self.owners.get(usize::from(number)).filter(|_| number != UNRESTRICTED);
+        owned.copied().unwrap_or(NO_OWNER)
+    }
+
+    /// "the same owner at every use of a rule": of permit and run rule of each container, then of each user's rule.
+    pub fn owners_at_uses(&self) -> Vec<u16> {
+        let containers = self.containers.iter().flat_map(|container| [container.permit, container.run]);
+        containers.chain(self.users.iter().copied()).map(|number| self.owner(number)).collect()
+    }
+
     /// The mixtures of a rule number, as the image writes them.
     pub fn rule(&self, number: u16) -> Rule {
         if number == UNRESTRICTED {
@@ -77,13 +92,13 @@ fn u16_at(bytes: &[u8], at: usize) -> u16 {
     u16::from_le_bytes([bytes[at], bytes[at + 1]])
 }
 
-/// The four sections of an image that passes "2 the leading 4 or the pairs".
+/// The four sections of an image that passes 2, the leading number or the pairs.
 fn sections(image: &[u8]) -> Result<[&[u8]; SECTIONS.len()], u32> {
     // "1 image under 18 or over 20,480 bytes"
     if image.len() < HEADER || image.len() > LONGEST_IMAGE {
         return Err(1);
     }
-    // "First a 16-bit 4, then four pairs of 16-bit offset and length, sorted by offset, so 18 bytes."
+    // "Every image now leads with a 16-bit 5, and 2 refuses the old 4." (change request No. 10)
     if u16_at(image, 0) != LEADING {
         return Err(2);
     }
@@ -152,14 +167,18 @@ pub fn read(image: &[u8]) -> Result<Policy, u32> {
         .collect();
 
     // "at most 8; firsts never fall, ranges may overlap, first plus count is at most the number of mixtures"
-    let mut written: Vec<Rule> = Vec::new();
+    let (mut written, mut owners): (Vec<Rule>, Vec<u16>) = (Vec::new(), Vec::new());
     let mut previous_first = 0;
     for record in &rules {
         let first = usize::from(u16_at(record, RULE_FIRST));
         let count = usize::from(u16_at(record, RULE_COUNT));
-        if count > RULE_MIXTURES || first < previous_first || first + count > mixtures.len() {
+        // "a 16-bit owner last, a declared user or 65535 for nobody; 4 checks it" (change request No. 10)
+        let owner = u16_at(record, RULE_OWNER);
+        let owned_well = owner == NO_OWNER || usize::from(owner) < users.len();
+        if count > RULE_MIXTURES || first < previous_first || first + count > mixtures.len() || !owned_well {
             return Err(4);
         }
+        owners.push(owner);
         written.push(mixtures[first..first + count].to_vec());
         previous_first = first;
     }
@@ -172,7 +191,7 @@ pub fn read(image: &[u8]) -> Result<Policy, u32> {
     if users.iter().any(|&number| !names_a_rule(number, written.len())) {
         return Err(6);
     }
-    Ok(Policy { containers, users, rules: written })
+    Ok(Policy { containers, users, rules: written, owners })
 }
 
 /// The image check: 0 if the image is accepted, else the number of its refusal.

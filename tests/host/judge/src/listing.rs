@@ -102,7 +102,12 @@ total 6 alerts 1 refused 1
 
     #[test]
     fn short_last_record_and_refused_policy() {
-        let empty = crate::normal::encode(&crate::image::Policy { containers: vec![], users: vec![], rules: vec![] });
+        let empty = crate::normal::encode(&crate::image::Policy {
+            containers: vec![],
+            users: vec![],
+            rules: vec![],
+            owners: vec![],
+        });
         let expected = "step op p o verdict at tag pos\n1 other 0 0 refused 7\ntotal 1 alerts 0 refused 1\n";
         assert_eq!(listing(&empty, &[1, 0, 0]), expected);
         assert_eq!(listing(&[], &[1, 0, 0]), "policy refused 1\n");

@@ -90,7 +90,7 @@ impl Matrix<'_> {
     /// unrestricted user; object b's permit rule has for each writer the objects it reads and b, or just b without
     /// writers; run rules unrestricted."
     fn policy(&self) -> Policy {
-        let mut policy = Policy { containers: vec![], users: vec![UNRESTRICTED], rules: vec![] };
+        let mut policy = Policy { containers: vec![], users: vec![UNRESTRICTED], rules: vec![], owners: vec![] };
         for b in 0..self.objects {
             let mut rule: Vec<u64> = (0..self.reads.len())
                 .filter(|&s| has(self.writes[s], b))
@@ -149,7 +149,7 @@ pub fn silent(reads: &[u32], writes: &[u32], objects: u32) -> u32 {
 
 /// The derived policy: the length of its image, or the number of the refusal, 9 before 8.
 pub fn policy(reads: &[u32], writes: &[u32], objects: u32, out: &mut [u8]) -> u32 {
-    // "9 session of wrong length or output (of normaliser or derived policy) under 18,994 bytes"
+    // "Any output for a normal image must hold 19,506 bytes" (change request No. 10): 9
     if out.len() < LONGEST_NORMAL {
         return 9;
     }
@@ -178,17 +178,17 @@ mod tests {
     }
 
     /// "Document 000's matrix: read rows 5, 3, 2, write rows 1, 2, 10, 4 objects: 3 flows, first 0 to 3. Permit rules
-    /// 5; 3; 4; 10. Image of 110 bytes, pairs (18,42), (60,2), (62,16), (78,32)."
+    /// 5; 3; 4; 10." "the matrix example grows to 118" bytes (change request No. 10), by two for each rule.
     #[test]
     fn document_000() {
         let (reads, writes) = ([5, 3, 2], [1, 2, 10]);
         assert_eq!(verdict(&reads, &writes, 4), Verdict { number: 1, count: 3, source: 0, target: 3 });
         let mut out = vec![0; LONGEST_NORMAL];
-        assert_eq!(policy(&reads, &writes, 4, &mut out), 110);
+        assert_eq!(policy(&reads, &writes, 4, &mut out), 118);
         let pairs: Vec<u16> =
             out[CONTAINERS.offset_at..HEADER].chunks(2).map(|b| u16::from_le_bytes([b[0], b[1]])).collect();
-        assert_eq!(pairs, [18, 42, 60, 2, 62, 16, 78, 32]);
-        let read = crate::image::read(&out[..110]).unwrap();
+        assert_eq!(pairs, [18, 42, 60, 2, 62, 24, 86, 32]);
+        let read = crate::image::read(&out[..118]).unwrap();
         assert_eq!(read.rules, [vec![5], vec![3], vec![4], vec![10]]);
     }
 }

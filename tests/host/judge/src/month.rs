@@ -114,7 +114,12 @@ mod tests {
 
     #[test]
     fn no_trace_and_refused_policy() {
-        let empty = crate::normal::encode(&crate::image::Policy { containers: vec![], users: vec![], rules: vec![] });
+        let empty = crate::normal::encode(&crate::image::Policy {
+            containers: vec![],
+            users: vec![],
+            rules: vec![],
+            owners: vec![],
+        });
         assert_eq!(month(&empty, &[]), "total 0 0 0 0 none\n");
         let lines = "00.bin 0 0 1 0 none\n01.bin 0 0 0 0 none\ntotal 0 0 1 0 none\n";
         assert_eq!(month(&empty, &[vec![1, 0, 0], vec![]]), lines);
@@ -123,7 +128,12 @@ mod tests {
 
     #[test]
     fn at_the_limits() {
-        let empty = crate::normal::encode(&crate::image::Policy { containers: vec![], users: vec![], rules: vec![] });
+        let empty = crate::normal::encode(&crate::image::Policy {
+            containers: vec![],
+            users: vec![],
+            rules: vec![],
+            owners: vec![],
+        });
         let long = [vec![0; 8_000_000], vec![0; 8_000_001]];
         assert_eq!(month(&empty, &long), "00.bin 0 0 1000000 0 none\n01.bin 19\ntotal 0 0 1000000 0 none\n");
         assert_eq!(month(&empty, &vec![vec![]; 65]).lines().count(), 65);

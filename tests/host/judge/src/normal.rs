@@ -3,28 +3,32 @@
 use std::collections::HashMap;
 
 use crate::image::{read, Policy};
-use crate::numbers::{HEADER, LEADING, LONGEST_NORMAL, NO_ATOM, UNRESTRICTED};
+use crate::numbers::{HEADER, LEADING, LONGEST_NORMAL, NO_ATOM, NO_OWNER, UNRESTRICTED};
 use crate::rules::{normal, unrestricted, Rule};
 
-/// Numbers the rules "by first use", "equal rules written once, unused rules dropped, unrestricted rules written as
-/// 65535".
+/// A rule at a use of it, in normal form, with its owner there: "Two equal rules set by different users" are two (change request
+/// No. 10).
+type Use = (Rule, u16);
+
+/// Numbers the rules "by first use", "equal rules written once, unused rules dropped". "An unrestricted rule becomes 65535 only
+/// without an owner" (change request No. 10).
 struct Numbering {
-    number_of: HashMap<Rule, u16>,
-    in_order: Vec<Rule>,
+    number_of: HashMap<Use, u16>,
+    in_order: Vec<Use>,
 }
 
 impl Numbering {
-    fn number(&mut self, rule: &[u64]) -> u16 {
-        let rule = normal(rule);
-        if rule == unrestricted() {
+    fn number(&mut self, policy: &Policy, number: u16) -> u16 {
+        let used = (normal(&policy.rule(number)), policy.owner(number));
+        if used == (unrestricted(), NO_OWNER) {
             return UNRESTRICTED;
         }
-        if let Some(&number) = self.number_of.get(&rule) {
+        if let Some(&number) = self.number_of.get(&used) {
             return number;
         }
         let number = self.in_order.len() as u16;
-        self.in_order.push(rule.clone());
-        self.number_of.insert(rule, number);
+        self.in_order.push(used.clone());
+        self.number_of.insert(used, number);
         number
     }
 }
@@ -37,8 +41,8 @@ pub fn encode(policy: &Policy) -> Vec<u8> {
     // container, then users)"
     let mut containers = Vec::new();
     for container in &policy.containers {
-        let permit = numbering.number(&policy.rule(container.permit));
-        let run = numbering.number(&policy.rule(container.run));
+        let permit = numbering.number(policy, container.permit);
+        let run = numbering.number(policy, container.run);
         containers.push(container.kind.number());
         containers.push(container.atom.unwrap_or(NO_ATOM));
         containers.extend(permit.to_le_bytes());
@@ -46,16 +50,17 @@ pub fn encode(policy: &Policy) -> Vec<u8> {
     }
     let mut users = Vec::new();
     for &user in &policy.users {
-        users.extend(numbering.number(&policy.rule(user)).to_le_bytes());
+        users.extend(numbering.number(policy, user).to_le_bytes());
     }
 
     // "each rule's first mixture right behind the previous rule's last (also for an empty rule), none shared"
     let mut rules = Vec::new();
     let mut mixtures: Vec<u8> = Vec::new();
     let mut first: u16 = 0;
-    for rule in &numbering.in_order {
+    for (rule, owner) in &numbering.in_order {
         rules.extend(first.to_le_bytes());
         rules.extend((rule.len() as u16).to_le_bytes());
+        rules.extend(owner.to_le_bytes());
         mixtures.extend(rule.iter().flat_map(|mixture| mixture.to_le_bytes()));
         first += rule.len() as u16;
     }
@@ -82,7 +87,7 @@ pub fn put(image: &[u8], out: &mut [u8]) -> u32 {
 
 /// The normaliser: the length of the normal image (18 or more), or the number of the refusal, 9 before 1 to 6.
 pub fn normalise(image: &[u8], out: &mut [u8]) -> u32 {
-    // "9 session of wrong length or output (of normaliser or derived policy) under 18,994 bytes"
+    // "Any output for a normal image must hold 19,506 bytes" (change request No. 10): 9
     if out.len() < LONGEST_NORMAL {
         return 9;
     }
@@ -99,9 +104,9 @@ mod tests {
     /// "Empty policy: 18 bytes."
     #[test]
     fn empty_policy() {
-        let empty = Policy { containers: vec![], users: vec![], rules: vec![] };
+        let empty = Policy { containers: vec![], users: vec![], rules: vec![], owners: vec![] };
         let image = encode(&empty);
-        assert_eq!(image, [4, 0, 18, 0, 0, 0, 18, 0, 0, 0, 18, 0, 0, 0, 18, 0, 0, 0]);
+        assert_eq!(image, [5, 0, 18, 0, 0, 0, 18, 0, 0, 0, 18, 0, 0, 0, 18, 0, 0, 0]);
         assert_eq!(read(&image), Ok(empty));
     }
 }

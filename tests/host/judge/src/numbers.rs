@@ -12,8 +12,9 @@ pub const RULE_MIXTURES: usize = 8;
 /// "At most 20,480 bytes."
 pub const LONGEST_IMAGE: usize = 20_480;
 
-/// "First a 16-bit 4, then four pairs of 16-bit offset and length, sorted by offset, so 18 bytes."
-pub const LEADING: u16 = 4;
+/// "First a 16-bit" number, "then four pairs of 16-bit offset and length, sorted by offset, so 18 bytes." "Every image now leads
+/// with a 16-bit 5, and 2 refuses the old 4." (change request No. 10)
+pub const LEADING: u16 = 5;
 pub const HEADER: usize = 18;
 
 /// A section: where the header has its offset and its length, the bytes of a record, and how many there are at most.
@@ -39,10 +40,13 @@ pub const CONTAINER_RUN: usize = 4;
 /// "Users, at most 16: one 16-bit rule number."
 pub const USERS: Section = Section { offset_at: 6, length_at: 8, size: 2, most: 16 };
 
-/// "Rules, at most 256: 16-bit first mixture and 16-bit count".
-pub const RULES: Section = Section { offset_at: 10, length_at: 12, size: 4, most: 256 };
+/// "Rules, at most 256: 16-bit first mixture and 16-bit count". "A rule record grows to 6 bytes with a 16-bit owner last, a declared
+/// user or 65535 for nobody" (change request No. 10).
+pub const RULES: Section = Section { offset_at: 10, length_at: 12, size: 6, most: 256 };
 pub const RULE_FIRST: usize = 0;
 pub const RULE_COUNT: usize = 2;
+pub const RULE_OWNER: usize = 4;
+pub const NO_OWNER: u16 = 65535;
 
 /// "Mixtures, at most 2,048, 64 bits each."
 pub const MIXTURES: Section = Section { offset_at: 14, length_at: 16, size: 8, most: 2_048 };
@@ -53,8 +57,8 @@ pub const NO_ATOM: u8 = 255;
 /// "Rule number 65535 is the unrestricted rule."
 pub const UNRESTRICTED: u16 = 65535;
 
-/// "Its length is at most 18,994; the output must hold that many bytes".
-pub const LONGEST_NORMAL: usize = 18_994;
+/// "Any output for a normal image must hold 19,506 bytes" (change request No. 10).
+pub const LONGEST_NORMAL: usize = 19_506;
 
 /// "The session is a lent slice" of "256 rows", "then 16 user rows of 10." "Each container row gets a 21st number"; "The
 /// session is now 5,536 numbers long" (change request No. 5).

@@ -273,7 +273,7 @@ pub fn policy(text: &[u8]) -> Result<Policy, Refused> {
     }
     let programs = Programs(profiles.iter().map(|profile| (profile, run_mixture(profile, &paths))).collect());
     // "One unrestricted user and, behind the files, one initial process are added"
-    let mut policy = Policy { containers: vec![], users: vec![UNRESTRICTED], rules: vec![] };
+    let mut policy = Policy { containers: vec![], users: vec![UNRESTRICTED], rules: vec![], owners: vec![] };
     for (atom, path) in paths.iter().enumerate() {
         let (permit, run) = (programs.permit(path, atom), programs.run(path));
         if normal(&permit).len() > RULE_MIXTURES {
@@ -337,7 +337,7 @@ mod tests {
     fn document_001() {
         let text = "profile /usr/bin/apache {\n/etc/apache2.conf w,\n/etc/apache2.conf r,\n/www/index.php r,\n\
             /usr/bin/ftpd px,\n}\nprofile /usr/bin/ftpd {\n/etc/ftpd.conf w,\n/etc/ftpd.conf r,\n/home/ftpd/data w,\n}\n";
-        assert_eq!(encode(&policy(text.as_bytes()).unwrap()).len(), 134);
+        assert_eq!(encode(&policy(text.as_bytes()).unwrap()).len(), 146);
         assert_eq!(run_rule(text, 0), [0x9_0000_0006]);
         assert_eq!(run_rule(text, 3), [0x8_0000_0010]);
         assert_eq!(permit_rule(text, 0), [1]);

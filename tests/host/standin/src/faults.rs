@@ -144,4 +144,13 @@ faults! {
     BlockedOldPosition, all, differential chains calls fuzz, "blocked has the position of what the file holds";
     RefusedPositionTold, all, differential calls fuzz, "a refusal writes position 255";
     RunPositionUntold, all, differential calls fuzz, "a run leaves the position of its alert";
+    OwnersFolded, all, differential calls, "equal rules of other owners are one";
+    OwnedUnrestrictedDropped, all, differential calls, "an unrestricted rule with an owner becomes 65535";
+    OwnersLost, all, differential calls, "owners are lost in the normal image";
+    OwnerFirst, all, differential calls fuzz, "the owner stands first in a rule record";
+    OwnerOfUser16, all, differential calls, "any of 16 users may own a rule";
+    UnusedOwnersUnread, all, differential, "owners of rules that nothing uses are not looked at";
+    OwnersAfterContainers, all, differential, "owners are judged behind the containers";
+    OldLeadingAccepted, all, differential calls, "an image that begins with 4 is accepted";
+    OldOutputTaken, all, differential calls fuzz, "an output of 18,994 bytes is taken";
 }

@@ -2,6 +2,7 @@
 //! tests: the whole judge must pass them, and with a planted fault (`faults`) they must fail.
 
 pub mod faults;
+mod owners;
 mod profiles;
 mod silence;
 mod step;
@@ -28,7 +29,7 @@ pub extern "C" fn yaslaurel_version() -> u32 {
 #[no_mangle]
 pub unsafe extern "C" fn yaslaurel_image_check(bytes: *const u8, length: usize) -> u32 {
     let bytes = from_raw_parts(bytes, length);
-    let number = image::check(bytes);
+    let number = owners::checked(bytes, image::check(bytes));
     if planted(Fault::GuardedRefusedByImage) && [0, 6].contains(&number) && has_guarded(bytes) {
         return 5;
     }
@@ -75,7 +76,7 @@ pub unsafe extern "C" fn yaslaurel_image_normalise(
     {
         return normal::put(bytes, out);
     }
-    let number = normal::normalise(bytes, out);
+    let number = owners::normalised(bytes, out);
     if planted(Fault::NormaliserOverwrites) && number as usize >= HEADER && (number as usize) < out.len() {
         out[number as usize] = 0;
     }

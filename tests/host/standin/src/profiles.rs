@@ -199,7 +199,7 @@ pub fn derive(text: &[u8], out: &mut [u8]) -> u32 {
     if planted(Fault::AtomsByProfiles) {
         reading.profiled_first();
     }
-    let mut policy = Policy { containers: vec![], users: vec![UNRESTRICTED], rules: vec![] };
+    let mut policy = Policy { containers: vec![], users: vec![UNRESTRICTED], rules: vec![], owners: vec![] };
     for (atom, (permit, run)) in rules_of(&reading).into_iter().enumerate() {
         let raw = planted(Fault::MixturesBeforeNormalForm);
         let count = |rule: &Vec<u64>| if raw { rule.len() } else { rules::normal(rule).len() };

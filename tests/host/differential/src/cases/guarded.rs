@@ -2,7 +2,7 @@
 
 use judge::image;
 use judge::session::{self, outcome, Outcome};
-use yaslaurel::layout::image::{NO_ATOM, UNRESTRICTED};
+use yaslaurel::layout::image::{NO_ATOM, NO_OWNER, UNRESTRICTED};
 use yaslaurel::layout::record::NO_USER;
 use yaslaurel::SESSION_LENGTH;
 
@@ -93,7 +93,7 @@ fn make(r: &mut Random) -> Trace {
         .map(|file| (4, if r.percent(80) { file as u8 } else { NO_ATOM }, file as u16, UNRESTRICTED))
         .collect();
     containers.extend([PROCESS_RECORD; 2]);
-    let rules = (0..FILES as u16).map(|file| (file, 1)).collect();
+    let rules = (0..FILES as u16).map(|file| (file, 1, NO_OWNER)).collect();
     let spec = Spec { containers, users: vec![r.below(FILES) as u16], rules, mixtures, gaps: [0; GAPS] };
     let records = (0..r.between(4, 12)).map(|_| {
         let (p, o) = ((FILES + r.below(2)) as u16, r.below(FILES) as u16);

@@ -1,7 +1,7 @@
-//! Two accepted images: their normal images are equal exactly when their sessions are.
+//! Two accepted images: their normal images are equal exactly when their sessions are, and the owners at every use of a rule.
 
 use judge::{image, normal};
-use yaslaurel::layout::image::UNRESTRICTED;
+use yaslaurel::layout::image::{NO_OWNER, UNRESTRICTED};
 use yaslaurel::Session;
 
 use crate::bench::Bench;
@@ -12,10 +12,10 @@ use crate::random::Random;
 use crate::shrink;
 
 pub const PART: Part = Part {
-    name: "pairs: equal normal images exactly with equal sessions",
+    name: "pairs: equal normal images exactly with equal sessions and owners",
     cases: 40_000,
     make: |r| Box::new(make(r)),
-    needs: &[Need::Words(SESSIONS, &["equal", "different"])],
+    needs: &[Need::Words(SESSIONS, &["equal", "different", "equal, with other owners"])],
 };
 
 const SESSIONS: &str = "pairs, by their sessions";
@@ -30,7 +30,11 @@ fn make(r: &mut Random) -> Pair {
     let one = generate::policy(r, class);
     let mut other = generate::respelled(r, &one);
     // A small change of meaning, or none.
-    match r.below(4) {
+    match r.below(6) {
+        4 | 5 if !other.rules.is_empty() => {
+            let at = r.below(other.rules.len());
+            other.rules[at].2 = if other.users.is_empty() { NO_OWNER } else { r.below(other.users.len()) as u16 };
+        }
         0 if !other.mixtures.is_empty() => {
             let at = r.below(other.mixtures.len());
             other.mixtures[at] ^= 1 << r.below(64);
@@ -64,10 +68,18 @@ impl Case for Pair {
             }
         }
         let (normals, starts) = (images[0] == images[1], sessions[0] == sessions[1]);
-        c.count(SESSIONS, if starts { "equal" } else { "different" });
-        let normal = |image: &[u8]| normal::encode(&image::read(image).expect("the image is accepted"));
-        differ("equal normal images", normals, normal(&self.one) == normal(&self.other))
-            .or_else(|| (normals != starts).then(|| format!("equal normal images {normals}, equal sessions {starts}")))
+        let [one, other] = [&self.one, &self.other].map(|image| image::read(image).expect("the image is accepted"));
+        let owners = one.owners_at_uses() == other.owners_at_uses();
+        let word = match (starts, owners) {
+            (true, true) => "equal",
+            (true, false) => "equal, with other owners",
+            (false, _) => "different",
+        };
+        c.count(SESSIONS, word);
+        let same = starts && owners;
+        differ("equal normal images", normals, normal::encode(&one) == normal::encode(&other)).or_else(|| {
+            (normals != same).then(|| format!("equal normal images {normals}, equal sessions and owners {same}"))
+        })
     }
 
     fn simpler(&self) -> Vec<Box<dyn Case>> {
