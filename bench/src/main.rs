@@ -308,7 +308,7 @@ fn on_image<'a>(image: &'a [u8], times: usize, variants: Vec<OnImage<'a>>) -> Ou
     race(ROUNDS, times, &mut variants)
 }
 
-fn images(list: &[(String, Vec<u8>)]) {
+fn image_calls(list: &[(String, Vec<u8>)]) {
     head("Image check", "image");
     for (name, image) in list {
         let outcome = on_image(
@@ -657,6 +657,22 @@ fn figures(program: &str) -> io::Result<()> {
     whole_program("The month program, eight traces of 1,000,000 records", program, "figures", &files, 8_000_000)
 }
 
+/// The image calls on policies of several sizes, and on those whose rules differ in the owner alone.
+fn images() {
+    let one_atom: Vec<Vec<u64>> = (0..16).map(|atom| vec![1 << atom]).collect();
+    image_calls(&[
+        (format!("smallest, {HEADER} bytes"), work::image(&[], &[], &[])),
+        ("typical, 160 containers, rules of 1".into(), work::policy(1, 6)),
+        ("typical, 160 containers, rules of 8".into(), work::policy(8, 6)),
+        (format!("largest, {OUTPUT_LENGTH} bytes"), work::policy_of_files(CONTAINERS.most, RULE_MIXTURES, 5)),
+        ("16 rules of 8, each of 16 owners".into(), work::policy_of_owners(&work::random_rules(16, RULE_MIXTURES, 5))),
+        ("16 rules of one atom, each of 16 owners".into(), work::policy_of_owners(&one_atom)),
+    ]);
+    println!("\nBy the number of files, each with rules of 2 mixtures of its own:");
+    let sizes = [1, 4, 16, 64, 256];
+    image_calls(&sizes.map(|files| (format!("{files} files"), work::policy_of_files(files, 2, 9))));
+}
+
 fn main() -> io::Result<()> {
     let args: Vec<String> = env::args().skip(1).collect();
     let words: Vec<&str> = args.iter().map(String::as_str).collect();
@@ -671,6 +687,10 @@ fn main() -> io::Result<()> {
         }
         ["batches"] => {
             batches();
+            return Ok(());
+        }
+        ["images"] => {
+            images();
             return Ok(());
         }
         ["profiles"] => {
@@ -695,18 +715,7 @@ fn main() -> io::Result<()> {
     operations();
     cover::cover();
     batches();
-    let one_atom: Vec<Vec<u64>> = (0..16).map(|atom| vec![1 << atom]).collect();
-    images(&[
-        (format!("smallest, {HEADER} bytes"), work::image(&[], &[], &[])),
-        ("typical, 160 containers, rules of 1".into(), work::policy(1, 6)),
-        ("typical, 160 containers, rules of 8".into(), work::policy(8, 6)),
-        (format!("largest, {OUTPUT_LENGTH} bytes"), work::policy_of_files(CONTAINERS.most, RULE_MIXTURES, 5)),
-        ("16 rules of 8, each of 16 owners".into(), work::policy_of_owners(&work::random_rules(16, RULE_MIXTURES, 5))),
-        ("16 rules of one atom, each of 16 owners".into(), work::policy_of_owners(&one_atom)),
-    ]);
-    println!("\nBy the number of files, each with rules of 2 mixtures of its own:");
-    let sizes = [1, 4, 16, 64, 256];
-    images(&sizes.map(|files| (format!("{files} files"), work::policy_of_files(files, 2, 9))));
+    images();
     matrices();
     proposals();
     texts();

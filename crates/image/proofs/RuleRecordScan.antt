@@ -1,17 +1,21 @@
--- The rule records, read one after the other, each held against the one before.
+-- The rule records, read one after the other, each held against the one before, and each with its owner.
 use Prim.Native.Nat.{ℕ, suc, _+_, _-_, _*_, _/_, _≤_, _<_}
 use mathlib.Core.Path.{_≡_, refl, sym, ap, _∙_}
-use mathlib.Core.Bool.{true, false, _&&_}
+use mathlib.Core.Bool.{Bool, true, false, _&&_}
 use mathlib.Core.List.{List, map}
 use native.Mathlib.Omega.{arith}
 use lib.Dec.{leb}
 use lib.ListN.{length, take, drop}
 use lib.Seq.{drop-drop}
 use borrow.Author.Tests.{lt-leb, le-leb}
+use Rattle.lists.specs.Lists.{every}
 use Rattle.fields.specs.Bytes.{field, cut, records}
 use Rattle.fields.proofs.FieldLaws.{field-record}
-use Rattle.image.specs.Image.{spanIn, spansIn, spansGood}
-use Rattle.image.specs.Limits.{ruleSize, size16, firstField, countField}
+use Rattle.fields.proofs.RecordLaws.{Scanned, scan-start, scan-next, scan-stop, scan-end}
+use Rattle.image.specs.Policy.{ownerGood}
+use Rattle.image.specs.Image.{spanIn, spansIn, ownersIn, spansGood}
+use Rattle.image.specs.Limits.{ruleSize, size16, firstField, countField, ownerField}
+use Rattle.image.proofs.RecordsByPlace.{owners-are, owner-record}
 use Rattle.rules.specs.Answers.{mixtureLimit}
 
 pub record SpansScanned (m : ℕ) (s : List ℕ) (n from i : ℕ) : Type 0 where
@@ -19,7 +23,7 @@ pub record SpansScanned (m : ℕ) (s : List ℕ) (n from i : ℕ) : Type 0 where
   pub place : i ≤ n
   pub rest : spansGood m from (map spanIn (cut ruleSize (n - i) (drop (i * ruleSize) s))) ≡ spansGood m 0 (spansIn s)
 
-pub spans-start : (m : ℕ) (s : List ℕ) → SpansScanned m s (length s / ruleSize) 0 0
+spans-start : (m : ℕ) (s : List ℕ) → SpansScanned m s (length s / ruleSize) 0 0
 unfolding records spansIn
 spans-start m s = let e : length s / ruleSize - 0 ≡ length s / ruleSize = omega arith in record { count = refl; place = omega arith; rest = rw e }
 
@@ -35,17 +39,17 @@ module _ (m : ℕ) (s : List ℕ) (n from i : ℕ) (g : SpansScanned m s n from 
       let f2 : field (take ruleSize (drop (i * ruleSize) s)) countField size16 ≡ field s (i * ruleSize + countField) size16 = field-record s (i * ruleSize) ruleSize countField size16 (omega arith) in
       rw (e, k, ← drop-drop ruleSize (i * ruleSize) s, f0, f2)
 
-  pub spans-first : i < n → field s (i * ruleSize) size16 < from → false ≡ spansGood m 0 (spansIn s)
+  spans-first : i < n → field s (i * ruleSize) size16 < from → false ≡ spansGood m 0 (spansIn s)
   spans-first l h = sym (rw (lt-leb from (field s (i * ruleSize) size16) h) at (spans-step l)) ∙ g .rest
 
-  pub spans-count : i < n → from ≤ field s (i * ruleSize) size16 → mixtureLimit < field s (i * ruleSize + countField) size16 → false ≡ spansGood m 0 (spansIn s)
+  spans-count : i < n → from ≤ field s (i * ruleSize) size16 → mixtureLimit < field s (i * ruleSize + countField) size16 → false ≡ spansGood m 0 (spansIn s)
   spans-count l a h = sym (rw (le-leb from (field s (i * ruleSize) size16) a, lt-leb (field s (i * ruleSize + countField) size16) mixtureLimit h) at (spans-step l)) ∙ g .rest
 
-  pub spans-over : i < n → from ≤ field s (i * ruleSize) size16 → field s (i * ruleSize + countField) size16 ≤ mixtureLimit → m < field s (i * ruleSize) size16 + field s (i * ruleSize + countField) size16 → false ≡ spansGood m 0 (spansIn s)
+  spans-over : i < n → from ≤ field s (i * ruleSize) size16 → field s (i * ruleSize + countField) size16 ≤ mixtureLimit → m < field s (i * ruleSize) size16 + field s (i * ruleSize + countField) size16 → false ≡ spansGood m 0 (spansIn s)
   spans-over l a b h =
       sym (rw (le-leb from (field s (i * ruleSize) size16) a, le-leb (field s (i * ruleSize + countField) size16) mixtureLimit b, lt-leb (field s (i * ruleSize) size16 + field s (i * ruleSize + countField) size16) m h) at (spans-step l)) ∙ g .rest
 
-  pub spans-next : i < n → from ≤ field s (i * ruleSize) size16 → field s (i * ruleSize + countField) size16 ≤ mixtureLimit → field s (i * ruleSize) size16 + field s (i * ruleSize + countField) size16 ≤ m → SpansScanned m s n (field s (i * ruleSize) size16) (i + 1)
+  spans-next : i < n → from ≤ field s (i * ruleSize) size16 → field s (i * ruleSize + countField) size16 ≤ mixtureLimit → field s (i * ruleSize) size16 + field s (i * ruleSize + countField) size16 ≤ m → SpansScanned m s n (field s (i * ruleSize) size16) (i + 1)
   spans-next l a b h =
       record {
         count = g .count;
@@ -53,6 +57,49 @@ module _ (m : ℕ) (s : List ℕ) (n from i : ℕ) (g : SpansScanned m s n from 
         rest = sym (rw (le-leb from (field s (i * ruleSize) size16) a, le-leb (field s (i * ruleSize + countField) size16) mixtureLimit b, le-leb (field s (i * ruleSize) size16 + field s (i * ruleSize + countField) size16) m h) at (spans-step l)) ∙ g .rest;
       }
 
-  pub spans-end : n ≤ i → true ≡ spansGood m 0 (spansIn s)
+  spans-end : n ≤ i → true ≡ spansGood m 0 (spansIn s)
   unfolding cut spansGood
   spans-end l = let e : n - i ≡ 0 = omega arith in rw e at (g .rest)
+
+-- ---- with the owners, among so many users
+
+pub record RulesScanned (m users : ℕ) (s : List ℕ) (n from i : ℕ) : Type 0 where
+  pub spans : SpansScanned m s n from i
+  pub owners : Scanned (ownerGood users) (λ r. spanIn r .owner) ruleSize s n i
+
+pub rules-start : (m users : ℕ) (s : List ℕ) → RulesScanned m users s (length s / ruleSize) 0 0
+rules-start m users s = record { spans = spans-start m s; owners = scan-start (ownerGood users) (λ r. spanIn r .owner) ruleSize s }
+
+pub last-fails : (a : Bool) {b : Bool} → false ≡ b → false ≡ (a && b)
+last-fails true e = e
+last-fails false e = refl
+
+both-pass : {a b : Bool} → true ≡ a → true ≡ b → true ≡ (a && b)
+both-pass e f = rw (← e, ← f)
+
+module _ (m users : ℕ) (s : List ℕ) (n from i : ℕ) (g : RulesScanned m users s n from i) where
+  pub rules-first : i < n → field s (i * ruleSize) size16 < from → false ≡ (spansGood m 0 (spansIn s) && every (ownerGood users) (ownersIn s))
+  rules-first l h = rw (← spans-first m s n from i (g .spans) l h)
+
+  pub rules-count : i < n → from ≤ field s (i * ruleSize) size16 → mixtureLimit < field s (i * ruleSize + countField) size16 → false ≡ (spansGood m 0 (spansIn s) && every (ownerGood users) (ownersIn s))
+  rules-count l a h = rw (← spans-count m s n from i (g .spans) l a h)
+
+  pub rules-over : i < n → from ≤ field s (i * ruleSize) size16 → field s (i * ruleSize + countField) size16 ≤ mixtureLimit → m < field s (i * ruleSize) size16 + field s (i * ruleSize + countField) size16
+      → false ≡ (spansGood m 0 (spansIn s) && every (ownerGood users) (ownersIn s))
+  rules-over l a b h = rw (← spans-over m s n from i (g .spans) l a b h)
+
+  pub rules-owner : i < n → ownerGood users (field s (i * ruleSize + ownerField) size16) ≡ false → false ≡ (spansGood m 0 (spansIn s) && every (ownerGood users) (ownersIn s))
+  rules-owner l h =
+      rw (owners-are s)
+      (last-fails (spansGood m 0 (spansIn s)) (scan-stop (ownerGood users) (λ r. spanIn r .owner) ruleSize s n i (g .owners) l (rw (owner-record s i) (sym h))))
+
+  pub rules-next : i < n → from ≤ field s (i * ruleSize) size16 → field s (i * ruleSize + countField) size16 ≤ mixtureLimit → field s (i * ruleSize) size16 + field s (i * ruleSize + countField) size16 ≤ m
+      → ownerGood users (field s (i * ruleSize + ownerField) size16) ≡ true → RulesScanned m users s n (field s (i * ruleSize) size16) (i + 1)
+  rules-next l a b h o =
+      record {
+        spans = spans-next m s n from i (g .spans) l a b h;
+        owners = scan-next (ownerGood users) (λ r. spanIn r .owner) ruleSize s n i (g .owners) l (rw (owner-record s i) (sym o));
+      }
+
+  pub rules-end : n ≤ i → true ≡ (spansGood m 0 (spansIn s) && every (ownerGood users) (ownersIn s))
+  rules-end l = rw (owners-are s) (both-pass (spans-end m s n from i (g .spans) l) (scan-end (ownerGood users) (λ r. spanIn r .owner) ruleSize s n i (g .owners) l))

@@ -1,12 +1,12 @@
 -- THE POLICY IMAGE: what is proved. Each statement is spelled out here and proved by a citation.
-use Prim.Native.Nat.{ℕ, _≤_, _<_}
+use Prim.Native.Nat.{ℕ, _/_, _≤_, _<_}
 use native.Mathlib.Omega.{arith}
 use mathlib.Core.Path.{_≡_, refl, sym, ap, _∙_}
 use mathlib.Core.Bool.{true, false}
 use mathlib.Core.List.{List, [], _∷_, map}
 use mathlib.Core.Logic.{_↔_, _≢_}
 use lib.ListN.{length, getD}
-use Rattle.lists.specs.Lists.{elem, knownBy, positionBy}
+use Rattle.lists.specs.Lists.{elem, every, knownBy, positionBy}
 use Rattle.lists.specs.Conditions.{numbersOf, numberAt}
 use Rattle.lists.proofs.Conditions.{given-among}
 use Rattle.lists.proofs.Bools.{clash}
@@ -15,10 +15,11 @@ use Rattle.answers.specs.Refusals.{imageLength, sections, recordCount, ruleReco
 use Rattle.fields.specs.Bytes.{Bytes}
 use Rattle.rules.specs.Rules.{normal}
 use Rattle.rule_words.proofs.WordLaws.{normal-is}
-use Rattle.image.specs.Limits.{headerSize, outputBound}
-use Rattle.image.specs.Policy.{Policy, Sound}
-use Rattle.image.specs.Image.{policyIn, imageLengthGood, pairsGood, sectionsGood, rulesGood, containersGood, usersGood, imageConditions, checkOf}
+use Rattle.image.specs.Limits.{userSize, mixtureSize, headerSize, outputBound}
+use Rattle.image.specs.Policy.{Policy, Sound, ownerGood}
+use Rattle.image.specs.Image.{part, spansIn, ownersIn, policyIn, spansGood, imageLengthGood, pairsGood, sectionsGood, rulesGood, containersGood, usersGood, imageConditions, checkOf}
 use Rattle.image.specs.Normal.{meaning, Owned, owned, uses, ownersAt, sameUse, freeUse, writtenUses, writtenBy, policyOf, normalPolicy, encode, normalImage}
+use Rattle.image.proofs.RuleRecordScan.{last-fails}
 use Rattle.image.proofs.ImageRefusals.{refused-at, refused-by-none}
 use Rattle.image.proofs.Encode as encoded
 use Rattle.image.proofs.Decode as decoded
@@ -45,6 +46,13 @@ module _ (i : List ℕ) where
   pub refused-4 : (checkOf i ≡ ruleRecord) ↔ ((imageLengthGood i ≡ true) × ((pairsGood i ≡ true) × ((sectionsGood i ≡ true) × (rulesGood i ≡ false))))
   unfolding imageConditions numberAt numbersOf
   refused-4 = refused-at i 3 (omega arith)
+
+  -- "a declared user or 65535 for nobody; 4 checks it" (change request No. 10), of every rule record, used or not
+  pub refused-4-owner : imageLengthGood i ≡ true → pairsGood i ≡ true → sectionsGood i ≡ true
+      → every (ownerGood (length (part i 1) / userSize)) (ownersIn (part i 2)) ≡ false → checkOf i ≡ ruleRecord
+  unfolding rulesGood
+  refused-4-owner a b c e =
+      refused-4 .1 (a, (b, (c, sym (last-fails (spansGood (length (part i 3) / mixtureSize) 0 (spansIn (part i 2))) (sym e)))))
 
   pub refused-5 : (checkOf i ≡ containerRecord)
       ↔ ((imageLengthGood i ≡ true) × ((pairsGood i ≡ true) × ((sectionsGood i ≡ true) × ((rulesGood i ≡ true) × (containersGood i ≡ false)))))

@@ -1,9 +1,13 @@
 -- How equal rules are found: the contracts of this crate's private functions. No public contract cites this file.
--- Rules with the same words have the same key; of each key the table has one rule.
-use Prim.Native.Nat.{ℕ, _+_, _*_, _/_, _%_, _^_, _≤_, _<_}
+-- Rules with the same words have the same key. The table has two places for a key: its own, and the one opposite, which a rule takes that
+-- differs from the one at its key.
+use Prim.Native.Nat.{ℕ, _+_, _-_, _*_, _/_, _%_, _^_, _≤_, _<_}
+use mathlib.Core.Bool.{Bool, cond, _&&_, _||_}
 use mathlib.Core.List.{List, [], _∷_}
 use lib.Bits.{bitOr, bitXor}
+use lib.Dec.{eqb}
 use lib.ListN.{length, getD, take, drop}
+use Rattle.rule_words.specs.Words.{ruleWidth}
 use Rattle.normaliser.specs.Writer.{formWidth}
 
 -- the words of rule k
@@ -34,9 +38,21 @@ manyKeys = 2048
 unfoldable pub keyOf : ℕ → List ℕ → ℕ
 keyOf n ws = spread (mixed 0 ws) * n / 2 ^ 32
 
--- each of the first k rules has a key that stands in the table, with the number from 1 of one of these rules
+-- words with the same first mixture and the same owner
+unfoldable pub alike : List ℕ → List ℕ → Bool
+alike v w = eqb (getD v 1 0) (getD w 1 0) && eqb (getD v ruleWidth 0) (getD w ruleWidth 0)
+
+-- the place of these words in the table: that of their key, if it is free or has a rule with words alike; else the one opposite
+unfoldable pub slotOf : List ℕ → List ℕ → List ℕ → ℕ
+slotOf forms keys ws =
+    cond
+    (eqb (getD keys (keyOf (length keys) ws) 0) 0 || alike ws (wordsAt forms (getD keys (keyOf (length keys) ws) 0 - 1)))
+    (keyOf (length keys) ws)
+    (length keys - 1 - keyOf (length keys) ws)
+
+-- the place of each of the first k rules is taken in the table, which has numbers from 1 of these rules
 pub record Keyed (forms keys : List ℕ) (k : ℕ) : Type 0 where
   pub some : 0 < length keys
   pub few : length keys ≤ keyLimit
-  pub seen : (j : ℕ) → j < k → 0 < getD keys (keyOf (length keys) (wordsAt forms j)) 0
+  pub seen : (j : ℕ) → j < k → 0 < getD keys (slotOf forms keys (wordsAt forms j)) 0
   pub inside : (h : ℕ) → getD keys h 0 ≤ k

@@ -12,7 +12,7 @@ ghost use Rattle.image.specs.Image.{containersIn, usersIn, spansIn, spansGood};
 ghost use Rattle.image.specs.Normal.{containerBytes, spanBytes, framed, normalImage, sameUse, freeUse};
 ghost use Rattle.normaliser.specs.Normaliser.{normalAnswer, normalEffect};
 ghost use Rattle.normaliser.specs.Writer.{formWidth, formRow, normalUse, formIn, useLimit, containerUses, policyGiven, policyAt, formWords, Tabled, Answered};
-ghost use Rattle.normaliser.specs.Keys.{wordsAt, mixed, keyLimit, keyOf, Keyed};
+ghost use Rattle.normaliser.specs.Keys.{wordsAt, mixed, keyLimit, keyOf, alike, slotOf, Keyed};
 ghost use Rattle.normaliser.specs.Tables.{formAt, formGood, classOf, Classified, classAt, classNamed, withClass, withClasses, Ordered, Placeable, newNumber, found, Cleared, fewRules};
 ghost use Rattle.normaliser.specs.Sections.{pairBytes, headerBytes, containerSection, userSection, ruleSection, mixtureBytes, mixtureSection, Writable, ownedIn, SectionsAccepted};
 
@@ -144,13 +144,42 @@ fn key(words: &[u64], n: usize) -> usize
     spread as usize * n / 4294967296
 }
 
-// The class of rule k, given those before it. A rule before it with its key is looked at first; without one it is the first of its class.
+// The rows have the same first mixture and the same owner.
+fn alike(a: &[u64], b: &[u64]) -> bool
+    requires { ⌜ (length (now a) ≡ formWidth) × (length (now b) ≡ formWidth) ⌝ }
+    ensures { λ r. ⌜ r ≡ alike (now (a .entry)) (now (b .entry)) ⌝ }
+{
+    if a[1] != b[1] {
+        return false;
+    }
+    a[OWNER_WORD] == b[OWNER_WORD]
+}
+
+// The place of rule k in the table of keys: that of its key, or the one opposite if a rule is there that is not alike.
+fn slot(forms: &[u64], keys: &[u16], k: usize) -> usize
+    requires { ⌜ (k < length (now forms) / formWidth) × Keyed (now forms) (now keys) k ⌝ }
+    ensures { λ r. ⌜ (r ≡ slotOf (now (forms .entry)) (now (keys .entry)) (wordsAt (now (forms .entry)) k)) × (r < length (now (keys .entry))) ⌝ }
+{
+    let a = k * FORM_WIDTH;
+    let h = key(&forms[a..a + FORM_WIDTH], keys.len());
+    let j = keys[h] as usize;
+    if j == 0 {
+        return h;
+    }
+    let b = (j - 1) * FORM_WIDTH;
+    if alike(&forms[a..a + FORM_WIDTH], &forms[b..b + FORM_WIDTH]) {
+        return h;
+    }
+    keys.len() - 1 - h
+}
+
+// The class of rule k, given those before it. A rule before it at its place is looked at first; without one it is the first of its class.
 fn class_of(forms: &[u64], classes: &[u16], keys: &mut [u16], k: usize) -> usize
     requires { ⌜ (k < length (now forms) / formWidth) × Classified (now forms) (now classes) k × Keyed (now forms) (now keys) k ⌝ }
     ensures { λ r. ⌜ (r ≡ classOf (now (forms .entry)) k) × Keyed (now (forms .entry)) (now (keys .exit)) (k + 1) ⌝ }
 {
     let a = k * FORM_WIDTH;
-    let h = key(&forms[a..a + FORM_WIDTH], keys.len());
+    let h = slot(forms, keys, k);
     let j = keys[h] as usize;
     if j == 0 {
         keys[h] = (k + 1) as u16;

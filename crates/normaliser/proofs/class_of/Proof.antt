@@ -1,4 +1,4 @@
--- A rule with a free key is the first of its class; otherwise an equal rule before it, or the search, tells the class.
+-- A rule with a free place is the first of its class; otherwise an equal rule before it, or the search, tells the class.
 use Prim.Native.Nat.{_-_}
 use native.Mathlib.Omega.{arith}
 use mathlib.Core.Path.{sym, _∙_}
@@ -9,87 +9,90 @@ use borrow.Author.Needs.{needs}
 use Rattle.normaliser.proofs.class_of.Statement.{statement}
 use Rattle.normaliser.proofs.class_of.Tie as tie
 
+slot-requires : tie.Need-slot-requires
+slot-requires c κs = (c .before .before .before .before .pre .0, c .before .before .before .before .pre .2)
+
 cast-j : tie.Need-cast-j
-cast-j c = omega (arith, c .slice-known2 .given (c .before .key .result))
+cast-j c = omega (arith, c .slice-known2 .given (c .before .slot .result))
 
 returns : tie.Need-returns
 returns c =
     let start = c .before .before .before .before .before .before .before .before .before in
-    let key = c .before .before .before .before .key in (
-      class-new (start .args .forms .now) (start .args .keys .now) (start .args .k) (key .result) (start .pre .2) (rw (words-part (start .args .forms .now) (start .args .k)) at (key .ensures .0))
-          (key .ensures .1) (c .before .before .if1 .taken) (start .pre .0) _ (rw (words-part (start .args .forms .now) (start .args .k)) at (c .class-by .ensures)),
+    let slot = c .before .before .before .before .slot in (
+      class-new (start .args .forms .now) (start .args .keys .now) (start .args .k) (slot .result) (start .pre .2) (slot .ensures .0)
+          (slot .ensures .1) (c .before .before .if1 .taken) (start .pre .0) _ (rw (words-part (start .args .forms .now) (start .args .k)) at (c .class-by .ensures)),
       keyed-new
-          (start .args .forms .now) (start .args .keys .now) (start .args .k) (key .result) (start .pre .2) (rw (words-part (start .args .forms .now) (start .args .k)) at (key .ensures .0))
-          (key .ensures .1) (c .before .before .if1 .taken),
+          (start .args .forms .now) (start .args .keys .now) (start .args .k) (slot .result) (start .pre .2) (slot .ensures .0)
+          (slot .ensures .1) (c .before .before .if1 .taken),
     )
 
 mul-b : tie.Need-mul-b
-mul-b c = omega (arith, c .before .before .before .before .before .before .before .pre .2 .inside (c .before .before .key .result), c .before .before .before .before .before .before .before .pre .0)
+mul-b c = omega (arith, c .before .before .before .before .before .before .before .pre .2 .inside (c .before .before .slot .result), c .before .before .before .before .before .before .before .pre .0)
 
 add-same-2 : tie.Need-add-same-2
 add-same-2 c =
     let start = c .before .before .before .before .before .before .before .before in
-    let key = c .before .before .before .key in
-    omega (arith, start .pre .2 .inside (key .result), start .pre .0)
+    let slot = c .before .before .before .slot in
+    omega (arith, start .pre .2 .inside (slot .result), start .pre .0)
 
 mul-same-2 : tie.Need-mul-same-2
 mul-same-2 c =
     let start = c .before .before .before .before .before .before .before .before in
-    let key = c .before .before .before .key in
-    omega (arith, start .pre .2 .inside (key .result), start .pre .0)
+    let slot = c .before .before .before .slot in
+    omega (arith, start .pre .2 .inside (slot .result), start .pre .0)
 
 part-same-end-2 : tie.Need-part-same-end-2
 part-same-end-2 c =
     let start = c .before .before .before .before .before .before .before .before in
-    let key = c .before .before .before .key in
-    omega (arith, start .pre .2 .inside (key .result), start .pre .0)
+    let slot = c .before .before .before .slot in
+    omega (arith, start .pre .2 .inside (slot .result), start .pre .0)
 
 mul-result : tie.Need-mul-result
 mul-result c =
     let start = c .before .before .before .before .before .before .before .before .before .before .before in
-    let key = c .before .before .before .before .before .before .key in
-    omega (arith, start .pre .2 .inside (key .result), start .pre .0)
+    let slot = c .before .before .before .before .before .before .slot in
+    omega (arith, start .pre .2 .inside (slot .result), start .pre .0)
 
 shared-slice-read-result : tie.Need-shared-slice-read-result
 shared-slice-read-result c =
     let start = c .before .before .before .before .before .before .before .before .before .before .before .before in
-    let key = c .before .before .before .before .before .before .before .key in
-    omega (arith, start .pre .2 .inside (key .result), start .pre .0, start .pre .1 .room)
+    let slot = c .before .before .before .before .before .before .before .slot in
+    omega (arith, start .pre .2 .inside (slot .result), start .pre .0, start .pre .1 .room)
 
 cast-result : tie.Need-cast-result
 cast-result c =
     let start = c .before .before .before .before .before .before .before .before .before .before .before .before in
-    let key = c .before .before .before .before .before .before .before .key in
-    omega (arith, c .shared-slice-known3 .given (getD (start .args .keys .now) (key .result) 0 - 1))
+    let slot = c .before .before .before .before .before .before .before .slot in
+    omega (arith, c .shared-slice-known3 .given (getD (start .args .keys .now) (slot .result) 0 - 1))
 
 returns-2 : tie.Need-returns-2
 returns-2 c =
     let start = c .before .before .before .before .before .before .before .before .before .before .before .before in
-    let key = c .before .before .before .before .before .before .before .key in
+    let slot = c .before .before .before .before .before .before .before .slot in
     let if1 = c .before .before .before .before .before .if1 in (
-      class-old (start .args .forms .now) (start .args .classes .now) (getD (start .args .keys .now) (key .result) 0 - 1) (start .args .k) (start .pre .1) (omega (
+      class-old (start .args .forms .now) (start .args .classes .now) (getD (start .args .keys .now) (slot .result) 0 - 1) (start .args .k) (start .pre .1) (omega (
         arith,
         start .pre .2 .inside
-            (key .result),
+            (slot .result),
         start .pre .0,
         if1 .left,
       )) (sym (rw (
         words-part (start .args .forms .now) (start .args .k),
         words-part (start .args .forms .now) (getD (start .args .keys .now)
-            (key .result) 0 - 1),
+            (slot .result) 0 - 1),
       ) at (sym (c .before .before .same .ensures) ∙ c .before .if2 .taken))),
       keyed-old (start .args .forms .now) (start .args .keys .now) (start .args .k)
-          (key .result) (start .pre .2) (rw (words-part (start .args .forms .now) (start .args .k)) at (key .ensures .0)) (if1 .left),
+          (slot .result) (start .pre .2) (slot .ensures .0) (if1 .left),
     )
 
 returns-3 : tie.Need-returns-3
 returns-3 c =
     let start = c .before .before .before .before .before .before .before .before .before .before .before .before .before .before in
-    let key = c .before .before .before .before .before .before .before .before .before .key in
+    let slot = c .before .before .before .before .before .before .before .before .before .slot in
     let if1 = c .before .before .before .before .before .before .before .if1 in (
       class-sought (start .args .forms .now) (start .args .k) _ _ (rw (words-part (start .args .forms .now) (start .args .k)) at (c .class-by2 .ensures)) (c .before .first-same .ensures),
       keyed-old
-          (start .args .forms .now) (start .args .keys .now) (start .args .k) (key .result) (start .pre .2) (rw (words-part (start .args .forms .now) (start .args .k)) at (key .ensures .0))
+          (start .args .forms .now) (start .args .keys .now) (start .args .k) (slot .result) (start .pre .2) (slot .ensures .0)
           (if1 .left),
     )
 
@@ -98,12 +101,7 @@ class-of-spec =
     tie.close
     (tie.spec
     (λ c. search needs)
-    (λ c. search needs)
-    (λ c. search needs)
-    (λ c. search needs)
-    (λ c. search needs)
-    (λ c. search needs)
-    (λ c κs. search needs)
+    slot-requires
     (λ c. search needs)
     (λ c. search needs)
     cast-j
@@ -136,6 +134,7 @@ class-of-spec =
     mul-result
     shared-slice-read-result
     cast-result
+    (λ c. search needs)
     returns-2
     (λ c. search needs)
     (λ c. search needs)
@@ -144,4 +143,5 @@ class-of-spec =
     (λ c. search needs)
     (λ c κs. search needs)
     (λ c κs. search needs)
+    (λ c. search needs)
     returns-3)
