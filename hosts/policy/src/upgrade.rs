@@ -3,7 +3,7 @@
 
 use std::fmt;
 
-use yaslaurel::layout::image::{HEADER, LEADING, NO_OWNER, SECTIONS};
+use yaslaurel::layout::image::{HEADER, LEADING, LIMIT, NO_OWNER, SECTIONS};
 use yaslaurel::{check, Refusal};
 
 /// What an image of that edition begins with.
@@ -72,7 +72,7 @@ fn sections(old: &[u8]) -> Result<Vec<&[u8]>, UpgradeError> {
 ///
 /// [`UpgradeError`]: what is no image of that edition.
 pub fn upgraded(old: &[u8]) -> Result<Vec<u8>, UpgradeError> {
-    if old.len() < HEADER {
+    if old.len() < HEADER || old.len() > LIMIT {
         return Err(UpgradeError::Refused(Refusal::ImageLength));
     }
     if number(old, 0) != usize::from(OLD_LEADING) {
