@@ -73,6 +73,13 @@ least-some f (suc n) h = by (f 0) refl (λ g. least-some (λ k. f (suc k)) n g)
         early e x zero l = e
         early e x (suc j) l = x .before j (omega arith)
 
+pub least-none : (f : ℕ → Bool) (n : ℕ) → ((k : ℕ) → k < n → f k ≡ false) → leastBelow f n ≡ n
+unfolding leastBelow
+least-none f zero h = refl
+least-none f (suc n) h =
+    let z : f 0 ≡ false = h 0 (omega arith) in
+    rw z (ap suc (least-none (λ k. f (suc k)) n (λ k m. h (suc k) (omega arith))))
+
 -- ---- whether each passes
 
 pub all-at : (f : ℕ → Bool) (n k : ℕ) → allBelow f n ≡ true → k < n → f k ≡ true
@@ -128,3 +135,19 @@ module _ (f : ℕ → Bool) (n : ℕ) where
 
   pub passing-end : (i : ℕ) → Passing f n i → n ≤ i → true ≡ allBelow f n
   passing-end i p l = sym (all-in f n (λ k m. p .done k (omega arith)))
+
+-- ---- the same of one that looks for the first that passes: those before i have failed
+
+pub record Failing (f : ℕ → Bool) (n i : ℕ) : Type 0 where
+  pub place : i ≤ n
+  pub done : (k : ℕ) → k < i → f k ≡ false
+
+module _ (f : ℕ → Bool) (n : ℕ) where
+  pub failing-start : Failing f n 0
+  failing-start = record { place = omega arith; done = λ k l. absurd (omega arith) }
+
+  pub failing-next : (i : ℕ) → Failing f n i → i < n → f i ≡ false → Failing f n (i + 1)
+  failing-next i p l h = record { place = omega arith; done = below-more (λ k. f k ≡ false) i (p .done) h }
+
+  pub failing-end : (i : ℕ) → Failing f n i → n ≤ i → someBelow f n ≡ false
+  failing-end i p l = some-none f n (λ k m. p .done k (omega arith))

@@ -12,7 +12,7 @@ use lib.Dec.{eqb}
 use borrow.Author.Tests.{eqb-true, eq-eqb, eqb-false, ne-eqb}
 use Rattle.rules.specs.Sets.{atom}
 use Rattle.rules.proofs.SetLaws.{atom-le, atom-and, atom-or, atom-above, single-same, single-other, ext}
-use Rattle.lists.proofs.Bools.{decide}
+use Rattle.lists.proofs.Bools.{decide, or-none}
 use Rattle.matrix.specs.Limits.{objectLimit}
 use Rattle.matrix.specs.Flows.{has}
 use Rattle.matrix.specs.Rows.{bitsOf}
@@ -69,6 +69,9 @@ has-single a k = by (ℕ-discrete k a)
 pub has-above : (row n k : ℕ) → row < 2 ^ n → n ≤ k → has row k ≡ false
 has-above row n k h l = none-has row k (atom-above row k (lt-of-lt-of-le h (pow-mono l)))
 
+pub has-zero : (k : ℕ) → has 0 k ≡ false
+has-zero k = has-above 0 0 k (omega arith) (omega arith)
+
 -- two rows with the same bits are equal
 pub has-ext : (a b : ℕ) → ((k : ℕ) → has a k ≡ has b k) → a ≡ b
 has-ext a b e = ext a b (λ k. by k (decide (has a k)))
@@ -76,6 +79,14 @@ has-ext a b e = ext a b (λ k. by k (decide (has a k)))
     by : (k : ℕ) → (has a k ≡ true) ⊎ (has a k ≡ false) → atom a k ≡ atom b k
     by k (inl p) = has-atom a k p ∙ sym (has-atom b k (sym (e k) ∙ p))
     by k (inr p) = has-none a k p ∙ sym (has-none b k (sym (e k) ∙ p))
+
+-- a bit that is there is added without effect
+pub absorbed : (x s : ℕ) → has x s ≡ true → bitOr x (2 ^ s) ≡ x
+absorbed x s h = has-ext (bitOr x (2 ^ s)) x (λ k. has-or x (2 ^ s) k ∙ ap (λ (b : Bool). has x k || b) (has-single s k) ∙ by k (decide (eqb s k)))
+  where
+    by : (k : ℕ) → (eqb s k ≡ true) ⊎ (eqb s k ≡ false) → (has x k || eqb s k) ≡ has x k
+    by k (inl e) = let z : has x k ≡ true = ap (has x) (sym (eqb-true s k e)) ∙ h in rw z
+    by k (inr e) = rw e (or-none (has x k))
 
 -- ---- bit 0, and the bits above it
 

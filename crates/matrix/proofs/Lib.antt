@@ -1,9 +1,10 @@
 -- Theorems is the file to read: the laws of this crate, stated and cited. Examples computes the starred example.
--- Other crates may cite GoodLaws and BitLaws. The others serve inside.
+-- Other crates may cite GoodLaws, BitLaws and CarrierLaws. The others serve inside.
 pub mod Theorems
 pub mod Examples
 pub mod GoodLaws
 pub mod BitLaws
+pub mod CarrierLaws
 pub mod PathLaws
 pub mod CountLaws
 pub mod RowLaws

@@ -30,9 +30,10 @@ use Rattle.chains.specs.Table.{State, readRow, appendRow, entry, alerts, placed
 use Rattle.chains.proofs.TableLaws.{operate-done}
 use Rattle.chains.proofs.VerdictLaws.{left-put}
 use Rattle.answers.specs.declared.Answer.{Answer}
+use Rattle.matrix.proofs.CarrierLaws.{carried}
 use Rattle.silence.specs.Silent.{sourcesOf, quietObject}
 use Rattle.silence.specs.Sessions.{Allowed, mayRead, mayAppend, AllAllowed}
-use Rattle.silence.proofs.SourceLaws.{Holding, passes, never-blocks, holds-on, carried}
+use Rattle.silence.proofs.SourceLaws.{Holding, passes, never-blocks, holds-on}
 
 -- whatever a container held, it holds
 abbrev pub Grown : State → State → Type 0

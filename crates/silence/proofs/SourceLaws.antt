@@ -1,18 +1,18 @@
 -- What the rows of a session from the derived policy hold as long as the accesses are allowed.
-use Prim.Native.Nat.{ℕ, zero, suc, _+_, _-_, _^_, _≤_, _<_}
+use Prim.Native.Nat.{ℕ, _+_, _-_, _^_, _≤_, _<_}
 use native.Mathlib.Omega.{arith}
 use native.Mathlib.Decide.{ℕ-discrete}
 use mathlib.Core.Path.{_≡_, refl, sym, subst, ap, _∙_}
-use mathlib.Core.Logic.{_⊎_, inl, inr, ⊎-elim}
+use mathlib.Core.Logic.{_⊎_, ⊎-elim}
 use mathlib.Core.Bool.{Bool, true, false, cond, _&&_}
-use mathlib.Core.List.{List, [], _∷_}
+use mathlib.Core.List.{List}
 use lib.Pow.{pow-lt}
 use lib.Dec.{eqb}
 use lib.ListN.{length, getD}
 use borrow.Author.Tests.{eq-eqb, ne-eqb}
 use Rattle.lists.specs.Lists.{every}
 use Rattle.lists.specs.Conditions.{firstFailed}
-use Rattle.lists.proofs.Bools.{and-in, and-0, and-1, or-0, or-1, or-cases, clash}
+use Rattle.lists.proofs.Bools.{or-0, or-1}
 use Rattle.rules.specs.Sets.{atom, holds, dataOf}
 use Rattle.rules.specs.Rules.{covers, normal, meet, unrestricted}
 use Rattle.rules.specs.Answers.{dataWidth, tagWidth}
@@ -24,6 +24,7 @@ use Rattle.image.proofs.WrittenMeaning.{normal-unrestricted}
 use Rattle.session.specs.Rows.{Row}
 use Rattle.matrix.specs.Rows.{bitsOf}
 use Rattle.matrix.specs.Flows.{has, subjectCarries, granted, onward, Composed, composed}
+use Rattle.matrix.proofs.CarrierLaws.{carries}
 use Rattle.matrix.proofs.PathLaws.{path-source}
 use Rattle.matrix.proofs.FlowLaws.{composed-path}
 use Rattle.matrix.proofs.BitLaws.{has-atom, bits-has}
@@ -56,31 +57,6 @@ module _ (reads writes : List ℕ) (n : ℕ) where
   pub record Holding (σ : State) : Type 0 where
     pub object : (b : ℕ) → b < n → ObjectRow b (σ .row b)
     pub subject : (s : ℕ) → s < length reads → SubjectRow s (σ .row (n + s))
-
--- ---- flows
-
--- a subject that reads a and writes b carries
-pub carries : (reads writes : List ℕ) (s a b : ℕ) → s < length reads → length writes ≡ length reads → has (getD reads s 0) a ≡ true → has (getD writes s 0) b ≡ true
-    → subjectCarries reads writes a b ≡ true
-unfolding subjectCarries
-carries [] writes s a b l e r w = absurd (omega arith)
-carries (x ∷ reads) [] s a b l e r w = absurd (omega arith)
-carries (x ∷ reads) (y ∷ writes) zero a b l e r w = or-0 (has x a && has y b) (subjectCarries reads writes a b) (and-in r w)
-carries (x ∷ reads) (y ∷ writes) (suc s) a b l e r w =
-    or-1 (has x a && has y b) (subjectCarries reads writes a b) (carries reads writes s a b (omega arith) (omega arith) r w)
-
-pub carried : (reads writes : List ℕ) (a b : ℕ) → length writes ≡ length reads → subjectCarries reads writes a b ≡ true
-    → (s : ℕ) × (s < length reads) × (has (getD reads s 0) a ≡ true) × (has (getD writes s 0) b ≡ true)
-unfolding subjectCarries
-carried [] writes a b e h = clash h refl
-carried (x ∷ reads) [] a b e h = clash h refl
-carried (x ∷ reads) (y ∷ writes) a b e h = by (or-cases (has x a && has y b) h) (λ q. carried reads writes a b (omega arith) q)
-  where
-    by : (has x a && has y b ≡ true) ⊎ (subjectCarries reads writes a b ≡ true)
-        → (subjectCarries reads writes a b ≡ true → (s : ℕ) × (s < length reads) × (has (getD reads s 0) a ≡ true) × (has (getD writes s 0) b ≡ true))
-        → (s : ℕ) × (s < suc (length reads)) × (has (getD (x ∷ reads) s 0) a ≡ true) × (has (getD (y ∷ writes) s 0) b ≡ true)
-    by (inl q) f = (zero, omega arith, and-0 (has x a) (has y b) q, and-1 (has x a) q)
-    by (inr q) f = let z = f q in (suc (z .0), omega (arith, z .1), z .2, z .3)
 
 -- ---- the unrestricted rule
 

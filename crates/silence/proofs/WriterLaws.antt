@@ -19,12 +19,12 @@ use Rattle.chains.proofs.Exact.{covers-out, covers-in}
 use Rattle.matrix.specs.Rows.{bitsOf}
 use Rattle.matrix.specs.Flows.{has, granted, Composed, composed, subjectCarries}
 use Rattle.matrix.specs.Verdicts.{consistent}
+use Rattle.matrix.proofs.CarrierLaws.{carries}
 use Rattle.matrix.proofs.PathLaws.{path-source, path-target}
 use Rattle.matrix.proofs.FlowLaws.{composed-path, consistent-granted}
 use Rattle.matrix.proofs.BitLaws.{atom-has, has-atom, bits-has, bits-above}
 use Rattle.derivation.specs.Derived.{writerMixtures, orAlone, permitOf}
 use Rattle.silence.specs.Silent.{sourcesOf, quietObject, silent}
-use Rattle.silence.proofs.SourceLaws.{carries}
 use Rattle.silence.proofs.GatherLaws.{writer, alone-quiet}
 
 -- a mixture of the permit rule is that of one writer, or the object alone
