@@ -1,7 +1,7 @@
 -- What a call leaves in the numbers that a host points to: "A refusal .. changes no lent memory" (the paper).
 use Prim.Native.Nat.{ℕ}
 use mathlib.Core.Bool.{Bool, cond, _||_}
-use lib.Dec.{eqb}
+use lib.Dec.{eqb, ltb}
 use Rattle.answers.specs.Refusals.{matrix, lentLength}
 use Rattle.answers.specs.declared.Received.{Received}
 use Rattle.answers.specs.declared.Answer.{Answer}
@@ -27,3 +27,8 @@ takenAfter w old = unlessRefused (eqb (answerNumber (w .answer)) lentLength) (w 
 -- one of the three numbers of a matrix verdict: the value, or what stood there if the matrix is refused
 abbrev pub valueAfter : ℕ → ℕ → ℕ → ℕ
 valueAfter number value old = unlessRefused (eqb number matrix) value old
+
+-- one of the three numbers of a game's first move: the value, or what stood there if the game is refused, by a number above those of the two
+-- sides
+abbrev pub moveAfter : ℕ → ℕ → ℕ → ℕ
+moveAfter number value old = unlessRefused (ltb 1 number) value old

@@ -9,15 +9,19 @@ ghost use Rattle.normaliser.specs.Normaliser.{normalAnswer, normalEffect};
 ghost use Rattle.matrix.specs.Verdicts.{matrixVerdict};
 ghost use Rattle.matrix.specs.Flows.{matrixOf};
 ghost use Rattle.silence.specs.Silent.{matrixSilence};
+ghost use Rattle.game.specs.Outcomes.{gameValues};
 ghost use Rattle.withdrawals.specs.Judgements.{judgementOf};
 ghost use Rattle.derivation.specs.Derived.{derivedAnswer, derivedEffect};
 ghost use Rattle.confinement.specs.Images.{profileAnswer, profileEffect};
-ghost use Rattle.capi.specs.Hosts.{receivedAfter, stopAfter, takenAfter, valueAfter};
+ghost use Rattle.capi.specs.Hosts.{receivedAfter, stopAfter, takenAfter, valueAfter, moveAfter};
 ghost use Rattle.capi.specs.Versions.{version};
 use matrix::Consistency;
 
 // The number of a matrix that is not consistent.
 const INCONSISTENT: u32 = 1;
+
+// The greater of the numbers of the two sides of a game; those above are refusals.
+const DESK: u32 = 1;
 
 // 0.3.0: major times 65536, minor times 256, patch.
 const VERSION: u32 = 768;
@@ -162,6 +166,38 @@ pub extern "C" fn yaslaurel_matrix_silent(reads: &[u32], writes: &[u32], objects
 {
     let silence = silence::silent(reads, writes, objects);
     silence::silence_number(silence)
+}
+
+// 1 if the desk can force its win, with its first winning move: 1 read, 3 append, 0 pass, its subject and its object. 0 if the guard can
+// prevent it, with zeros. Else 8, then 23, and everything is as it was.
+#[no_mangle]
+pub extern "C" fn yaslaurel_matrix_game(
+    reads: &[u32],
+    writes: &[u32],
+    objects: u32,
+    source: u32,
+    target: u32,
+    rounds: u32,
+    withdrawals: u32,
+    code: &mut u32,
+    subject: &mut u32,
+    object: &mut u32,
+) -> u32
+    ensures { λ r. ⌜
+        (r ≡ gameValues (now (reads .entry)) (now (writes .entry)) objects source target rounds withdrawals .number)
+        × (now (code .exit) ≡ moveAfter (gameValues (now (reads .entry)) (now (writes .entry)) objects source target rounds withdrawals .number) (gameValues (now (reads .entry)) (now (writes .entry)) objects source target rounds withdrawals .code) (now (code .entry)))
+        × (now (subject .exit) ≡ moveAfter (gameValues (now (reads .entry)) (now (writes .entry)) objects source target rounds withdrawals .number) (gameValues (now (reads .entry)) (now (writes .entry)) objects source target rounds withdrawals .subject) (now (subject .entry)))
+        × (now (object .exit) ≡ moveAfter (gameValues (now (reads .entry)) (now (writes .entry)) objects source target rounds withdrawals .number) (gameValues (now (reads .entry)) (now (writes .entry)) objects source target rounds withdrawals .object) (now (object .entry))) ⌝ }
+{
+    let outcome = game::play(reads, writes, objects, source, target, rounds, withdrawals);
+    let values = game::outcome_values(outcome);
+    if DESK < values.number {
+        return values.number;
+    }
+    *code = values.code;
+    *subject = values.subject;
+    *object = values.object;
+    values.number
 }
 
 // 0 if the proposal to withdraw rights is accepted, else the first condition that fails, 1 to 4, or 8. The old matrix, the rights that
