@@ -65,6 +65,9 @@ pub const OTHER_USER: u32 = 18;
 // A trace of over 1,000,000 records.
 pub const TRACE_LENGTH: u32 = 19;
 
+// A trace that cannot be trimmed to its alert.
+pub const TRIM_TRACE: u32 = 22;
+
 // A game whose objects are not two, or of which a count is outside its bounds.
 pub const GAME_BOUNDS: u32 = 23;
 

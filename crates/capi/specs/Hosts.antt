@@ -1,12 +1,13 @@
 -- What a call leaves in the numbers that a host points to: "A refusal .. changes no lent memory" (the paper).
 use Prim.Native.Nat.{ℕ}
-use mathlib.Core.Bool.{Bool, cond, _||_}
+use mathlib.Core.Bool.{Bool, not, cond, _||_}
 use lib.Dec.{eqb, ltb}
 use Rattle.answers.specs.Refusals.{matrix, lentLength}
 use Rattle.answers.specs.declared.Received.{Received}
 use Rattle.answers.specs.declared.Answer.{Answer}
 use Rattle.answers.specs.Answers.{isAlert, isBlocked, isRefused, receivedOf, answerNumber}
 use Rattle.monitor.specs.declared.Ran.{Ran}
+use Rattle.trim.specs.declared.Trimmed.{Trimmed}
 
 -- a number that a host points to: the value, or what stood there if the call is refused
 abbrev pub unlessRefused : Bool → ℕ → ℕ → ℕ
@@ -23,6 +24,10 @@ stopAfter a old = cond (isAlert a || isBlocked a) (receivedOf a) old
 -- how many records were taken; 9, which changes nothing at all, leaves what stood there
 abbrev pub takenAfter : Ran → ℕ → ℕ
 takenAfter w old = unlessRefused (eqb (answerNumber (w .answer)) lentLength) (w .taken) old
+
+-- how many positions are kept of a trimmed trace
+abbrev pub keptAfter : Trimmed → ℕ → ℕ
+keptAfter w old = unlessRefused (not (eqb (w .refusal) 0)) (w .kept) old
 
 -- one of the three numbers of a matrix verdict: the value, or what stood there if the matrix is refused
 abbrev pub valueAfter : ℕ → ℕ → ℕ → ℕ

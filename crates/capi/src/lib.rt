@@ -5,6 +5,7 @@ ghost use Rattle.session.specs.Session.{startAnswer, startEffect};
 ghost use Rattle.answers.specs.Answers.{received, answerNumber};
 ghost use Rattle.monitor.specs.Steps.{stepAnswer, stepEffect};
 ghost use Rattle.monitor.specs.Stops.{ran, ranEffect};
+ghost use Rattle.trim.specs.Trims.{trimAnswer, trimEffect};
 ghost use Rattle.normaliser.specs.Normaliser.{normalAnswer, normalEffect};
 ghost use Rattle.matrix.specs.Verdicts.{matrixVerdict};
 ghost use Rattle.matrix.specs.Flows.{matrixOf};
@@ -13,7 +14,7 @@ ghost use Rattle.game.specs.Outcomes.{gameValues};
 ghost use Rattle.withdrawals.specs.Judgements.{judgementOf};
 ghost use Rattle.derivation.specs.Derived.{derivedAnswer, derivedEffect};
 ghost use Rattle.confinement.specs.Images.{profileAnswer, profileEffect};
-ghost use Rattle.capi.specs.Hosts.{receivedAfter, stopAfter, takenAfter, valueAfter, moveAfter};
+ghost use Rattle.capi.specs.Hosts.{receivedAfter, stopAfter, takenAfter, keptAfter, valueAfter, moveAfter};
 ghost use Rattle.capi.specs.Versions.{version};
 use matrix::Consistency;
 
@@ -119,6 +120,29 @@ pub extern "C" fn yaslaurel_run(
     *tag = received.tag;
     *position = received.position as u32;
     number
+}
+
+// 0 with the kept positions at the front of `positions`, in rising order, and how many they are behind `kept`; else the refusal, 9, 1 to 6
+// or 22, and everything is as it was.
+#[no_mangle]
+pub extern "C" fn yaslaurel_trace_trim(
+    image: &[u8],
+    trace: &[u8],
+    positions: &mut [u8],
+    kept: &mut usize,
+) -> u32
+    ensures { λ r. ⌜
+        (r ≡ trimAnswer (now (image .entry)) (now (trace .entry)) (now (positions .entry)) .refusal)
+        × (now (positions .exit) ≡ trimEffect (now (image .entry)) (now (trace .entry)) (now (positions .entry)))
+        × (now (kept .exit) ≡ keptAfter (trimAnswer (now (image .entry)) (now (trace .entry)) (now (positions .entry))) (now (kept .entry))) ⌝ }
+{
+    let trimmed = trim::trim(image, trace, positions);
+    let refusal = trimmed.refusal;
+    if refusal != 0 {
+        return refusal;
+    }
+    *kept = trimmed.kept;
+    refusal
 }
 
 // 0 consistent, with zeros; 1 with the number of flows and the first of them; else 8, and everything is as it was.

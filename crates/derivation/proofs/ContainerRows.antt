@@ -1,11 +1,13 @@
 -- The containers of the derived policy as they are written, row by row, and read back.
-use Prim.Native.Nat.{ℕ, zero, suc, _+_, _*_, _≤_, _<_}
+use Prim.Native.Nat.{ℕ, _+_, _*_, _≤_, _<_}
 use mathlib.Core.Path.{_≡_, sym, ap, _∙_}
 use mathlib.Core.List.{List, [], map}
 use native.Mathlib.Omega.{arith}
-use native.Mathlib.Nat.{add-zero, zero-add}
+use native.Mathlib.Nat.{zero-add}
 use lib.ListN.{length, getD, replicate, length-map, length-replicate, getD-replicate}
 use Rattle.lists.specs.Lists.{joined}
+use Rattle.lists.specs.Counting.{countFrom}
+use Rattle.lists.proofs.Counting.{count-length, count-at}
 use Rattle.lists.proofs.Places.{map-at}
 use Rattle.fields.specs.Writing.{Wrote}
 use Rattle.fields.proofs.ByteLaws.{joined-length}
@@ -14,14 +16,7 @@ use Rattle.image.specs.Limits.{fileKind, processKind, noAtom, unrestrictedNumbe
 use Rattle.image.specs.Policy.{Container}
 use Rattle.image.specs.Normal.{containerBytes}
 use Rattle.image.proofs.Encode.{container-wide}
-use Rattle.derivation.specs.Derived.{countFrom, objectFile, subjectProcess}
-use Rattle.derivation.proofs.DerivedLaws.{count-length}
-
-pub count-at : (k n b : ℕ) → b < n → getD (countFrom k n) b 0 ≡ k + b
-unfolding countFrom
-count-at k zero b l = absurd (omega arith)
-count-at k (suc n) zero l = sym (add-zero k)
-count-at k (suc n) (suc b) l = let e : suc k + b ≡ k + suc b = omega arith in count-at (suc k) n b (omega arith) ∙ e
+use Rattle.derivation.specs.Derived.{objectFile, subjectProcess}
 
 -- a section of containers that is written one by one
 module _ (cs : List Container) where

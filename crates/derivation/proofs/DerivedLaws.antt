@@ -14,6 +14,8 @@ use Rattle.lists.proofs.Bools.{and-in, or-0, or-1}
 use Rattle.image.specs.Limits.{isFile, isVolatile, isProcess, noOwner, headerSize, outputBound}
 use Rattle.normaliser.proofs.WriterLaws.{normal-long, normal-short}
 use Rattle.lists.specs.Lists.{every, elem}
+use Rattle.lists.specs.Counting.{countFrom}
+use Rattle.lists.proofs.Counting.{count-length, every-count}
 use Rattle.rules.specs.Rules.{normal, unrestricted}
 use Rattle.lists.proofs.Elem.{elem-here}
 use Rattle.rules.proofs.RuleLaws.{normal-among}
@@ -28,21 +30,8 @@ use Rattle.lists.proofs.Every.{every-elem, every-0, every-1, every-nil, every-c
 use Rattle.matrix.specs.Limits.{subjectLimit}
 use Rattle.rules.specs.Answers.{mixtureLimit}
 use Rattle.matrix.specs.Flows.{has, rowsWithin}
-use Rattle.derivation.specs.Derived.{writerMixtures, orAlone, permitOf, countFrom, objectFile, subjectProcess, derivedPolicy, derivedImage}
+use Rattle.derivation.specs.Derived.{writerMixtures, orAlone, permitOf, objectFile, subjectProcess, derivedPolicy, derivedImage}
 use Rattle.matrix.proofs.GoodLaws.{Good}
-
--- ---- numbers from k on
-
-pub count-length : (k n : ℕ) → length (countFrom k n) ≡ n
-unfolding countFrom
-count-length k zero = refl
-count-length k (suc n) = ap suc (count-length (suc k) n)
-
-pub every-count : {A : Type 0} (f : A → Bool) (g : ℕ → A) (k n : ℕ) → ((b : ℕ) → k ≤ b → b < k + n → f (g b) ≡ true) → every f (map g (countFrom k n)) ≡ true
-unfolding countFrom
-every-count f g k zero h = every-nil f
-every-count f g k (suc n) h =
-    every-cons f (g k) (map g (countFrom (suc k) n)) (h k (omega arith) (omega arith)) (every-count f g (suc k) n (λ b l m. h b (omega arith) (omega arith)))
 
 -- ---- the mixtures of a permit rule are sets of objects
 

@@ -12,7 +12,8 @@ use Rattle.image.specs.Policy.{Container, Policy, unrestrictedRule, ruleAt, own
 use Rattle.image.specs.Image.{offset, size}
 use Rattle.image.specs.Normal.{normalAt, useAt, ownedPlace, owned, placeUses, uses, sameUse, freeUse, noted, numbered, numberOf, containerOf, writtenBy, writtenUses, policyOf, normalPolicy, containerBytes, spanBytes, spansOf, pair, header, framed, encode, normalImage}
 use Rattle.matrix.specs.Flows.{has}
-use Rattle.derivation.specs.Derived.{writerMixtures, orAlone, permitOf, countFrom, objectFile, subjectProcess, derivedPolicy, derivedImage}
+use Rattle.lists.specs.Counting.{countFrom}
+use Rattle.derivation.specs.Derived.{writerMixtures, orAlone, permitOf, objectFile, subjectProcess, derivedPolicy, derivedImage}
 
 abbrev reads : List ℕ
 reads = 5 ∷ 3 ∷ 2 ∷ []

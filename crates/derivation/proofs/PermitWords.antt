@@ -33,9 +33,10 @@ use Rattle.normaliser.proofs.WriterLaws.{words-length}
 use Rattle.matrix.specs.Limits.{subjectLimit, objectLimit}
 use Rattle.matrix.specs.Flows.{has}
 use Rattle.matrix.proofs.BitLaws.{has-is, has-not}
-use Rattle.derivation.specs.Derived.{writerMixtures, orAlone, permitOf, countFrom}
-use Rattle.derivation.proofs.DerivedLaws.{count-length, every-count, few-mixtures}
-use Rattle.derivation.proofs.ContainerRows.{count-at}
+use Rattle.lists.specs.Counting.{countFrom}
+use Rattle.lists.proofs.Counting.{count-length, count-at, every-count}
+use Rattle.derivation.specs.Derived.{writerMixtures, orAlone, permitOf}
+use Rattle.derivation.proofs.DerivedLaws.{few-mixtures}
 
 -- ---- one more mixture
 

@@ -20,7 +20,8 @@ use Rattle.answers.specs.Refusals.{matrix, lentLength}
 use Rattle.normaliser.proofs.AnswerLaws.{through, refused-answer, answer-number, answer-front}
 use Rattle.matrix.specs.Flows.{matrixGood}
 use Rattle.matrix.proofs.GoodLaws.{good-parts}
-use Rattle.derivation.specs.Derived.{permitOf, countFrom, derivedPolicy, derivedImage, derivedConditions, derivedAnswer, derivedEffect}
+use Rattle.lists.specs.Counting.{countFrom}
+use Rattle.derivation.specs.Derived.{permitOf, derivedPolicy, derivedImage, derivedConditions, derivedAnswer, derivedEffect}
 use Rattle.derivation.proofs.DerivedLaws as derived
 
 -- ---- the answer

@@ -1,5 +1,5 @@
 -- The policy derived from a matrix (the paper, "Matrix": "The derived policy, a normal image"), and the answer and effect of writing it.
-use Prim.Native.Nat.{ℕ, zero, suc, _^_}
+use Prim.Native.Nat.{ℕ, _^_}
 use mathlib.Core.Bool.{cond}
 use mathlib.Core.List.{List, [], _∷_, _++_, map}
 use lib.Bits.{bitOr}
@@ -10,6 +10,7 @@ use Rattle.image.specs.Policy.{Container, Policy}
 use Rattle.image.specs.Normal.{normalImage}
 use Rattle.normaliser.specs.Normaliser.{lengthUnless, writtenUnless}
 use Rattle.answers.specs.Refusals.{matrix, lentLength}
+use Rattle.lists.specs.Counting.{countFrom}
 use Rattle.lists.specs.Conditions.{Condition, _orRefuse_, firstFailed}
 use Rattle.matrix.specs.Flows.{has, matrixGood}
 
@@ -31,11 +32,6 @@ unfoldable pub permitOf : List ℕ → List ℕ → ℕ → List ℕ
 permitOf reads writes b = orAlone b (writerMixtures reads writes b)
 
 -- ---- the policy
-
--- n numbers from k on
-unfoldable pub countFrom : ℕ → ℕ → List ℕ
-countFrom k zero = []
-countFrom k (suc n) = k ∷ countFrom (suc k) n
 
 -- "objects as files with their own atoms .. run rules unrestricted"; the permit rule of object b is rule b
 unfoldable pub objectFile : ℕ → Container

@@ -12,7 +12,8 @@ ghost use Rattle.image.specs.Limits.{containerSize};
 ghost use Rattle.image.specs.Normal.{containerBytes};
 ghost use Rattle.normaliser.specs.Writer.{unowned, formWidth, formRow, normalUse, formWords};
 ghost use Rattle.matrix.specs.Limits.{subjectLimit, objectLimit};
-ghost use Rattle.derivation.specs.Derived.{permitOf, countFrom, objectFile, subjectProcess, derivedAnswer, derivedEffect};
+ghost use Rattle.lists.specs.Counting.{countFrom};
+ghost use Rattle.derivation.specs.Derived.{permitOf, objectFile, subjectProcess, derivedAnswer, derivedEffect};
 
 // The bytes of the most containers, and the words of the rows of the most rules.
 const CONTAINER_BYTES: usize = (matrix::OBJECT_LIMIT + matrix::SUBJECT_LIMIT)

@@ -22,7 +22,8 @@ use Rattle.monitor.specs.Runs.{runAnswers}
 use Rattle.monitor.proofs.Examples.{recordOf, P, Q, R, checked-runs, exec-holding, exec-keeping}
 use Rattle.monitor.proofs.PaperListing.{image}
 use Rattle.matrix.specs.Verdicts.{matrixVerdict}
-use Rattle.derivation.specs.Derived.{permitOf, countFrom, derivedImage}
+use Rattle.lists.specs.Counting.{countFrom}
+use Rattle.derivation.specs.Derived.{permitOf, derivedImage}
 use Rattle.matrix.proofs.Examples.{flows}
 use Rattle.derivation.proofs.Examples.{permits, image-is, image-length, image-offsets, image-sizes}
 

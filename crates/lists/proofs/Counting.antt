@@ -1,13 +1,36 @@
--- Counts and sums that agree, that are nothing, and that are at least something.
+-- Numbers one after the other. Counts and sums that agree, that are nothing, and that are at least something.
 use Prim.Native.Nat.{ℕ, zero, suc, _+_, _≤_, _<_}
 use native.Mathlib.Omega.{arith}
-use native.Mathlib.Nat.{zero-add}
+use native.Mathlib.Nat.{add-zero, zero-add}
 use native.Mathlib.Decide.{ℕ-discrete}
-use mathlib.Core.Path.{_≡_, refl, ap, ap₂, _∙_}
+use mathlib.Core.Path.{_≡_, refl, sym, ap, ap₂, _∙_}
 use mathlib.Core.Bool.{Bool, true, false, cond}
+use mathlib.Core.List.{map}
 use lib.Dec.{eqb}
+use lib.ListN.{length, getD}
 use borrow.Author.Tests.{eq-eqb, ne-eqb}
-use Rattle.lists.specs.Counting.{countBelow, sumBelow}
+use Rattle.lists.specs.Lists.{every}
+use Rattle.lists.specs.Counting.{countFrom, countBelow, sumBelow}
+use Rattle.lists.proofs.Every.{every-nil, every-cons}
+
+-- ---- numbers from k on
+
+pub count-length : (k n : ℕ) → length (countFrom k n) ≡ n
+unfolding countFrom
+count-length k zero = refl
+count-length k (suc n) = ap suc (count-length (suc k) n)
+
+pub every-count : {A : Type 0} (f : A → Bool) (g : ℕ → A) (k n : ℕ) → ((b : ℕ) → k ≤ b → b < k + n → f (g b) ≡ true) → every f (map g (countFrom k n)) ≡ true
+unfolding countFrom
+every-count f g k zero h = every-nil f
+every-count f g k (suc n) h =
+    every-cons f (g k) (map g (countFrom (suc k) n)) (h k (omega arith) (omega arith)) (every-count f g (suc k) n (λ b l m. h b (omega arith) (omega arith)))
+
+pub count-at : (k n b : ℕ) → b < n → getD (countFrom k n) b 0 ≡ k + b
+unfolding countFrom
+count-at k zero b l = absurd (omega arith)
+count-at k (suc n) zero l = sym (add-zero k)
+count-at k (suc n) (suc b) l = let e : suc k + b ≡ k + suc b = omega arith in count-at (suc k) n b (omega arith) ∙ e
 
 -- ---- counts
 

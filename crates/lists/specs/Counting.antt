@@ -1,6 +1,12 @@
--- The numbers below n that pass a test, and sums over the numbers below n.
+-- Numbers one after the other, the numbers below n that pass a test, and sums over the numbers below n.
 use Prim.Native.Nat.{ℕ, zero, suc, _+_}
 use mathlib.Core.Bool.{Bool, true, false, cond, _&&_, _||_}
+use mathlib.Core.List.{List, [], _∷_}
+
+-- n numbers from k on
+unfoldable pub countFrom : ℕ → ℕ → List ℕ
+countFrom k zero = []
+countFrom k (suc n) = k ∷ countFrom (suc k) n
 
 -- whether one passes
 unfoldable pub someBelow : (ℕ → Bool) → ℕ → Bool

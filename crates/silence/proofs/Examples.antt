@@ -10,7 +10,7 @@ use Rattle.rules.specs.Sets.{atom, holds, dataOf, runningOf}
 use Rattle.rules.specs.Rules.{covers, coverFrom, coverPlace, distinct, heldIn, unheldIn, insert, sort, normal, intersections, meet, unrestricted}
 use Rattle.lists.specs.Lists.{elem, sameList, every}
 use Rattle.lists.specs.Conditions.{firstFailed}
-use Rattle.lists.specs.Counting.{someBelow, allBelow}
+use Rattle.lists.specs.Counting.{countFrom, someBelow, allBelow}
 use Rattle.rules.specs.Answers.{padded}
 use Rattle.answers.specs.Answers.{quiet, alert}
 use Rattle.image.specs.Limits.{isFree, isGuarded, isFile, isVolatile, isProcess, isStore, fileKind, processKind, noAtom, usedKind}
@@ -24,7 +24,7 @@ use Rattle.session.specs.Session.{startTag, startRow, placeWords, filled, sessi
 use Rattle.matrix.specs.Flows.{rowsWithin, counted, matrixGood, has, subjectCarries, granted, within, composed}
 use Rattle.matrix.specs.Rows.{bitsOf}
 use Rattle.matrix.specs.Verdicts.{ungranted, ungrantedFrom, consistent, matrixConditions}
-use Rattle.derivation.specs.Derived.{writerMixtures, orAlone, permitOf, countFrom, derivedImage}
+use Rattle.derivation.specs.Derived.{writerMixtures, orAlone, permitOf, derivedImage}
 use Rattle.derivation.proofs.Theorems.{derived-read, derived-means}
 use Rattle.chains.specs.History.{read, append}
 use Rattle.chains.specs.Table.{freeRow, readRow, writeRow, appendRow, fitsNeed, entry, processGood, objectGood, kindGood, freeGood, userGood, behalfFits, fits, meetGood, earlyConditions, tableConditions, alerts, blocks, verdict}

@@ -20,7 +20,8 @@ use Rattle.session.specs.Rows.{Row}
 use Rattle.session.specs.Session.{startRow, startTag}
 use Rattle.matrix.specs.Flows.{granted, step, Composed}
 use Rattle.matrix.proofs.GoodLaws.{Good}
-use Rattle.derivation.specs.Derived.{countFrom, derivedPolicy}
+use Rattle.lists.specs.Counting.{countFrom}
+use Rattle.derivation.specs.Derived.{derivedPolicy}
 use Rattle.derivation.proofs.DerivedLaws.{filePlace, processPlace, derived-means}
 use Rattle.chains.specs.Table.{startRowOf, begin}
 use Rattle.silence.proofs.SourceLaws.{Holding, ObjectRow, SubjectRow}

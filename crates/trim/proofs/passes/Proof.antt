@@ -1,0 +1,64 @@
+-- `trim::passes`: so many positions are kept, and the last pass dropped none unless it is still to be made (`Trimming`).
+use native.Mathlib.Omega.{arith}
+use mathlib.Core.Path.{sym, _∙_}
+use Rattle.trim.proofs.TrimLoop.{Trimming, trimming-start, trimming-ready, trimming-next, trimming-end}
+use borrow.Author.Needs.{needs}
+use Rattle.trim.proofs.passes.Statement.{statement}
+use Rattle.trim.proofs.passes.Tie as tie
+use Rattle.trim.proofs.passes.Reads as reads
+use Rattle.trim.proofs.passes.Lts as lts
+use Rattle.session.proofs.start.Reads as start-reads
+use Rattle.trim.proofs.pass.Reads as pass-reads
+
+abbrev Inv-loop : tie.InvT-loop
+Inv-loop image before₀ work₀ trace positions₀ last wide n₀ kept₀ before work positions n kept = Trimming image trace last wide before work positions n kept
+
+abbrev μ-loop : tie.MeasureT-loop
+μ-loop image before₀ work₀ trace positions₀ last wide n₀ kept₀ before work positions n kept = n
+
+add-n : tie.Need-add-n Inv-loop μ-loop
+add-n c = omega (arith, c .before .before .before .before .before .pre .small)
+
+loop-holds : tie.Need-loop-holds Inv-loop μ-loop
+loop-holds c = trimming-start _ _ _ _ _ _ _ (c .before .before .before .before .before .pre)
+
+start-requires : tie.Need-start-requires Inv-loop μ-loop
+start-requires c κs = search needs
+
+pass-requires : tie.Need-pass-requires Inv-loop μ-loop
+pass-requires c κs = trimming-ready _ _ _ _ _ _ _ _ _ (c .before .before .before .before .before .before .before .before .loop .inv) _ (c .before .before .before .before .before .start .ensures .1) (search needs)
+
+loop-less : tie.Need-loop-less Inv-loop μ-loop
+loop-less c = search needs
+
+loop-again : tie.Need-loop-again Inv-loop μ-loop
+loop-again c = trimming-next _ _ _ _ _ _ _ _ _ (c .before .before .before .before .before .before .before .before .before .before .before .before .before .before .before .loop .inv) _ (c .before .before .before .before .before .before .before .before .before .before .before .before .start .ensures .1) _ _ _ _ (c .before .before .before .before .before .before .pass .ensures) (search needs) (search needs) (search needs)
+
+same-length : tie.Need-same-length Inv-loop μ-loop
+same-length c = c .before .loop .inv .first ∙ sym (c .before .before .before .before .before .before .before .pre .first)
+
+same-length-2 : tie.Need-same-length-2 Inv-loop μ-loop
+same-length-2 c = c .before .loop .inv .second ∙ sym (c .before .before .before .before .before .before .before .pre .second)
+
+same-length-3 : tie.Need-same-length-3 Inv-loop μ-loop
+same-length-3 c = c .before .loop .inv .room ∙ sym (c .before .before .before .before .before .before .before .pre .room)
+
+returns : tie.Need-returns Inv-loop μ-loop
+returns c = trimming-end _ _ _ _ _ _ _ _ _ (c .before .loop .inv) (c .loop-test .left)
+
+pub passes-spec : {M : Type 1} → statement M
+passes-spec =
+    tie.close
+    (tie.spec
+    Inv-loop
+    μ-loop
+    add-n
+    loop-holds
+    start-requires
+    pass-requires
+    loop-less
+    loop-again
+    same-length
+    same-length-2
+    same-length-3
+    returns)
