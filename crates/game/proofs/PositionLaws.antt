@@ -1,6 +1,6 @@
 -- The tests and positions as code makes them, and what a move and a withdrawal leave as it was.
 use mathlib.Core.Path.{_≡_, refl, sym, ap, subst, _∙_}
-use mathlib.Core.Bool.{Bool, true, false, not, cond, _&&_}
+use mathlib.Core.Bool.{Bool, true, false, not, cond, _&&_, _||_}
 use mathlib.Core.Logic.{_⊎_, inl, inr}
 use Prim.Native.Nat.{ℕ, _*_, _%_, _/_, _^_, _-_, _<_, _≤_}
 use native.Mathlib.Decide.{decLt}
@@ -9,10 +9,10 @@ use lib.Bits.{bitAnd, bitOr, or-lt}
 use lib.Pow.{pow-lt}
 use lib.Dec.{eqb, ltb}
 use borrow.Author.Tests.{lt-ltb, le-ltb, not-false}
-use Rattle.lists.proofs.Bools.{decide, and-0, and-1}
+use Rattle.lists.proofs.Bools.{decide, and-0, and-1, or-none}
 use Rattle.rules.specs.Sets.{atom}
 use Rattle.matrix.specs.Flows.{has}
-use Rattle.matrix.proofs.BitLaws.{one-bit, has-single, has-without, absorbed}
+use Rattle.matrix.proofs.BitLaws.{one-bit, has-or, has-single, has-without, absorbed}
 use Rattle.game.specs.declared.Position.{Position}
 use Rattle.game.specs.Limits.{sideLimit, readCount, rightCount}
 use Rattle.game.specs.Positions.{legal, moved, withdrawn, reached, subjectOf, objectOf, withSubject, withObject}
@@ -56,7 +56,7 @@ module _ (p : Position) (k : ℕ) where
   unfolding moved
   read-hands l h = rw (lt-ltb k readCount l, h)
 
-  read-keeps : k < readCount → has (p .objects) (objectOf k) ≡ false → moved p k ≡ p
+  pub read-keeps : k < readCount → has (p .objects) (objectOf k) ≡ false → moved p k ≡ p
   unfolding moved
   read-keeps l h = rw (lt-ltb k readCount l, h)
 
@@ -64,13 +64,22 @@ module _ (p : Position) (k : ℕ) where
   unfolding moved
   append-hands l m h = rw (le-ltb k readCount l, lt-ltb k rightCount m, h)
 
-  append-keeps : readCount ≤ k → k < rightCount → has (p .subjects) (subjectOf k) ≡ false → moved p k ≡ p
+  pub append-keeps : readCount ≤ k → k < rightCount → has (p .subjects) (subjectOf k) ≡ false → moved p k ≡ p
   unfolding moved
   append-keeps l m h = rw (le-ltb k readCount l, lt-ltb k rightCount m, h)
 
-  pass-keeps : rightCount ≤ k → moved p k ≡ p
+  pub pass-keeps : rightCount ≤ k → moved p k ≡ p
   unfolding moved
   pass-keeps l = let m : readCount ≤ k = omega arith in rw (le-ltb k readCount m, le-ltb k rightCount l)
+
+-- a holder more
+with-subject : (p : Position) (s t : ℕ) → has (withSubject p s .subjects) t ≡ (has (p .subjects) t || eqb s t)
+unfolding withSubject
+with-subject p s t = has-or (p .subjects) (2 ^ s) t ∙ ap (λ (x : Bool). has (p .subjects) t || x) (has-single s t)
+
+with-object : (p : Position) (o t : ℕ) → has (withObject p o .objects) t ≡ (has (p .objects) t || eqb o t)
+unfolding withObject
+with-object p o t = has-or (p .objects) (2 ^ o) t ∙ ap (λ (x : Bool). has (p .objects) t || x) (has-single o t)
 
 -- a property that a move keeps: it holds of the position as it was, and with the new holder
 pub moved-has : (P : Position → Type 0) (p : Position) (k : ℕ) → P p
@@ -95,6 +104,34 @@ moved-has P p k h r w = by (decLt k readCount) (decLt k rightCount)
 pub moved-rights : (p : Position) (k : ℕ) → moved p k .rights ≡ p .rights
 unfolding withSubject withObject
 moved-rights p k = moved-has (λ q. q .rights ≡ p .rights) p k refl (λ l e. refl) (λ l m e. refl)
+
+-- who holds the information after a read, and after an append
+module _ (p : Position) (k : ℕ) where
+  pub read-holders : k < readCount → (s : ℕ)
+      → has (moved p k .subjects) s ≡ (has (p .subjects) s || (has (p .objects) (objectOf k) && eqb (subjectOf k) s))
+  read-holders l s = by (decide (has (p .objects) (objectOf k)))
+    where
+      by : (has (p .objects) (objectOf k) ≡ true) ⊎ (has (p .objects) (objectOf k) ≡ false)
+          → has (moved p k .subjects) s ≡ (has (p .subjects) s || (has (p .objects) (objectOf k) && eqb (subjectOf k) s))
+      by (inl e) = rw (read-hands p k l e, e) (with-subject p (subjectOf k) s)
+      by (inr e) = rw (read-keeps p k l e, e) (sym (or-none (has (p .subjects) s)))
+
+  pub read-objects : k < readCount → moved p k .objects ≡ p .objects
+  unfolding withSubject
+  read-objects l = moved-has (λ q. q .objects ≡ p .objects) p k refl (λ m e. refl) (λ m n e. absurd (omega arith))
+
+  pub append-holders : readCount ≤ k → k < rightCount → (o : ℕ)
+      → has (moved p k .objects) o ≡ (has (p .objects) o || (has (p .subjects) (subjectOf k) && eqb (objectOf k) o))
+  append-holders l m o = by (decide (has (p .subjects) (subjectOf k)))
+    where
+      by : (has (p .subjects) (subjectOf k) ≡ true) ⊎ (has (p .subjects) (subjectOf k) ≡ false)
+          → has (moved p k .objects) o ≡ (has (p .objects) o || (has (p .subjects) (subjectOf k) && eqb (objectOf k) o))
+      by (inl e) = rw (append-hands p k l m e, e) (with-object p (objectOf k) o)
+      by (inr e) = rw (append-keeps p k l m e, e) (sym (or-none (has (p .objects) o)))
+
+  pub append-subjects : readCount ≤ k → moved p k .subjects ≡ p .subjects
+  unfolding withObject
+  append-subjects l = moved-has (λ q. q .subjects ≡ p .subjects) p k refl (λ m e. absurd (omega arith)) (λ m n e. refl)
 
 -- ---- moves that add a holder
 

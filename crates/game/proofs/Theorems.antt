@@ -1,7 +1,7 @@
 -- DESK AGAINST GUARD (change request No. 14): what is proved of the answer, stated in full. The proofs are in the files that are cited.
 use Prim.Native.Nat.{ℕ, _-_, _^_, _≤_, _<_}
 use mathlib.Core.Path.{_≡_}
-use mathlib.Core.Bool.{true, false, not, _&&_}
+use mathlib.Core.Bool.{true, false, not, _&&_, _||_}
 use mathlib.Core.List.{List, [], _∷_}
 use mathlib.Core.Logic.{_↔_, _≢_}
 use lib.Dec.{eqb}
@@ -44,6 +44,26 @@ idle-stays = positions.idle-stays
 pub desk-adds : (rounds b left : ℕ) (p : Position) → reached b p ≡ false → 1 ≤ rounds
     → deskWins rounds b left p ≡ someBelow (additionWins rounds b left p) rightCount
 desk-adds = idle.desk-adds
+
+-- ---- holders
+
+-- a read brings the information to its subject if its object holds it, an append to its object if its subject does; the pass leaves all
+pub read-holders : (p : Position) (k : ℕ) → k < readCount → (s : ℕ)
+    → has (moved p k .subjects) s ≡ (has (p .subjects) s || (has (p .objects) (objectOf k) && eqb (subjectOf k) s))
+read-holders = positions.read-holders
+
+pub read-objects : (p : Position) (k : ℕ) → k < readCount → moved p k .objects ≡ p .objects
+read-objects = positions.read-objects
+
+pub append-holders : (p : Position) (k : ℕ) → readCount ≤ k → k < rightCount → (o : ℕ)
+    → has (moved p k .objects) o ≡ (has (p .objects) o || (has (p .subjects) (subjectOf k) && eqb (objectOf k) o))
+append-holders = positions.append-holders
+
+pub append-subjects : (p : Position) (k : ℕ) → readCount ≤ k → moved p k .subjects ≡ p .subjects
+append-subjects = positions.append-subjects
+
+pub pass-keeps : (p : Position) (k : ℕ) → rightCount ≤ k → moved p k ≡ p
+pass-keeps = positions.pass-keeps
 
 -- ---- rights
 

@@ -27,7 +27,7 @@ use Rattle.chains.specs.Table.{startRowOf, begin}
 use Rattle.silence.proofs.SourceLaws.{Holding, ObjectRow, SubjectRow}
 use Rattle.silence.proofs.GatherLaws.{Owning}
 
-file-at : (f : ℕ → Place) (k n b : ℕ) (rest : List Place) → b < n → getElem? (map f (countFrom k n) ++ rest) b ≡ some (f (k + b))
+pub file-at : (f : ℕ → Place) (k n b : ℕ) (rest : List Place) → b < n → getElem? (map f (countFrom k n) ++ rest) b ≡ some (f (k + b))
 unfolding countFrom
 file-at f k zero b rest l = absurd (omega arith)
 file-at f k (suc n) zero rest l = let e : k ≡ k + 0 = omega arith in ap (λ (x : ℕ). some (f x)) e
