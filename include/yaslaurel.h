@@ -30,16 +30,17 @@
  *
  *   0          accepted; for yaslaurel_step and yaslaurel_run: quiet; for yaslaurel_matrix_verdict: consistent
  *   1          yaslaurel_matrix_verdict alone: not consistent; yaslaurel_matrix_silent alone: silent, and its 0 is not
- *              silent
+ *              silent; yaslaurel_matrix_game alone: the desk wins, and its 0 is that the guard does
  *   1 to 4     yaslaurel_matrix_judge alone: the first condition that fails
  *   a length   YASLAUREL_HEADER_LENGTH or more: of the image written, from the three functions that write one
  *   256        yaslaurel_step and yaslaurel_run alone: alert
  *   257        yaslaurel_step and yaslaurel_run alone: blocked, neither accepted nor refused
- *   1 to 18    otherwise: refused, with the number of the first condition that fails, in the order below; 18 is a refusal
- *              from yaslaurel_step and yaslaurel_run alone, which give no length
+ *   1 to 23    otherwise: refused, with the number of the first condition that fails, in the order below; 18 is a refusal
+ *              from yaslaurel_step and yaslaurel_run alone, 23 from yaslaurel_matrix_game alone, which give no length
  *
- * yaslaurel_meaning has a text for each refusal, yaslaurel_verdict_meaning, yaslaurel_silence_meaning and
- * yaslaurel_judgement_meaning for the answers of these three functions, whose 0 to 4 are no refusals.
+ * yaslaurel_meaning has a text for each refusal, yaslaurel_verdict_meaning, yaslaurel_silence_meaning,
+ * yaslaurel_judgement_meaning and yaslaurel_outcome_meaning for the answers of these four functions, whose 0 to 4 are no
+ * refusals.
  *
  * REFUSALS
  *
@@ -64,6 +65,8 @@
  *   15  a meet of two rules has over 8 mixtures
  *   16  the profiles: text over YASLAUREL_TEXT_LIMIT bytes, not of the grammar, a path profiled twice
  *   17  the profiles: over YASLAUREL_PATHS paths, or a rule of over 8 mixtures in normal form
+ *   23  a game: source and target are the same or one is no object, over 3 subjects or objects, 0 or over 4 rounds, over 2
+ *       withdrawals
  *
  * A refused call changes no lent memory: neither a slice nor a number behind a pointer. The one exception is
  * yaslaurel_run: a refusal other than 9 is its last record's alone, so the records before it stay done.
@@ -229,6 +232,17 @@
 #define YASLAUREL_NOT_CONSISTENT 1u
 #define YASLAUREL_NOT_SILENT 0u
 #define YASLAUREL_SILENT 1u
+#define YASLAUREL_GUARD 0u
+#define YASLAUREL_DESK 1u
+
+/* Moves of the desk in a game: YASLAUREL_READ, YASLAUREL_APPEND, and the pass. */
+#define YASLAUREL_PASS 0u
+
+/* The most subjects and objects, rounds and withdrawals of a game. */
+#define YASLAUREL_GAME_SUBJECTS 3u
+#define YASLAUREL_GAME_OBJECTS 3u
+#define YASLAUREL_GAME_ROUNDS 4u
+#define YASLAUREL_GAME_WITHDRAWALS 2u
 
 /* Answers of yaslaurel_matrix_judge that are neither 0 nor a refusal: the first condition that fails. */
 #define YASLAUREL_RIGHT_ADDED 1u
@@ -255,6 +269,7 @@
 #define YASLAUREL_REFUSED_PROFILE_TEXT 16u
 #define YASLAUREL_REFUSED_PROFILE_LIMIT 17u
 #define YASLAUREL_REFUSED_OTHER_USER 18u
+#define YASLAUREL_REFUSED_GAME 23u
 
 /*
  * Bytes of stack that a call needs at most, with its arguments and all that it calls. What the C library's memory
@@ -269,6 +284,7 @@
 #define YASLAUREL_RUN_STACK 1536u
 #define YASLAUREL_MATRIX_VERDICT_STACK 256u
 #define YASLAUREL_MATRIX_SILENT_STACK 256u
+#define YASLAUREL_MATRIX_GAME_STACK 512u
 #define YASLAUREL_MATRIX_JUDGE_STACK 384u
 #define YASLAUREL_MATRIX_POLICY_STACK 12288u
 #define YASLAUREL_PROFILES_POLICY_STACK 36864u
@@ -373,6 +389,23 @@ uint32_t yaslaurel_matrix_silent(const uint32_t *reads, size_t reads_len, const 
                                  uint32_t objects);
 
 /*
+ * Tells who can force the outcome of a game, in which a desk tries to bring the information of object `source` into object
+ * `target` and a guard withdraws rights. The matrix is as for yaslaurel_matrix_verdict, with at most 3 subjects and 3
+ * objects. In each of 1 to 4 rounds the desk makes one read or append whose right still stands, or passes; then the guard
+ * withdraws one right for good, or passes. It may withdraw 0 to 2 rights in all. A read gives a subject what the object
+ * holds, an append gives an object what the subject holds; any of them can be made, also one that brings the information
+ * nowhere. The desk wins as soon as `target` holds it, before the guard replies.
+ *
+ * Returns 1 the desk can: `move` is its first winning move, by `subject` on `object`: reads (1) come before appends (3)
+ * before the pass (0), each by smallest subject, then object. It is always a read. 0 the guard can prevent it, with 0 in
+ * all three numbers. Else 8, then 23, and the three numbers keep what they held.
+ */
+YASLAUREL_MUST_USE
+uint32_t yaslaurel_matrix_game(const uint32_t *reads, size_t reads_len, const uint32_t *writes, size_t writes_len,
+                               uint32_t objects, uint32_t source, uint32_t target, uint32_t rounds,
+                               uint32_t withdrawals, uint32_t *move, uint32_t *subject, uint32_t *object);
+
+/*
  * Judges a proposal to withdraw rights of an access matrix. It is lent the old matrix, the rights that must stay as a
  * second one, and the proposed matrix, each as for yaslaurel_matrix_verdict. The conditions: 1 the proposal has no right
  * that the old matrix lacks; 2 it keeps all that must stay; 3 it is consistent; 4 it becomes inconsistent if any single
@@ -444,10 +477,10 @@ static inline void yaslaurel_record(uint32_t code, uint32_t p, uint32_t o, uint3
 }
 
 /*
- * Tells what a refusal means. Not for the answers of yaslaurel_matrix_verdict, yaslaurel_matrix_silent and
- * yaslaurel_matrix_judge, whose 0 to 4 are no refusals, and not for a length.
+ * Tells what a refusal means. Not for the answers of yaslaurel_matrix_verdict, yaslaurel_matrix_silent,
+ * yaslaurel_matrix_game and yaslaurel_matrix_judge, whose 0 to 4 are no refusals, and not for a length.
  *
- * Returns a constant text of a few words, "no refusal" for 0 and every number over 18.
+ * Returns a constant text of a few words, "no refusal" for 0 and every other number that is none.
  */
 static inline const char *yaslaurel_meaning(uint32_t refusal)
 {
@@ -471,8 +504,12 @@ static inline const char *yaslaurel_meaning(uint32_t refusal)
         "the text of profiles is too long, breaks the grammar or profiles a path twice",
         "the profiles have over 32 paths, or a rule of over 8 mixtures",
         "a new file for another user than the process's own",
+        "the game's objects, or one of its counts, are out of bounds",
     };
-    return meanings[refusal < sizeof meanings / sizeof meanings[0] ? refusal : 0];
+    if (refusal == YASLAUREL_REFUSED_GAME) {
+        return meanings[YASLAUREL_REFUSED_OTHER_USER + 1];
+    }
+    return meanings[refusal <= YASLAUREL_REFUSED_OTHER_USER ? refusal : 0];
 }
 
 /*
@@ -510,6 +547,26 @@ static inline const char *yaslaurel_silence_meaning(uint32_t answer)
         return yaslaurel_meaning(answer);
     default:
         return "no answer of yaslaurel_matrix_silent";
+    }
+}
+
+/*
+ * Tells what an answer of yaslaurel_matrix_game means.
+ *
+ * Returns a constant text of a few words, that of the refusal for 8 and 23.
+ */
+static inline const char *yaslaurel_outcome_meaning(uint32_t answer)
+{
+    switch (answer) {
+    case YASLAUREL_GUARD:
+        return "the guard can prevent it";
+    case YASLAUREL_DESK:
+        return "the desk can force it";
+    case YASLAUREL_REFUSED_MATRIX:
+    case YASLAUREL_REFUSED_GAME:
+        return yaslaurel_meaning(answer);
+    default:
+        return "no answer of yaslaurel_matrix_game";
     }
 }
 

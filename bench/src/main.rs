@@ -9,11 +9,13 @@
 //!
 //! `bench WATCH MONTH` also measures these programs, `bench watch PROGRAM` and `bench month PROGRAM` measure one alone; `bench
 //! operations` measures single operations alone, `bench batches` runs of records, `bench profiles` texts of profiles, `bench
-//! cover` the cover test of a rule of eight, `bench proposals` proposals to withdraw rights.
+//! cover` the cover test of a rule of eight, `bench proposals` proposals to withdraw rights, `bench games` games of a desk
+//! against a guard.
 //! `bench listing` is the watch program in natural Rust (`BufWriter`, `writeln!`), `bench figures` the month program, for the
 //! comparison of whole programs; `bench trace COUNT` writes the policy and trace that both watch programs read.
 
 mod cover;
+mod games;
 mod month;
 mod plain;
 mod profiles;
@@ -705,6 +707,10 @@ fn main() -> io::Result<()> {
             proposals();
             return Ok(());
         }
+        ["games"] => {
+            games::games();
+            return Ok(());
+        }
         ["trace", count] => {
             fs::write("policy.bin", work::policy(1, 6))?;
             return fs::write("trace.bin", whole_trace(count.parse().expect("a number of records")));
@@ -717,6 +723,7 @@ fn main() -> io::Result<()> {
     batches();
     images();
     matrices();
+    games::games();
     proposals();
     texts();
     growth();

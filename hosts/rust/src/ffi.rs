@@ -54,6 +54,20 @@ extern "C" {
         writes_len: usize,
         objects: u32,
     ) -> u32;
+    pub fn yaslaurel_matrix_game(
+        reads: *const u32,
+        reads_len: usize,
+        writes: *const u32,
+        writes_len: usize,
+        objects: u32,
+        source: u32,
+        target: u32,
+        rounds: u32,
+        withdrawals: u32,
+        r#move: *mut u32,
+        subject: *mut u32,
+        object: *mut u32,
+    ) -> u32;
     pub fn yaslaurel_matrix_judge(
         old_reads: *const u32,
         old_reads_len: usize,

@@ -43,6 +43,7 @@
 
 mod container;
 pub mod ffi;
+mod game;
 pub mod layout;
 mod operation;
 mod policy;
@@ -54,6 +55,7 @@ mod withdrawal;
 use std::fmt;
 
 pub use container::{Container, Kind};
+pub use game::{play, Move, Outcome};
 pub use operation::Operation;
 pub use policy::{Policy, PolicyContainer, PolicyError};
 pub use refusal::Refusal;
@@ -148,7 +150,7 @@ pub enum MatrixVerdict {
 const _: () = {
     const fn crosses_threads<T: Send + Sync>() {}
     crosses_threads::<(Session, Run<'_>, Answer, Verdict, Container, Kind)>();
-    crosses_threads::<(Operation, Refusal, Matrix<'_>, MatrixVerdict, Judgement)>();
+    crosses_threads::<(Operation, Refusal, Matrix<'_>, MatrixVerdict, Judgement, Outcome)>();
     crosses_threads::<(Policy, PolicyContainer, PolicyError, Source, Mixture, Rule)>();
 };
 

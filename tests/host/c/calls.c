@@ -59,10 +59,10 @@ static int out_stayed_from(size_t from)
 struct numbers {
     uint64_t receiver, tag;
     size_t taken;
-    uint32_t position, count, source, target;
+    uint32_t position, count, source, target, move, subject, object;
 };
 
-static const struct numbers unset = {77, 88, 99, 44, 11, 22, 33};
+static const struct numbers unset = {77, 88, 99, 44, 11, 22, 33, 55, 66, 110};
 static struct numbers got;
 
 static int answer_stayed(void)
@@ -70,10 +70,17 @@ static int answer_stayed(void)
     return got.receiver == unset.receiver && got.tag == unset.tag && got.position == unset.position;
 }
 
+static int move_is(uint32_t move, uint32_t subject, uint32_t object)
+{
+    return got.move == move && got.subject == subject && got.object == object;
+}
+
+static int move_stayed(void) { return move_is(unset.move, unset.subject, unset.object); }
+
 static int numbers_stayed(void)
 {
     return answer_stayed() && got.taken == unset.taken && got.count == unset.count && got.source == unset.source &&
-           got.target == unset.target;
+           got.target == unset.target && move_stayed();
 }
 
 /* Each function that has such pointers is called here alone. */
@@ -92,6 +99,19 @@ static uint32_t verdict(const uint32_t *rows, size_t rows_length, const uint32_t
 {
     return yaslaurel_matrix_verdict(rows, rows_length, others, others_length, objects, &got.count, &got.source,
                                     &got.target);
+}
+
+/* A game from object `source` to object `target`, on a matrix that has as many write rows as read rows. */
+struct game {
+    uint32_t reads[4], writes[4];
+    size_t subjects;
+    uint32_t objects, source, target, rounds, withdrawals;
+};
+
+static uint32_t game(const struct game *g)
+{
+    return yaslaurel_matrix_game(g->reads, g->subjects, g->writes, g->subjects, g->objects, g->source, g->target,
+                                 g->rounds, g->withdrawals, &got.move, &got.subject, &got.object);
 }
 
 /* Whether the position that was told can be that of an answer: a refusal leaves it, and what is not quiet has none. */
@@ -207,6 +227,9 @@ static void nulls(void)
     check(verdict(yaslaurel_rows(NULL), 0, yaslaurel_rows(NULL), 0, 4) == 8,
           "verdict: null rows");
     check(yaslaurel_matrix_silent(yaslaurel_rows(NULL), 0, yaslaurel_rows(NULL), 0, 4) == 8, "silent: null rows");
+    check(yaslaurel_matrix_game(yaslaurel_rows(NULL), 0, yaslaurel_rows(NULL), 0, 2, 0, 1, 1, 0, &got.move, &got.subject,
+                                &got.object) == 8,
+          "game: null rows");
     check(yaslaurel_matrix_policy(yaslaurel_rows(NULL), 0, yaslaurel_rows(NULL), 0, 4, out, OUTPUT) == 8,
           "matrix policy: null rows");
     check(yaslaurel_matrix_judge(yaslaurel_rows(NULL), 0, yaslaurel_rows(NULL), 0, 4, yaslaurel_rows(NULL), 0,
@@ -260,6 +283,67 @@ static void silent_examples(void)
     check(yaslaurel_matrix_silent(reads, 3, writes, 2, 4) == 8, "silent: row counts differ");
     check(yaslaurel_matrix_silent(reads, 3, writes, 3, 2) == 8, "silent: a bit beyond the objects");
     check(yaslaurel_matrix_silent(reads, 3, writes, 3, 33) == 8, "silent: too many objects");
+}
+
+/* Games that tell one reading of the request from another: the answer, and the first winning move. */
+static void game_examples(void)
+{
+    static const struct {
+        struct game game;
+        uint32_t answer, move, subject, object;
+        const char *text;
+    } list[] = {
+        {{{2}, {1}, 1, 2, 1, 0, 1, 0}, 0, 0, 0, 0, "game: one round is too few"},
+        {{{2}, {1}, 1, 2, 1, 0, 2, 0}, 1, 1, 0, 1, "game: a read, then an append"},
+        {{{2}, {1}, 1, 2, 1, 0, 2, 1}, 0, 0, 0, 0, "game: the right to append is withdrawn after the read"},
+        {{{3}, {1}, 1, 2, 1, 0, 3, 0}, 1, 1, 0, 0, "game: with a round to spare an idle read comes first"},
+        {{{2, 2}, {1, 1}, 2, 2, 1, 0, 2, 1}, 0, 0, 0, 0, "game: two subjects, held for two rounds by one withdrawal"},
+        {{{2, 2}, {1, 1}, 2, 2, 1, 0, 3, 1}, 1, 1, 0, 1, "game: and not for three"},
+        {{{2, 2}, {1, 1}, 2, 2, 1, 0, 4, 2}, 0, 0, 0, 0, "game: two withdrawals stop both, in any number of rounds"},
+        {{{2, 2, 2}, {1, 1, 1}, 3, 2, 1, 0, 4, 2}, 1, 1, 0, 1, "game: and not three subjects"},
+        {{{0, 2}, {0, 1}, 2, 2, 1, 0, 4, 0}, 1, 1, 1, 1, "game: the only subject that reads"},
+        {{{1, 4}, {4, 2}, 2, 3, 0, 1, 4, 0}, 1, 1, 0, 0, "game: by way of another object, in four rounds"},
+        {{{1, 4}, {4, 2}, 2, 3, 0, 1, 3, 0}, 0, 0, 0, 0, "game: not in three"},
+        {{{4, 2}, {1, 5}, 2, 3, 1, 0, 4, 1}, 1, 1, 1, 1, "game: a way round a right that is withdrawn"},
+        {{{4, 2}, {1, 5}, 2, 3, 1, 0, 4, 2}, 0, 0, 0, 0, "game: two withdrawals stop both ways"},
+    };
+
+    for (size_t i = 0; i < sizeof list / sizeof list[0]; i++) {
+        got = unset;
+        check(game(&list[i].game) == list[i].answer && move_is(list[i].move, list[i].subject, list[i].object),
+              list[i].text);
+    }
+}
+
+/* Each bound of a game from outside, and 8 before all of them. */
+static void game_bounds(void)
+{
+    static const struct game good = {{2, 2, 2, 2}, {1, 1, 1, 1}, 3, 3, 1, 0, 4, 2};
+    struct game bad[9];
+
+    got = unset;
+    check(game(&good) == 1, "game: within all bounds");
+    for (size_t i = 0; i < 9; i++) {
+        bad[i] = good;
+    }
+    bad[0].target = 1;
+    bad[1].source = 3;
+    bad[2].target = 3;
+    bad[3].subjects = 4;
+    bad[4].objects = 4;
+    bad[5].rounds = 0;
+    bad[6].rounds = 5;
+    bad[7].withdrawals = 3;
+    bad[8] = (struct game){{2}, {1}, 1, 2, 1, 0, UINT32_MAX, UINT32_MAX};
+    for (size_t i = 0; i < 9; i++) {
+        got = unset;
+        check(game(&bad[i]) == 23 && move_stayed(), "game: a bound");
+        bad[i].reads[0] |= 16;
+        check(game(&bad[i]) == 8 && move_stayed(), "game: 8 goes before 23");
+    }
+    check(yaslaurel_matrix_game(good.reads, 3, good.writes, 2, 3, 1, 0, 4, 2, &got.move, &got.subject, &got.object) == 8 &&
+              move_stayed(),
+          "game: row counts differ");
 }
 
 /* The paper's trace, behind one byte: the records lie at odd addresses. */
@@ -671,7 +755,7 @@ static int random_steps(uint64_t *seed, const uint8_t *image, size_t length)
     return good && got.taken <= (length + RECORD - 1) / RECORD && (answer != 0 || got.taken * RECORD >= length);
 }
 
-/* The verdict on a random matrix, and the judgement on a random proposal. */
+/* The verdict on a random matrix, a random game on it, and the judgement on a random proposal. */
 static int random_matrices(uint64_t *seed, int round)
 {
     uint32_t rows[10];
@@ -685,6 +769,10 @@ static int random_matrices(uint64_t *seed, int round)
     int good = answer <= 1 || answer == 8;
     uint32_t silent = yaslaurel_matrix_silent(rows, subjects, rows + 5, subjects, objects);
     good = good && (silent <= 1 || silent == 8) && (silent == 8) == (answer == 8) && (silent != 1 || answer == 0);
+    got = unset;
+    answer = yaslaurel_matrix_game(rows, subjects, rows + 5, subjects, objects, draw(seed) % 4, draw(seed) % 4,
+                                   draw(seed) % 6, draw(seed) % 4, &got.move, &got.subject, &got.object);
+    good = good && (answer <= 1 || ((answer == 8 || answer == 23) && move_stayed())) && (answer == 8) == (silent == 8);
     answer = yaslaurel_matrix_judge(rows, subjects, rows + 5, subjects, objects, rows + 1, subjects % 5, rows + 4,
                                     subjects % 5, objects, rows + 2, subjects, rows + 3, subjects, objects);
     return good && (answer <= 4 || answer == 8);
@@ -851,8 +939,12 @@ static void refusal_meanings(void)
         }
         check(own, "meaning: a refusal has a text of its own");
     }
-    check(yaslaurel_meaning(19) == none && yaslaurel_meaning(YASLAUREL_ALERT) == none &&
-              yaslaurel_meaning(UINT32_MAX) == none,
+    for (uint32_t j = 0; j <= 18; j++) {
+        check(strcmp(yaslaurel_meaning(YASLAUREL_REFUSED_GAME), yaslaurel_meaning(j)) != 0,
+              "meaning: 23 has a text of its own");
+    }
+    check(yaslaurel_meaning(19) == none && yaslaurel_meaning(22) == none && yaslaurel_meaning(24) == none &&
+              yaslaurel_meaning(YASLAUREL_ALERT) == none && yaslaurel_meaning(UINT32_MAX) == none,
           "meaning: of numbers that are no refusals");
     check(strcmp(yaslaurel_meaning(YASLAUREL_REFUSED_NO_PROCESS), "p is no process") == 0 &&
               strcmp(yaslaurel_meaning(YASLAUREL_REFUSED_KIND), "o is of the wrong kind") == 0 &&
@@ -861,11 +953,12 @@ static void refusal_meanings(void)
           "meaning: the texts stand under their numbers");
 }
 
-/* The verdict's 1, silent's 1 and the judgement's 1 to 4 have texts other than the refusals'. */
+/* The verdict's 1, silent's 1, a game's 1 and the judgement's 1 to 4 have texts other than the refusals'. */
 static void answer_meanings(void)
 {
     static const char *const verdicts[] = {"consistent", "not consistent"};
     static const char *const silences[] = {"not silent", "silent"};
+    static const char *const outcomes[] = {"the guard can prevent it", "the desk can force it"};
     static const char *const judgements[] = {"accepted", "the proposal has a right that the old matrix lacks",
                                              "a right that must stay is withdrawn", "the proposal is not consistent",
                                              "a right that was withdrawn may be put back"};
@@ -873,16 +966,20 @@ static void answer_meanings(void)
     for (uint32_t i = 0; i < 2; i++) {
         check(strcmp(yaslaurel_verdict_meaning(i), verdicts[i]) == 0, "meaning: of a verdict");
         check(strcmp(yaslaurel_silence_meaning(i), silences[i]) == 0, "meaning: of silence");
+        check(strcmp(yaslaurel_outcome_meaning(i), outcomes[i]) == 0, "meaning: of an outcome");
     }
     for (uint32_t i = 0; i < 5; i++) {
         check(strcmp(yaslaurel_judgement_meaning(i), judgements[i]) == 0, "meaning: of a judgement");
     }
     check(strcmp(yaslaurel_verdict_meaning(8), yaslaurel_meaning(8)) == 0 &&
               strcmp(yaslaurel_silence_meaning(8), yaslaurel_meaning(8)) == 0 &&
+              strcmp(yaslaurel_outcome_meaning(8), yaslaurel_meaning(8)) == 0 &&
               strcmp(yaslaurel_judgement_meaning(8), yaslaurel_meaning(8)) == 0,
-          "meaning: a refused matrix is a refusal in all four");
+          "meaning: a refused matrix is a refusal in all five");
+    check(strcmp(yaslaurel_outcome_meaning(23), yaslaurel_meaning(23)) == 0, "meaning: a refused game is a refusal");
     check(strcmp(yaslaurel_verdict_meaning(2), "no answer of yaslaurel_matrix_verdict") == 0 &&
               strcmp(yaslaurel_silence_meaning(2), "no answer of yaslaurel_matrix_silent") == 0 &&
+              strcmp(yaslaurel_outcome_meaning(2), "no answer of yaslaurel_matrix_game") == 0 &&
               strcmp(yaslaurel_judgement_meaning(5), "no answer of yaslaurel_matrix_judge") == 0,
           "meaning: of numbers that are no answers");
 }
@@ -902,6 +999,8 @@ int main(void)
     nulls();
     matrix_example();
     silent_examples();
+    game_examples();
+    game_bounds();
     step_example();
     batch_example();
     leaving_example();

@@ -12,6 +12,7 @@ void ignored(uint8_t *bytes, uint64_t *words, uint32_t *rows, size_t length)
     yaslaurel_run(words, length, bytes, length, &length, words, words, rows);
     yaslaurel_matrix_verdict(rows, length, rows, length, 1, rows, rows, rows);
     yaslaurel_matrix_silent(rows, length, rows, length, 1);
+    yaslaurel_matrix_game(rows, length, rows, length, 2, 0, 1, 1, 0, rows, rows, rows);
     yaslaurel_matrix_judge(rows, 1, rows, 1, 1, rows, 1, rows, 1, 1, rows, 1, rows, 1, 1);
     yaslaurel_matrix_policy(rows, length, rows, length, 1, bytes, length);
     yaslaurel_profiles_policy(bytes, length, bytes, length);

@@ -112,7 +112,7 @@ static int stayed(const struct region *region, size_t written)
 
 /* How often each function gave each answer. */
 static unsigned long checks[ANSWERS], normals[ANSWERS], starts[ANSWERS], steps[ANSWERS], runs[ANSWERS],
-    verdicts[ANSWERS], silences[ANSWERS], policies[ANSWERS], profiles[ANSWERS], proposals[ANSWERS];
+    verdicts[ANSWERS], silences[ANSWERS], games[ANSWERS], policies[ANSWERS], profiles[ANSWERS], proposals[ANSWERS];
 
 static uint8_t *put16(uint8_t *at, size_t value) { return put(at, value, 2); }
 
@@ -548,12 +548,37 @@ static void try_silent(size_t subjects, size_t writers, uint32_t objects, uint32
     silences[silent]++;
 }
 
+/* A game on the rows that are lent, beside their verdict, and what it leaves. */
+static void try_game(size_t subjects, size_t writers, uint32_t objects, uint32_t verdict)
+{
+    uint32_t before[3] = {17, 18, 19}, rounds = (uint32_t)below(6), withdrawals = (uint32_t)below(4);
+    uint32_t source = (uint32_t)below(percent(95) ? 3 : 40), target = (uint32_t)below(percent(95) ? 3 : 40);
+
+    lend(&numbers_at, before, sizeof before);
+    uint32_t *numbers = (uint32_t *)(void *)numbers_at.slice;
+    uint32_t answer = yaslaurel_matrix_game((const uint32_t *)(const void *)reads_at.slice, subjects,
+                                            (const uint32_t *)(const void *)writes_at.slice, writers, objects, source,
+                                            target, rounds, withdrawals, &numbers[0], &numbers[1], &numbers[2]);
+    int bounded = subjects <= 3 && objects <= 3 && source < objects && target < objects && source != target &&
+                  rounds >= 1 && rounds <= 4 && withdrawals <= 2;
+    require(answer <= 1 || answer == 8 || answer == 23, "a game gives 0, 1, 8 or 23");
+    require((answer == 8) == (verdict == 8), "a game refuses its matrix as the verdict does");
+    require(verdict == 8 || (answer == 23) == !bounded, "a game is refused by 23 exactly if it is out of bounds");
+    require(stayed(&numbers_at, answer > 1 ? 0 : sizeof before), "the move stays in a refusal");
+    require(answer != 0 || (numbers[0] == 0 && numbers[1] == 0 && numbers[2] == 0), "the guard's answer has zeros");
+    require(answer != 1 || (numbers[0] == YASLAUREL_READ && numbers[1] < subjects && numbers[2] < objects),
+            "the first winning move is a read by a subject of an object");
+    require(answer != 1 || rounds >= 2, "nobody wins in one round");
+    games[answer]++;
+}
+
 static void try_matrix(void)
 {
     uint32_t rows[24];
-    size_t subjects = percent(95) ? 1 + below(8) : below(12), writers = percent(97) ? subjects : below(12);
+    int small = percent(40);
+    size_t subjects = percent(95) ? 1 + below(small ? 3 : 8) : below(12), writers = percent(97) ? subjects : below(12);
     size_t out_length = percent(95) ? OUTPUT : below(OUTPUT + 40);
-    uint32_t objects = (uint32_t)(percent(90) ? 1 + below(32) : below(40));
+    uint32_t objects = (uint32_t)(percent(90) ? 1 + below(small ? 3 : 32) : below(40));
     uint64_t mask = percent(97) && objects <= 32 ? ((uint64_t)1 << objects) - 1 : UINT32_MAX;
 
     for (size_t i = 0; i < 24; i++) {
@@ -566,6 +591,7 @@ static void try_matrix(void)
     read_only(&writes_at, 1);
     uint32_t verdict = try_verdict(subjects, writers, objects);
     try_silent(subjects, writers, objects, verdict);
+    try_game(subjects, writers, objects, verdict);
     uint32_t length = yaslaurel_matrix_policy((const uint32_t *)(const void *)reads_at.slice, subjects,
                                               (const uint32_t *)(const void *)writes_at.slice, writers, objects,
                                               out_at.slice, out_length);
@@ -729,6 +755,7 @@ static int all_reached(int print)
     all &= REACHED(print, runs, YASLAUREL_QUIET, YASLAUREL_ALERT, YASLAUREL_BLOCKED, 7, 9, 10, 11, 12, 13, 14, 15, 18);
     all &= REACHED(print, verdicts, 0, 1, 8);
     all &= REACHED(print, silences, 0, 1, 8);
+    all &= REACHED(print, games, 0, 1, 8, 23);
     all &= REACHED(print, policies, LENGTH, 8, 9);
     all &= REACHED(print, profiles, LENGTH, 9, 16, 17);
     all &= REACHED(print, proposals, 0, 1, 2, 3, 4, 8);

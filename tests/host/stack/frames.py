@@ -31,7 +31,9 @@ LEAVES = {"memset", "memcpy", "memmove", "memcmp"}  # of the C library: the head
 
 # The functions that call themselves, directly or through others: how often each can be on the stack at a time, and the
 # reason, as (COUNT, "REASON").
-REPEATED = {}
+REPEATED = {
+    "game::guard": (3, "with `desk` inside it; each is called with a round less, of at most 4, and none with 1 round calls on"),
+}
 
 
 class Code:

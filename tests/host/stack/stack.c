@@ -96,6 +96,15 @@ static void call_silent(void)
     answer = yaslaurel_matrix_silent(rows[0], SUBJECTS, rows[1], SUBJECTS, OBJECTS);
 }
 
+/* A game of all rounds on the first rows: three subjects, and as many objects as are left of each row. */
+static void call_game(void)
+{
+    NOTE();
+    answer = yaslaurel_matrix_game(rows[0], YASLAUREL_GAME_SUBJECTS, rows[1], YASLAUREL_GAME_SUBJECTS,
+                                   YASLAUREL_GAME_OBJECTS, 0, 2, YASLAUREL_GAME_ROUNDS, YASLAUREL_GAME_WITHDRAWALS,
+                                   &count, &source, &target);
+}
+
 static void call_judge(void)
 {
     NOTE();
@@ -128,12 +137,13 @@ static struct function {
     {"yaslaurel_run", call_run, YASLAUREL_RUN_STACK, 0},
     {"yaslaurel_matrix_verdict", call_verdict, YASLAUREL_MATRIX_VERDICT_STACK, 0},
     {"yaslaurel_matrix_silent", call_silent, YASLAUREL_MATRIX_SILENT_STACK, 0},
+    {"yaslaurel_matrix_game", call_game, YASLAUREL_MATRIX_GAME_STACK, 0},
     {"yaslaurel_matrix_judge", call_judge, YASLAUREL_MATRIX_JUDGE_STACK, 0},
     {"yaslaurel_matrix_policy", call_policy, YASLAUREL_MATRIX_POLICY_STACK, 0},
     {"yaslaurel_profiles_policy", call_profiles, YASLAUREL_PROFILES_POLICY_STACK, 0},
 };
 
-enum { VERSION, CHECK, NORMALISE, START, STEP, RUN, VERDICT, SILENT, JUDGE, POLICY, PROFILES };
+enum { VERSION, CHECK, NORMALISE, START, STEP, RUN, VERDICT, SILENT, GAME, JUDGE, POLICY, PROFILES };
 
 /* Runs a call on the painted stack and keeps the most that was found. */
 static void measure(int which)
@@ -223,6 +233,15 @@ static void make_rows(void)
     }
 }
 
+/* The rows of a game: every right, or some. */
+static void make_game(void)
+{
+    for (unsigned s = 0; s < YASLAUREL_GAME_SUBJECTS; s++) {
+        rows[0][s] = (uint32_t)draw() % 8;
+        rows[1][s] = (uint32_t)draw() % 8;
+    }
+}
+
 /* Programs that read, write and execute random ones of 31 paths, each by many modes. */
 static void make_text(void)
 {
@@ -266,6 +285,8 @@ static void measure_all(int round)
     memset(rows[2], 0, 2 * sizeof rows[2]);
     measure(JUDGE);
     measure(POLICY);
+    make_game();
+    measure(GAME);
     make_text();
     measure(PROFILES);
     make_good_text();

@@ -3,6 +3,7 @@
 
 mod allowed;
 mod batches;
+mod games;
 mod guarded;
 mod histories;
 mod images;
@@ -28,4 +29,6 @@ pub const PARTS: &[Part] = &[
     proposals::PART,
     allowed::PART,
     guarded::PART,
+    games::PART,
+    games::ALL,
 ];

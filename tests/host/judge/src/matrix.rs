@@ -142,6 +142,11 @@ pub fn verdict(reads: &[u32], writes: &[u32], objects: u32) -> Verdict {
     }
 }
 
+/// Whether there is a composed flow from a to b, on rows that pass refusal 8.
+pub fn composed(reads: &[u32], writes: &[u32], objects: u32, a: u32, b: u32) -> bool {
+    read(reads, writes, objects).is_ok_and(|matrix| matrix.composed()[a as usize][b as usize])
+}
+
 /// "Add beside it a yes or no, silent": 1 yes, 0 no, 8 refused.
 pub fn silent(reads: &[u32], writes: &[u32], objects: u32) -> u32 {
     read(reads, writes, objects).map_or_else(|number| number, |matrix| u32::from(matrix.silent()))

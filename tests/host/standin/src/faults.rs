@@ -2,32 +2,46 @@
 
 /// A list of planted faults: the name of each in the code, the part of the comparison that finds it (`all`, or the
 /// beginning of a part's name), the tests that must see it, and what is wrong. A fault's number is its place in the list, from
-/// 1 on; the variable `YASLAUREL_FAULT` plants the one of its number.
+/// 1 on, or from the number on that stands before it behind `@`; the variable `YASLAUREL_FAULT` plants the one of its number.
 #[macro_export]
 macro_rules! faults {
-    ($($name:ident, $part:ident, $($test:ident)+, $text:literal;)+) => {
+    ($($name:ident, $part:ident, $($test:ident)+, $text:literal;)+
+     $(@ $first:literal; $($later:ident, $later_part:ident, $($later_test:ident)+, $later_text:literal;)+)*) => {
         #[derive(Clone, Copy, Debug, PartialEq, Eq)]
         pub enum Fault {
             $($name,)+
+            $($($later,)+)*
         }
 
+        /// Faults whose numbers follow one another: the first number, then for each fault its part, its tests and what is wrong.
+        type Numbered = (usize, &'static [(Fault, &'static str, &'static [&'static str], &'static str)]);
+
         impl Fault {
-            const ALL: &'static [Fault] = &[$(Fault::$name,)+];
+            const ALL: &'static [Numbered] = &[
+                (1, &[$((Fault::$name, stringify!($part), &[$(stringify!($test)),+], $text),)+]),
+                $(($first, &[$((Fault::$later, stringify!($later_part), &[$(stringify!($later_test)),+], $later_text),)+]),)*
+            ];
+
+            /// The fault of a number.
+            fn numbered(number: usize) -> Option<Fault> {
+                let found = |(first, faults): &Numbered| faults.get(number.checked_sub(*first)?).map(|fault| fault.0);
+                Fault::ALL.iter().find_map(found)
+            }
 
             /// The fault that is planted.
             pub fn planted() -> Option<Fault> {
                 static PLANTED: std::sync::OnceLock<Option<Fault>> = std::sync::OnceLock::new();
                 *PLANTED.get_or_init(|| {
                     let number: usize = std::env::var("YASLAUREL_FAULT").ok()?.parse().expect("the number of a fault");
-                    (number > 0).then(|| *Fault::ALL.get(number - 1).expect("a fault has this number"))
+                    (number > 0).then(|| Fault::numbered(number).expect("a fault has this number"))
                 })
             }
 
             /// The faults that a test must see, a line for each: its number, its part and what is wrong.
             pub fn list(test: &str) -> String {
-                let rows = [$((stringify!($part), &[$(stringify!($test)),+][..], $text),)+];
-                let seen = rows.iter().enumerate().filter(|(_, (_, tests, _))| tests.contains(&test));
-                seen.map(|(place, (part, _, text))| format!("{} {part} {text}\n", place + 1)).collect()
+                let all = Fault::ALL.iter().flat_map(|(first, faults)| (*first..).zip(faults.iter()));
+                let seen = all.filter(|(_, (_, _, tests, _))| tests.contains(&test));
+                seen.map(|(number, (_, part, _, text))| format!("{number} {part} {text}\n")).collect()
             }
         }
 
@@ -153,4 +167,25 @@ faults! {
     OwnersAfterContainers, all, differential, "owners are judged behind the containers";
     OldLeadingAccepted, all, differential calls, "an image that begins with 4 is accepted";
     OldOutputTaken, all, differential calls fuzz, "an output of 18,994 bytes is taken";
+    @ 120;
+    WithdrawalFree, games, differential calls, "a withdrawal costs the guard nothing";
+    RightReturns, games, differential calls, "a withdrawn right stands again";
+    GuardFirst, games, differential calls, "the guard goes first";
+    GuardOnce, games, differential calls, "the guard withdraws once in all";
+    GuardMustWithdraw, games, differential, "the guard cannot pass while it can withdraw";
+    IdleFirstSkipped, games, differential calls, "a first move that brings the information nowhere is passed over";
+    AppendsFirst, games, differential, "appends come before reads";
+    PassFirst, games, differential calls, "the pass comes first";
+    LargestSubjectFirst, games, differential calls, "the largest subject comes first";
+    ReadTakesWithoutHolder, games, differential, "a read of any object brings the information";
+    WriteAsRead, games, differential, "a right to write is one to read too";
+    GameBeforeMatrix, games, differential calls fuzz, "23 goes before 8";
+    SameObjectAccepted, games, differential calls, "a game from an object to itself is played";
+    FourSubjects, games, differential calls, "a game of 4 subjects is played";
+    FourObjects, games, differential calls, "a game of 4 objects is played";
+    NoRound, games, differential calls fuzz, "a game of no rounds is played";
+    FiveRounds, games, differential calls fuzz, "a game of 5 rounds is played";
+    ThreeWithdrawals, games, differential calls fuzz, "a game of 3 withdrawals is played";
+    RefusedGameClears, games, differential calls fuzz, "a refused game clears the move";
+    GuardLeavesNumbers, games, differential calls fuzz, "a game that the guard wins leaves the move as it was";
 }

@@ -2,6 +2,7 @@
 //! tests: the whole judge must pass them, and with a planted fault (`faults`) they must fail.
 
 pub mod faults;
+mod game;
 mod owners;
 mod profiles;
 mod silence;
@@ -11,6 +12,7 @@ mod withdrawals;
 use std::slice::{from_raw_parts, from_raw_parts_mut};
 
 use faults::{planted, Fault};
+use judge::game::Game;
 use judge::numbers::{user_row, CONTAINERS, HEADER, LONGEST_NORMAL, MIXTURES, RULES, UNRESTRICTED, USERS};
 use judge::rules::NO_POSITION;
 use judge::session::{outcome, Outcome};
@@ -234,6 +236,40 @@ pub unsafe extern "C" fn yaslaurel_matrix_silent(
     silence::answer(from_raw_parts(reads, reads_length), from_raw_parts(writes, writes_length), objects)
 }
 
+/// The rows of a matrix that is lent.
+unsafe fn rows(reads: *const u32, reads_length: usize, writes: *const u32, writes_length: usize, objects: u32) -> Rows {
+    Rows {
+        reads: from_raw_parts(reads, reads_length).to_vec(),
+        writes: from_raw_parts(writes, writes_length).to_vec(),
+        objects,
+    }
+}
+
+/// # Safety
+/// As `include/yaslaurel.h` says.
+#[no_mangle]
+pub unsafe extern "C" fn yaslaurel_matrix_game(
+    reads: *const u32,
+    reads_length: usize,
+    writes: *const u32,
+    writes_length: usize,
+    objects: u32,
+    source: u32,
+    target: u32,
+    rounds: u32,
+    withdrawals: u32,
+    code: *mut u32,
+    subject: *mut u32,
+    object: *mut u32,
+) -> u32 {
+    let rows = rows(reads, reads_length, writes, writes_length, objects);
+    let (answer, written) = game::answer(&Game { rows, source, target, rounds, withdrawals });
+    if written {
+        (*code, *subject, *object) = (answer.code, answer.subject, answer.object);
+    }
+    answer.number
+}
+
 /// # Safety
 /// As `include/yaslaurel.h` says.
 #[no_mangle]
@@ -254,11 +290,6 @@ pub unsafe extern "C" fn yaslaurel_matrix_judge(
     proposed_writes_length: usize,
     proposed_objects: u32,
 ) -> u32 {
-    let rows = |reads, reads_length, writes, writes_length, objects| Rows {
-        reads: from_raw_parts(reads, reads_length).to_vec(),
-        writes: from_raw_parts(writes, writes_length).to_vec(),
-        objects,
-    };
     withdrawals::answer(
         &rows(old_reads, old_reads_length, old_writes, old_writes_length, old_objects),
         &rows(required_reads, required_reads_length, required_writes, required_writes_length, required_objects),
