@@ -36,7 +36,8 @@
  *   256        yaslaurel_step and yaslaurel_run alone: alert
  *   257        yaslaurel_step and yaslaurel_run alone: blocked, neither accepted nor refused
  *   1 to 23    otherwise: refused, with the number of the first condition that fails, in the order below; 18 is a refusal
- *              from yaslaurel_step and yaslaurel_run alone, 23 from yaslaurel_matrix_game alone, which give no length
+ *              from yaslaurel_step and yaslaurel_run alone, 22 from yaslaurel_trace_trim, 23 from yaslaurel_matrix_game,
+ *              which give no length
  *
  * yaslaurel_meaning has a text for each refusal, yaslaurel_verdict_meaning, yaslaurel_silence_meaning,
  * yaslaurel_judgement_meaning and yaslaurel_outcome_meaning for the answers of these four functions, whose 0 to 4 are no
@@ -44,7 +45,8 @@
  *
  * REFUSALS
  *
- *   9   the session is not YASLAUREL_SESSION_LENGTH numbers, or the output is under YASLAUREL_OUTPUT_LENGTH bytes
+ *   9   the session is not YASLAUREL_SESSION_LENGTH numbers, or the output is under YASLAUREL_OUTPUT_LENGTH bytes, for
+ *       positions under YASLAUREL_TRIM_LIMIT
  *   1   the image is under YASLAUREL_HEADER_LENGTH or over YASLAUREL_IMAGE_LIMIT bytes
  *   2   the image's leading number, or the offsets and lengths of its four sections
  *   3   a section's length is no multiple of its record, or it has too many records
@@ -65,6 +67,8 @@
  *   15  a meet of two rules has over 8 mixtures
  *   16  the profiles: text over YASLAUREL_TEXT_LIMIT bytes, not of the grammar, a path profiled twice
  *   17  the profiles: over YASLAUREL_PATHS paths, or a rule of over 8 mixtures in normal form
+ *   22  the trace is empty, has over YASLAUREL_TRIM_LIMIT records or one that is refused or blocked, or does not end in an
+ *       alert
  *   23  a game: source and target are the same or one is no object, over 3 subjects or objects, 0 or over 4 rounds, over 2
  *       withdrawals
  *
@@ -192,6 +196,9 @@
 #define YASLAUREL_OBJECT_AT 4u  /* 16 bits: the object o, 0 to 255 */
 #define YASLAUREL_USER_AT 6u    /* 16 bits: the user u, 0 to 15, for exec and new file; else YASLAUREL_NO_USER */
 
+/* Records of a trace that is trimmed, at most, and bytes that an output for their positions must hold. */
+#define YASLAUREL_TRIM_LIMIT 256u
+
 /*
  * Codes of operations: process p does it to object o. The receiver is p for read, exec and end, else o. The first five
  * may answer alert, the others never do. A number whose holder has ended or was deleted may be taken again.
@@ -269,6 +276,7 @@
 #define YASLAUREL_REFUSED_PROFILE_TEXT 16u
 #define YASLAUREL_REFUSED_PROFILE_LIMIT 17u
 #define YASLAUREL_REFUSED_OTHER_USER 18u
+#define YASLAUREL_REFUSED_TRIM 22u
 #define YASLAUREL_REFUSED_GAME 23u
 
 /*
@@ -282,6 +290,7 @@
 #define YASLAUREL_SESSION_START_STACK 1536u
 #define YASLAUREL_STEP_STACK 1536u
 #define YASLAUREL_RUN_STACK 1536u
+#define YASLAUREL_TRACE_TRIM_STACK 92160u
 #define YASLAUREL_MATRIX_VERDICT_STACK 256u
 #define YASLAUREL_MATRIX_SILENT_STACK 256u
 #define YASLAUREL_MATRIX_GAME_STACK 512u
@@ -362,6 +371,23 @@ uint32_t yaslaurel_step(uint64_t *session, size_t session_len, const uint8_t *re
 YASLAUREL_MUST_USE
 uint32_t yaslaurel_run(uint64_t *session, size_t session_len, const uint8_t *records, size_t records_len,
                        size_t *taken, uint64_t *receiver, uint64_t *tag, uint32_t *position);
+
+/*
+ * Trims a trace to its alert. The call needs about 90 KiB of stack, more than some threads have: see
+ * YASLAUREL_TRACE_TRIM_STACK. Of up to YASLAUREL_TRIM_LIMIT records in `trace`, one behind the other, whose last raises an
+ * alert on a new session of the image, it keeps some, always the last: those kept are all accepted one after the other, the
+ * last of them still raises an alert, and no single further one can go without that. Passes over the trace, from first to
+ * last, drop each record that can go at its turn, until one drops nothing; so the same trace always leaves the same records,
+ * which need not be the fewest that would do. The session is the call's own. A record that is refused or blocked in a host's
+ * trace changed nothing and may be left out before the call.
+ *
+ * Returns 0: the front of `positions` has the places of the kept records, counted from 0 in `trace`, one byte each, rising,
+ * and `kept` is how many they are, 1 to YASLAUREL_TRIM_LIMIT; the bytes behind them stay. Else 9, then 1 to 6, then 22, and
+ * `positions` and `kept` keep what they held. 22 covers a trace whose last record is short.
+ */
+YASLAUREL_MUST_USE
+uint32_t yaslaurel_trace_trim(const uint8_t *image, size_t image_len, const uint8_t *trace, size_t trace_len,
+                              uint8_t *positions, size_t positions_len, size_t *kept);
 
 /*
  * Gives the verdict on an access matrix. `reads` and `writes` have one row for each of 1 to 8 subjects, bit k for object k
@@ -504,12 +530,17 @@ static inline const char *yaslaurel_meaning(uint32_t refusal)
         "the text of profiles is too long, breaks the grammar or profiles a path twice",
         "the profiles have over 32 paths, or a rule of over 8 mixtures",
         "a new file for another user than the process's own",
+        "the trace is empty, too long, has a refused or blocked record or does not end in an alert",
         "the game's objects, or one of its counts, are out of bounds",
     };
-    if (refusal == YASLAUREL_REFUSED_GAME) {
+    switch (refusal) {
+    case YASLAUREL_REFUSED_TRIM:
         return meanings[YASLAUREL_REFUSED_OTHER_USER + 1];
+    case YASLAUREL_REFUSED_GAME:
+        return meanings[YASLAUREL_REFUSED_OTHER_USER + 2];
+    default:
+        return meanings[refusal <= YASLAUREL_REFUSED_OTHER_USER ? refusal : 0];
     }
-    return meanings[refusal <= YASLAUREL_REFUSED_OTHER_USER ? refusal : 0];
 }
 
 /*

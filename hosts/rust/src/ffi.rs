@@ -37,6 +37,15 @@ extern "C" {
         tag: *mut u64,
         position: *mut u32,
     ) -> u32;
+    pub fn yaslaurel_trace_trim(
+        image: *const u8,
+        image_len: usize,
+        trace: *const u8,
+        trace_len: usize,
+        positions: *mut u8,
+        positions_len: usize,
+        kept: *mut usize,
+    ) -> u32;
     pub fn yaslaurel_matrix_verdict(
         reads: *const u32,
         reads_len: usize,

@@ -50,6 +50,7 @@ mod policy;
 mod refusal;
 mod rule;
 mod run;
+mod trim;
 mod withdrawal;
 
 use std::fmt;
@@ -61,6 +62,7 @@ pub use policy::{Policy, PolicyContainer, PolicyError};
 pub use refusal::Refusal;
 pub use rule::{Mixture, Rule, Source};
 pub use run::{run_in, Run};
+pub use trim::{trim, trim_into, TRIM_LIMIT};
 pub use withdrawal::{judge_withdrawal, Judgement, Matrix};
 
 /// Numbers of 64 bits in a session.

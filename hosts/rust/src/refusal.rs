@@ -5,7 +5,7 @@ use std::fmt;
 /// Why a call was refused. A refused call changes nothing that it was lent.
 ///
 /// The numbers are the paper's. Where several conditions fail, the least refusal counts: they are ordered 9, 1 to 8, 10 to
-/// 14, 18, 15 to 17, 23, as published, and not by number.
+/// 14, 18, 15 to 17, 22, 23, as published, and not by number.
 ///
 /// ```
 /// use yaslaurel::Refusal;
@@ -37,7 +37,7 @@ pub enum Refusal {
     /// The matrix: row counts differ, 0 or over 8 subjects, 0 or over 32 objects, or a bit beyond the objects.
     Matrix = 8,
     /// The session is not [`SESSION_LENGTH`](crate::SESSION_LENGTH) numbers, or the output is under
-    /// [`OUTPUT_LENGTH`](crate::OUTPUT_LENGTH) bytes.
+    /// [`OUTPUT_LENGTH`](crate::OUTPUT_LENGTH) bytes, or for positions under [`TRIM_LIMIT`](crate::TRIM_LIMIT).
     LentLength = 9,
     /// A session row that the record names is not well formed.
     Row = 10,
@@ -58,13 +58,16 @@ pub enum Refusal {
     ProfileLimit = 17,
     /// A process makes a new file for another user than the one on whose behalf it runs.
     OtherUser = 18,
+    /// The trace to trim is empty, has over [`TRIM_LIMIT`](crate::TRIM_LIMIT) records, has a refused or blocked record, or does not
+    /// end in an alert.
+    TrimTrace = 22,
     /// A game: source and target are the same or one is no object, over 3 subjects or objects, 0 or over 4 rounds, over 2
     /// withdrawals.
     GameBounds = 23,
 }
 
 /// All refusals in the published order.
-const PUBLISHED: [Refusal; 19] = [
+const PUBLISHED: [Refusal; 20] = [
     Refusal::LentLength,
     Refusal::ImageLength,
     Refusal::Sections,
@@ -83,6 +86,7 @@ const PUBLISHED: [Refusal; 19] = [
     Refusal::Meet,
     Refusal::ProfileText,
     Refusal::ProfileLimit,
+    Refusal::TrimTrace,
     Refusal::GameBounds,
 ];
 
@@ -92,7 +96,7 @@ impl Refusal {
     /// ```
     /// use yaslaurel::Refusal;
     /// let numbers: Vec<u32> = Refusal::all().map(Refusal::number).collect();
-    /// assert_eq!(numbers, [9, 1, 2, 3, 4, 5, 6, 7, 8, 10, 11, 12, 13, 14, 18, 15, 16, 17, 23]);
+    /// assert_eq!(numbers, [9, 1, 2, 3, 4, 5, 6, 7, 8, 10, 11, 12, 13, 14, 18, 15, 16, 17, 22, 23]);
     /// assert!(Refusal::all().zip(Refusal::all().skip(1)).all(|(one, next)| one < next));
     /// ```
     pub fn all() -> impl Iterator<Item = Refusal> {
@@ -149,6 +153,7 @@ impl Refusal {
             Refusal::ProfileText => "the text of profiles is too long, breaks the grammar or profiles a path twice",
             Refusal::ProfileLimit => "the profiles have over 32 paths, or a rule of over 8 mixtures",
             Refusal::OtherUser => "a new file for another user than the process's own",
+            Refusal::TrimTrace => "the trace is empty, too long, has a refused or blocked record or does not end in an alert",
             Refusal::GameBounds => "the game's objects, or one of its counts, are out of bounds",
         }
     }

@@ -37,6 +37,9 @@ static size_t image_length;
 static uint8_t out[YASLAUREL_OUTPUT_LENGTH];
 static uint64_t session[SESSION];
 static uint8_t record[YASLAUREL_RECORD_LENGTH];
+static uint8_t trace[YASLAUREL_TRIM_LIMIT * YASLAUREL_RECORD_LENGTH];
+static size_t trace_length;
+static uint8_t positions[YASLAUREL_TRIM_LIMIT];
 static uint32_t rows[6][SUBJECTS];
 static char text[YASLAUREL_TEXT_LIMIT + 1];
 static uint32_t answer;
@@ -82,6 +85,12 @@ static void call_run(void)
 {
     NOTE();
     answer = yaslaurel_run(session, SESSION, record, sizeof record, &taken, &receiver, &tag, &position);
+}
+
+static void call_trim(void)
+{
+    NOTE();
+    answer = yaslaurel_trace_trim(image, image_length, trace, trace_length, positions, sizeof positions, &taken);
 }
 
 static void call_verdict(void)
@@ -135,6 +144,7 @@ static struct function {
     {"yaslaurel_session_start", call_start, YASLAUREL_SESSION_START_STACK, 0},
     {"yaslaurel_step", call_step, YASLAUREL_STEP_STACK, 0},
     {"yaslaurel_run", call_run, YASLAUREL_RUN_STACK, 0},
+    {"yaslaurel_trace_trim", call_trim, YASLAUREL_TRACE_TRIM_STACK, 0},
     {"yaslaurel_matrix_verdict", call_verdict, YASLAUREL_MATRIX_VERDICT_STACK, 0},
     {"yaslaurel_matrix_silent", call_silent, YASLAUREL_MATRIX_SILENT_STACK, 0},
     {"yaslaurel_matrix_game", call_game, YASLAUREL_MATRIX_GAME_STACK, 0},
@@ -143,7 +153,7 @@ static struct function {
     {"yaslaurel_profiles_policy", call_profiles, YASLAUREL_PROFILES_POLICY_STACK, 0},
 };
 
-enum { VERSION, CHECK, NORMALISE, START, STEP, RUN, VERDICT, SILENT, GAME, JUDGE, POLICY, PROFILES };
+enum { VERSION, CHECK, NORMALISE, START, STEP, RUN, TRIM, VERDICT, SILENT, GAME, JUDGE, POLICY, PROFILES };
 
 /* Runs a call on the painted stack and keeps the most that was found. */
 static void measure(int which)
@@ -221,6 +231,28 @@ static void steps(void)
     }
 }
 
+/* Accepted operations on a session, up to one that raises an alert; a whole trace of them where none does. */
+static void make_trace(void)
+{
+    trace_length = 0;
+    if (yaslaurel_session_start(image, image_length, session, SESSION) != 0) {
+        exit(2);
+    }
+    for (int i = 0; i < STEPS && trace_length < sizeof trace; i++) {
+        uint32_t code = (uint32_t)(1 + draw() % YASLAUREL_FORK);
+        uint32_t user = code == YASLAUREL_EXEC ? (uint32_t)(draw() % YASLAUREL_USERS) : YASLAUREL_NO_USER;
+        yaslaurel_record(code, (uint32_t)(FILES + draw() % PROCESSES), (uint32_t)(draw() % YASLAUREL_CONTAINERS), user, record);
+        uint32_t given = yaslaurel_step(session, SESSION, record, sizeof record, &receiver, &tag, &position);
+        if (given == YASLAUREL_QUIET || given == YASLAUREL_ALERT) {
+            memcpy(trace + trace_length, record, sizeof record);
+            trace_length += sizeof record;
+        }
+        if (given == YASLAUREL_ALERT && i >= STEPS / 10) {
+            return;
+        }
+    }
+}
+
 /* Random rights; in the proposal some of those of the old matrix, and some of these must stay. */
 static void make_rows(void)
 {
@@ -275,6 +307,8 @@ static void measure_all(int round)
     measure(NORMALISE);
     measure(START);
     steps();
+    make_trace();
+    measure(TRIM);
     make_rows();
     measure(VERDICT);
     measure(SILENT);

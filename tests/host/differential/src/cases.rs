@@ -3,6 +3,7 @@
 
 mod allowed;
 mod batches;
+mod cuts;
 mod games;
 mod guarded;
 mod histories;
@@ -29,6 +30,7 @@ pub const PARTS: &[Part] = &[
     proposals::PART,
     allowed::PART,
     guarded::PART,
+    cuts::PART,
     games::PART,
     games::ALL,
 ];

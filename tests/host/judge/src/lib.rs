@@ -19,4 +19,5 @@ pub mod numbers;
 pub mod profiles;
 pub mod rules;
 pub mod session;
+pub mod trim;
 pub mod withdrawals;

@@ -130,3 +130,6 @@ pub const MONTH_TRACES: usize = 64;
 
 /// "19 when a trace has over 1,000,000 records".
 pub const TRACE_RECORDS: usize = 1_000_000;
+
+/// Change request No. 13: "From up to 256 records".
+pub const POSITIONS: usize = 256;

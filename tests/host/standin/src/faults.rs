@@ -188,4 +188,21 @@ faults! {
     ThreeWithdrawals, games, differential calls fuzz, "a game of 3 withdrawals is played";
     RefusedGameClears, games, differential calls fuzz, "a refused game clears the move";
     GuardLeavesNumbers, games, differential calls fuzz, "a game that the guard wins leaves the move as it was";
+    OnePassAlone, trims, differential calls, "a trace is trimmed by one pass";
+    LastRecordDropped, trims, differential calls, "the last record of a trace may go";
+    CutOfTheBeginning, trims, differential calls, "a cut is tried without what the pass has dropped put away";
+    RefusedInCut, trims, differential, "a cut with a refused record counts";
+    BlockedInCut, trims, differential, "a cut with a blocked record counts";
+    LastToFirst, trims, differential calls, "passes run from last to first";
+    PositionsInShortened, trims, differential calls, "positions are counted in the shortened trace";
+    PassOnOldSession, trims, differential, "the next pass goes on with the session of the one before";
+    SixteenPasses, trims, differential calls, "at most sixteen passes are made";
+    TraceOf256Refused, trims, differential calls, "a trace of 256 records is refused with 22";
+    TraceOf257Taken, trims, differential calls, "the first 256 of 257 records are trimmed";
+    EarlierAlertCounts, trims, differential, "a cut counts whose earlier record alerts, and not its last";
+    ShortRecordTrimmed, trims, differential calls fuzz, "a short last record is left out of a trace";
+    TraceBeforeImage, trims, differential calls fuzz, "22 goes before 1 to 6";
+    OutputByTrace, trims, differential calls fuzz, "an output that holds the trace's positions is long enough";
+    PositionsCleared, trims, differential calls fuzz, "the bytes behind the positions are cleared";
+    RefusedTrimClearsCount, trims, differential calls fuzz, "a refused trim clears the count";
 }

@@ -7,6 +7,7 @@ mod owners;
 mod profiles;
 mod silence;
 mod step;
+mod trim;
 mod withdrawals;
 
 use std::slice::{from_raw_parts, from_raw_parts_mut};
@@ -169,6 +170,22 @@ pub unsafe extern "C" fn yaslaurel_run(
         }
     }
     run.answer.number
+}
+
+/// # Safety
+/// As `include/yaslaurel.h` says.
+#[no_mangle]
+pub unsafe extern "C" fn yaslaurel_trace_trim(
+    bytes: *const u8,
+    length: usize,
+    trace: *const u8,
+    trace_length: usize,
+    positions: *mut u8,
+    positions_length: usize,
+    kept: *mut usize,
+) -> u32 {
+    let (bytes, trace) = (from_raw_parts(bytes, length), from_raw_parts(trace, trace_length));
+    trim::put(bytes, trace, from_raw_parts_mut(positions, positions_length), &mut *kept)
 }
 
 /// # Safety
