@@ -58,11 +58,11 @@ static int out_stayed_from(size_t from)
 /* What lies behind the pointers of the calls, and what it is before them. */
 struct numbers {
     uint64_t receiver, tag;
-    size_t taken;
+    size_t taken, kept;
     uint32_t position, count, source, target, move, subject, object;
 };
 
-static const struct numbers unset = {77, 88, 99, 44, 11, 22, 33, 55, 66, 110};
+static const struct numbers unset = {77, 88, 99, 121, 44, 11, 22, 33, 55, 66, 110};
 static struct numbers got;
 
 static int answer_stayed(void)
@@ -79,8 +79,8 @@ static int move_stayed(void) { return move_is(unset.move, unset.subject, unset.o
 
 static int numbers_stayed(void)
 {
-    return answer_stayed() && got.taken == unset.taken && got.count == unset.count && got.source == unset.source &&
-           got.target == unset.target && move_stayed();
+    return answer_stayed() && got.taken == unset.taken && got.kept == unset.kept && got.count == unset.count &&
+           got.source == unset.source && got.target == unset.target && move_stayed();
 }
 
 /* Each function that has such pointers is called here alone. */
@@ -92,6 +92,11 @@ static uint32_t step(uint64_t *words, size_t words_length, const uint8_t *record
 static uint32_t run(uint64_t *words, size_t words_length, const uint8_t *records, size_t length)
 {
     return yaslaurel_run(words, words_length, records, length, &got.taken, &got.receiver, &got.tag, &got.position);
+}
+
+static uint32_t trim(const uint8_t *image, size_t image_length, const uint8_t *trace, size_t length, size_t out_length)
+{
+    return yaslaurel_trace_trim(image, image_length, trace, length, out, out_length, &got.kept);
 }
 
 static uint32_t verdict(const uint32_t *rows, size_t rows_length, const uint32_t *others, size_t others_length,
@@ -224,6 +229,8 @@ static void nulls(void)
     check(yaslaurel_session_start(yaslaurel_bytes(NULL), 0, yaslaurel_words(NULL), 0) == 9, "start: nulls");
     check(step(yaslaurel_words(NULL), 0, yaslaurel_bytes(NULL), 0) == 9, "step: nulls");
     check(run(yaslaurel_words(NULL), 0, yaslaurel_bytes(NULL), 0) == 9, "run: nulls");
+    check(yaslaurel_trace_trim(yaslaurel_bytes(NULL), 0, yaslaurel_bytes(NULL), 0, yaslaurel_output(NULL), 0, &got.kept) == 9,
+          "trim: nulls");
     check(verdict(yaslaurel_rows(NULL), 0, yaslaurel_rows(NULL), 0, 4) == 8,
           "verdict: null rows");
     check(yaslaurel_matrix_silent(yaslaurel_rows(NULL), 0, yaslaurel_rows(NULL), 0, 4) == 8, "silent: null rows");
@@ -382,6 +389,77 @@ static void batch_example(void)
               got.tag == 7,
           "run: a batch that stops at a refusal, and keeps what came before it");
     check(session_stayed(), "run: batches leave the session that single steps leave");
+}
+
+/* A trace in words of three numbers: code, process, object. Its length. */
+static size_t put_trace(uint8_t *at, const uint8_t (*steps)[3], size_t count)
+{
+    for (size_t i = 0; i < count; i++) {
+        yaslaurel_record(steps[i][0], steps[i][1], steps[i][2], YASLAUREL_NO_USER, at + RECORD * i);
+    }
+    return RECORD * count;
+}
+
+/* Whether a trim gives these positions and leaves the bytes behind them. */
+static int trim_gives(const uint8_t *image, size_t image_length, const uint8_t *trace, size_t length, const char *positions, size_t kept)
+{
+    got = unset;
+    mark_out();
+    return trim(image, image_length, trace, length, YASLAUREL_TRIM_LIMIT) == 0 && got.kept == kept &&
+           memcmp(out, positions, kept) == 0 && out_stayed_from(kept);
+}
+
+/* Whether a trim is refused so, and leaves everything. */
+static int trim_refuses(const uint8_t *image, size_t image_length, const uint8_t *trace, size_t length, size_t out_length, uint32_t number)
+{
+    got = unset;
+    mark_out();
+    return trim(image, image_length, trace, length, out_length) == number && numbers_stayed() && out_stayed_from(0);
+}
+
+/* Traces trimmed to their alert, on the paper's matrix: files 0 to 3, processes 4 to 6. File 1 may hold 0 and 1, file 0 0 and 2. */
+static void trim_examples(void)
+{
+    static uint8_t policy[OUTPUT], records[(YASLAUREL_TRIM_LIMIT + 1) * RECORD];
+    static const uint8_t paper[][3] = {{1, 4, 2}, {3, 4, 0}, {1, 5, 0}, {3, 5, 1}};
+    static const uint8_t unneeded[][3] = {{1, 6, 1}, {1, 5, 2}, {7, 6, 9}, {1, 5, 0}, {1, 4, 3}, {3, 5, 1}};
+    /* Either read would do; the first goes, since the second is behind it, and the last process to be forked goes first. */
+    static const uint8_t twice[][3] = {{1, 5, 2}, {5, 6, 7}, {1, 5, 2}, {5, 7, 8}, {5, 8, 9}, {3, 5, 1}};
+    /* An alert before the last: both appends alert, and the second needs no other. */
+    static const uint8_t alerts[][3] = {{1, 5, 2}, {3, 5, 1}, {3, 5, 1}};
+    /* File 1 alerts while it holds what file 2 held; the read of file 1 alerts nobody, so the last raises none. */
+    static const uint8_t quiet[][3] = {{1, 5, 2}, {3, 5, 1}, {1, 6, 1}};
+    uint32_t length = yaslaurel_matrix_policy(reads, 3, writes, 3, 4, policy, OUTPUT);
+    size_t bytes = put_trace(records, paper, 4);
+
+    check(trim_gives(policy, length, records, bytes, "\0\1\2\3", 4), "trim: the paper's trace up to its alert stays whole");
+    check(trim_refuses(policy, length, records, bytes, YASLAUREL_TRIM_LIMIT - 1, 9), "trim: 9 for an output one short");
+    check(trim_refuses(policy, length - 1, records, bytes, YASLAUREL_TRIM_LIMIT, 2), "trim: the image's own refusal");
+    check(trim_refuses(policy, 17, records, bytes, 0, 9), "trim: 9 comes before 1");
+    check(trim_refuses(policy, 17, records, bytes - 1, YASLAUREL_TRIM_LIMIT, 1), "trim: 1 comes before 22");
+    check(trim_refuses(policy, length, records, bytes - 1, YASLAUREL_TRIM_LIMIT, 22), "trim: a short last record");
+    check(trim_refuses(policy, length, records, bytes - RECORD, YASLAUREL_TRIM_LIMIT, 22), "trim: no alert at the end");
+    check(trim_refuses(policy, length, records, 0, YASLAUREL_TRIM_LIMIT, 22), "trim: no record");
+    memcpy(records + bytes, records + bytes - RECORD, RECORD - 1);
+    check(trim_refuses(policy, length, records, bytes + RECORD - 1, YASLAUREL_TRIM_LIMIT, 22), "trim: a short record behind the alert");
+    bytes = put_trace(records, unneeded, 6);
+    check(trim_gives(policy, length, records, bytes, "\1\5", 2), "trim: what the alert does not need goes");
+    bytes = put_trace(records, twice, 6);
+    check(trim_gives(policy, length, records, bytes, "\2\5", 2), "trim: of two reads the second stays, and a chain of forks goes");
+    bytes = put_trace(records, alerts, 3);
+    check(trim_gives(policy, length, records, bytes, "\0\2", 2), "trim: an earlier alert goes");
+    bytes = put_trace(records, quiet, 3);
+    check(trim_refuses(policy, length, records, bytes, YASLAUREL_TRIM_LIMIT, 22), "trim: an alert before the end is not enough");
+    records[bytes - 1] = 0;
+    check(trim_refuses(policy, length, records, bytes, YASLAUREL_TRIM_LIMIT, 22), "trim: a refused record");
+    /* At the limit: 30 forks of the process before, of which each pass drops the last, and reads. */
+    for (size_t i = 0; i <= YASLAUREL_TRIM_LIMIT; i++) {
+        const uint32_t fork = (uint32_t)(6 + i);
+        yaslaurel_record(i < 30 ? YASLAUREL_FORK : YASLAUREL_READ, i < 30 ? fork : 5, i < 30 ? fork + 1 : 2, YASLAUREL_NO_USER, records + RECORD * i);
+    }
+    put_trace(records + RECORD * (YASLAUREL_TRIM_LIMIT - 2), (const uint8_t[][3]){{1, 5, 2}, {3, 5, 1}, {3, 5, 1}}, 3);
+    check(trim_gives(policy, length, records, RECORD * YASLAUREL_TRIM_LIMIT, "\376\377", 2), "trim: 256 records, and 31 passes");
+    check(trim_refuses(policy, length, records, RECORD * (YASLAUREL_TRIM_LIMIT + 1), YASLAUREL_TRIM_LIMIT, 22), "trim: 257 records");
 }
 
 /* Processes end and files are deleted, on a session of the same policy: files 0 to 3, processes 4 to 6. */
@@ -794,6 +872,8 @@ static void random_bytes(void)
         good = good && answer <= 6 && yaslaurel_session_start(image, length, session, SESSION) == answer;
         uint32_t normal = yaslaurel_image_normalise(image, length, out, OUTPUT);
         good = good && (answer == 0 ? normal >= HEADER && normal <= OUTPUT : normal == answer);
+        uint32_t trimmed = trim(image, length, image, length, YASLAUREL_TRIM_LIMIT);
+        good = good && (answer == 0 ? trimmed == 0 || trimmed == 22 : trimmed == answer);
         good = good && random_steps(&seed, image, length) && random_matrices(&seed, round);
         good = good && yaslaurel_profiles_policy(image, length, out, OUTPUT) == (length == 0 ? 26u : 16u);
     }
@@ -939,15 +1019,21 @@ static void refusal_meanings(void)
         }
         check(own, "meaning: a refusal has a text of its own");
     }
-    for (uint32_t j = 0; j <= 18; j++) {
-        check(strcmp(yaslaurel_meaning(YASLAUREL_REFUSED_GAME), yaslaurel_meaning(j)) != 0,
-              "meaning: 23 has a text of its own");
+    const uint32_t later[] = {YASLAUREL_REFUSED_TRIM, YASLAUREL_REFUSED_GAME};
+    for (size_t i = 0; i < sizeof later / sizeof later[0]; i++) {
+        int own = 1;
+        for (uint32_t j = 0; j < later[i]; j++) {
+            own &= strcmp(yaslaurel_meaning(later[i]), yaslaurel_meaning(j)) != 0;
+        }
+        check(own, "meaning: 22 and 23 have texts of their own");
     }
-    check(yaslaurel_meaning(19) == none && yaslaurel_meaning(22) == none && yaslaurel_meaning(24) == none &&
-              yaslaurel_meaning(YASLAUREL_ALERT) == none && yaslaurel_meaning(UINT32_MAX) == none,
+    check(yaslaurel_meaning(19) == none && yaslaurel_meaning(24) == none && yaslaurel_meaning(YASLAUREL_ALERT) == none &&
+              yaslaurel_meaning(UINT32_MAX) == none,
           "meaning: of numbers that are no refusals");
     check(strcmp(yaslaurel_meaning(YASLAUREL_REFUSED_NO_PROCESS), "p is no process") == 0 &&
               strcmp(yaslaurel_meaning(YASLAUREL_REFUSED_KIND), "o is of the wrong kind") == 0 &&
+              strcmp(yaslaurel_meaning(YASLAUREL_REFUSED_TRIM),
+                     "the trace is empty, too long, has a refused or blocked record or does not end in an alert") == 0 &&
               strcmp(yaslaurel_meaning(YASLAUREL_REFUSED_OTHER_USER),
                      "a new file for another user than the process's own") == 0,
           "meaning: the texts stand under their numbers");
@@ -1003,6 +1089,7 @@ int main(void)
     game_bounds();
     step_example();
     batch_example();
+    trim_examples();
     leaving_example();
     behalf_example();
     behalf_rows();

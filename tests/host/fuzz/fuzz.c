@@ -30,6 +30,7 @@ enum {
     SECTIONS = YASLAUREL_SECTIONS,
     WORD = sizeof(uint64_t),
     BATCH = 40, /* records of a run at most */
+    POSITIONS = YASLAUREL_TRIM_LIMIT,
     /* Numbers of answers; a length is counted as the last. */
     ANSWERS = 259,
     LENGTH = ANSWERS - 1
@@ -70,7 +71,8 @@ struct region {
     uint8_t *copy;
 };
 
-static struct region image_at, out_at, session_at, record_at, reads_at, writes_at, numbers_at, taken_at, text_at;
+static struct region image_at, out_at, session_at, record_at, reads_at, writes_at, numbers_at, taken_at, text_at,
+    positions_at;
 static struct region rights_at[6]; /* read rows, then write rows, of three matrices */
 
 static void reserve(struct region *region, size_t bytes)
@@ -112,7 +114,8 @@ static int stayed(const struct region *region, size_t written)
 
 /* How often each function gave each answer. */
 static unsigned long checks[ANSWERS], normals[ANSWERS], starts[ANSWERS], steps[ANSWERS], runs[ANSWERS],
-    verdicts[ANSWERS], silences[ANSWERS], games[ANSWERS], policies[ANSWERS], profiles[ANSWERS], proposals[ANSWERS];
+    trims[ANSWERS], verdicts[ANSWERS], silences[ANSWERS], games[ANSWERS], policies[ANSWERS], profiles[ANSWERS],
+    proposals[ANSWERS];
 
 static uint8_t *put16(uint8_t *at, size_t value) { return put(at, value, 2); }
 
@@ -517,6 +520,63 @@ static void try_run(int damaged)
     memcpy(session, stepped, WORD * SESSION);
 }
 
+/* Records that a new session of the image accepts, up to one that alerts if there is one; now and then one that is refused or
+   blocked, or short. Their length, and whether a trim must take them. */
+static size_t make_trace(size_t image_length, uint8_t *trace, int *good)
+{
+    uint64_t numbers[TOLD];
+    size_t length = 0;
+
+    *good = 0;
+    if (yaslaurel_session_start(image, image_length, session, SESSION) != 0) {
+        return percent(50) ? RECORD : below(RECORD);
+    }
+    for (size_t tries = below(BATCH); tries > 0 && !*good; tries--) {
+        make_record(trace + length);
+        uint32_t answer = step(session, SESSION, trace + length, RECORD, numbers);
+        *good = answer == YASLAUREL_ALERT;
+        length += *good || answer == YASLAUREL_QUIET ? RECORD : 0;
+    }
+    if (percent(10)) {
+        *good = 0;
+        return length + 1 + below(RECORD - 1);
+    }
+    return length;
+}
+
+/* A trace of the image trimmed to its alert, and what that leaves. */
+static void try_trim(size_t image_length)
+{
+    uint8_t trace[(BATCH + 1) * RECORD] = {0};
+    int good;
+    size_t length = make_trace(image_length, trace, &good), old_kept = 99;
+    size_t positions_length = percent(90) ? POSITIONS : below(POSITIONS + 40);
+    uint32_t checked = yaslaurel_image_check(image, image_length);
+
+    lend(&image_at, image, image_length);
+    lend(&record_at, trace, length);
+    lend(&positions_at, blank, positions_length);
+    lend(&taken_at, &old_kept, sizeof old_kept);
+    read_only(&image_at, 1);
+    read_only(&record_at, 1);
+    size_t *kept = (size_t *)(void *)taken_at.slice;
+    uint32_t answer = yaslaurel_trace_trim(image_at.slice, image_length, record_at.slice, length, positions_at.slice,
+                                           positions_length, kept);
+    read_only(&image_at, 0);
+    read_only(&record_at, 0);
+    trims[answer < ANSWERS ? answer : LENGTH]++;
+    require(answer == (positions_length < POSITIONS ? 9 : checked != 0 ? checked : good ? 0 : 22),
+            "a trim gives 9, then what the check gives, then 22 unless an alert ends the trace");
+    require(stayed(&image_at, 0) && stayed(&record_at, 0), "a trim leaves the image and the trace");
+    require(stayed(&taken_at, answer == 0 ? sizeof old_kept : 0), "a refused trim leaves the count");
+    require(stayed(&positions_at, answer == 0 ? *kept : 0), "the bytes behind the positions stay");
+    require(answer != 0 || (*kept >= 1 && positions_at.slice[*kept - 1] == length / RECORD - 1),
+            "the last position is that of the last record");
+    for (size_t i = 1; answer == 0 && i < *kept; i++) {
+        require(positions_at.slice[i - 1] < positions_at.slice[i], "positions rise");
+    }
+}
+
 /* The verdict on the rows that are lent, and what it leaves. */
 static uint32_t try_verdict(size_t subjects, size_t writers, uint32_t objects)
 {
@@ -753,6 +813,7 @@ static int all_reached(int print)
     all &= REACHED(print, starts, 0, 1, 2, 3, 4, 5, 6, 9);
     all &= REACHED(print, steps, YASLAUREL_QUIET, YASLAUREL_ALERT, YASLAUREL_BLOCKED, 7, 9, 10, 11, 12, 13, 14, 15, 18);
     all &= REACHED(print, runs, YASLAUREL_QUIET, YASLAUREL_ALERT, YASLAUREL_BLOCKED, 7, 9, 10, 11, 12, 13, 14, 15, 18);
+    all &= REACHED(print, trims, 0, 1, 2, 3, 4, 5, 6, 9, 22);
     all &= REACHED(print, verdicts, 0, 1, 8);
     all &= REACHED(print, silences, 0, 1, 8);
     all &= REACHED(print, games, 0, 1, 8, 23);
@@ -775,6 +836,7 @@ static void reserve_all(void)
     reserve(&numbers_at, 64);
     reserve(&taken_at, 64);
     reserve(&text_at, sizeof text);
+    reserve(&positions_at, POSITIONS + 40);
     for (size_t i = 0; i < 6; i++) {
         reserve(&rights_at[i], 64);
     }
@@ -808,6 +870,7 @@ static void try_all(void)
     if (try_image(length)) {
         try_session();
     }
+    try_trim(length);
     try_matrix();
     try_proposal();
     try_profiles();

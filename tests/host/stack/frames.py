@@ -25,6 +25,11 @@ PLACE = re.compile(r"R_X86_64_\w+\s+\.text\.([\w:]+)")
 SUB = re.compile(r"\bsub +\$0x([0-9a-f]+),%rsp$")
 RED_ZONE = re.compile(r"-0x([0-9a-f]+)\(%rsp")
 KNOWN = re.compile(r"\b(add|sub) +\$0x[0-9a-f]+,%rsp$|\bpop ")
+# A large frame is touched page by page: %r11 is set to its lower end, and a loop takes a page until %rsp is there.
+COPIED = re.compile(r"\bmov +%rsp,%r11$")
+LOWER_END = re.compile(r"\bsub +\$0x([0-9a-f]+),%r11$")
+LOOP_END = re.compile(r"\bcmp +%r11,%rsp$")
+PAGE = 4096
 
 WORD = 8  # a push, or a return address
 LEAVES = {"memset", "memcpy", "memmove", "memcmp"}  # of the C library: the header leaves them out
@@ -41,12 +46,20 @@ class Code:
 
     def __init__(self):
         self.frame, self.below, self.calls = WORD, 0, set()
+        self.copied, self.pages = False, 0
 
     def instruction(self, line):
         if re.search(r"\bpush ", line):
             self.frame += WORD
         elif found := SUB.search(line):
             self.frame += int(found[1], 16)
+        elif COPIED.search(line):
+            self.copied = True
+        elif self.copied and (found := LOWER_END.search(line)):
+            self.copied, self.pages = False, int(found[1], 16)
+        elif self.pages and LOOP_END.search(line):
+            # The loop's own step is counted once already.
+            self.frame, self.pages = self.frame + self.pages - PAGE, 0
         elif line.endswith(",%rsp") and not KNOWN.search(line) or re.search(r"\bcall +\*|\bjmp +\*\S*\(", line):
             raise SystemExit(f"not understood: {line.strip()}")
         for found in RED_ZONE.finditer(line):

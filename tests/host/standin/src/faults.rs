@@ -189,7 +189,7 @@ faults! {
     RefusedGameClears, games, differential calls fuzz, "a refused game clears the move";
     GuardLeavesNumbers, games, differential calls fuzz, "a game that the guard wins leaves the move as it was";
     OnePassAlone, trims, differential calls, "a trace is trimmed by one pass";
-    LastRecordDropped, trims, differential calls, "the last record of a trace may go";
+    LastRecordDropped, trims, differential, "the last record of a trace may go";
     CutOfTheBeginning, trims, differential calls, "a cut is tried without what the pass has dropped put away";
     RefusedInCut, trims, differential, "a cut with a refused record counts";
     BlockedInCut, trims, differential, "a cut with a blocked record counts";
