@@ -54,9 +54,7 @@ pub fn read_names(folder: &Path, policy: &mut Policy) -> io::Result<()> {
         policy.rename_source(source, name).map_err(|error| error.to_string())
     })?;
     let mut seen = [false; 256];
-    each_line(&folder.join(CONTAINERS), |_, line| {
-        let (number, name) = line.split_once(' ').ok_or("expected a number, a space and a name")?;
-        let number: u8 = number.parse().map_err(|_| "expected a number from 0 to 255")?;
+    each_holder(folder, |number, name| {
         // Those that steps made are no part of the policy, and who takes a number again comes later.
         let first = !std::mem::replace(&mut seen[usize::from(number)], true);
         if !first || usize::from(number) >= policy.containers().len() {
@@ -67,6 +65,29 @@ pub fn read_names(folder: &Path, policy: &mut Policy) -> io::Result<()> {
     each_line(&folder.join(USERS), |place, name| {
         let number = u8::try_from(place).map_err(|_| "expected at most 16 users")?;
         policy.rename_user(number, name).map_err(|error| error.to_string())
+    })
+}
+
+/// All containers that a folder names, of the policy or made by its steps, in the order in which they come.
+///
+/// # Errors
+///
+/// What the system says, or what is wrong in the file, with its name and line.
+pub fn read_holders(folder: &Path) -> io::Result<Vec<Holder>> {
+    let mut holders = Vec::new();
+    each_holder(folder, |number, name| {
+        holders.push(Holder::new(number, name));
+        Ok(())
+    })?;
+    Ok(holders)
+}
+
+/// Hands on number and name of each container.
+fn each_holder(folder: &Path, mut take: impl FnMut(u8, &str) -> Result<(), String>) -> io::Result<()> {
+    each_line(&folder.join(CONTAINERS), |_, line| {
+        let (number, name) = line.split_once(' ').ok_or("expected a number, a space and a name")?;
+        let number: u8 = number.parse().map_err(|_| "expected a number from 0 to 255")?;
+        take(number, name)
     })
 }
 

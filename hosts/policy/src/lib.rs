@@ -10,14 +10,16 @@ mod statement;
 mod steps;
 mod story;
 mod token;
+mod trim;
 mod upgrade;
 
-pub use folder::{read_names, write_folder};
+pub use folder::{read_holders, read_names, write_folder};
 pub use profiles::{profile_paths, ProfileFault};
 pub use show::show;
 pub use steps::{Holder, Step, Steps};
 pub use story::Story;
 pub use token::quoted;
+pub use trim::{trim_trace, Cut, TrimError};
 pub use upgrade::{upgraded, UpgradeError};
 
 use std::error::Error;

@@ -7,7 +7,9 @@ use std::io::{self, IsTerminal, Read, Write};
 use std::path::{Path, PathBuf};
 use std::process::ExitCode;
 
-use policy_text::{profile_paths, read_names, show, upgraded, write_folder, Story};
+use policy_text::{
+    profile_paths, read_holders, read_names, show, trim_trace, upgraded, write_folder, Story, TrimError,
+};
 use yaslaurel::{normalise, profiles_policy, Policy, Refusal};
 
 const HELP: &str = "\
@@ -16,6 +18,9 @@ policy normal IMAGE [-o FILE]       writes the normal image, to standard output 
 policy show IMAGE [-n FOLDER]       prints sources, rules, containers and users, with the names that FOLDER has
 policy profiles TEXT [-o FILE]      writes the image of a text of profiles, or tells the line at fault
 policy upgrade OLD [-o FILE]        writes the image of an earlier edition (one that begins with 4) as one of this, without owners
+policy trim IMAGE TRACE [--at STEP] [-n FOLDER] [-o FILE]
+                                    prints the few records of a trace that lead to its first alert, or to the one at a step, and writes
+                                    them as a trace
 policy make STORY [-o FOLDER]       writes policy.bin, trace.bin and the names of a story into FOLDER, or this folder
 policy help, policy --version
 
@@ -42,24 +47,45 @@ struct Arguments {
     option: Option<PathBuf>,
 }
 
+/// What is wrong with the arguments behind a word.
+fn wrong(word: &str, what: impl std::fmt::Display) -> Failure {
+    Failed(format!("policy {word}: {what}; see policy help"))
+}
+
+/// So many files, and what stands behind each of the options that there are.
+fn files_and_options<const FILES: usize, const OPTIONS: usize>(
+    word: &str,
+    arguments: &[OsString],
+    options: [&str; OPTIONS],
+) -> Result<([PathBuf; FILES], [Option<OsString>; OPTIONS]), Failure> {
+    let (mut files, mut values) = (Vec::new(), options.map(|_| None));
+    let mut rest = arguments.iter();
+    while let Some(argument) = rest.next() {
+        let shown = argument.to_string_lossy();
+        let option = options.iter().position(|option| argument == option).filter(|&place| values[place].is_none());
+        if let Some(place) = option {
+            values[place] = Some(rest.next().ok_or_else(|| wrong(word, format!("nothing is behind {shown}")))?.clone());
+        } else if files.len() < FILES && (argument == "-" || !shown.starts_with('-')) {
+            files.push(PathBuf::from(argument));
+        } else {
+            return Err(wrong(word, format!("{shown} is too much")));
+        }
+    }
+    let files = files.try_into().map_err(|_| wrong(word, "a file is missing"))?;
+    Ok((files, values))
+}
+
 impl Arguments {
     /// One file, and the option if the word has one.
     fn read(word: &str, arguments: &[OsString], option: Option<&str>) -> Result<Arguments, Failure> {
-        let wrong = |what: String| Failed(format!("policy {word}: {what}; see policy help"));
-        let (mut file, mut value) = (None, None);
-        let mut rest = arguments.iter();
-        while let Some(argument) = rest.next() {
-            let shown = argument.to_string_lossy();
-            if value.is_none() && option.is_some_and(|option| argument == option) {
-                value = Some(rest.next().ok_or_else(|| wrong(format!("nothing is behind {shown}")))?);
-            } else if file.is_none() && (argument == "-" || !shown.starts_with('-')) {
-                file = Some(argument);
-            } else {
-                return Err(wrong(format!("{shown} is too much")));
+        let ([file], [value]) = match option {
+            Some(option) => files_and_options(word, arguments, [option])?,
+            None => {
+                let (file, []) = files_and_options(word, arguments, [])?;
+                (file, [None])
             }
-        }
-        let file = file.ok_or_else(|| wrong("a file is missing".into()))?;
-        Ok(Arguments { file: file.into(), option: value.map(PathBuf::from) })
+        };
+        Ok(Arguments { file, option: value.map(PathBuf::from) })
     }
 
     /// What is said of the file.
@@ -154,6 +180,36 @@ fn make(arguments: &Arguments) -> Result<(), Failure> {
     written.map_err(|error| Failed(error.to_string()))
 }
 
+/// Trims a trace to its first alert, or to the one at a step, and says which records lead to it.
+fn trim(arguments: &[OsString]) -> Result<(), Failure> {
+    let ([image, trace], [at, names, out]) = files_and_options("trim", arguments, ["--at", "-n", "-o"])?;
+    let step = |text: OsString| text.to_str().and_then(|text| text.parse().ok()).filter(|&step: &usize| step > 0);
+    let at =
+        at.map(|text| step(text).ok_or_else(|| wrong("trim", "a step's number is not behind --at"))).transpose()?;
+    let image = Arguments { file: image, option: None };
+    let trace = Arguments { file: trace, option: out.map(PathBuf::from) };
+    let bytes = image.load()?;
+    let mut policy = Policy::from_image(&bytes).map_err(|refusal| image.refused(refusal))?;
+    let mut holders = Vec::new();
+    if let Some(folder) = names.as_ref().map(Path::new) {
+        let read = read_names(folder, &mut policy).and_then(|()| read_holders(folder));
+        holders = read.map_err(|error| Failed(error.to_string()))?;
+    }
+    let cut = trim_trace(&policy, &bytes, &holders, &trace.load()?, at).map_err(|error| match error {
+        TrimError::Policy(refusal) => image.refused(refusal),
+        error => Refused(trace.said(error)),
+    })?;
+    let mut text: String = cut.steps.iter().map(|(step, words)| format!("step {step}: {words}\n")).collect();
+    if cut.refused + cut.blocked > 0 {
+        let left = [count(cut.refused, "refused record"), count(cut.blocked, "blocked record")].join(" and ");
+        text += &format!("left out first: {left}, which changed nothing\n");
+    }
+    if trace.option.is_some() {
+        trace.write_image(&cut.trace)?;
+    }
+    print(text.as_bytes())
+}
+
 fn run(arguments: &[OsString]) -> Result<(), Failure> {
     let (word, rest) = arguments.split_first().ok_or_else(|| Failed(format!("what is wanted?\n\n{HELP}")))?;
     let word = &*word.to_string_lossy();
@@ -164,6 +220,7 @@ fn run(arguments: &[OsString]) -> Result<(), Failure> {
         "show" => show_image(&read(Some("-n"))?),
         "profiles" => profiles(&read(Some("-o"))?),
         "upgrade" => upgrade(&read(Some("-o"))?),
+        "trim" => trim(rest),
         "make" => make(&read(Some("-o"))?),
         "help" | "--help" => print(HELP.as_bytes()),
         "--version" => print(concat!("policy ", env!("CARGO_PKG_VERSION"), "\n").as_bytes()),
