@@ -10,7 +10,7 @@
 //! `bench WATCH MONTH` also measures these programs, `bench watch PROGRAM` and `bench month PROGRAM` measure one alone; `bench
 //! operations` measures single operations alone, `bench batches` runs of records, `bench profiles` texts of profiles, `bench
 //! cover` the cover test of a rule of eight, `bench proposals` proposals to withdraw rights, `bench games` games of a desk
-//! against a guard.
+//! against a guard, `bench trims` traces trimmed to their alert.
 //! `bench listing` is the watch program in natural Rust (`BufWriter`, `writeln!`), `bench figures` the month program, for the
 //! comparison of whole programs; `bench trace COUNT` writes the policy and trace that both watch programs read.
 
@@ -20,6 +20,7 @@ mod month;
 mod plain;
 mod profiles;
 mod race;
+mod trims;
 mod work;
 
 use std::io::{self, BufWriter, Read, Write};
@@ -703,6 +704,10 @@ fn main() -> io::Result<()> {
             cover::cover();
             return Ok(());
         }
+        ["trims"] => {
+            trims::trims();
+            return Ok(());
+        }
         ["proposals"] => {
             proposals();
             return Ok(());
@@ -721,6 +726,7 @@ fn main() -> io::Result<()> {
     operations();
     cover::cover();
     batches();
+    trims::trims();
     images();
     matrices();
     games::games();
