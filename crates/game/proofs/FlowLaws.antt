@@ -34,6 +34,32 @@ or-either x s k h = by (or-cases (has x k) (sym (has-or x (2 ^ s) k) ∙ h))
     by (inl e) = inl e
     by (inr e) = inr (eqb-true s k (sym (has-single s k) ∙ e))
 
+-- a row that has a bit is one of a subject
+pub row-there : (rows : List ℕ) (s o : ℕ) → has (getD rows s 0) o ≡ true → s < length rows
+row-there rows s o h = by (decLt s (length rows))
+  where
+    by : Dec (s < length rows) → s < length rows
+    by (yes l) = l
+    by (no l) = clash h (ap (λ (x : ℕ). has x o) (List·getD-eq-default rows 0 (omega arith)) ∙ has-zero o)
+
+-- and the bit one of an object
+pub object-there : (rows : List ℕ) (objects s o : ℕ) → ((s k : ℕ) → objects ≤ k → has (getD rows s 0) k ≡ false) → has (getD rows s 0) o ≡ true → o < objects
+object-there rows objects s o within h = by (decLt o objects)
+  where
+    by : Dec (o < objects) → o < objects
+    by (yes l) = l
+    by (no l) = clash h (within s o (omega arith))
+
+-- a right by the row that has it
+module _ (reads writes : List ℕ) (k : ℕ) where
+  pub reads-right : k < readCount → rightIn reads writes k ≡ true → has (getD reads (subjectOf k) 0) (objectOf k) ≡ true
+  unfolding rightIn bitAt
+  reads-right l h = rw (lt-ltb k readCount l) at h
+
+  pub writes-right : readCount ≤ k → rightIn reads writes k ≡ true → has (getD writes (subjectOf k) 0) (objectOf k) ≡ true
+  unfolding rightIn bitAt
+  writes-right l h = rw (le-ltb k readCount l) at h
+
 module _ (reads writes : List ℕ) (objects a : ℕ) (even : length writes ≡ length reads)
     (within : (s o : ℕ) → objects ≤ o → has (getD writes s 0) o ≡ false) where
   -- an object that a subject reads and to which there is a composed flow
@@ -46,32 +72,10 @@ module _ (reads writes : List ℕ) (objects a : ℕ) (even : length writes ≡ l
     pub objectsFrom : (o : ℕ) → has (p .objects) o ≡ true → Composed reads writes objects a o
     pub subjectsFrom : (s : ℕ) → has (p .subjects) s ≡ true → Heard s
 
-  subject-row : (s o : ℕ) → has (getD reads s 0) o ≡ true → s < length reads
-  subject-row s o h = by (decLt s (length reads))
-    where
-      by : Dec (s < length reads) → s < length reads
-      by (yes l) = l
-      by (no l) = clash h (ap (λ (x : ℕ). has x o) (List·getD-eq-default reads 0 (omega arith)) ∙ has-zero o)
-
-  target-object : (s o : ℕ) → has (getD writes s 0) o ≡ true → o < objects
-  target-object s o h = by (decLt o objects)
-    where
-      by : Dec (o < objects) → o < objects
-      by (yes l) = l
-      by (no l) = clash h (within s o (omega arith))
-
   -- what a subject writes has what it read
   written : (s o : ℕ) → Heard s → has (getD writes s 0) o ≡ true → Composed reads writes objects a o
   unfolding granted
-  written s o (x, r, c) w = onward c (target-object s o w) (or-1 (eqb x o) (subjectCarries reads writes x o) (carries reads writes s x o (subject-row s x r) even r w))
-
-  reads-right : (k : ℕ) → k < readCount → rightIn reads writes k ≡ true → has (getD reads (subjectOf k) 0) (objectOf k) ≡ true
-  unfolding rightIn bitAt
-  reads-right k l h = rw (lt-ltb k readCount l) at h
-
-  writes-right : (k : ℕ) → readCount ≤ k → rightIn reads writes k ≡ true → has (getD writes (subjectOf k) 0) (objectOf k) ≡ true
-  unfolding rightIn bitAt
-  writes-right k l h = rw (le-ltb k readCount l) at h
+  written s o (x, r, c) w = onward c (object-there writes objects s o within w) (or-1 (eqb x o) (subjectCarries reads writes x o) (carries reads writes s x o (row-there reads s x r) even r w))
 
   with-subject : (p : Position) (t : ℕ) → Sourced p → Heard t → Sourced (withSubject p t)
   unfolding withSubject
@@ -96,10 +100,10 @@ module _ (reads writes : List ℕ) (objects a : ℕ) (even : length writes ≡ l
       right l = s .rights k l (sym (legal-is p k l) ∙ g)
 
       reading : k < readCount → has (p .objects) (objectOf k) ≡ true → Sourced (withSubject p (subjectOf k))
-      reading l h = with-subject p (subjectOf k) s (objectOf k, reads-right k l (right (omega arith)), s .objectsFrom (objectOf k) h)
+      reading l h = with-subject p (subjectOf k) s (objectOf k, reads-right reads writes k l (right (omega arith)), s .objectsFrom (objectOf k) h)
 
       appending : readCount ≤ k → k < rightCount → has (p .subjects) (subjectOf k) ≡ true → Sourced (withObject p (objectOf k))
-      appending l m h = with-object p (objectOf k) s (written (subjectOf k) (objectOf k) (s .subjectsFrom (subjectOf k) h) (writes-right k l (right m)))
+      appending l m h = with-object p (objectOf k) s (written (subjectOf k) (objectOf k) (s .subjectsFrom (subjectOf k) h) (writes-right reads writes k l (right m)))
 
   -- a strategy of the desk, played against a guard that passes, ends in b
   forced : (b r l : ℕ) (p : Position) → Sourced p → DeskForces b r l p → Composed reads writes objects a b

@@ -1,6 +1,6 @@
 -- The tests of a game, its opening, and the answer.
-use mathlib.Core.Path.{_≡_, sym, ap, subst, _∙_}
-use mathlib.Core.Bool.{true, false, not, _&&_}
+use mathlib.Core.Path.{_≡_, refl, sym, ap, subst, _∙_}
+use mathlib.Core.Bool.{true, false, not, cond, _&&_}
 use mathlib.Core.List.{List}
 use Prim.Native.Nat.{ℕ, _*_, _%_, _^_, _<_, _≤_}
 use native.Mathlib.Omega.{arith}
@@ -16,6 +16,10 @@ use Rattle.matrix.specs.Rows.{bitsOf}
 use Rattle.matrix.proofs.BitLaws.{one-bit, has-single, bits-has}
 use Rattle.game.specs.declared.Position.{Position}
 use Rattle.game.specs.declared.Move.{Move}
+use Rattle.game.specs.declared.Move.the-variants.{Read, Append, Pass}
+use Rattle.game.specs.declared.Outcome.{Outcome}
+use Rattle.game.specs.declared.Outcome.the-variants.{Malformed, OutOfBounds, Guard, Desk}
+use Rattle.game.specs.declared.OutcomeValues.{OutcomeValues}
 use Rattle.game.specs.Limits.{sideLimit, rightCount, moveCount, roundLimit, withdrawalLimit}
 use Rattle.game.specs.Positions.{legal, reached}
 use Rattle.game.specs.Outcomes.{gameGood, gameConditions, rightIn, opening, moveAt, firstWinning, outcomeOf, withoutMove, moveValues, outcomeValues, unlessRefused, gameValues}
@@ -191,3 +195,27 @@ module _ (reads writes : List ℕ) (objects a b rounds withdrawals : ℕ) (g : m
     pub play-guard : (k : ℕ) → k ≡ firstWinning rounds b withdrawals (record { rights = r; subjects = 0; objects = 1 * 2 ^ a % 4294967296 })
         → moveCount ≤ k → withoutMove 0 ≡ gameValues reads writes objects a b rounds withdrawals
     play-guard k f l = by-guard k l ∙ led k f
+
+-- ---- an outcome is known by its values
+
+outcomeIn : OutcomeValues → Outcome
+outcomeIn v =
+    cond (eqb (v .number) matrix)
+    Malformed
+    (cond (eqb (v .number) gameBounds)
+    OutOfBounds
+    (cond (eqb (v .number) 0)
+    Guard
+    (Desk (cond (eqb (v .code) 1) (Read (v .subject) (v .object)) (cond (eqb (v .code) 3) (Append (v .subject) (v .object)) Pass)))))
+
+outcome-back : (o : Outcome) → outcomeIn (outcomeValues o) ≡ o
+unfolding outcomeIn
+outcome-back Malformed = refl
+outcome-back OutOfBounds = refl
+outcome-back Guard = refl
+outcome-back (Desk (Read s o)) = refl
+outcome-back (Desk (Append s o)) = refl
+outcome-back (Desk Pass) = refl
+
+pub values-apart : (o q : Outcome) → outcomeValues o ≡ outcomeValues q → o ≡ q
+values-apart o q e = sym (outcome-back o) ∙ ap outcomeIn e ∙ outcome-back q

@@ -12,11 +12,12 @@ use Rattle.answers.specs.Refusals.{matrix, gameBounds}
 use Rattle.matrix.specs.Flows.{has, matrixGood, Composed}
 use Rattle.game.specs.declared.Position.{Position}
 use Rattle.game.specs.declared.Move.the-variants.{Read}
+use Rattle.game.specs.declared.Outcome.{Outcome}
 use Rattle.game.specs.Limits.{sideLimit, readCount, rightCount, roundLimit, withdrawalLimit}
 use Rattle.game.specs.Positions.{subjectOf, objectOf, legal, moved, withdrawn, reached}
 use Rattle.game.specs.Games.{deskWins}
 use Rattle.game.specs.Strategies.{DeskForces, GuardForces, FirstWinning}
-use Rattle.game.specs.Outcomes.{gameGood, rightIn, opening, firstWinning, moveValues, withoutMove, gameValues}
+use Rattle.game.specs.Outcomes.{gameGood, rightIn, opening, firstWinning, moveValues, withoutMove, outcomeValues, gameValues}
 use Rattle.game.specs.Search.{adds, additionWins}
 use Rattle.game.proofs.PositionLaws as positions
 use Rattle.game.proofs.IdleLaws as idle
@@ -151,3 +152,7 @@ module _ (reads writes : List ℕ) (objects a b rounds withdrawals : ℕ) where
   pub four-rounds : Played → rounds ≡ roundLimit → withdrawals ≡ 0
       → (gameValues reads writes objects a b rounds withdrawals .number ≡ 1) ↔ Composed reads writes objects a b
   four-rounds u er ew = (desk-composed, answers.composed-enough reads writes objects a b rounds withdrawals u er ew)
+
+-- an outcome is known by its values: what fixes these fixes the case
+pub values-apart : (o q : Outcome) → outcomeValues o ≡ outcomeValues q → o ≡ q
+values-apart = outcomes.values-apart

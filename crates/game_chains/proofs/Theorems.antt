@@ -4,16 +4,15 @@ use Prim.Native.Nat.{ℕ, _+_, _<_, _≤_}
 use native.Mathlib.Decide.{decLt}
 use native.Mathlib.Omega.{arith}
 use mathlib.Core.Path.{_≡_, sym, ap, _∙_}
-use mathlib.Core.Bool.{true, false}
+use mathlib.Core.Bool.{true}
 use mathlib.Core.List.{List}
 use mathlib.Core.Logic.{_↔_}
-use lib.ListN.{length, getD, List·getD-eq-default}
-use borrow.Author.Tests.{eq-eqb, eqb-true, lt-ltb, le-ltb}
+use lib.ListN.{length, getD}
+use borrow.Author.Tests.{eq-eqb, eqb-true}
 use Rattle.lists.proofs.Bools.{clash}
 use Rattle.image.specs.Policy.{Policy}
 use Rattle.image.specs.Image.{policyIn}
 use Rattle.matrix.specs.Flows.{has, matrixGood}
-use Rattle.matrix.specs.Rows.{bitAt}
 use Rattle.matrix.proofs.BitLaws.{has-single, has-zero}
 use Rattle.matrix.proofs.FlowLaws.{rows-exact}
 use Rattle.matrix.proofs.GoodLaws.{Good, good-parts}
@@ -25,17 +24,10 @@ use Rattle.silence.specs.Sessions.{Allowed, mayRead, mayAppend}
 use Rattle.game.specs.Limits.{readCount, rightCount}
 use Rattle.game.specs.Positions.{subjectOf, objectOf, reached}
 use Rattle.game.specs.Outcomes.{rightIn, opening}
+use Rattle.game.proofs.FlowLaws.{row-there, object-there, reads-right, writes-right}
 use Rattle.game_chains.specs.Histories.{AllowedMoves, historyAfter, positionAfter}
 use Rattle.game_chains.proofs.HolderLaws.{Agrees, agrees-moves}
 use Rattle.game_chains.proofs.StartLaws.{atom-starts}
-
--- a row that has a bit is one of a subject
-row-there : (rows : List ℕ) (s o : ℕ) → has (getD rows s 0) o ≡ true → s < length rows
-row-there rows s o h = by (decLt s (length rows))
-  where
-    by : Dec (s < length rows) → s < length rows
-    by (yes l) = l
-    by (no l) = clash h (ap (λ (x : ℕ). has x o) (List·getD-eq-default rows 0 (omega arith)) ∙ has-zero o)
 
 module _ (reads writes : List ℕ) (objects : ℕ) (good : matrixGood reads writes objects ≡ true) where
   -- the derived policy, as its image spells it
@@ -47,32 +39,17 @@ module _ (reads writes : List ℕ) (objects : ℕ) (good : matrixGood reads writ
 
   -- ---- the moves that the matrix allows are accesses that it allows
 
-  read-right : (k : ℕ) → k < readCount → rightIn reads writes k ≡ true → has (getD reads (subjectOf k) 0) (objectOf k) ≡ true
-  unfolding rightIn bitAt
-  read-right k l h = rw (lt-ltb k readCount l) at h
-
-  write-right : (k : ℕ) → readCount ≤ k → rightIn reads writes k ≡ true → has (getD writes (subjectOf k) 0) (objectOf k) ≡ true
-  unfolding rightIn bitAt
-  write-right k l h = rw (le-ltb k readCount l) at h
-
-  object-there : (o s : ℕ) (rows : List ℕ) → ((s k : ℕ) → objects ≤ k → has (getD rows s 0) k ≡ false) → has (getD rows s 0) o ≡ true → o < objects
-  object-there o s rows within h = by (decLt o objects)
-    where
-      by : Dec (o < objects) → o < objects
-      by (yes l) = l
-      by (no l) = clash h (within s o (omega arith))
-
   pub move-reads : (k : ℕ) → k < readCount → rightIn reads writes k ≡ true → Allowed reads writes objects (read (objects + subjectOf k) (objectOf k))
   move-reads k l h =
-      let r : has (getD reads (subjectOf k) 0) (objectOf k) ≡ true = read-right k l h in
-      mayRead (row-there reads (subjectOf k) (objectOf k) r) (object-there (objectOf k) (subjectOf k) reads (rows-exact objects reads .0 (g .readsGood)) r) r
+      let r : has (getD reads (subjectOf k) 0) (objectOf k) ≡ true = reads-right reads writes k l h in
+      mayRead (row-there reads (subjectOf k) (objectOf k) r) (object-there reads objects (subjectOf k) (objectOf k) (rows-exact objects reads .0 (g .readsGood)) r) r
 
   pub move-appends : (k : ℕ) → readCount ≤ k → k < rightCount → rightIn reads writes k ≡ true → Allowed reads writes objects (append (objects + subjectOf k) (objectOf k))
   move-appends k l m h =
-      let w : has (getD writes (subjectOf k) 0) (objectOf k) ≡ true = write-right k l h in
+      let w : has (getD writes (subjectOf k) 0) (objectOf k) ≡ true = writes-right reads writes k l h in
       let s : subjectOf k < length writes = row-there writes (subjectOf k) (objectOf k) w in
       let l : subjectOf k < length reads = omega (arith, s, g .even) in
-      mayAppend l (object-there (objectOf k) (subjectOf k) writes (rows-exact objects writes .0 (g .writesGood)) w) w
+      mayAppend l (object-there writes objects (subjectOf k) (objectOf k) (rows-exact objects writes .0 (g .writesGood)) w) w
 
   -- ---- holders and chains
 
@@ -81,13 +58,13 @@ module _ (reads writes : List ℕ) (objects : ℕ) (good : matrixGood reads writ
     where
       by : Dec (k < readCount) → (subjectOf k < length reads) × (objectOf k < objects)
       by (yes m) =
-          let r : has (getD reads (subjectOf k) 0) (objectOf k) ≡ true = read-right k m h in
-          (row-there reads (subjectOf k) (objectOf k) r, object-there (objectOf k) (subjectOf k) reads (rows-exact objects reads .0 (g .readsGood)) r)
+          let r : has (getD reads (subjectOf k) 0) (objectOf k) ≡ true = reads-right reads writes k m h in
+          (row-there reads (subjectOf k) (objectOf k) r, object-there reads objects (subjectOf k) (objectOf k) (rows-exact objects reads .0 (g .readsGood)) r)
       by (no m) =
-          let w : has (getD writes (subjectOf k) 0) (objectOf k) ≡ true = write-right k (omega arith) h in
+          let w : has (getD writes (subjectOf k) 0) (objectOf k) ≡ true = writes-right reads writes k (omega arith) h in
           let s : subjectOf k < length writes = row-there writes (subjectOf k) (objectOf k) w in
           let l : subjectOf k < length reads = omega (arith, s, g .even) in
-          (l, object-there (objectOf k) (subjectOf k) writes (rows-exact objects writes .0 (g .writesGood)) w)
+          (l, object-there writes objects (subjectOf k) (objectOf k) (rows-exact objects writes .0 (g .writesGood)) w)
 
   module _ (a : ℕ) (la : a < objects) where
     begins : Agrees P objects (length reads) a (opening reads writes a) start
