@@ -21,7 +21,7 @@ use Rattle.matrix.proofs.BitLaws.{has-is, has-not, has-and, has-above, has-ext,
 use Rattle.game.specs.declared.Position.{Position}
 use Rattle.game.specs.Limits.{sideLimit, readCount, rightCount}
 use Rattle.game.specs.Positions.{subjectOf, objectOf}
-use Rattle.game.specs.Search.{toFirstObject, adds, additions, appendsTo, reachesIn, Searched}
+use Rattle.game.specs.Search.{toFirstObject, adds, additions, appendsTo, reachesIn}
 
 -- ---- the rights to read object 0
 
@@ -92,12 +92,12 @@ module _ (s o : ℕ) (ls : s < 8) (lo : o < 8) where
   unfolding fitting
   mask-fits = ltb-true (maskOf s o) 262144 (all-at (fitting s) 8 o (all-at (λ s. allBelow (fitting s) 8) 8 s all-fitting ls) lo)
 
-module _ (rounds b : ℕ) (p : Position) (z : Searched rounds b p) where
+module _ (p : Position) (ls : p .subjects < 8) (lo : p .objects < 8) where
   adds-mask : (k : ℕ) → k < rightCount → has (bitAnd (p .rights) (maskOf (p .subjects) (p .objects))) k ≡ adds p k
   unfolding adds adding
   adds-mask k l =
       has-and (p .rights) (maskOf (p .subjects) (p .objects)) k
-      ∙ ap (λ (x : Bool). has (p .rights) k && x) (mask-is (p .subjects) (p .objects) (z .subjects) (z .objects) k l)
+      ∙ ap (λ (x : Bool). has (p .rights) k && x) (mask-is (p .subjects) (p .objects) ls lo k l)
 
   pub set-made : {x y : ℕ} → x ≡ toFirstObject (7 - p .subjects) → y ≡ toFirstObject (p .subjects)
       → bitAnd (p .rights) (x * p .objects + 512 * (y * (7 - p .objects))) ≡ additions p
@@ -106,7 +106,7 @@ module _ (rounds b : ℕ) (p : Position) (z : Searched rounds b p) where
       ap (λ (i : ℕ). bitAnd (p .rights) (i * p .objects + 512 * (y * (7 - p .objects)))) e
       ∙ ap (λ (i : ℕ). bitAnd (p .rights) (toFirstObject (7 - p .subjects) * p .objects + 512 * (i * (7 - p .objects)))) f
       ∙ bits-is (bitAnd (p .rights) (maskOf (p .subjects) (p .objects))) rightCount (adds p)
-      (lt-of-le-of-lt (and-le-r (p .rights) (maskOf (p .subjects) (p .objects))) (mask-fits (p .subjects) (p .objects) (z .subjects) (z .objects)))
+      (lt-of-le-of-lt (and-le-r (p .rights) (maskOf (p .subjects) (p .objects))) (mask-fits (p .subjects) (p .objects) ls lo))
       adds-mask
 
 module _ (p : Position) (k : ℕ) {moves : ℕ} (e : moves ≡ additions p) (l : k < rightCount) where

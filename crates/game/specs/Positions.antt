@@ -5,15 +5,15 @@ use mathlib.Core.Bool.{Bool, true, cond}
 use lib.Bits.{bitAnd, bitOr}
 use lib.Dec.{ltb}
 use Rattle.matrix.specs.Flows.{has}
-use Rattle.game.specs.Limits.{readCount, rightCount}
+use Rattle.game.specs.Limits.{sideLimit, readCount, rightCount}
 use Rattle.game.specs.declared.Position.{Position}
 
 -- the subject and the object of a right, and of the move that uses it
 unfoldable pub subjectOf : ℕ → ℕ
-subjectOf k = k % 9 / 3
+subjectOf k = k % readCount / sideLimit
 
 unfoldable pub objectOf : ℕ → ℕ
-objectOf k = k % 3
+objectOf k = k % sideLimit
 
 -- "one read or append whose right still stands, or passes"
 unfoldable pub legal : Position → ℕ → Bool

@@ -11,7 +11,9 @@ ghost use Rattle.game.specs.Search.{toFirstObject, adds, additions, reac
 use matrix::matrix_good;
 
 // The most subjects and objects, rounds and withdrawals of a game.
-const SIDE_LIMIT: usize = 3;
+const SUBJECT_LIMIT: usize = 3;
+
+const OBJECT_LIMIT: u32 = 3;
 
 const ROUND_LIMIT: u32 = 4;
 
@@ -32,6 +34,9 @@ const FIRST_WRITE: u32 = 512;
 
 // For each set of subjects, their rights to read object 0.
 const TO_FIRST_OBJECT: [u8; 8] = [0, 1, 8, 9, 64, 65, 72, 73];
+
+// Those of all three.
+const ALL_TO_FIRST_OBJECT: u32 = 73;
 
 // The numbers of the sides as an answer, and the codes of a read and an append.
 const GUARD: u32 = 0;
@@ -94,8 +99,8 @@ fn to_first_object(subjects: u32) -> u32
 
 // The moves that bring the information to a holder that lacks it, as one set: reads of the objects that hold it, by each subject that does
 // not, and appends to the objects that do not, by each subject that does.
-fn additions(rounds: u32, b: u32, p: Position) -> u32
-    requires { ⌜ Searched rounds b p ⌝ }
+fn additions(p: Position) -> u32
+    requires { ⌜ (p .subjects < 2 ^ sideLimit) × (p .objects < 2 ^ sideLimit) ⌝ }
     ensures { λ r. ⌜ r ≡ additions p ⌝ }
 {
     let reads = to_first_object(ALL - p.subjects) * p.objects;
@@ -103,12 +108,12 @@ fn additions(rounds: u32, b: u32, p: Position) -> u32
     p.rights & (reads + FIRST_WRITE * appends)
 }
 
-// One of the moves is an append to b: those of the three subjects to object 0 are 9, 12 and 15.
+// One of the moves is an append to b.
 fn reaches(moves: u32, b: u32) -> bool
     requires { ⌜ b < sideLimit ⌝ }
     ensures { λ r. ⌜ r ≡ reachesIn b moves ⌝ }
 {
-    moves & 73u32 << (READ_COUNT + b) != 0
+    moves & ALL_TO_FIRST_OBJECT << (READ_COUNT + b) != 0
 }
 
 // The position after a move that brings the information to a holder that lacked it.
@@ -119,14 +124,14 @@ fn moved(p: Position, k: u32) -> Position
     if k < READ_COUNT {
         return Position {
             rights: p.rights,
-            subjects: p.subjects | 1u32 << (k / 3),
+            subjects: p.subjects | 1u32 << (k / OBJECT_LIMIT),
             objects: p.objects,
         };
     }
     Position {
         rights: p.rights,
         subjects: p.subjects,
-        objects: p.objects | 1u32 << (k % 3),
+        objects: p.objects | 1u32 << (k % OBJECT_LIMIT),
     }
 }
 
@@ -147,7 +152,7 @@ fn desk(rounds: u32, b: u32, left: u32, p: Position) -> bool
     requires { ⌜ Searched rounds b p ⌝ }
     ensures { λ r. ⌜ r ≡ deskWins rounds b left p ⌝ }
 {
-    let moves = additions(rounds, b, p);
+    let moves = additions(p);
     if reaches(moves, b) {
         return true;
     }
@@ -218,7 +223,7 @@ fn first_winning(rounds: u32, b: u32, left: u32, p: Position) -> u32
     requires { ⌜ Searched rounds b p ⌝ }
     ensures { λ r. ⌜ r ≡ firstWinning rounds b left p ⌝ }
 {
-    let moves = additions(rounds, b, p);
+    let moves = additions(p);
     let idle = guard(rounds, b, left, p);
     let mut k = 0;
     while k < MOVE_COUNT {
@@ -238,7 +243,7 @@ fn rights_in(reads: &[u32], writes: &[u32]) -> u32
     let mut rights = 0u32;
     let mut s = 0;
     while s < reads.len() {
-        let place = 3 * (s as u32);
+        let place = OBJECT_LIMIT * (s as u32);
         let row = reads[s] + FIRST_WRITE * writes[s];
         rights = rights | row << place;
         s += 1;
@@ -250,8 +255,8 @@ fn rights_in(reads: &[u32], writes: &[u32]) -> u32
 fn move_at(k: u32) -> Move
     ensures { λ r. ⌜ r ≡ moveAt k ⌝ }
 {
-    let subject = k % 9 / 3;
-    let object = k % 3;
+    let subject = k % READ_COUNT / OBJECT_LIMIT;
+    let object = k % OBJECT_LIMIT;
     if k < READ_COUNT {
         return Move::Read { subject, object };
     }
@@ -265,10 +270,10 @@ fn move_at(k: u32) -> Move
 fn game_good(subjects: usize, objects: u32, a: u32, b: u32, rounds: u32, withdrawals: u32) -> bool
     ensures { λ r. ⌜ r ≡ gameGood subjects objects a b rounds withdrawals ⌝ }
 {
-    if SIDE_LIMIT < subjects {
+    if SUBJECT_LIMIT < subjects {
         return false;
     }
-    if SIDE_LIMIT < objects as usize {
+    if OBJECT_LIMIT < objects {
         return false;
     }
     if objects <= a {

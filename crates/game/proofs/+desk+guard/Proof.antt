@@ -68,7 +68,7 @@ abbrev desk-μ-loop : desk-lts.MeasureT-loop
 desk-μ-loop rounds b left p moves k₀ k = rightCount - k
 
 desk-additions-requires : (t : ℕ) → desk-lts.Need-additions-requires (desk-claims t) (desk-at t) desk.Post desk-Inv-loop desk-μ-loop
-desk-additions-requires t c κs = c .pre .1
+desk-additions-requires t c κs = (c .pre .1 .subjects, c .pre .1 .objects)
 
 desk-reaches-requires : (t : ℕ) → desk-lts.Need-reaches-requires (desk-claims t) (desk-at t) desk.Post desk-Inv-loop desk-μ-loop
 desk-reaches-requires t c κs = search needs

@@ -16,7 +16,7 @@ abbrev μ-loop : tie.MeasureT-loop
 μ-loop rounds b left p moves idle k₀ k = moveCount - k
 
 additions-requires : tie.Need-additions-requires Inv-loop μ-loop
-additions-requires c κs = c .pre
+additions-requires c κs = (c .pre .subjects, c .pre .objects)
 
 guard-requires : tie.Need-guard-requires Inv-loop μ-loop
 guard-requires c κs = c .before .pre
