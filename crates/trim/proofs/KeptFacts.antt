@@ -3,11 +3,11 @@ use Prim.Native.Nat.{ℕ, zero, suc, _+_, _*_, _-_, _/_, _%_, _≤_, _<_}
 use native.Mathlib.Omega.{arith}
 use native.Mathlib.Nat.{zero-add}
 use native.Mathlib.Decide.{decLt}
-use mathlib.Core.Path.{_≡_, refl, sym, subst, ap, ap₂, _∙_}
+use mathlib.Core.Path.{_≡_, refl, sym, subst, ap, _∙_}
 use mathlib.Core.Logic.{_⊎_, inl, inr, _↔_, _≢_, ⊎-elim}
 use mathlib.Core.Bool.{Bool, true, false, _&&_}
 use mathlib.Core.List.{List, [], _∷_, _++_}
-use lib.Dec.{leb, ltb, eqb}
+use lib.Dec.{leb, ltb}
 use lib.ListN.{length, take}
 use lib.ListN as ListN
 use lib.Seq.{drop-drop, take-at, drop-at}
@@ -20,9 +20,8 @@ use Rattle.lists.proofs.Every.{every-0, every-1, every-nil, every-cons, every-a
 use Rattle.lists.proofs.Counting.{count-length}
 use Rattle.lists.proofs.Conditions.{zero-or-not, given-among}
 use Rattle.answers.specs.Refusals.{lentLength, trimTrace}
-use Rattle.answers.specs.declared.Answer.{Answer}
 use Rattle.answers.specs.Answers.{accepted, isAlert}
-use Rattle.answers.proofs.Cases.{alert-accepted, accepted-given}
+use Rattle.answers.proofs.Cases.{alert-accepted}
 use Rattle.fields.specs.Bytes.{Bytes, cut}
 use Rattle.fields.specs.Writing.{overwritten}
 use Rattle.image.specs.Image.{imageConditions, checkOf, policyIn}
@@ -40,7 +39,7 @@ use Rattle.monitor.proofs.AnswerLaws.{new-quiet}
 use Rattle.monitor.proofs.RunLaws.{runAnswers-append}
 use Rattle.monitor.proofs.DemandLaws.{alert-last}
 use Rattle.monitor.proofs.Theorems.{demand3}
-use Rattle.trim.specs.Cuts.{pass, Minimal, Cut, none, keep, drop}
+use Rattle.trim.specs.Cuts.{pass, Cut, none, keep, drop}
 use Rattle.trim.specs.Trims.{trimLimit, recordAt, recordsAt, cutCounts, lastOf, frontOf, keptFront, keptOf, traceGood, trimConditions, trimRefusal, positionsOf, trimAnswer, trimEffect}
 use Rattle.trim.proofs.CutLaws.{cut-every, trim-fixed, trim-minimal, trim-counts, trim-cut}
 use Rattle.trim.proofs.ReplayLaws.{records-append}

@@ -15,7 +15,7 @@ use Rattle.session.specs.Limits.{sessionLength, usersAt}
 use Rattle.session.specs.Session.{startOf, startEffect}
 use Rattle.session.proofs.Canonical.{started-effect}
 use Rattle.records.specs.Records.{recordLength}
-use Rattle.trim.specs.Trims.{trimLimit, cutCounts, lastOf, frontOf, keptFront, keptOf}
+use Rattle.trim.specs.Trims.{trimLimit, cutCounts, lastOf, frontOf, keptOf}
 use Rattle.trim.specs.Replays.{inTrace, wholeTrace, Leaves, Tried, Trimmable, Kept, Found}
 use Rattle.trim.proofs.TraceLaws.{Whole, whole-is, front-fits}
 

@@ -1,5 +1,6 @@
 -- Theorems is the file to read: what is proved of a trimmed trace. The others are its laws.
 pub mod Theorems
+pub mod Examples
 pub mod CutLaws
 pub mod ReplayLaws
 pub mod PairLaws

@@ -2,18 +2,17 @@
 use Prim.Native.Nat.{ℕ, _+_, _-_, _*_, _/_, _%_, _≤_, _<_}
 use native.Mathlib.Omega.{arith}
 use native.Mathlib.Decide.{decLt}
-use native.Mathlib.Nat.{zero-add}
-use mathlib.Core.Path.{_≡_, refl, sym, ap, _∙_}
-use mathlib.Core.Logic.{_⊎_, inl, inr, _≢_, ⊎-elim}
-use mathlib.Core.Bool.{true, false}
-use mathlib.Core.List.{List, [], _∷_, _++_}
-use lib.ListN.{length, take, drop, length-take, length-append, length-drop, drop-of-length-le}
-use lib.Seq.{drop-drop, drop-append-add, take-all, length-take-le}
+use mathlib.Core.Path.{_≡_, ap, _∙_}
+use mathlib.Core.Logic.{_⊎_, ⊎-elim}
+use mathlib.Core.Bool.{true}
+use mathlib.Core.List.{List, _++_}
+use lib.ListN.{length, take, drop, drop-of-length-le}
+use lib.Seq.{drop-drop, drop-append-add, length-take-le}
 use Rattle.lists.proofs.Bools.{decide}
 use Rattle.lists.proofs.Conditions.{zero-or-not}
 use Rattle.fields.specs.Bytes.{numberIn, field}
 use Rattle.image.specs.Limits.{containerLimit}
-use Rattle.session.specs.Limits.{sessionLength, rowWidth, usersAt}
+use Rattle.session.specs.Limits.{rowWidth, usersAt}
 use Rattle.session.specs.Rows.{rowWords, putRow}
 use Rattle.chains.specs.History.{receiver}
 use Rattle.chains.specs.Table.{entry, blocks}
@@ -23,9 +22,8 @@ use Rattle.records.specs.Records.{recordLength, requestIn, stepIn, recordGood, 
 use Rattle.records.proofs.CodeLaws.{by-code, receiver-bound}
 use Rattle.records.proofs.RecordLaws.{asked}
 use Rattle.operations.specs.View.{view}
-use Rattle.operations.proofs.PlacedRows.{placed-long}
 use Rattle.monitor.specs.Steps.{stepAsked, refusalOf, stepEffect}
-use Rattle.monitor.proofs.StepLaws.{refused-effect, step-long, step-record, step-receiver, step-laid, blocked-effect, made-effect}
+use Rattle.monitor.proofs.StepLaws.{refused-effect, step-long, step-record, step-laid, blocked-effect, made-effect}
 use Rattle.trim.specs.Trims.{recordAt}
 use Rattle.trim.specs.Replays.{Leaves}
 

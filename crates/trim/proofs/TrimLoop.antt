@@ -1,11 +1,11 @@
 -- The passes one after the other, until one drops nothing.
-use Prim.Native.Nat.{ℕ, zero, suc, _+_, _≤_, _<_}
+use Prim.Native.Nat.{ℕ, _+_, _≤_, _<_}
 use native.Mathlib.Omega.{arith}
-use mathlib.Core.Path.{_≡_, refl, sym, ap, _∙_}
+use mathlib.Core.Path.{_≡_, sym, ap, _∙_}
 use mathlib.Core.Logic.{_⊎_, inl, inr}
 use mathlib.Core.Bool.{Bool, true}
-use mathlib.Core.List.{List, [], _∷_}
-use lib.ListN.{length, take, drop, length-take}
+use mathlib.Core.List.{List, []}
+use lib.ListN.{length, take, drop}
 use lib.Seq.{length-take-le}
 use Rattle.lists.specs.Lists.{every}
 use Rattle.image.specs.Image.{checkOf, policyIn}
@@ -13,8 +13,8 @@ use Rattle.session.specs.Limits.{sessionLength}
 use Rattle.session.specs.Session.{startOf, startEffect}
 use Rattle.session.proofs.Canonical.{started-effect}
 use Rattle.trim.specs.Cuts.{pass, trimIn}
-use Rattle.trim.specs.Trims.{trimLimit, cutCounts, lastOf, frontOf, keptFront}
-use Rattle.trim.specs.Replays.{inTrace, Leaves, Paired, Passable, Passed, Trimmable, Kept}
+use Rattle.trim.specs.Trims.{trimLimit, cutCounts, keptFront}
+use Rattle.trim.specs.Replays.{inTrace, Leaves, Passable, Passed, Trimmable, Kept}
 use Rattle.trim.proofs.CutLaws.{cut-every, pass-cut, pass-counts, pass-shorter, trim-next, trim-still}
 use Rattle.trim.proofs.TraceLaws.{front-fits}
 

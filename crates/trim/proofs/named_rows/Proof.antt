@@ -8,10 +8,6 @@ use Rattle.trim.proofs.NamedRows.{Looked, looked-start, looked-next, lo
 use borrow.Author.Needs.{needs}
 use Rattle.trim.proofs.named_rows.Statement.{statement}
 use Rattle.trim.proofs.named_rows.Tie as tie
-use Rattle.trim.proofs.named_rows.Reads as reads
-use Rattle.trim.proofs.named_rows.Lts as lts
-use Rattle.records.proofs.request_of.Reads as request-of-reads
-use Rattle.trim.proofs.larger.Reads as larger-reads
 
 abbrev Inv-loop : tie.InvT-loop
 Inv-loop trace n most₀ i₀ most i = Looked trace n most i
@@ -25,44 +21,17 @@ loop-holds c = looked-start _ _ refl (c .before .pre)
 mul-at : tie.Need-mul-at Inv-loop μ-loop
 mul-at c = omega (arith, c .before .loop .inv .whole, c .loop-test .taken)
 
-add-request-of : tie.Need-add-request-of Inv-loop μ-loop
-add-request-of c = search needs
-
-sub-request-of : tie.Need-sub-request-of Inv-loop μ-loop
-sub-request-of c = search needs
-
-part-request-of-start : tie.Need-part-request-of-start Inv-loop μ-loop
-part-request-of-start c = search needs
-
 part-request-of-end : tie.Need-part-request-of-end Inv-loop μ-loop
 part-request-of-end c = omega (arith, c .before .loop .inv .whole, c .loop-test .taken)
 
-request-of-requires : tie.Need-request-of-requires Inv-loop μ-loop
-request-of-requires c κs = search needs
-
-larger-requires : tie.Need-larger-requires Inv-loop μ-loop
-larger-requires c κs = search needs
-
-larger-requires-2 : tie.Need-larger-requires-2 Inv-loop μ-loop
-larger-requires-2 c κs = search needs
-
-add-i : tie.Need-add-i Inv-loop μ-loop
-add-i c = search needs
-
-loop-less : tie.Need-loop-less Inv-loop μ-loop
-loop-less c = search needs
-
 loop-again : tie.Need-loop-again Inv-loop μ-loop
-loop-again c = looked-next _ _ _ _ _ _ (c .before .before .before .before .before .loop .inv) (c .before .before .before .before .loop-test .taken) (c .before .before .request-of .ensures ∙ ap requestIn (record-part _ _)) (c .larger2 .ensures .0) (omega (arith, c .before .larger .ensures .0, c .larger2 .ensures .1)) (omega (arith, c .before .larger .ensures .1, c .larger2 .ensures .1))
+loop-again c =
+    let b4 = c .before .before .before .before in
+    let b5 = b4 .before in
+    looked-next _ _ _ _ _ _ (b5 .loop .inv) (b4 .loop-test .taken) (c .before .before .request-of .ensures ∙ ap requestIn (record-part _ _)) (c .larger2 .ensures .0) (omega (arith, c .before .larger .ensures .0, c .larger2 .ensures .1)) (omega (arith, c .before .larger .ensures .1, c .larger2 .ensures .1))
 
 returns : tie.Need-returns Inv-loop μ-loop
 returns c = (omega arith, leaves-all _)
-
-add-result : tie.Need-add-result Inv-loop μ-loop
-add-result c = search needs
-
-mul-result : tie.Need-mul-result Inv-loop μ-loop
-mul-result c = search needs
 
 returns-2 : tie.Need-returns-2 Inv-loop μ-loop
 returns-2 c = (omega (arith, c .if1 .left), leaves-named _ _ (looked-all _ _ _ _ (c .before .before .loop .inv) (c .before .loop-test .left)) (omega (arith, c .if1 .left)))
@@ -75,17 +44,17 @@ named-rows-spec =
     μ-loop
     loop-holds
     mul-at
-    add-request-of
-    sub-request-of
-    part-request-of-start
+    (λ c. search needs)
+    (λ c. search needs)
+    (λ c. search needs)
     part-request-of-end
-    request-of-requires
-    larger-requires
-    larger-requires-2
-    add-i
-    loop-less
+    (λ c κs. search needs)
+    (λ c κs. search needs)
+    (λ c κs. search needs)
+    (λ c. search needs)
+    (λ c. search needs)
     loop-again
     returns
-    add-result
-    mul-result
+    (λ c. search needs)
+    (λ c. search needs)
     returns-2)

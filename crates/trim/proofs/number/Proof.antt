@@ -10,8 +10,6 @@ use Rattle.trim.proofs.PairLaws.{numbered}
 use borrow.Author.Needs.{needs}
 use Rattle.trim.proofs.number.Statement.{statement}
 use Rattle.trim.proofs.number.Tie as tie
-use Rattle.trim.proofs.number.Reads as reads
-use Rattle.trim.proofs.number.Lts as lts
 
 abbrev Inv-loop : tie.InvT-loop
 Inv-loop positions₀ i₀ positions i = Copied (countFrom 0 trimLimit) positions₀ positions 0 i
@@ -22,23 +20,11 @@ abbrev μ-loop : tie.MeasureT-loop
 loop-holds : tie.Need-loop-holds Inv-loop μ-loop
 loop-holds c = copied-start _ _ _ (omega (arith, c .pre, count-length 0 trimLimit))
 
-cast-positions : tie.Need-cast-positions Inv-loop μ-loop
-cast-positions c = search needs
-
 slice-write-positions : tie.Need-slice-write-positions Inv-loop μ-loop
 slice-write-positions c = omega (arith, c .before .before .pre, c .before .loop .inv .long, c .loop-test .taken)
 
-add-i : tie.Need-add-i Inv-loop μ-loop
-add-i c = search needs
-
-loop-less : tie.Need-loop-less Inv-loop μ-loop
-loop-less c = search needs
-
 loop-again : tie.Need-loop-again Inv-loop μ-loop
 loop-again c = copied-next _ _ _ _ _ (c .before .loop .inv) _ _ (omega arith) (omega (arith, c .loop-test .taken, count-length 0 trimLimit)) (numbered _ (c .loop-test .taken))
-
-same-length : tie.Need-same-length Inv-loop μ-loop
-same-length c = search needs
 
 returns : tie.Need-returns Inv-loop μ-loop
 returns c = copied-all _ _ _ _ (c .before .loop .inv) (count-length 0 trimLimit ∙ sym (c .before .before .pre)) (omega (arith, c .loop-test .left, c .before .loop .inv .long, c .before .before .pre))
@@ -50,10 +36,10 @@ number-spec =
     Inv-loop
     μ-loop
     loop-holds
-    cast-positions
+    (λ c. search needs)
     slice-write-positions
-    add-i
-    loop-less
+    (λ c. search needs)
+    (λ c. search needs)
     loop-again
-    same-length
+    (λ c. search needs)
     returns)

@@ -5,10 +5,6 @@ use Rattle.trim.proofs.TrimLoop.{Trimming, trimming-start, trimming-rea
 use borrow.Author.Needs.{needs}
 use Rattle.trim.proofs.passes.Statement.{statement}
 use Rattle.trim.proofs.passes.Tie as tie
-use Rattle.trim.proofs.passes.Reads as reads
-use Rattle.trim.proofs.passes.Lts as lts
-use Rattle.session.proofs.start.Reads as start-reads
-use Rattle.trim.proofs.pass.Reads as pass-reads
 
 abbrev Inv-loop : tie.InvT-loop
 Inv-loop image before₀ work₀ trace positions₀ last wide n₀ kept₀ before work positions n kept = Trimming image trace last wide before work positions n kept
@@ -22,17 +18,15 @@ add-n c = omega (arith, c .before .before .before .before .before .pre .small)
 loop-holds : tie.Need-loop-holds Inv-loop μ-loop
 loop-holds c = trimming-start _ _ _ _ _ _ _ (c .before .before .before .before .before .pre)
 
-start-requires : tie.Need-start-requires Inv-loop μ-loop
-start-requires c κs = search needs
-
 pass-requires : tie.Need-pass-requires Inv-loop μ-loop
 pass-requires c κs = trimming-ready _ _ _ _ _ _ _ _ _ (c .before .before .before .before .before .before .before .before .loop .inv) _ (c .before .before .before .before .before .start .ensures .1) (search needs)
 
-loop-less : tie.Need-loop-less Inv-loop μ-loop
-loop-less c = search needs
-
 loop-again : tie.Need-loop-again Inv-loop μ-loop
-loop-again c = trimming-next _ _ _ _ _ _ _ _ _ (c .before .before .before .before .before .before .before .before .before .before .before .before .before .before .before .loop .inv) _ (c .before .before .before .before .before .before .before .before .before .before .before .before .start .ensures .1) _ _ _ _ (c .before .before .before .before .before .before .pass .ensures) (search needs) (search needs) (search needs)
+loop-again c =
+    let b6 = c .before .before .before .before .before .before in
+    let b12 = b6 .before .before .before .before .before .before in
+    let b15 = b12 .before .before .before in
+    trimming-next _ _ _ _ _ _ _ _ _ (b15 .loop .inv) _ (b12 .start .ensures .1) _ _ _ _ (b6 .pass .ensures) (search needs) (search needs) (search needs)
 
 same-length : tie.Need-same-length Inv-loop μ-loop
 same-length c = c .before .loop .inv .first ∙ sym (c .before .before .before .before .before .before .before .pre .first)
@@ -54,9 +48,9 @@ passes-spec =
     μ-loop
     add-n
     loop-holds
-    start-requires
+    (λ c κs. search needs)
     pass-requires
-    loop-less
+    (λ c. search needs)
     loop-again
     same-length
     same-length-2

@@ -8,8 +8,6 @@ use Rattle.trim.proofs.PairLaws.{put-all}
 use borrow.Author.Needs.{needs}
 use Rattle.trim.proofs.put.Statement.{statement}
 use Rattle.trim.proofs.put.Tie as tie
-use Rattle.trim.proofs.put.Reads as reads
-use Rattle.trim.proofs.put.Lts as lts
 
 abbrev Inv-loop : tie.InvT-loop
 Inv-loop positions out₀ i₀ out i = Copied positions out₀ out 0 i
@@ -20,23 +18,8 @@ abbrev μ-loop : tie.MeasureT-loop
 loop-holds : tie.Need-loop-holds Inv-loop μ-loop
 loop-holds c = copied-start _ _ _ (omega (arith, c .pre))
 
-shared-slice-read-out : tie.Need-shared-slice-read-out Inv-loop μ-loop
-shared-slice-read-out c = search needs
-
-slice-write-out : tie.Need-slice-write-out Inv-loop μ-loop
-slice-write-out c = search needs
-
-add-i : tie.Need-add-i Inv-loop μ-loop
-add-i c = search needs
-
-loop-less : tie.Need-loop-less Inv-loop μ-loop
-loop-less c = search needs
-
 loop-again : tie.Need-loop-again Inv-loop μ-loop
 loop-again c = copied-next _ _ _ _ _ (c .before .before .loop .inv) _ _ (omega arith) (c .before .loop-test .taken) refl
-
-same-length : tie.Need-same-length Inv-loop μ-loop
-same-length c = search needs
 
 returns : tie.Need-returns Inv-loop μ-loop
 returns c = put-all _ _ _ _ (c .before .loop .inv) (c .loop-test .left)
@@ -48,10 +31,10 @@ put-spec =
     Inv-loop
     μ-loop
     loop-holds
-    shared-slice-read-out
-    slice-write-out
-    add-i
-    loop-less
+    (λ c. search needs)
+    (λ c. search needs)
+    (λ c. search needs)
+    (λ c. search needs)
     loop-again
-    same-length
+    (λ c. search needs)
     returns)

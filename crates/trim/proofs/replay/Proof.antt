@@ -7,10 +7,6 @@ use Rattle.lists.proofs.Bools.{passes-test, fails-test}
 use Rattle.trim.proofs.ReplayLaws.{Replaying, replay-start, replay-in, replay-next, replay-stops, replay-end, record-part}
 use Rattle.trim.proofs.replay.Statement.{statement}
 use Rattle.trim.proofs.replay.Tie as tie
-use Rattle.trim.proofs.replay.Reads as reads
-use Rattle.trim.proofs.replay.Lts as lts
-use Rattle.monitor.proofs.step.Reads as step-reads
-use Rattle.answers.proofs.is_accepted.Reads as is-accepted-reads
 
 abbrev Inv-loop : tie.InvT-loop
 Inv-loop session₀ trace positions i₀ session i = Replaying session₀ trace positions session i
@@ -21,9 +17,6 @@ abbrev μ-loop : tie.MeasureT-loop
 loop-holds : tie.Need-loop-holds Inv-loop μ-loop
 loop-holds c = replay-start _ _ _ (c .before .before .before .pre)
 
-shared-slice-read-at : tie.Need-shared-slice-read-at Inv-loop μ-loop
-shared-slice-read-at c = search needs
-
 cast-at : tie.Need-cast-at Inv-loop μ-loop
 cast-at c = omega (arith, c .shared-slice-known3 .given (c .before .before .loop .i))
 
@@ -33,38 +26,22 @@ mul-at c = omega (arith, c .shared-slice-known3 .given (c .before .before .loop 
 add-step : tie.Need-add-step Inv-loop μ-loop
 add-step c = omega (arith, c .before .shared-slice-known3 .given (c .before .before .before .loop .i))
 
-sub-step : tie.Need-sub-step Inv-loop μ-loop
-sub-step c = search needs
-
-part-step-start : tie.Need-part-step-start Inv-loop μ-loop
-part-step-start c = search needs
-
 part-step-end : tie.Need-part-step-end Inv-loop μ-loop
 part-step-end c = omega (arith, replay-in _ _ _ _ _ (c .before .before .before .loop .inv) (c .before .before .loop-test .taken))
 
-step-requires : tie.Need-step-requires Inv-loop μ-loop
-step-requires c κs = search needs
-
-add-i : tie.Need-add-i Inv-loop μ-loop
-add-i c = search needs
-
-is-accepted-requires : tie.Need-is-accepted-requires Inv-loop μ-loop
-is-accepted-requires c κs = search needs
-
-same-length : tie.Need-same-length Inv-loop μ-loop
-same-length c = search needs
-
 returns : tie.Need-returns Inv-loop μ-loop
-returns c = replay-stops _ _ _ _ _ _ _ _ (c .before .before .before .before .before .before .before .before .before .loop .inv) (c .before .before .before .before .before .before .before .before .loop-test .taken) (record-part _ _) (c .before .before .before .before .step .ensures .0) (c .before .before .before .before .step .ensures .1) (search needs) (fails-test (c .before .is-accepted .ensures) (c .if1 .taken))
-
-loop-less : tie.Need-loop-less Inv-loop μ-loop
-loop-less c = search needs
+returns c =
+    let b4 = c .before .before .before .before in
+    let b8 = b4 .before .before .before .before in
+    let b9 = b8 .before in
+    replay-stops _ _ _ _ _ _ _ _ (b9 .loop .inv) (b8 .loop-test .taken) (record-part _ _) (b4 .step .ensures .0) (b4 .step .ensures .1) (search needs) (fails-test (c .before .is-accepted .ensures) (c .if1 .taken))
 
 loop-again : tie.Need-loop-again Inv-loop μ-loop
-loop-again c = replay-next _ _ _ _ _ _ _ _ (c .before .before .before .before .before .before .before .before .before .loop .inv) (c .before .before .before .before .before .before .before .before .loop-test .taken) (record-part _ _) (c .before .before .before .before .step .ensures .0) (c .before .before .before .before .step .ensures .1) (search needs) (passes-test (c .before .is-accepted .ensures) (c .if1 .left))
-
-same-length-2 : tie.Need-same-length-2 Inv-loop μ-loop
-same-length-2 c = search needs
+loop-again c =
+    let b4 = c .before .before .before .before in
+    let b8 = b4 .before .before .before .before in
+    let b9 = b8 .before in
+    replay-next _ _ _ _ _ _ _ _ (b9 .loop .inv) (b8 .loop-test .taken) (record-part _ _) (b4 .step .ensures .0) (b4 .step .ensures .1) (search needs) (passes-test (c .before .is-accepted .ensures) (c .if1 .left))
 
 returns-2 : tie.Need-returns-2 Inv-loop μ-loop
 returns-2 c = replay-end _ _ _ _ _ (c .before .loop .inv) (c .loop-test .left)
@@ -76,19 +53,19 @@ replay-spec =
     Inv-loop
     μ-loop
     loop-holds
-    shared-slice-read-at
+    (λ c. search needs)
     cast-at
     mul-at
     add-step
-    sub-step
-    part-step-start
+    (λ c. search needs)
+    (λ c. search needs)
     part-step-end
-    step-requires
-    add-i
-    is-accepted-requires
-    same-length
+    (λ c κs. search needs)
+    (λ c. search needs)
+    (λ c κs. search needs)
+    (λ c. search needs)
     returns
-    loop-less
+    (λ c. search needs)
     loop-again
-    same-length-2
+    (λ c. search needs)
     returns-2)
