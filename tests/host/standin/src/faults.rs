@@ -2,46 +2,32 @@
 
 /// A list of planted faults: the name of each in the code, the part of the comparison that finds it (`all`, or the
 /// beginning of a part's name), the tests that must see it, and what is wrong. A fault's number is its place in the list, from
-/// 1 on, or from the number on that stands before it behind `@`; the variable `YASLAUREL_FAULT` plants the one of its number.
+/// 1 on; the variable `YASLAUREL_FAULT` plants the one of its number.
 #[macro_export]
 macro_rules! faults {
-    ($($name:ident, $part:ident, $($test:ident)+, $text:literal;)+
-     $(@ $first:literal; $($later:ident, $later_part:ident, $($later_test:ident)+, $later_text:literal;)+)*) => {
+    ($($name:ident, $part:ident, $($test:ident)+, $text:literal;)+) => {
         #[derive(Clone, Copy, Debug, PartialEq, Eq)]
         pub enum Fault {
             $($name,)+
-            $($($later,)+)*
         }
 
-        /// Faults whose numbers follow one another: the first number, then for each fault its part, its tests and what is wrong.
-        type Numbered = (usize, &'static [(Fault, &'static str, &'static [&'static str], &'static str)]);
-
         impl Fault {
-            const ALL: &'static [Numbered] = &[
-                (1, &[$((Fault::$name, stringify!($part), &[$(stringify!($test)),+], $text),)+]),
-                $(($first, &[$((Fault::$later, stringify!($later_part), &[$(stringify!($later_test)),+], $later_text),)+]),)*
-            ];
-
-            /// The fault of a number.
-            fn numbered(number: usize) -> Option<Fault> {
-                let found = |(first, faults): &Numbered| faults.get(number.checked_sub(*first)?).map(|fault| fault.0);
-                Fault::ALL.iter().find_map(found)
-            }
+            const ALL: &'static [Fault] = &[$(Fault::$name,)+];
 
             /// The fault that is planted.
             pub fn planted() -> Option<Fault> {
                 static PLANTED: std::sync::OnceLock<Option<Fault>> = std::sync::OnceLock::new();
                 *PLANTED.get_or_init(|| {
                     let number: usize = std::env::var("YASLAUREL_FAULT").ok()?.parse().expect("the number of a fault");
-                    (number > 0).then(|| Fault::numbered(number).expect("a fault has this number"))
+                    (number > 0).then(|| *Fault::ALL.get(number - 1).expect("a fault has this number"))
                 })
             }
 
             /// The faults that a test must see, a line for each: its number, its part and what is wrong.
             pub fn list(test: &str) -> String {
-                let all = Fault::ALL.iter().flat_map(|(first, faults)| (*first..).zip(faults.iter()));
-                let seen = all.filter(|(_, (_, _, tests, _))| tests.contains(&test));
-                seen.map(|(number, (_, part, _, text))| format!("{number} {part} {text}\n")).collect()
+                let rows = [$((stringify!($part), &[$(stringify!($test)),+][..], $text),)+];
+                let seen = rows.iter().enumerate().filter(|(_, (_, tests, _))| tests.contains(&test));
+                seen.map(|(place, (part, _, text))| format!("{} {part} {text}\n", place + 1)).collect()
             }
         }
 
@@ -167,7 +153,6 @@ faults! {
     OwnersAfterContainers, all, differential, "owners are judged behind the containers";
     OldLeadingAccepted, all, differential calls, "an image that begins with 4 is accepted";
     OldOutputTaken, all, differential calls fuzz, "an output of 18,994 bytes is taken";
-    @ 120;
     WithdrawalFree, games, differential calls, "a withdrawal costs the guard nothing";
     RightReturns, games, differential calls, "a withdrawn right stands again";
     GuardFirst, games, differential calls, "the guard goes first";
