@@ -530,7 +530,7 @@ static inline const char *yaslaurel_meaning(uint32_t refusal)
         "the text of profiles is too long, breaks the grammar or profiles a path twice",
         "the profiles have over 32 paths, or a rule of over 8 mixtures",
         "a new file for another user than the process's own",
-        "the trace is empty, too long, has a refused or blocked record or does not end in an alert",
+        "the trace has no record, too many, one not accepted, or no alert at its end",
         "the game's objects, or one of its counts, are out of bounds",
     };
     switch (refusal) {

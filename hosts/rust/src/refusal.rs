@@ -153,7 +153,7 @@ impl Refusal {
             Refusal::ProfileText => "the text of profiles is too long, breaks the grammar or profiles a path twice",
             Refusal::ProfileLimit => "the profiles have over 32 paths, or a rule of over 8 mixtures",
             Refusal::OtherUser => "a new file for another user than the process's own",
-            Refusal::TrimTrace => "the trace is empty, too long, has a refused or blocked record or does not end in an alert",
+            Refusal::TrimTrace => "the trace has no record, too many, one not accepted, or no alert at its end",
             Refusal::GameBounds => "the game's objects, or one of its counts, are out of bounds",
         }
     }

@@ -1033,7 +1033,7 @@ static void refusal_meanings(void)
     check(strcmp(yaslaurel_meaning(YASLAUREL_REFUSED_NO_PROCESS), "p is no process") == 0 &&
               strcmp(yaslaurel_meaning(YASLAUREL_REFUSED_KIND), "o is of the wrong kind") == 0 &&
               strcmp(yaslaurel_meaning(YASLAUREL_REFUSED_TRIM),
-                     "the trace is empty, too long, has a refused or blocked record or does not end in an alert") == 0 &&
+                     "the trace has no record, too many, one not accepted, or no alert at its end") == 0 &&
               strcmp(yaslaurel_meaning(YASLAUREL_REFUSED_OTHER_USER),
                      "a new file for another user than the process's own") == 0,
           "meaning: the texts stand under their numbers");

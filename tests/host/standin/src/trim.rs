@@ -119,7 +119,7 @@ impl Tries<'_> {
 
 /// The kept positions, or the refusal.
 fn positions(image: &[u8], trace: &[u8]) -> Result<Vec<usize>, u32> {
-    let short = trace.len() % RECORD != 0;
+    let short = trace.chunks(RECORD).last().is_some_and(|record| record.len() < RECORD);
     if planted(Fault::TraceBeforeImage) && short {
         return Err(22);
     }
