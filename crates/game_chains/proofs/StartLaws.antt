@@ -7,6 +7,7 @@ use mathlib.Core.Option.{some}
 use Prim.Native.Nat.{ℕ, zero, suc, _+_, _<_}
 use native.Mathlib.Omega.{arith}
 use lib.ListN.{length, getElem?, replicate}
+use Rattle.lists.specs.Counting.{countFrom}
 use Rattle.lists.proofs.Bools.{clash}
 use Rattle.lists.proofs.Places.{some-inj}
 use Rattle.image.specs.Limits.{isFile}
@@ -15,7 +16,7 @@ use Rattle.image.specs.Image.{policyIn}
 use Rattle.image.specs.Normal.{Place, Meaning, placeOf, meaning}
 use Rattle.matrix.specs.Flows.{matrixGood}
 use Rattle.matrix.proofs.GoodLaws.{Good, good-parts}
-use Rattle.derivation.specs.Derived.{countFrom, derivedImage}
+use Rattle.derivation.specs.Derived.{derivedImage}
 use Rattle.derivation.proofs.DerivedLaws.{filePlace, processPlace, derived-means}
 use Rattle.derivation.proofs.Theorems.{derived-read}
 use Rattle.chains.specs.Chains.{ContainerAt, dataAtom, Starts}
