@@ -1,5 +1,5 @@
--- The refusal numbers (the paper, "Refused because of the input" and "Refused because of the session"; change requests No. 1, 6, 10, 13
--- and 14), each named once.
+-- The refusal numbers (the paper, "Refused because of the input" and "Refused because of the session"; change requests No. 1, 5, 6,
+-- 10, 11, 13 and 14), each named once.
 use Prim.Native.Nat.{ℕ}
 
 -- "1 image under 18 or over 20,480 bytes"
@@ -77,6 +77,15 @@ otherUser = 18
 -- change request No. 6: "19 when a trace has over 1,000,000 records"
 abbrev pub traceLength : ℕ
 traceLength = 19
+
+-- change request No. 11: "20 when containers differ in number, kind or atom, users differ in number, the consent input is not 32
+-- bytes, or a consent byte is neither 0 nor 1"
+abbrev pub compositionInput : ℕ
+compositionInput = 20
+
+-- "21 when a place has over 8 mixtures in normal form or over 256 rules are needed"
+abbrev pub compositionLimit : ℕ
+compositionLimit = 21
 
 -- change request No. 13: "22 when the trace is empty, too long, has a refused or blocked record or does not end in an alert"
 abbrev pub trimTrace : ℕ

@@ -65,6 +65,12 @@ pub const OTHER_USER: u32 = 18;
 // A trace of over 1,000,000 records.
 pub const TRACE_LENGTH: u32 = 19;
 
+// Two images of different shapes, or a consent that is not 32 bytes of 0 and 1.
+pub const COMPOSITION_INPUT: u32 = 20;
+
+// Two images whose composition has a rule of over 8 mixtures, or over 256 rules.
+pub const COMPOSITION_LIMIT: u32 = 21;
+
 // A trace that cannot be trimmed to its alert.
 pub const TRIM_TRACE: u32 = 22;
 
