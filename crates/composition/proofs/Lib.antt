@@ -11,3 +11,5 @@ pub mod RowLoop
 pub mod RecordLoops
 pub mod PairPolicy
 pub mod ComposeCases
+pub mod Theorems
+pub mod Examples
