@@ -7,6 +7,7 @@ use Rattle.answers.specs.declared.Received.{Received}
 use Rattle.answers.specs.declared.Answer.{Answer}
 use Rattle.answers.specs.Answers.{isAlert, isBlocked, isRefused, receivedOf, answerNumber}
 use Rattle.monitor.specs.declared.Ran.{Ran}
+use Rattle.composition.specs.declared.Composition.{Composition}
 use Rattle.trim.specs.declared.Trimmed.{Trimmed}
 
 -- a number that a host points to: the value, or what stood there if the call is refused
@@ -32,6 +33,10 @@ keptAfter w old = unlessRefused (not (eqb (w .refusal) 0)) (w .kept) old
 -- one of the three numbers of a matrix verdict: the value, or what stood there if the matrix is refused
 abbrev pub valueAfter : ℕ → ℕ → ℕ → ℕ
 valueAfter number value old = unlessRefused (eqb number matrix) value old
+
+-- the length of an image that was composed; in a refusal, what stood there
+abbrev pub lengthAfter : Composition → ℕ → ℕ
+lengthAfter made old = unlessRefused (not (eqb (made .refusal) 0)) (made .length) old
 
 -- one of the three numbers of a game's first move: the value, or what stood there if the game is refused, by a number above those of the two
 -- sides

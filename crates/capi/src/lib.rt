@@ -14,7 +14,8 @@ ghost use Rattle.game.specs.Outcomes.{gameValues};
 ghost use Rattle.withdrawals.specs.Judgements.{judgementOf};
 ghost use Rattle.derivation.specs.Derived.{derivedAnswer, derivedEffect};
 ghost use Rattle.confinement.specs.Images.{profileAnswer, profileEffect};
-ghost use Rattle.capi.specs.Hosts.{receivedAfter, stopAfter, takenAfter, keptAfter, valueAfter, moveAfter};
+ghost use Rattle.composition.specs.Images.{composeAnswer, composeEffect};
+ghost use Rattle.capi.specs.Hosts.{receivedAfter, stopAfter, takenAfter, keptAfter, valueAfter, lengthAfter, moveAfter};
 ghost use Rattle.capi.specs.Versions.{version};
 use matrix::Consistency;
 
@@ -281,4 +282,28 @@ pub extern "C" fn yaslaurel_profiles_policy(text: &[u8], out: &mut [u8]) -> u32
         × (now (out .exit) ≡ profileEffect (now (text .entry)) (now (out .entry))) ⌝ }
 {
     confinement::derive(text, out)
+}
+
+// 0 if two images were composed, with the length of the image that was written to the front of out; else the refusal, 9, 1 to 6 for the
+// first image and then for the second, 20 or 21, and everything is as it was.
+#[no_mangle]
+pub extern "C" fn yaslaurel_image_compose(
+    first: &[u8],
+    second: &[u8],
+    consent: &[u8],
+    out: &mut [u8],
+    length: &mut usize,
+) -> u32
+    ensures { λ r. ⌜
+        (r ≡ composeAnswer (now (first .entry)) (now (second .entry)) (now (consent .entry)) (now (out .entry)) .refusal)
+        × (now (length .exit) ≡ lengthAfter (composeAnswer (now (first .entry)) (now (second .entry)) (now (consent .entry)) (now (out .entry))) (now (length .entry)))
+        × (now (out .exit) ≡ composeEffect (now (first .entry)) (now (second .entry)) (now (consent .entry)) (now (out .entry))) ⌝ }
+{
+    let composed = composition::compose(first, second, consent, out);
+    let refusal = composed.refusal;
+    if refusal != 0 {
+        return refusal;
+    }
+    *length = composed.length;
+    0
 }

@@ -8,12 +8,13 @@ use native.Mathlib.Decide.{ℕ-discrete}
 use native.Mathlib.Omega.{arith}
 use lib.Dec.{eqb, leb}
 use lib.ListN.{length, length-map}
-use borrow.Author.Tests.{eq-eqb, ne-eqb, eqb-true, le-leb, lt-leb}
-use Rattle.lists.proofs.Bools.{decide, and-in, and-0, and-1, clash}
+use borrow.Author.Tests.{eq-eqb, ne-eqb, eqb-true, leb-true, le-leb, lt-leb}
+use Rattle.lists.proofs.Bools.{decide, and-in, and-0, and-1}
 use Rattle.lists.specs.Conditions.{Condition, _orRefuse_, firstFailed, AllHold, numbersOf, numbersGood}
-use Rattle.lists.specs.Lists.{elem}
-use Rattle.lists.proofs.Conditions.{passed, failed, none-left, first-stops, first-passed, given-none}
-use Rattle.answers.specs.Refusals.{lentLength, compositionInput, compositionLimit}
+use Rattle.lists.specs.Lists.{elem, every}
+use Rattle.lists.proofs.Every.{every-elem}
+use Rattle.lists.proofs.Conditions.{passed, failed, none-left, first-stops, first-passed, given-none, given-among}
+use Rattle.answers.specs.Refusals.{userRule, lentLength, compositionInput, compositionLimit}
 use Rattle.fields.specs.Bytes.{Bytes}
 use Rattle.image.specs.Limits.{outputBound, headerSize}
 use Rattle.image.specs.Policy.{Container, Policy, Sound}
@@ -23,6 +24,7 @@ use Rattle.image.proofs.Decode.{accepted-sound}
 use Rattle.image.proofs.Encode.{read-encode, encode-length, encode-short, encode-bytes}
 use Rattle.image.proofs.WrittenOwners.{Ownable, owned-ownable, policy-sound, policy-owns}
 use Rattle.normaliser.specs.Normaliser.{writtenUnless}
+use Rattle.normaliser.proofs.WriterLaws as writer
 use Rattle.composition.specs.declared.Composition.{Composition}
 use Rattle.composition.specs.Composed.{consentGood, consenting, composedOwned}
 use Rattle.composition.specs.Images.{sameContainers, sameShape, composed, composedImage, usesShort, rulesFew, inputGood, limitGood, pairConditions, composeConditions, answerUnless, composeAnswer, composeEffect}
@@ -73,6 +75,13 @@ matched p q h =
 pub image-holds : (a : List ℕ) → checkOf a ≡ 0 → AllHold (imageConditions a)
 unfolding checkOf imageConditions numbersGood numbersOf elem
 image-holds a h = given-none (imageConditions a) refl .0 h
+
+-- an image is refused by 1 to 6, or not
+pub check-small : (i : List ℕ) → checkOf i ≤ userRule
+check-small i = leb-true (checkOf i) userRule (every-elem (λ n. leb n userRule) (0 ∷ numbersOf (imageConditions i)) (checkOf i) low (unfold checkOf in (given-among (imageConditions i))))
+  where
+    low : every (λ n. leb n userRule) (0 ∷ numbersOf (imageConditions i)) ≡ true
+    low = unfold every imageConditions numbersOf in refl
 
 module _ (a b consent out : List ℕ) where
   abbrev pub composeRefusal : ℕ
@@ -189,6 +198,9 @@ module _ (a consent : List ℕ) (bytes : Bytes a) (e : checkOf a ≡ 0) where
   pub self-image : composedImage a a consent ≡ normalImage (policyIn a)
   unfolding composedImage normalImage normalPolicy
   self-image = ap (λ (m : Owned). encode (policyOf m)) self-owned
+
+  pub normal-long : headerSize ≤ length (normalImage (policyIn a))
+  normal-long = writer.normal-long (policyIn a) (accepted-sound a bytes e)
 
   pub self-limit : limitGood (composed a a consent) ≡ true
   unfolding limitGood

@@ -10,6 +10,7 @@ pub mod UseNumbers
 pub mod RowLoop
 pub mod RecordLoops
 pub mod PairPolicy
+pub mod RepeatLaws
 pub mod ComposeCases
 pub mod Theorems
 pub mod Examples

@@ -121,19 +121,13 @@ module _ (a b consent out : List ℕ) where
       at (yes l) = f l
       at (no l) = first (omega arith) (zero-or-not (checkOf a))
 
-  small : (i : List ℕ) → checkOf i ≤ userRule
-  small i = leb-true (checkOf i) userRule (every-elem (λ n. leb n userRule) (0 ∷ numbersOf (imageConditions i)) (checkOf i) low (unfold checkOf in (given-among (imageConditions i))))
-    where
-      low : every (λ n. leb n userRule) (0 ∷ numbersOf (imageConditions i)) ≡ true
-      low = unfold every imageConditions numbersOf in refl
-
   -- 9 exactly if the output is too short
   pub compose-9 : (refusal ≡ lentLength) ↔ (length out < outputBound)
   compose-9 = (to, images.refusal-short a b consent out)
     where
       to : refusal ≡ lentLength → length out < outputBound
       to e =
-          cases (λ l. l) (λ l p. absurd (omega (arith, images.refusal-first a b consent out l p, small a))) (λ l p q. absurd (omega (arith, images.refusal-second a b consent out l p q, small b)))
+          cases (λ l. l) (λ l p. absurd (omega (arith, images.refusal-first a b consent out l p, images.check-small a))) (λ l p q. absurd (omega (arith, images.refusal-second a b consent out l p q, images.check-small b)))
           (λ l p q x. absurd (omega (arith, images.refusal-input a b consent out l p q x))) (λ l p q x y. absurd (omega (arith, images.refusal-limit a b consent out l p q x y)))
           (λ l p q x y. absurd (omega (arith, images.refusal-none a b consent out l p q x y)))
 
@@ -157,8 +151,8 @@ module _ (a b consent out : List ℕ) where
     where
       to : refusal ≡ compositionInput → (outputBound ≤ length out) × (checkOf a ≡ 0) × (checkOf b ≡ 0) × (inputGood a b consent ≡ false)
       to e =
-          cases (λ l. absurd (omega (arith, images.refusal-short a b consent out l))) (λ l p. absurd (omega (arith, images.refusal-first a b consent out l p, small a)))
-          (λ l p q. absurd (omega (arith, images.refusal-second a b consent out l p q, small b))) (λ l p q x. (l, p, q, x))
+          cases (λ l. absurd (omega (arith, images.refusal-short a b consent out l))) (λ l p. absurd (omega (arith, images.refusal-first a b consent out l p, images.check-small a)))
+          (λ l p q. absurd (omega (arith, images.refusal-second a b consent out l p q, images.check-small b))) (λ l p q x. (l, p, q, x))
           (λ l p q x y. absurd (omega (arith, images.refusal-limit a b consent out l p q x y))) (λ l p q x y. absurd (omega (arith, images.refusal-none a b consent out l p q x y)))
 
   -- 21 exactly if they can be composed, and a place has over 8 mixtures or over 256 rules are needed
@@ -167,8 +161,8 @@ module _ (a b consent out : List ℕ) where
     where
       to : refusal ≡ compositionLimit → (outputBound ≤ length out) × (checkOf a ≡ 0) × (checkOf b ≡ 0) × (inputGood a b consent ≡ true) × (limitGood (composed a b consent) ≡ false)
       to e =
-          cases (λ l. absurd (omega (arith, images.refusal-short a b consent out l))) (λ l p. absurd (omega (arith, images.refusal-first a b consent out l p, small a)))
-          (λ l p q. absurd (omega (arith, images.refusal-second a b consent out l p q, small b))) (λ l p q x. absurd (omega (arith, images.refusal-input a b consent out l p q x)))
+          cases (λ l. absurd (omega (arith, images.refusal-short a b consent out l))) (λ l p. absurd (omega (arith, images.refusal-first a b consent out l p, images.check-small a)))
+          (λ l p q. absurd (omega (arith, images.refusal-second a b consent out l p q, images.check-small b))) (λ l p q x. absurd (omega (arith, images.refusal-input a b consent out l p q x)))
           (λ l p q x y. (l, p, q, x, y)) (λ l p q x y. absurd (omega (arith, images.refusal-none a b consent out l p q x y)))
 
   -- nothing is refused exactly if none of these holds
@@ -184,8 +178,8 @@ module _ (a b consent out : List ℕ) where
   -- no other number is given
   pub compose-among : (refusal ≤ userRule) ⊎ ((refusal ≡ lentLength) ⊎ ((refusal ≡ compositionInput) ⊎ (refusal ≡ compositionLimit)))
   compose-among =
-      cases (λ l. inr (inl (images.refusal-short a b consent out l))) (λ l p. inl (omega (arith, images.refusal-first a b consent out l p, small a)))
-      (λ l p q. inl (omega (arith, images.refusal-second a b consent out l p q, small b))) (λ l p q x. inr (inr (inl (images.refusal-input a b consent out l p q x))))
+      cases (λ l. inr (inl (images.refusal-short a b consent out l))) (λ l p. inl (omega (arith, images.refusal-first a b consent out l p, images.check-small a)))
+      (λ l p q. inl (omega (arith, images.refusal-second a b consent out l p q, images.check-small b))) (λ l p q x. inr (inr (inl (images.refusal-input a b consent out l p q x))))
       (λ l p q x y. inr (inr (inr (images.refusal-limit a b consent out l p q x y)))) (λ l p q x y. inl (omega (arith, images.refusal-none a b consent out l p q x y)))
 
   -- ---- WHAT IS WRITTEN

@@ -4,16 +4,19 @@ use Prim.Native.Nat.{ℕ, zero, suc, _+_, _*_, _≤_}
 use mathlib.Core.Path.{_≡_}
 use mathlib.Core.Bool.{Bool, true, cond}
 use mathlib.Core.List.{List, [], _∷_, _++_, map}
-use lib.Dec.{leb}
+use lib.Dec.{ltb, leb}
 use lib.ListN.{length, take}
 use Rattle.lists.specs.Lists.{joined, every}
 use Rattle.fields.specs.Writing.{overwritten}
 use Rattle.rules.specs.Answers.{mixtureLimit}
 use Rattle.rule_words.specs.Words.{ruleWidth, ruleOf, wordsOf}
+use Rattle.image.specs.Limits.{headerSize}
 use Rattle.image.specs.Policy.{Container, Policy}
 use Rattle.image.specs.Image.{policyIn, checkOf}
 use Rattle.image.specs.Normal.{Use, Owned, owned, uses, policyOf, encode}
+use Rattle.normaliser.specs.Normaliser.{normalAnswer}
 use Rattle.normaliser.specs.Writer.{formRow, containerUses}
+use Rattle.composition.specs.declared.Composition.{Composition}
 use Rattle.composition.specs.Composed.{composedRule, composedUses, composedOwned}
 use Rattle.composition.specs.Images.{sameShape, shortUse, limitGood}
 
@@ -87,3 +90,10 @@ pairOwned c a b = composedOwned c (owned (policyIn a)) (owned (policyIn b))
 pub record PairWritten (m : Owned) (before after : List ℕ) (n : ℕ) : Type 0 where
   pub answer : n ≡ cond (limitGood m) (length (encode (policyOf m))) 0
   pub effect : after ≡ cond (limitGood m) (overwritten (encode (policyOf m)) 0 before) before
+
+-- ---- an image with itself
+
+-- the normaliser's answer, a refusal being below every length
+unfoldable pub repeatAnswer : List ℕ → List ℕ → Composition
+repeatAnswer a out =
+    cond (ltb (normalAnswer a out) headerSize) (record { refusal = normalAnswer a out; length = 0 }) (record { refusal = 0; length = normalAnswer a out })

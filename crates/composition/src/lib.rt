@@ -1,10 +1,10 @@
 // Two policies composed, with the consent of the owners of sources (change request No. 11, after source document 003).
 ghost use mathlib.Core.Path.{_≡_};
-ghost use mathlib.Core.Bool.{true};
+ghost use mathlib.Core.Bool.{true, _&&_};
 ghost use mathlib.Core.List.{map};
 ghost use Prim.Native.Nat.{_+_, _*_, _/_, _≤_, _<_};
 ghost use lib.ListN.{length, getD};
-ghost use Rattle.lists.specs.Lists.{joined};
+ghost use Rattle.lists.specs.Lists.{sameList, joined};
 ghost use Rattle.fields.specs.Bytes.{bytesOf};
 ghost use Rattle.fields.specs.Writing.{Wrote};
 ghost use Rattle.rules.specs.Rules.{normal};
@@ -14,10 +14,11 @@ ghost use Rattle.image.specs.Limits.{userSize, containerLimit, containerSize, u
 ghost use Rattle.image.specs.Policy.{ownerAt, named};
 ghost use Rattle.image.specs.Image.{policyIn, containersIn, ownersIn, checkOf};
 ghost use Rattle.image.specs.Normal.{useAt, containerBytes};
+ghost use Rattle.normaliser.specs.Normaliser.{normalEffect};
 ghost use Rattle.normaliser.specs.Writer.{formWidth, formRow};
 ghost use Rattle.composition.specs.Composed.{consentGood, consenting, enters, entering, composedRule, composedOwner, composedUse};
 ghost use Rattle.composition.specs.Images.{sameContainers, sameShape, inputGood, composeAnswer, composeEffect};
-ghost use Rattle.composition.specs.Tables.{enteringLimit, Entered, WordsComposed, usedNumbers, UsePut, Paired, pairUses, useCount, UsesPut, ownNumbers, countFrom, pairOwned, PairWritten};
+ghost use Rattle.composition.specs.Tables.{enteringLimit, Entered, WordsComposed, usedNumbers, UsePut, Paired, pairUses, useCount, UsesPut, ownNumbers, countFrom, pairOwned, PairWritten, repeatAnswer};
 use rules::Bounded;
 
 // The most mixtures of two rules.
@@ -342,10 +343,56 @@ fn input_good(first: &[u8], second: &[u8], consent: &[u8]) -> bool
     consent_good(consent)
 }
 
+// Two images are the same bytes. No branch depends on them.
+fn same_bytes(a: &[u8], b: &[u8]) -> bool
+    ensures { λ r. ⌜ r ≡ sameList (now (a .entry)) (now (b .entry)) ⌝ }
+{
+    if a.len() != b.len() {
+        return false;
+    }
+    let mut all: u8 = 0;
+    let mut i: usize = 0;
+    while i < a.len() {
+        all = all | (a[i] ^ b[i]);
+        i += 1;
+    }
+    all == 0
+}
+
+// It is one image twice, and there is a consent.
+fn is_repeated(first: &[u8], second: &[u8], consent: &[u8]) -> bool
+    ensures { λ r. ⌜ r ≡ (consentGood (now (consent .entry)) && sameList (now (first .entry)) (now (second .entry))) ⌝ }
+{
+    if !consent_good(consent) {
+        return false;
+    }
+    same_bytes(first, second)
+}
+
+// An image with itself: its normal image.
+fn repeat(image: &[u8], out: &mut [u8]) -> Composition
+    ensures { λ r. ⌜ (r ≡ repeatAnswer (now (image .entry)) (now (out .entry))) × (now (out .exit) ≡ normalEffect (now (image .entry)) (now (out .entry))) ⌝ }
+{
+    let n = normaliser::normalise(image, out);
+    if n < image::HEADER_SIZE as u32 {
+        return Composition {
+            refusal: n,
+            length: 0,
+        };
+    }
+    Composition {
+        refusal: 0,
+        length: n as usize,
+    }
+}
+
 // Writes two images composed as a normal image: 9, then what the first image is refused for, then the second, then 20 and 21.
 pub fn compose(first: &[u8], second: &[u8], consent: &[u8], out: &mut [u8]) -> Composition
     ensures { λ r. ⌜ (r ≡ composeAnswer (now (first .entry)) (now (second .entry)) (now (consent .entry)) (now (out .entry))) × (now (out .exit) ≡ composeEffect (now (first .entry)) (now (second .entry)) (now (consent .entry)) (now (out .entry))) ⌝ }
 {
+    if is_repeated(first, second, consent) {
+        return repeat(first, out);
+    }
     if out.len() < normaliser::OUTPUT_BOUND {
         return Composition {
             refusal: answers::LENT_LENGTH,
