@@ -17,8 +17,8 @@
  *     answer = yaslaurel_step(session, length, record, sizeof record,
  *                             &receiver, &tag, &position);
  *
- * An image comes from a file, from an access matrix (yaslaurel_matrix_policy) or from a text of profiles
- * (yaslaurel_profiles_policy). FORMATS.md, which comes with it, has each format in full and a remedy for each refusal.
+ * An image comes from a file, from an access matrix (yaslaurel_matrix_policy), from a text of profiles
+ * (yaslaurel_profiles_policy) or from two others (yaslaurel_image_compose). FORMATS.md, which comes with it, has each format in full and a remedy for each refusal.
  *
  * The library holds no state of its own, allocates nothing, takes no locks, leaves errno alone and calls nothing but the C
  * library's functions on memory (memset, memcpy and the like): it reads and writes only its own stack and the memory that
@@ -32,12 +32,13 @@
  *   1          yaslaurel_matrix_verdict alone: not consistent; yaslaurel_matrix_silent alone: silent, and its 0 is not
  *              silent; yaslaurel_matrix_game alone: the desk wins, and its 0 is that the guard does
  *   1 to 4     yaslaurel_matrix_judge alone: the first condition that fails
- *   a length   YASLAUREL_HEADER_LENGTH or more: of the image written, from the three functions that write one
+ *   a length   YASLAUREL_HEADER_LENGTH or more: of the image written, from the three functions that write one and return its
+ *              length; yaslaurel_image_compose writes the length behind a pointer
  *   256        yaslaurel_step and yaslaurel_run alone: alert
  *   257        yaslaurel_step and yaslaurel_run alone: blocked, neither accepted nor refused
  *   1 to 23    otherwise: refused, with the number of the first condition that fails, in the order below; 18 is a refusal
- *              from yaslaurel_step and yaslaurel_run alone, 22 from yaslaurel_trace_trim, 23 from yaslaurel_matrix_game,
- *              which give no length
+ *              from yaslaurel_step and yaslaurel_run alone, 20 and 21 from yaslaurel_image_compose, 22 from
+ *              yaslaurel_trace_trim, 23 from yaslaurel_matrix_game, which return no length
  *
  * yaslaurel_meaning has a text for each refusal, yaslaurel_verdict_meaning, yaslaurel_silence_meaning,
  * yaslaurel_judgement_meaning and yaslaurel_outcome_meaning for the answers of these four functions, whose 0 to 4 are no
@@ -67,6 +68,9 @@
  *   15  a meet of two rules has over 8 mixtures
  *   16  the profiles: text over YASLAUREL_TEXT_LIMIT bytes, not of the grammar, a path profiled twice
  *   17  the profiles: over YASLAUREL_PATHS paths, or a rule of over 8 mixtures in normal form
+ *   20  two images to compose: their containers differ in number, kind or atom, their users in number, or the consent is
+ *       not YASLAUREL_ATOMS bytes of 0 and 1
+ *   21  two images to compose: a place has over 8 mixtures in normal form, or over YASLAUREL_RULES rules are needed
  *   22  the trace is empty, has over YASLAUREL_TRIM_LIMIT records or one that is refused or blocked, or does not end in an
  *       alert
  *   23  a game: source and target are the same or one is no object, over 3 subjects or objects, 0 or over 4 rounds, over 2
@@ -276,6 +280,8 @@
 #define YASLAUREL_REFUSED_PROFILE_TEXT 16u
 #define YASLAUREL_REFUSED_PROFILE_LIMIT 17u
 #define YASLAUREL_REFUSED_OTHER_USER 18u
+#define YASLAUREL_REFUSED_COMPOSITION_INPUT 20u
+#define YASLAUREL_REFUSED_COMPOSITION_LIMIT 21u
 #define YASLAUREL_REFUSED_TRIM 22u
 #define YASLAUREL_REFUSED_GAME 23u
 
@@ -297,6 +303,7 @@
 #define YASLAUREL_MATRIX_JUDGE_STACK 384u
 #define YASLAUREL_MATRIX_POLICY_STACK 12288u
 #define YASLAUREL_PROFILES_POLICY_STACK 36864u
+#define YASLAUREL_IMAGE_COMPOSE_STACK 57344u
 
 #ifdef __cplusplus
 extern "C" {
@@ -478,6 +485,24 @@ uint32_t yaslaurel_matrix_policy(const uint32_t *reads, size_t reads_len, const 
 YASLAUREL_MUST_USE
 uint32_t yaslaurel_profiles_policy(const uint8_t *text, size_t text_len, uint8_t *out, size_t out_len);
 
+/*
+ * Composes two policy images. The normal image of what they permit together comes to the front of `out`; the bytes behind it
+ * stay. The two have the same containers, with the same kinds and atoms, and as many users. `consent` has YASLAUREL_ATOMS
+ * bytes, 1 where the owner of that data atom consents and 0 where not; a running atom consents with its data atom.
+ *
+ * At each place for a rule a mixture of either rule's normal form enters if the other rule covers it, or if all its atoms
+ * consent. Where both rules have the same owner he stays, else nobody owns the result. Two mixtures that only overlap do not
+ * enter: without consent {0, 1} with {1, 2} gives a rule without mixtures, which covers not even the empty tag. Two accepted
+ * images give the same answer and the same bytes in either order; an image with itself gives its normal image. `out` is other
+ * memory than the images.
+ *
+ * Returns 0, and `length` is the length of the image (YASLAUREL_HEADER_LENGTH to YASLAUREL_OUTPUT_LENGTH). Else 9, then 1 to 6
+ * for the first image, then 1 to 6 for the second, then 20, then 21, and `length` keeps what it held.
+ */
+YASLAUREL_MUST_USE
+uint32_t yaslaurel_image_compose(const uint8_t *first, size_t first_len, const uint8_t *second, size_t second_len,
+                                 const uint8_t *consent, size_t consent_len, uint8_t *out, size_t out_len, size_t *length);
+
 #ifdef __cplusplus
 }
 #endif
@@ -506,7 +531,7 @@ static inline void yaslaurel_record(uint32_t code, uint32_t p, uint32_t o, uint3
  * Tells what a refusal means. Not for the answers of yaslaurel_matrix_verdict, yaslaurel_matrix_silent,
  * yaslaurel_matrix_game and yaslaurel_matrix_judge, whose 0 to 4 are no refusals, and not for a length.
  *
- * Returns a constant text of a few words, "no refusal" for 0 and every other number that is none.
+ * Returns a constant text of a few words, "no refusal" for 0, 19 and every number over 23.
  */
 static inline const char *yaslaurel_meaning(uint32_t refusal)
 {
@@ -530,17 +555,13 @@ static inline const char *yaslaurel_meaning(uint32_t refusal)
         "the text of profiles is too long, breaks the grammar or profiles a path twice",
         "the profiles have over 32 paths, or a rule of over 8 mixtures",
         "a new file for another user than the process's own",
+        "no refusal", /* 19 is an answer of the program month alone */
+        "the two images have other containers or users, or the consent is not 32 bytes of 0 and 1",
+        "a place of the composed policy has over 8 mixtures, or it needs over 256 rules",
         "the trace has no record, too many, one not accepted, or no alert at its end",
         "the game's objects, or one of its counts, are out of bounds",
     };
-    switch (refusal) {
-    case YASLAUREL_REFUSED_TRIM:
-        return meanings[YASLAUREL_REFUSED_OTHER_USER + 1];
-    case YASLAUREL_REFUSED_GAME:
-        return meanings[YASLAUREL_REFUSED_OTHER_USER + 2];
-    default:
-        return meanings[refusal <= YASLAUREL_REFUSED_OTHER_USER ? refusal : 0];
-    }
+    return meanings[refusal < sizeof meanings / sizeof meanings[0] ? refusal : 0];
 }
 
 /*

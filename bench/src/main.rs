@@ -10,10 +10,11 @@
 //! `bench WATCH MONTH` also measures these programs, `bench watch PROGRAM` and `bench month PROGRAM` measure one alone; `bench
 //! operations` measures single operations alone, `bench batches` runs of records, `bench profiles` texts of profiles, `bench
 //! cover` the cover test of a rule of eight, `bench proposals` proposals to withdraw rights, `bench games` games of a desk
-//! against a guard, `bench trims` traces trimmed to their alert.
+//! against a guard, `bench trims` traces trimmed to their alert, `bench compositions` pairs of images.
 //! `bench listing` is the watch program in natural Rust (`BufWriter`, `writeln!`), `bench figures` the month program, for the
 //! comparison of whole programs; `bench trace COUNT` writes the policy and trace that both watch programs read.
 
+mod compositions;
 mod cover;
 mod games;
 mod month;
@@ -716,6 +717,10 @@ fn main() -> io::Result<()> {
             games::games();
             return Ok(());
         }
+        ["compositions"] => {
+            compositions::compositions();
+            return Ok(());
+        }
         ["trace", count] => {
             fs::write("policy.bin", work::policy(1, 6))?;
             return fs::write("trace.bin", whole_trace(count.parse().expect("a number of records")));
@@ -728,6 +733,7 @@ fn main() -> io::Result<()> {
     batches();
     trims::trims();
     images();
+    compositions::compositions();
     matrices();
     games::games();
     proposals();

@@ -104,4 +104,15 @@ extern "C" {
         out_len: usize,
     ) -> u32;
     pub fn yaslaurel_profiles_policy(text: *const u8, text_len: usize, out: *mut u8, out_len: usize) -> u32;
+    pub fn yaslaurel_image_compose(
+        first: *const u8,
+        first_len: usize,
+        second: *const u8,
+        second_len: usize,
+        consent: *const u8,
+        consent_len: usize,
+        out: *mut u8,
+        out_len: usize,
+        length: *mut usize,
+    ) -> u32;
 }

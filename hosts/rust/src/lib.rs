@@ -41,6 +41,7 @@
 #![warn(missing_docs, clippy::missing_errors_doc, clippy::must_use_candidate)]
 #![doc(test(attr(deny(warnings))))]
 
+mod composition;
 mod container;
 pub mod ffi;
 mod game;
@@ -55,6 +56,7 @@ mod withdrawal;
 
 use std::fmt;
 
+pub use composition::{compose, compose_into};
 pub use container::{Container, Kind};
 pub use game::{play, Move, Outcome};
 pub use operation::Operation;

@@ -5,7 +5,7 @@ use std::fmt;
 /// Why a call was refused. A refused call changes nothing that it was lent.
 ///
 /// The numbers are the paper's. Where several conditions fail, the least refusal counts: they are ordered 9, 1 to 8, 10 to
-/// 14, 18, 15 to 17, 22, 23, as published, and not by number.
+/// 14, 18, 15 to 17, 20 to 23, as published, and not by number.
 ///
 /// ```
 /// use yaslaurel::Refusal;
@@ -58,6 +58,11 @@ pub enum Refusal {
     ProfileLimit = 17,
     /// A process makes a new file for another user than the one on whose behalf it runs.
     OtherUser = 18,
+    /// Two images to compose: their containers differ in number, kind or atom, their users in number, or the consent is not 32
+    /// bytes of 0 and 1.
+    CompositionInput = 20,
+    /// Two images to compose: a place has over 8 mixtures in normal form, or over 256 rules are needed.
+    CompositionLimit = 21,
     /// The trace to trim is empty, has over [`TRIM_LIMIT`](crate::TRIM_LIMIT) records, has a refused or blocked record, or does not
     /// end in an alert.
     TrimTrace = 22,
@@ -67,7 +72,7 @@ pub enum Refusal {
 }
 
 /// All refusals in the published order.
-const PUBLISHED: [Refusal; 20] = [
+const PUBLISHED: [Refusal; 22] = [
     Refusal::LentLength,
     Refusal::ImageLength,
     Refusal::Sections,
@@ -86,6 +91,8 @@ const PUBLISHED: [Refusal; 20] = [
     Refusal::Meet,
     Refusal::ProfileText,
     Refusal::ProfileLimit,
+    Refusal::CompositionInput,
+    Refusal::CompositionLimit,
     Refusal::TrimTrace,
     Refusal::GameBounds,
 ];
@@ -96,7 +103,7 @@ impl Refusal {
     /// ```
     /// use yaslaurel::Refusal;
     /// let numbers: Vec<u32> = Refusal::all().map(Refusal::number).collect();
-    /// assert_eq!(numbers, [9, 1, 2, 3, 4, 5, 6, 7, 8, 10, 11, 12, 13, 14, 18, 15, 16, 17, 22, 23]);
+    /// assert_eq!(numbers, [9, 1, 2, 3, 4, 5, 6, 7, 8, 10, 11, 12, 13, 14, 18, 15, 16, 17, 20, 21, 22, 23]);
     /// assert!(Refusal::all().zip(Refusal::all().skip(1)).all(|(one, next)| one < next));
     /// ```
     pub fn all() -> impl Iterator<Item = Refusal> {
@@ -153,6 +160,12 @@ impl Refusal {
             Refusal::ProfileText => "the text of profiles is too long, breaks the grammar or profiles a path twice",
             Refusal::ProfileLimit => "the profiles have over 32 paths, or a rule of over 8 mixtures",
             Refusal::OtherUser => "a new file for another user than the process's own",
+            Refusal::CompositionInput => {
+                "the two images have other containers or users, or the consent is not 32 bytes of 0 and 1"
+            }
+            Refusal::CompositionLimit => {
+                "a place of the composed policy has over 8 mixtures, or it needs over 256 rules"
+            }
             Refusal::TrimTrace => "the trace has no record, too many, one not accepted, or no alert at its end",
             Refusal::GameBounds => "the game's objects, or one of its counts, are out of bounds",
         }

@@ -17,4 +17,5 @@ void ignored(uint8_t *bytes, uint64_t *words, uint32_t *rows, size_t length)
     yaslaurel_matrix_judge(rows, 1, rows, 1, 1, rows, 1, rows, 1, 1, rows, 1, rows, 1, 1);
     yaslaurel_matrix_policy(rows, length, rows, length, 1, bytes, length);
     yaslaurel_profiles_policy(bytes, length, bytes, length);
+    yaslaurel_image_compose(bytes, length, bytes, length, bytes, length, bytes, length, &length);
 }

@@ -34,6 +34,10 @@ static ucontext_t here;
 /* What the calls are lent. */
 static uint8_t image[YASLAUREL_IMAGE_LIMIT];
 static size_t image_length;
+static uint8_t other[YASLAUREL_IMAGE_LIMIT];
+static size_t other_length;
+static uint8_t consent[YASLAUREL_ATOMS];
+static size_t composed_length;
 static uint8_t out[YASLAUREL_OUTPUT_LENGTH];
 static uint64_t session[SESSION];
 static uint8_t record[YASLAUREL_RECORD_LENGTH];
@@ -133,6 +137,13 @@ static void call_profiles(void)
     answer = yaslaurel_profiles_policy((const uint8_t *)text, strlen(text), out, sizeof out);
 }
 
+static void call_compose(void)
+{
+    NOTE();
+    answer = yaslaurel_image_compose(image, image_length, other, other_length, consent, sizeof consent, out, sizeof out,
+                                     &composed_length);
+}
+
 static struct function {
     const char *name;
     void (*call)(void);
@@ -151,9 +162,10 @@ static struct function {
     {"yaslaurel_matrix_judge", call_judge, YASLAUREL_MATRIX_JUDGE_STACK, 0},
     {"yaslaurel_matrix_policy", call_policy, YASLAUREL_MATRIX_POLICY_STACK, 0},
     {"yaslaurel_profiles_policy", call_profiles, YASLAUREL_PROFILES_POLICY_STACK, 0},
+    {"yaslaurel_image_compose", call_compose, YASLAUREL_IMAGE_COMPOSE_STACK, 0},
 };
 
-enum { VERSION, CHECK, NORMALISE, START, STEP, RUN, TRIM, VERDICT, SILENT, GAME, JUDGE, POLICY, PROFILES };
+enum { VERSION, CHECK, NORMALISE, START, STEP, RUN, TRIM, VERDICT, SILENT, GAME, JUDGE, POLICY, PROFILES, COMPOSE };
 
 /* Runs a call on the painted stack and keeps the most that was found. */
 static void measure(int which)
@@ -299,9 +311,25 @@ static void make_good_text(void)
     }
 }
 
+/* Composes the image with one of other rules at the same places: with none consenting, with all, and with itself. */
+static void compose(void)
+{
+    other_length = image_length;
+    memcpy(other, image, image_length);
+    measure(COMPOSE);
+    for (size_t i = 0; i < YASLAUREL_MIXTURES; i++) {
+        put_mixture(section_at(other, MIXTURE_SECTION) + i * YASLAUREL_MIXTURE_LENGTH, (uint64_t)1 << draw() % 6);
+    }
+    measure(COMPOSE);
+    memset(consent, 1, sizeof consent);
+    measure(COMPOSE);
+    memset(consent, 0, sizeof consent);
+}
+
 static void measure_all(int round)
 {
     make_image(round % 2);
+    compose();
     measure(VERSION);
     measure(CHECK);
     measure(NORMALISE);
