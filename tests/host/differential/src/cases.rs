@@ -3,6 +3,7 @@
 
 mod allowed;
 mod batches;
+mod compositions;
 mod cuts;
 mod games;
 mod guarded;
@@ -30,6 +31,7 @@ pub const PARTS: &[Part] = &[
     proposals::PART,
     allowed::PART,
     guarded::PART,
+    compositions::PART,
     cuts::PART,
     games::PART,
     games::ALL,

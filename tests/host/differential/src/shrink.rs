@@ -59,7 +59,7 @@ fn shorter_sections(image: &[u8]) -> Vec<Vec<u8>> {
     let sections = if image.len() >= HEADER { &SECTIONS[..] } else { &[] };
     for (place, section) in sections.iter().enumerate() {
         let (offset, length) = (number_at(image, section.offset_at()), number_at(image, section.length_at()));
-        if length >= section.record && offset + length <= image.len() {
+        if offset >= HEADER && length >= section.record && offset + length <= image.len() {
             let mut less = image.to_vec();
             less.drain(offset + length - section.record..offset + length);
             put_number(&mut less, section.length_at(), length - section.record);

@@ -9,6 +9,7 @@
 //! chains, and holds no tags.
 
 pub mod chains;
+pub mod composition;
 pub mod game;
 pub mod image;
 pub mod listing;

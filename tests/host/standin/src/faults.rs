@@ -190,4 +190,28 @@ faults! {
     OutputByTrace, trims, differential calls fuzz, "an output that holds the trace's positions is long enough";
     PositionsCleared, trims, differential calls fuzz, "the bytes behind the positions are cleared";
     RefusedTrimClearsCount, trims, differential calls fuzz, "a refused trim clears the count";
+    IntersectionsEnter, compositions, differential calls, "intersections enter, as in document 003";
+    RawRulesComposed, compositions, differential calls, "mixtures of the rules as written enter";
+    TwinsApart, compositions, differential calls, "a running atom does not consent with its data atom";
+    OneConsentEnough, compositions, differential calls, "one atom that consents is enough";
+    EmptyMixtureUnasked, compositions, differential calls, "the empty mixture does not consent";
+    ConsentIgnored, compositions, differential calls, "nobody's consent counts";
+    UnionComposed, compositions, differential calls, "every mixture enters";
+    FirstOwnerStays, compositions, differential calls, "the owner of the first image stays";
+    SecondOwnerStays, compositions, differential calls, "the owner of the second image stays";
+    OnlyOwnerStays, compositions, differential calls, "an owner stays where the other rule has none";
+    SecondImageFirst, compositions, differential calls, "the second image is judged before the first";
+    ConsentBeforeSecond, compositions, differential calls, "the consent is judged before the second image";
+    LimitAt256, compositions, differential calls, "256 rules are answered 21";
+    OwnersNotNeeded, compositions, differential, "equal rules of other owners need one record";
+    MixturesBeforeComposing, compositions, differential calls, "over 8 is counted before the normal form";
+    ConsentOfTwo, compositions, differential calls, "a consent byte of 2 is taken as 1";
+    ShortConsent, compositions, differential calls, "a consent of 31 bytes is accepted";
+    UsersNotCompared, compositions, differential calls, "users may differ in number";
+    AtomsNotCompared, compositions, differential calls, "containers may differ in their atoms";
+    GuardedAsFileComposed, compositions, differential calls, "kinds 1 and 4 are taken as equal";
+    UsersOfFirst, compositions, differential calls, "users keep the rules of the first image";
+    RunWithPermit, compositions, differential calls, "run rules are composed with permit rules";
+    RefusedComposeClearsLength, compositions, differential calls fuzz, "a refused composition clears the length";
+    RefusedComposeWrites, compositions, differential calls fuzz, "a refused composition writes to the output";
 }

@@ -1,6 +1,7 @@
 //! The judge behind the C interface of the library, under the same names. Linked in place of the library it tests the
 //! tests: the whole judge must pass them, and with a planted fault (`faults`) they must fail.
 
+mod composition;
 pub mod faults;
 mod game;
 mod owners;
@@ -346,4 +347,27 @@ pub unsafe extern "C" fn yaslaurel_profiles_policy(
     out_length: usize,
 ) -> u32 {
     profiles::derive(from_raw_parts(text, length), from_raw_parts_mut(out, out_length))
+}
+
+/// # Safety
+/// As `include/yaslaurel.h` says.
+#[no_mangle]
+pub unsafe extern "C" fn yaslaurel_image_compose(
+    first: *const u8,
+    first_length: usize,
+    second: *const u8,
+    second_length: usize,
+    consent: *const u8,
+    consent_length: usize,
+    out: *mut u8,
+    out_length: usize,
+    length: *mut usize,
+) -> u32 {
+    composition::answer(
+        from_raw_parts(first, first_length),
+        from_raw_parts(second, second_length),
+        from_raw_parts(consent, consent_length),
+        from_raw_parts_mut(out, out_length),
+        &mut *length,
+    )
 }
