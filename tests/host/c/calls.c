@@ -1012,22 +1012,17 @@ static void refusal_meanings(void)
     const char *none = yaslaurel_meaning(0);
 
     check(strcmp(none, "no refusal") == 0, "meaning: of 0");
-    for (uint32_t i = 1; i <= 18; i++) {
+    for (uint32_t i = 1; i <= 23; i++) {
+        if (i == 19) {
+            continue;
+        }
         int own = strlen(yaslaurel_meaning(i)) > 0;
         for (uint32_t j = 0; j < i; j++) {
             own = own && strcmp(yaslaurel_meaning(i), yaslaurel_meaning(j)) != 0;
         }
         check(own, "meaning: a refusal has a text of its own");
     }
-    const uint32_t later[] = {YASLAUREL_REFUSED_TRIM, YASLAUREL_REFUSED_GAME};
-    for (size_t i = 0; i < sizeof later / sizeof later[0]; i++) {
-        int own = 1;
-        for (uint32_t j = 0; j < later[i]; j++) {
-            own &= strcmp(yaslaurel_meaning(later[i]), yaslaurel_meaning(j)) != 0;
-        }
-        check(own, "meaning: 22 and 23 have texts of their own");
-    }
-    check(yaslaurel_meaning(19) == none && yaslaurel_meaning(24) == none && yaslaurel_meaning(YASLAUREL_ALERT) == none &&
+    check(strcmp(yaslaurel_meaning(19), none) == 0 && yaslaurel_meaning(24) == none && yaslaurel_meaning(YASLAUREL_ALERT) == none &&
               yaslaurel_meaning(UINT32_MAX) == none,
           "meaning: of numbers that are no refusals");
     check(strcmp(yaslaurel_meaning(YASLAUREL_REFUSED_NO_PROCESS), "p is no process") == 0 &&
@@ -1038,6 +1033,8 @@ static void refusal_meanings(void)
                      "a new file for another user than the process's own") == 0,
           "meaning: the texts stand under their numbers");
 }
+
+#include "compositions.h"
 
 /* The verdict's 1, silent's 1, a game's 1 and the judgement's 1 to 4 have texts other than the refusals'. */
 static void answer_meanings(void)
@@ -1099,6 +1096,7 @@ int main(void)
     profile_example();
     profile_limits();
     withdrawals();
+    compositions();
     random_bytes();
     printf("%u passed, %u failed\n", passed, failed);
     return failed != 0;
