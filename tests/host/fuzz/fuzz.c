@@ -789,6 +789,8 @@ static void try_profiles(void)
     }
 }
 
+#include "compositions.h"
+
 /* Whether a function gave each of the wanted answers; prints the counts if asked. */
 static int reached(int print, const char *name, const unsigned long *counts, const int *wanted, size_t count)
 {
@@ -820,6 +822,7 @@ static int all_reached(int print)
     all &= REACHED(print, policies, LENGTH, 8, 9);
     all &= REACHED(print, profiles, LENGTH, 9, 16, 17);
     all &= REACHED(print, proposals, 0, 1, 2, 3, 4, 8);
+    all &= REACHED(print, pairs, 0, 1, 2, 3, 4, 5, 6, 9, 20, 21);
     return all;
 }
 
@@ -837,6 +840,9 @@ static void reserve_all(void)
     reserve(&taken_at, 64);
     reserve(&text_at, sizeof text);
     reserve(&positions_at, POSITIONS + 40);
+    reserve(&second_at, sizeof image);
+    reserve(&consent_at, 64);
+    reserve(&length_at, 64);
     for (size_t i = 0; i < 6; i++) {
         reserve(&rights_at[i], 64);
     }
@@ -874,6 +880,7 @@ static void try_all(void)
     try_matrix();
     try_proposal();
     try_profiles();
+    try_compose();
     /* The next start finds anything at all. */
     session[below(SESSION)] = draw();
 }
