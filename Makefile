@@ -6,6 +6,7 @@
 #   make record            builds the program `record`, which watches real programs, and prints where it is
 #   make night             watches eight commands of a shell script under strace, and names the alert
 #   make profiles-demo     turns the profiles in demo/profiles into a policy, and names the alerts of a session from it
+#   make vendor-demo       composes a vendor's policy with a house's, one source consenting
 #
 # Embed it (makers of platforms, in C or Rust)
 #   make lib               proves and builds target/lib: libyaslaurel.a, header, pkg-config file, FORMATS.md, manual pages
@@ -21,7 +22,7 @@
 #   make covering          the cover test alone, which the bench and a host test measure
 
 .DEFAULT_GOAL = help
-.PHONY: help try demo month policy record night profiles-demo lib install install-programs uninstall setup test bench covering
+.PHONY: help try demo month policy record night profiles-demo vendor-demo lib install install-programs uninstall setup test bench covering
 
 PREFIX = /usr/local
 BINDIR = $(PREFIX)/bin
@@ -64,6 +65,9 @@ night:
 
 profiles-demo:
 	@demo/profiles/run
+
+vendor-demo:
+	@demo/vendor/run
 
 # The crate of the library's functions, and those that it stands on: proved and built again where a source, a definition or a proof
 # of one of them has changed.

@@ -68,6 +68,20 @@ pub fn read_names(folder: &Path, policy: &mut Policy) -> io::Result<()> {
     })
 }
 
+/// The names of the sources that a folder has, in the order of their atoms.
+///
+/// # Errors
+///
+/// What the system says, or what is wrong in the file, with its name and line.
+pub fn source_names(folder: &Path) -> io::Result<Vec<String>> {
+    let mut names = Vec::new();
+    each_line(&folder.join(SOURCES), |_, name| {
+        names.push(name.to_string());
+        Ok(())
+    })?;
+    Ok(names)
+}
+
 /// All containers that a folder names, of the policy or made by its steps, in the order in which they come.
 ///
 /// # Errors

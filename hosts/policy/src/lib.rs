@@ -3,6 +3,7 @@
 
 #![warn(missing_docs, clippy::missing_errors_doc)]
 
+mod compose;
 mod folder;
 mod profiles;
 mod show;
@@ -13,7 +14,8 @@ mod token;
 mod trim;
 mod upgrade;
 
-pub use folder::{read_holders, read_names, write_folder};
+pub use compose::{emptied, input_fault, limit_fault, read_consent};
+pub use folder::{read_holders, read_names, source_names, write_folder};
 pub use profiles::{profile_paths, ProfileFault};
 pub use show::show;
 pub use steps::{Holder, Step, Steps};

@@ -8,9 +8,10 @@ use std::path::{Path, PathBuf};
 use std::process::ExitCode;
 
 use policy_text::{
-    profile_paths, read_holders, read_names, show, trim_trace, upgraded, write_folder, Story, TrimError,
+    emptied, input_fault, limit_fault, profile_paths, read_consent, read_holders, read_names, show, source_names,
+    trim_trace, upgraded, write_folder, Story, TrimError,
 };
-use yaslaurel::{normalise, profiles_policy, Policy, Refusal};
+use yaslaurel::{compose_into, normalise, profiles_policy, Policy, Refusal, OUTPUT_LENGTH};
 
 const HELP: &str = "\
 policy check IMAGE                  says whether a policy image is accepted, and what it has
@@ -18,6 +19,9 @@ policy normal IMAGE [-o FILE]       writes the normal image, to standard output 
 policy show IMAGE [-n FOLDER]       prints sources, rules, containers and users, with the names that FOLDER has
 policy profiles TEXT [-o FILE]      writes the image of a text of profiles, or tells the line at fault
 policy upgrade OLD [-o FILE]        writes the image of an earlier edition (one that begins with 4) as one of this, without owners
+policy compose FIRST SECOND CONSENT [-n FOLDER] [-o FILE]
+                                    writes what two policies permit together: CONSENT has 32 bytes, 1 for each source whose owner
+                                    consents, or the names of these sources, one in a line; warns of places without mixtures
 policy trim IMAGE TRACE [--at STEP] [-n FOLDER] [-o FILE]
                                     prints the few records of a trace that lead to its first alert, or to the one at a step, and writes
                                     them as a trace
@@ -181,6 +185,52 @@ fn make(arguments: &Arguments) -> Result<(), Failure> {
 }
 
 /// Trims a trace to its first alert, or to the one at a step, and says which records lead to it.
+/// A policy from a file's bytes, with the names that a folder has.
+fn named_policy(file: &Arguments, image: &[u8], names: Option<&Path>) -> Result<Policy, Failure> {
+    let mut policy = Policy::from_image(image).map_err(|refusal| file.refused(refusal))?;
+    if let Some(folder) = names {
+        read_names(folder, &mut policy).map_err(|error| Failed(error.to_string()))?;
+    }
+    Ok(policy)
+}
+
+/// The names of the sources that a folder has, or those of sources without names.
+fn sources(names: Option<&Path>) -> Result<Vec<String>, Failure> {
+    match names {
+        Some(folder) => source_names(folder).map_err(|error| Failed(error.to_string())),
+        None => Ok((0..32).map(|atom| format!("source-{atom}")).collect()),
+    }
+}
+
+fn compose(arguments: &[OsString]) -> Result<(), Failure> {
+    let ([first, second, consent], [names, out]) = files_and_options("compose", arguments, ["-n", "-o"])?;
+    let first = Arguments { file: first, option: out.map(PathBuf::from) };
+    let [second, consent] = [second, consent].map(|file| Arguments { file, option: None });
+    let names = names.as_ref().map(Path::new);
+    let (first_image, second_image) = (first.load()?, second.load()?);
+    let one = named_policy(&first, &first_image, names)?;
+    let other = named_policy(&second, &second_image, names)?;
+    let bytes = read_consent(&consent.load()?, &sources(names)?);
+    let bytes = bytes.map_err(|error| Refused(format!("{}:{error}", consent.file.display())))?;
+    let mut out = vec![0; OUTPUT_LENGTH];
+    let length = compose_into(&first_image, &second_image, &bytes, &mut out).map_err(|refusal| {
+        let why = match refusal {
+            Refusal::CompositionInput => input_fault(&one, &other, &bytes),
+            Refusal::CompositionLimit => limit_fault(&one, &other, &bytes),
+            _ => None,
+        };
+        let both = format!("{} with {}", first.file.display(), second.file.display());
+        Refused(why.map_or(format!("{both}: {refusal}"), |why| format!("{both}: refused {}: {why}", refusal.number())))
+    })?;
+    let composed = named_policy(&first, &out[..length], None)?;
+    first.write_image(&out[..length])?;
+    for place in emptied(&one, &other, &composed) {
+        // If standard error cannot be written, the image is there all the same.
+        let _ = writeln!(io::stderr(), "warning: {place} has no mixtures now, so nothing may be there");
+    }
+    Ok(())
+}
+
 fn trim(arguments: &[OsString]) -> Result<(), Failure> {
     let ([image, trace], [at, names, out]) = files_and_options("trim", arguments, ["--at", "-n", "-o"])?;
     let step = |text: OsString| text.to_str().and_then(|text| text.parse().ok()).filter(|&step: &usize| step > 0);
@@ -220,6 +270,7 @@ fn run(arguments: &[OsString]) -> Result<(), Failure> {
         "show" => show_image(&read(Some("-n"))?),
         "profiles" => profiles(&read(Some("-o"))?),
         "upgrade" => upgrade(&read(Some("-o"))?),
+        "compose" => compose(rest),
         "trim" => trim(rest),
         "make" => make(&read(Some("-o"))?),
         "help" | "--help" => print(HELP.as_bytes()),
