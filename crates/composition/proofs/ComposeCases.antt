@@ -1,19 +1,18 @@
 -- The cases of `compose`: a short output, a refused image, an input that is not good, and two images that go to the writer.
 use Prim.Native.Nat.{ℕ, zero, suc, _/_, _≤_, _<_}
-use mathlib.Core.Path.{_≡_, refl, sym, ap, ap₂, _∙_}
-use mathlib.Core.Bool.{Bool, true, false, cond, _&&_}
+use mathlib.Core.Path.{_≡_, refl, sym, ap, _∙_}
+use mathlib.Core.Bool.{Bool, true, false, cond}
 use mathlib.Core.List.{List}
 use native.Mathlib.Omega.{arith}
 use lib.Dec.{eqb}
 use lib.ListN.{length}
-use borrow.Author.Tests.{eq-eqb, ne-eqb}
-use Rattle.lists.proofs.Bools.{and-in, and-0, and-1}
+use Rattle.lists.proofs.Bools.{and-0, and-1}
 use Rattle.answers.specs.Refusals.{lentLength, compositionInput, compositionLimit}
 use Rattle.fields.specs.Bytes.{Bytes}
 use Rattle.fields.specs.Writing.{overwritten}
 use Rattle.image.specs.Limits.{outputBound, userSize}
 use Rattle.image.specs.Image.{part, containersIn, policyIn, checkOf}
-use Rattle.image.specs.Normal.{Owned, policyOf, encode}
+use Rattle.image.specs.Normal.{policyOf, encode}
 use Rattle.image.proofs.RecordsByPlace.{users-count}
 use Rattle.normaliser.specs.Normaliser.{writtenUnless}
 use Rattle.normaliser.proofs.AnswerLaws.{refused-effect}

@@ -1,12 +1,12 @@
 -- Two rules composed: the same after exchange, a rule with itself, what is covered, and the unrestricted rule.
-use Prim.Native.Nat.{ℕ, _-_, _^_, _<_}
+use Prim.Native.Nat.{ℕ, _-_, _^_}
 use mathlib.Core.Path.{_≡_, refl, sym, ap, _∙_}
 use mathlib.Core.Bool.{Bool, true, false, cond, _&&_, _||_}
 use mathlib.Core.List.{List, [], _∷_, _++_}
 use mathlib.Core.Logic.{_⊎_, inl, inr}
 use native.Mathlib.Decide.{ℕ-discrete}
-use lib.Dec.{eqb, ltb}
-use borrow.Author.Tests.{eq-eqb, ne-eqb, ltb-true}
+use lib.Dec.{eqb}
+use borrow.Author.Tests.{eq-eqb, ne-eqb}
 use Rattle.lists.specs.Lists.{elem, every}
 use Rattle.lists.proofs.Bools.{and-in, and-0, and-1, or-0, or-1, or-cases, or-none, same-test, clash}
 use Rattle.lists.proofs.Elem.{elem-here, elem-there}

@@ -1,12 +1,11 @@
 -- The atoms that consent: one for each byte of 1, and its twin.
-use Prim.Native.Nat.{ℕ, zero, suc, _+_, _-_, _*_, _/_, _%_, _^_, _≤_, _<_, max}
-use mathlib.Core.Path.{_≡_, refl, sym, ap, ap₂, _∙_}
-use mathlib.Core.Bool.{Bool, true, false, _&&_}
+use Prim.Native.Nat.{ℕ, zero, suc, _+_, _-_, _*_, _/_, _%_, _^_, _≤_, _<_}
+use mathlib.Core.Path.{_≡_, sym, ap, _∙_}
+use mathlib.Core.Bool.{Bool, true, false}
 use mathlib.Core.List.{List, [], _∷_}
 use native.Mathlib.Omega.{arith}
 use native.Mathlib.Nat.{pow-le-pow-right}
 use lib.Pow.{pow-lt, pow-pos}
-use lib.Bits.{bitOr}
 use lib.Dec.{eqb, leb}
 use lib.ListN.{length, getD}
 use borrow.Author.Tests.{leb-true, eqb-true}
@@ -15,7 +14,7 @@ use Rattle.lists.proofs.Bools.{and-0, and-1, refuted}
 use Rattle.lists.proofs.Every.{every-0, every-1}
 use Rattle.rules.specs.Sets.{atom, holds, runningOf}
 use Rattle.rules.specs.Answers.{dataWidth, tagWidth}
-use Rattle.rules.proofs.SetLaws.{atom-le, atom-or, atom-above, running-atom, running-none-below, holds-atoms, holds-all, holds-single}
+use Rattle.rules.proofs.SetLaws.{atom-or, atom-above, running-atom, running-none-below, holds-atoms, holds-all, holds-single}
 use Rattle.composition.specs.Composed.{consentGood, consentAtoms, consenting}
 
 abbrev pub zeroOrOne : ℕ → Bool

@@ -1,10 +1,10 @@
 -- Examples by computation. Source document 003, "Example of Composition": `md5sum` may contain the information `file` and the container `hash`
--- may (its figure 3); another policy asks that processes that run `sha1sum` may contain it (figure 4). "The owner of file accepts", and then
--- "all of them can contain file" (figure 5). Atom 0 is `file`; a place of which a policy does not speak has a rule without mixtures.
+-- may (its figure 3); another policy asks that processes that run `sha1sum` may contain it (figure 4). The owner of `file` accepts, and then
+-- all three can (figure 5). Atom 0 is `file`; a place of which a policy does not speak has a rule without mixtures.
 use Prim.Native.Nat.{ℕ, _+_, _^_}
 use mathlib.Core.Path.{_≡_, refl}
 use mathlib.Core.Bool.{true, false}
-use mathlib.Core.List.{List, [], _∷_, _++_}
+use mathlib.Core.List.{List, [], _∷_}
 use lib.ListN.{replicate}
 use Rattle.lists.specs.Lists.{elem, every}
 use Rattle.rules.specs.Sets.{holds, dataOf, runningOf}

@@ -1,8 +1,8 @@
 -- Two images composed: each refusal in its order, the same bytes after exchange, an image with itself, and what is written is accepted.
 use Prim.Native.Nat.{ℕ, zero, suc, _≤_, _<_}
 use mathlib.Core.Path.{_≡_, refl, sym, ap, ap₂, _∙_}
-use mathlib.Core.Bool.{Bool, true, false, cond, _&&_}
-use mathlib.Core.List.{List, [], _∷_, _++_, map}
+use mathlib.Core.Bool.{Bool, true, false, _&&_}
+use mathlib.Core.List.{List, [], _∷_, _++_}
 use mathlib.Core.Logic.{_⊎_, inl, inr, _≢_}
 use native.Mathlib.Decide.{ℕ-discrete}
 use native.Mathlib.Omega.{arith}
@@ -10,7 +10,7 @@ use lib.Dec.{eqb, leb}
 use lib.ListN.{length, length-map}
 use borrow.Author.Tests.{eq-eqb, ne-eqb, eqb-true, leb-true, le-leb, lt-leb}
 use Rattle.lists.proofs.Bools.{decide, and-in, and-0, and-1}
-use Rattle.lists.specs.Conditions.{Condition, _orRefuse_, firstFailed, AllHold, numbersOf, numbersGood}
+use Rattle.lists.specs.Conditions.{_orRefuse_, firstFailed, AllHold, numbersOf, numbersGood}
 use Rattle.lists.specs.Lists.{elem, every}
 use Rattle.lists.proofs.Every.{every-elem}
 use Rattle.lists.proofs.Conditions.{passed, failed, none-left, first-stops, first-passed, given-none, given-among}
@@ -19,16 +19,15 @@ use Rattle.fields.specs.Bytes.{Bytes}
 use Rattle.image.specs.Limits.{outputBound, headerSize}
 use Rattle.image.specs.Policy.{Container, Policy, Sound}
 use Rattle.image.specs.Image.{policyIn, imageConditions, checkOf}
-use Rattle.image.specs.Normal.{Owned, useAt, ownedPlace, owned, writtenUses, policyOf, normalPolicy, encode, normalImage}
+use Rattle.image.specs.Normal.{Owned, useAt, owned, policyOf, normalPolicy, encode, normalImage}
 use Rattle.image.proofs.Decode.{accepted-sound}
-use Rattle.image.proofs.Encode.{read-encode, encode-length, encode-short, encode-bytes}
+use Rattle.image.proofs.Encode.{read-encode, encode-length, encode-short}
 use Rattle.image.proofs.WrittenOwners.{Ownable, owned-ownable, policy-sound, policy-owns}
 use Rattle.normaliser.specs.Normaliser.{writtenUnless}
 use Rattle.normaliser.proofs.WriterLaws as writer
-use Rattle.composition.specs.declared.Composition.{Composition}
 use Rattle.composition.specs.Composed.{consentGood, consenting, composedOwned}
 use Rattle.composition.specs.Images.{sameContainers, sameShape, composed, composedImage, usesShort, rulesFew, inputGood, limitGood, pairConditions, composeConditions, answerUnless, composeAnswer, composeEffect}
-use Rattle.composition.proofs.UseLaws.{Alike, alike, Matched, owned-comm, owned-self, few-written, composed-ownable, ownable-short}
+use Rattle.composition.proofs.UseLaws.{alike, Matched, owned-comm, owned-self, few-written, composed-ownable, ownable-short}
 
 -- ---- the shapes of two policies
 

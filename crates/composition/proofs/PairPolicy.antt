@@ -2,28 +2,27 @@
 use Prim.Native.Nat.{ℕ, zero, suc, _+_, _-_, _*_, _/_, _^_, _≤_, _<_}
 use mathlib.Core.Path.{_≡_, refl, sym, ap, ap₂, _∙_}
 use mathlib.Core.Bool.{Bool, true, false, cond, _&&_, _||_}
-use mathlib.Core.List.{List, [], _∷_, _++_, map, append-assoc, append-nil}
+use mathlib.Core.List.{List, [], _∷_, _++_, map, append-assoc}
 use mathlib.Core.Logic.{⊎-elim}
 use native.Mathlib.Omega.{arith}
 use lib.Dec.{eqb, ltb, leb}
-use lib.ListN.{length, getD, take, drop, replicate, length-append, length-map, length-take, length-replicate}
+use lib.ListN.{length, getD, take, drop, length-append, length-map}
 use lib.Seq.{take-at, length-take-le}
 use borrow.Author.Tests.{ltb-true, lt-ltb, eqb-true, ne-eqb}
 use borrow.Rule.Slice.PartMut.{putMid}
-use Rattle.lists.specs.Lists.{every, joined, sameList}
+use Rattle.lists.specs.Lists.{every, joined}
 use Rattle.lists.proofs.Bools.{and-in, and-0, and-1, or-0, or-cases}
-use Rattle.lists.proofs.Every.{every-0, every-1, every-nil, every-cons, every-imp, every-map, every-getD, map-back}
+use Rattle.lists.proofs.Every.{every-0, every-1, every-nil, every-cons, every-imp, every-map, every-getD}
 use Rattle.lists.proofs.Same.{same-eq}
 use Rattle.fields.specs.Bytes.{numberIn, bytesOf, field}
 use Rattle.fields.specs.Writing.{overwritten, Wrote}
-use Rattle.fields.proofs.ByteLaws.{bytes-length, number-bytes, section-back, joined-length}
-use Rattle.fields.proofs.RowWriting.{RowsWritten}
+use Rattle.fields.proofs.ByteLaws.{bytes-length, number-bytes, section-back}
 use Rattle.rules.specs.Rules.{normal}
 use Rattle.rules.specs.Answers.{dataWidth, mixtureLimit}
-use Rattle.image.specs.Limits.{containerLimit, userLimit, ruleLimit, containerSize, userSize, ruleSize, size8, size16, fileKind, guardedKind, volatileKind, processKind, noAtom, unrestrictedNumber, isFile, isVolatile, isProcess}
+use Rattle.image.specs.Limits.{containerSize, userSize, ruleSize, size8, size16, fileKind, guardedKind, volatileKind, processKind, noAtom, unrestrictedNumber, isFile, isVolatile, isProcess}
 use Rattle.image.specs.Policy.{Container, Policy, ruleAt, ownerAt, named, containerGood}
-use Rattle.image.specs.Image.{part, containerIn, containersIn, usersIn, policyIn, checkOf}
-use Rattle.image.specs.Normal.{Use, OwnedPlace, Owned, normalAt, useAt, ownedPlace, owned, placeUses, uses, freeUse, policyOf, normalPolicy, encode, normalImage, containerBytes}
+use Rattle.image.specs.Image.{part, containerIn, containersIn, usersIn, policyIn}
+use Rattle.image.specs.Normal.{Use, normalAt, useAt, ownedPlace, owned, placeUses, uses, freeUse, policyOf, normalPolicy, normalImage, containerBytes}
 use Rattle.image.proofs.AcceptedImage.{accepted-containers, few-containers, few-users}
 use Rattle.image.proofs.Encode.{container-wide}
 use Rattle.image.proofs.Numbering.{useIn, mixtures-in, owner-in}
@@ -37,7 +36,7 @@ use Rattle.composition.specs.Tables.{Paired, pairUses, useCount, UsesPut
 use Rattle.composition.proofs.UseLaws.{Alike, alike-uses, Matched, uses-append, uses-normal, uses-count, normalTest, owned-uses}
 use Rattle.composition.proofs.ImageLaws.{matched}
 use Rattle.composition.proofs.UseNumbers.{use-count, pair-count}
-use Rattle.composition.proofs.RecordLoops.{own-count, ownRows, own-size, userRows, users-size}
+use Rattle.composition.proofs.RecordLoops.{own-count, ownRows, userRows, users-size}
 
 -- ---- numbers from k on
 

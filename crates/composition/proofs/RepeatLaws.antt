@@ -1,12 +1,12 @@
 -- The same bytes by the union of their differences, and an image with itself by the normaliser.
-use Prim.Native.Nat.{ℕ, zero, suc, _+_, _*_, _≤_, _<_}
+use Prim.Native.Nat.{ℕ, zero, suc, _+_, _≤_, _<_}
 use mathlib.Core.Path.{_≡_, refl, sym, ap, ap₂, _∙_}
 use mathlib.Core.Bool.{Bool, true, false, cond, _&&_}
 use mathlib.Core.List.{List, [], _∷_}
 use mathlib.Core.Logic.{_⊎_, inl, inr, _≢_}
 use native.Mathlib.Decide.{decLt}
 use native.Mathlib.Omega.{arith}
-use lib.Bits.{bitAnd, bitOr, bitXor, xor-add-and, xor-self, and-le-l, and-le-r}
+use lib.Bits.{bitOr, bitXor, xor-add-and, xor-self, and-le-l, and-le-r}
 use lib.Dec.{eqb, ltb}
 use lib.ListN.{length, getD, drop}
 use borrow.Author.Tests.{eqb-true, eq-eqb, lt-ltb, le-ltb}
@@ -24,7 +24,6 @@ use Rattle.image.specs.Image.{policyIn, checkOf}
 use Rattle.image.specs.Normal.{normalImage}
 use Rattle.normaliser.specs.Normaliser.{normalConditions, lengthUnless, writtenUnless, normalAnswer, normalEffect}
 use Rattle.normaliser.proofs.NormalCases.{refusal-short, refusal-image}
-use Rattle.normaliser.proofs.AnswerLaws.{refused-answer}
 use Rattle.composition.specs.declared.Composition.{Composition}
 use Rattle.composition.specs.Composed.{consentGood}
 use Rattle.composition.specs.Images.{composedImage, answerUnless, composeAnswer, composeEffect}

@@ -1,13 +1,13 @@
 -- The row of a use of an accepted image, and of two uses composed.
-use Prim.Native.Nat.{ℕ, suc, _+_, _-_, _*_, _/_, _≤_, _<_}
+use Prim.Native.Nat.{ℕ, _+_, _-_, _*_, _/_, _≤_}
 use mathlib.Core.Path.{_≡_, refl, sym, ap, ap₂, _∙_}
-use mathlib.Core.Bool.{Bool, true, false}
+use mathlib.Core.Bool.{Bool, true}
 use mathlib.Core.List.{List, [], _∷_, _++_}
 use native.Mathlib.Omega.{arith}
-use lib.Dec.{eqb, leb}
+use lib.Dec.{leb}
 use lib.ListN.{length, getD, take, drop, set, length-set, length-append, length-drop}
 use lib.Seq.{take-at, drop-at, getD-drop}
-use borrow.Author.Tests.{eq-eqb, ne-eqb, le-leb}
+use borrow.Author.Tests.{eq-eqb, ne-eqb}
 use borrow.Rule.Slice.PartMut.{putMid}
 use Rattle.fields.specs.Bytes.{field}
 use Rattle.rules.specs.Rules.{normal}
@@ -16,9 +16,9 @@ use Rattle.rules.proofs.RuleLaws.{normal-normal}
 use Rattle.rule_words.specs.Words.{ruleWidth, ruleOf, wordsOf, keptWell}
 use Rattle.rule_words.proofs.WordLaws.{words-nine, words-rule}
 use Rattle.rule_words.proofs.KeptWords.{words-kept}
-use Rattle.image.specs.Limits.{unrestrictedNumber, noOwner, ruleSize, mixtureSize, size16, ownerField}
+use Rattle.image.specs.Limits.{unrestrictedNumber, noOwner, ruleSize, size16, ownerField}
 use Rattle.image.specs.Policy.{ownerAt, named}
-use Rattle.image.specs.Image.{part, policyIn, rulesIn, ownersIn, spansIn, spansGood, checkOf}
+use Rattle.image.specs.Image.{part, policyIn, rulesIn, ownersIn, checkOf}
 use Rattle.image.specs.Normal.{Use, normalAt, useAt}
 use Rattle.image.proofs.AcceptedImage.{accepted-spans}
 use Rattle.image.proofs.RecordsByPlace.{rules-count, owner-at}
@@ -26,7 +26,6 @@ use Rattle.image.proofs.RulesByNumber.{normal-short, named-own}
 use Rattle.normaliser.specs.Writer.{formWidth, formRow}
 use Rattle.normaliser.proofs.FormLaws.{row-put}
 use Rattle.composition.specs.Composed.{composedRule, composedOwner, composedUse}
-use Rattle.composition.specs.Images.{shortUse}
 use Rattle.composition.specs.Tables.{WordsComposed, UsePut}
 
 -- ---- the owner of a rule

@@ -1,33 +1,26 @@
 -- What is proved of two images composed, stated in full. The proofs are short; what carries them is in the files that are cited.
-use Prim.Native.Nat.{ℕ, zero, suc, _+_, _-_, _^_, _≤_, _<_}
+use Prim.Native.Nat.{ℕ, zero, suc, _+_, _-_, _≤_, _<_}
 use mathlib.Core.Path.{_≡_, refl, sym, ap, _∙_}
-use mathlib.Core.Bool.{Bool, true, false}
-use mathlib.Core.List.{List, [], _∷_}
+use mathlib.Core.Bool.{true, false}
+use mathlib.Core.List.{List}
 use mathlib.Core.Logic.{_⊎_, inl, inr, _↔_, _≢_}
 use native.Mathlib.Decide.{decLt, ℕ-discrete}
 use native.Mathlib.Omega.{arith}
-use lib.Dec.{leb}
-use lib.ListN.{length, getD, take, drop}
-use lib.Seq.{take-at}
-use borrow.Author.Tests.{leb-true}
-use Rattle.lists.specs.Lists.{elem, every}
-use Rattle.lists.specs.Conditions.{firstFailed, numbersOf}
-use Rattle.lists.proofs.Bools.{decide, and-0, clash}
-use Rattle.lists.proofs.Conditions.{given-among, zero-or-not}
-use Rattle.lists.proofs.Every.{every-elem}
-use Rattle.answers.specs.Refusals.{imageLength, sections, recordCount, ruleRecord, containerRecord, userRule, lentLength, compositionInput, compositionLimit}
+use lib.ListN.{length, getD}
+use Rattle.lists.proofs.Bools.{decide, and-0}
+use Rattle.lists.proofs.Conditions.{zero-or-not}
+use Rattle.answers.specs.Refusals.{userRule, lentLength, compositionInput, compositionLimit}
 use Rattle.fields.specs.Bytes.{Bytes}
 use Rattle.fields.specs.Writing.{overwritten}
-use Rattle.rules.specs.Sets.{atom, holds}
+use Rattle.rules.specs.Sets.{atom}
 use Rattle.rules.specs.Rules.{covers, normal}
 use Rattle.rules.specs.Order.{Within}
 use Rattle.rules.specs.Answers.{dataWidth, tagWidth}
-use Rattle.image.specs.Limits.{headerSize, outputBound, noOwner}
+use Rattle.image.specs.Limits.{outputBound, noOwner}
 use Rattle.image.specs.Policy.{unrestrictedRule}
-use Rattle.image.specs.Image.{policyIn, imageConditions, checkOf}
+use Rattle.image.specs.Image.{policyIn, checkOf}
 use Rattle.image.specs.Normal.{owned, uses, normalImage}
 use Rattle.normaliser.specs.Normaliser.{writtenUnless}
-use Rattle.composition.specs.declared.Composition.{Composition}
 use Rattle.composition.specs.Composed.{consentGood, consenting, composedRule, composedOwner, composedUses}
 use Rattle.composition.specs.Images.{sameShape, composed, composedImage, inputGood, limitGood, answerUnless, composeAnswer, composeEffect}
 use Rattle.composition.proofs.ComposedLaws as laws

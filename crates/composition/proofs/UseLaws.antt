@@ -6,15 +6,15 @@ use mathlib.Core.List.{List, [], _∷_, _++_, map}
 use native.Mathlib.Decide.{ℕ-discrete}
 use native.Mathlib.Omega.{arith}
 use lib.Dec.{eqb, ltb, leb}
-use lib.ListN.{length, getD, length-append, length-map}
-use borrow.Author.Tests.{eqb-true, eq-eqb, ne-eqb, leb-true, le-leb}
+use lib.ListN.{length, getD, length-map}
+use borrow.Author.Tests.{eqb-true, leb-true, le-leb}
 use Rattle.lists.specs.Lists.{every, sameList}
 use Rattle.lists.proofs.Bools.{and-in, and-0, and-1, clash}
 use Rattle.lists.proofs.Every.{every-0, every-1, every-nil, every-cons, every-append, every-left, every-right}
 use Rattle.lists.proofs.Same.{same-refl}
 use Rattle.rules.specs.Rules.{normal}
 use Rattle.rules.specs.Answers.{dataWidth, tagWidth, mixtureLimit}
-use Rattle.image.specs.Limits.{containerLimit, userLimit, ruleLimit, isFile, isVolatile, isProcess, noAtom, noOwner}
+use Rattle.image.specs.Limits.{ruleLimit, isFile, isVolatile, isProcess, noAtom, noOwner}
 use Rattle.image.specs.Policy.{Container, Policy, unrestrictedRule, ownerGood, ruleGood}
 use Rattle.image.specs.Normal.{Use, OwnedPlace, Owned, ownedPlace, placeUses, uses, sameUse, freeUse, writtenBy, writtenUses, policyOf}
 use Rattle.image.proofs.Numbering.{use-refl, use-eq}

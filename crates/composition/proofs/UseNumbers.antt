@@ -1,27 +1,26 @@
 -- The rule numbers in use of an accepted image, one by one.
 use Prim.Native.Nat.{ℕ, zero, suc, _+_, _-_, _*_, _/_, _%_, _≤_, _<_}
 use mathlib.Core.Path.{_≡_, refl, sym, ap, ap₂, _∙_}
-use mathlib.Core.Bool.{Bool, true}
+use mathlib.Core.Bool.{true}
 use mathlib.Core.List.{List, [], _∷_, _++_, map, map-append}
 use native.Mathlib.Omega.{arith}
 use lib.ListN.{length, getD, take, drop, length-append, length-map}
 use Rattle.lists.specs.Lists.{every}
 use Rattle.lists.proofs.Every.{every-0, every-1, every-nil, every-cons, every-append, every-getD}
 use Rattle.lists.proofs.Places.{map-at}
-use Rattle.fields.specs.Bytes.{numberIn, field, records}
+use Rattle.fields.specs.Bytes.{numberIn, field}
 use Rattle.fields.proofs.FieldLaws.{field-record}
 use Rattle.fields.proofs.RecordLaws.{record-at}
 use Rattle.image.specs.Limits.{containerSize, userSize, ruleSize, size8, size16, kindField, atomField, permitField, runField}
 use Rattle.image.specs.Policy.{Container, Policy, named, containerGood}
 use Rattle.image.specs.Image.{part, containerIn, containersIn, usersIn, policyIn, checkOf}
-use Rattle.image.specs.Normal.{Use, OwnedPlace, useAt, ownedPlace, owned, placeUses, uses, freeUse}
+use Rattle.image.specs.Normal.{Use, useAt, ownedPlace, owned, placeUses, uses, freeUse}
 use Rattle.image.proofs.AcceptedImage.{accepted-containers, accepted-users}
 use Rattle.image.proofs.RecordsByPlace.{containers-count, users-count, rules-count}
 use Rattle.image.proofs.WrittenMeaning.{container-named}
 use Rattle.normaliser.specs.Writer.{containerUses}
-use Rattle.composition.specs.Images.{sameShape}
 use Rattle.composition.specs.Tables.{usedNumbers, Paired, pairUses, useCount}
-use Rattle.composition.specs.Composed.{composedUse, composedUses}
+use Rattle.composition.specs.Composed.{composedUse}
 use Rattle.composition.proofs.UseLaws.{Matched, alike-uses, uses-at, uses-count}
 use Rattle.composition.proofs.ImageLaws.{matched}
 

@@ -1,6 +1,6 @@
 -- What the code keeps on the way: mixtures that enter, rows of composed uses, and records with rule numbers of their own. These are the
 -- contracts of this crate's private functions; no public contract cites this file.
-use Prim.Native.Nat.{ℕ, zero, suc, _+_, _*_, _≤_}
+use Prim.Native.Nat.{ℕ, zero, suc, _+_}
 use mathlib.Core.Path.{_≡_}
 use mathlib.Core.Bool.{Bool, true, cond}
 use mathlib.Core.List.{List, [], _∷_, _++_, map}

@@ -9,7 +9,7 @@ ghost use Rattle.fields.specs.Bytes.{bytesOf};
 ghost use Rattle.fields.specs.Writing.{Wrote};
 ghost use Rattle.rules.specs.Rules.{normal};
 ghost use Rattle.rules.specs.Answers.{mixtureLimit, boundedOf};
-ghost use Rattle.rule_words.specs.Words.{ruleWidth, ruleOf, keptWell};
+ghost use Rattle.rule_words.specs.Words.{ruleWidth, keptWell};
 ghost use Rattle.image.specs.Limits.{userSize, containerLimit, containerSize, userLimit, ruleSize, outputBound};
 ghost use Rattle.image.specs.Policy.{ownerAt, named};
 ghost use Rattle.image.specs.Image.{policyIn, containersIn, ownersIn, checkOf};

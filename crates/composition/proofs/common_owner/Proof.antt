@@ -1,5 +1,4 @@
 -- An owner stays where both agree.
-use borrow.Author.Needs.{needs}
 use mathlib.Core.Path.{sym}
 use Rattle.composition.proofs.ComposedLaws.{owner-same, owner-other}
 use Rattle.composition.proofs.common_owner.Statement.{statement}

@@ -40,14 +40,32 @@ write-pair-requires c κs = (
 returns-6 : tie.Need-returns-6
 returns-6 c =
     let start = c .before .before .before .before .before .before .before .before .before .before .before .before .before .before .before .before .before .before .before in
-    case-limit (start .args .first .now) (start .args .second .now) (start .args .consent .now) _ (c .before .before .before .before .before .before .before .before .before .before .before .before .if2 .left) (sym (c .before .before .before .before .before .before .before .before .before .before .before .check .ensures) ∙ c .before .before .before .before .before .before .before .before .before .before .if3 .left) (sym (c .before .before .before .before .before .before .before .before .before .check2 .ensures) ∙ c .before .before .before .before .before .before .before .before .if4 .left) (passes-test (c .before .before .before .before .before .before .before .input-good .ensures) (c .before .before .before .before .before .before .if5 .left))
-    (λ k. omega (arith, c .before .before .before .before .before .before .before .before .before .before .before .before .before .before .before .before .before .before .shared-slice-known .given k)) (λ k. omega (arith, c .before .before .before .before .before .before .before .before .before .before .before .before .before .before .before .before .before .shared-slice-known2 .given k)) (c .before .before .before .before .before .consent-set .ensures) (c .before .before .before .write-pair .ensures) (c .if6 .taken)
+    case-limit (start .args .first .now) (start .args .second .now) (start .args .consent .now) _
+    (c .before .before .before .before .before .before .before .before .before .before .before .before .if2 .left)
+    (sym (c .before .before .before .before .before .before .before .before .before .before .before .check .ensures)
+    ∙ c .before .before .before .before .before .before .before .before .before .before .if3 .left)
+    (sym (c .before .before .before .before .before .before .before .before .before .check2 .ensures)
+    ∙ c .before .before .before .before .before .before .before .before .if4 .left) (passes-test
+    (c .before .before .before .before .before .before .before .input-good .ensures) (c .before .before .before .before .before .before .if5 .left))
+    (λ k. omega (arith, c .before .before .before .before .before .before .before .before .before .before .before .before .before .before .before .before .before .before .shared-slice-known .given k))
+    (λ k. omega (arith, c .before .before .before .before .before .before .before .before .before .before .before .before .before .before .before .before .before .shared-slice-known2 .given k))
+    (c .before .before .before .before .before .consent-set .ensures) (c .before .before .before .write-pair .ensures)
+    (c .if6 .taken)
 
 returns-7 : tie.Need-returns-7
 returns-7 c =
     let start = c .before .before .before .before .before .before .before .before .before .before .before .before .before .before .before .before .before .before .before in
-    case-written (start .args .first .now) (start .args .second .now) (start .args .consent .now) _ (c .before .before .before .before .before .before .before .before .before .before .before .before .if2 .left) (sym (c .before .before .before .before .before .before .before .before .before .before .before .check .ensures) ∙ c .before .before .before .before .before .before .before .before .before .before .if3 .left) (sym (c .before .before .before .before .before .before .before .before .before .check2 .ensures) ∙ c .before .before .before .before .before .before .before .before .if4 .left) (passes-test (c .before .before .before .before .before .before .before .input-good .ensures) (c .before .before .before .before .before .before .if5 .left))
-    (λ k. omega (arith, c .before .before .before .before .before .before .before .before .before .before .before .before .before .before .before .before .before .before .shared-slice-known .given k)) (λ k. omega (arith, c .before .before .before .before .before .before .before .before .before .before .before .before .before .before .before .before .before .shared-slice-known2 .given k)) (c .before .before .before .before .before .consent-set .ensures) (c .before .before .before .write-pair .ensures) (c .if6 .left)
+    case-written (start .args .first .now) (start .args .second .now) (start .args .consent .now) _
+    (c .before .before .before .before .before .before .before .before .before .before .before .before .if2 .left)
+    (sym (c .before .before .before .before .before .before .before .before .before .before .before .check .ensures)
+    ∙ c .before .before .before .before .before .before .before .before .before .before .if3 .left)
+    (sym (c .before .before .before .before .before .before .before .before .before .check2 .ensures)
+    ∙ c .before .before .before .before .before .before .before .before .if4 .left) (passes-test
+    (c .before .before .before .before .before .before .before .input-good .ensures) (c .before .before .before .before .before .before .if5 .left))
+    (λ k. omega (arith, c .before .before .before .before .before .before .before .before .before .before .before .before .before .before .before .before .before .before .shared-slice-known .given k))
+    (λ k. omega (arith, c .before .before .before .before .before .before .before .before .before .before .before .before .before .before .before .before .before .shared-slice-known2 .given k))
+    (c .before .before .before .before .before .consent-set .ensures) (c .before .before .before .write-pair .ensures)
+    (c .if6 .left)
 
 pub compose-spec : {M : Type 1} → statement M
 compose-spec =

@@ -1,5 +1,4 @@
 -- Nobody, or the field of the rule record.
-use borrow.Author.Needs.{needs}
 use native.Mathlib.Omega.{arith}
 use Prim.Native.Nat.{_/_}
 use lib.ListN.{length}

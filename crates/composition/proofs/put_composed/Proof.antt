@@ -16,7 +16,10 @@ part-compose-words-end c =
 compose-words-requires : tie.Need-compose-words-requires
 compose-words-requires c κs =
     let start = c .before .before .before .before .before .before .before .before .before .before .before .before .before .before .before in
-    let p = set-lent (useAt (policyIn (start .args .first .now)) (start .args .i)) (use-short (start .args .first .now) (start .pre .1) (start .args .i) (start .pre .3)) (use-is-normal (start .args .first .now) (start .pre .1) (start .args .i) (start .pre .3)) (c .before .before .before .before .before .before .before .before .before .before .put-use .ensures) (c .before .before .before .common-owner .result) in
+    let p = set-lent (useAt (policyIn (start .args .first .now)) (start .args .i)) (use-short
+    (start .args .first .now) (start .pre .1) (start .args .i) (start .pre .3)) (use-is-normal
+    (start .args .first .now) (start .pre .1) (start .args .i) (start .pre .3)) (c .before .before .before .before .before .before .before .before .before .before .put-use .ensures)
+    (c .before .before .before .common-owner .result) in
     let q = row-lent (useAt (policyIn (start .args .second .now)) (start .args .j)) (use-short (start .args .second .now) (start .pre .2) (start .args .j) (start .pre .4)) (use-is-normal (start .args .second .now) (start .pre .2) (start .args .j) (start .pre .4)) (c .before .before .before .before .before .before .put-use2 .ensures) in
     (p .0, q .0, p .1, q .1)
 

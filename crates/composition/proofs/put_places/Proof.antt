@@ -1,7 +1,6 @@
 -- The invariant: the first i containers are written.
 use borrow.Author.Needs.{needs}
 use Prim.Native.Nat.{_-_}
-use native.Mathlib.Omega.{arith}
 use Rattle.fields.proofs.RowWriting.{RowsWritten}
 use Rattle.composition.proofs.RecordLoops.{ownRows, own-start, own-room, own-next, own-end}
 use Rattle.composition.proofs.put_places.Statement.{statement}

@@ -1,7 +1,6 @@
 -- The invariant: the first i containers agree, and the rest decides.
 use borrow.Author.Needs.{needs}
 use Prim.Native.Nat.{_-_}
-use native.Mathlib.Omega.{arith}
 use mathlib.Core.Path.{sym, _∙_}
 use Rattle.composition.proofs.RecordLoops.{Comparing, comparing-start, comparing-other, comparing-kind, comparing-atom, comparing-next, comparing-end}
 use Rattle.composition.proofs.same_containers.Statement.{statement}
@@ -23,10 +22,16 @@ returns-2 : tie.Need-returns-2 Inv-loop μ-loop
 returns-2 c = comparing-kind _ _ _ (c .before .before .before .before .loop .inv) (c .before .before .before .loop-test .taken) (λ e. c .if2 .taken (c .before .before .read8 .ensures .0 ∙ e ∙ sym (c .before .read82 .ensures .0)))
 
 returns-3 : tie.Need-returns-3 Inv-loop μ-loop
-returns-3 c = comparing-atom _ _ _ (c .before .before .before .before .before .before .before .loop .inv) (c .before .before .before .before .before .before .loop-test .taken) (sym (c .before .before .before .before .before .read8 .ensures .0) ∙ c .before .before .before .if2 .left ∙ c .before .before .before .before .read82 .ensures .0) (λ e. c .if3 .taken (c .before .before .read83 .ensures .0 ∙ e ∙ sym (c .before .read84 .ensures .0)))
+returns-3 c = comparing-atom _ _ _ (c .before .before .before .before .before .before .before .loop .inv)
+    (c .before .before .before .before .before .before .loop-test .taken) (sym (c .before .before .before .before .before .read8 .ensures .0)
+    ∙ c .before .before .before .if2 .left ∙ c .before .before .before .before .read82 .ensures .0)
+    (λ e. c .if3 .taken (c .before .before .read83 .ensures .0 ∙ e ∙ sym (c .before .read84 .ensures .0)))
 
 loop-again : tie.Need-loop-again Inv-loop μ-loop
-loop-again c = comparing-next _ _ _ (c .before .before .before .before .before .before .before .loop .inv) (c .before .before .before .before .before .before .loop-test .taken) (sym (c .before .before .before .before .before .read8 .ensures .0) ∙ c .before .before .before .if2 .left ∙ c .before .before .before .before .read82 .ensures .0) (sym (c .before .before .read83 .ensures .0) ∙ c .if3 .left ∙ c .before .read84 .ensures .0)
+loop-again c = comparing-next _ _ _ (c .before .before .before .before .before .before .before .loop .inv)
+    (c .before .before .before .before .before .before .loop-test .taken) (sym (c .before .before .before .before .before .read8 .ensures .0)
+    ∙ c .before .before .before .if2 .left ∙ c .before .before .before .before .read82 .ensures .0)
+    (sym (c .before .before .read83 .ensures .0) ∙ c .if3 .left ∙ c .before .read84 .ensures .0)
 
 returns-4 : tie.Need-returns-4 Inv-loop μ-loop
 returns-4 c = comparing-end _ _ _ (c .before .loop .inv) (c .loop-test .left)

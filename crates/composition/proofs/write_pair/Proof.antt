@@ -72,21 +72,43 @@ part-write-policy-end-2 c =
 part-write-policy-end-3 : tie.Need-part-write-policy-end-3
 part-write-policy-end-3 c =
     let start = c .before .before .before .before .before .before .before .before .before .before .before .before .before .before .before .before .before .before .before .before in
-    rw (c .before .before .before .before .before .before .before .before .before .before .before .before .before .before .before .before .section .ensures, c .before .before .before .before .before .before .before .before .before .before .before .before .before .before .before .section2 .ensures) (filled-long (start .args .consent) (start .args .first .now) (start .args .second .now) (start .pre .0) (sym (c .before .before .before .before .before .before .before .before .before .before .before .before .before .put-uses .ensures .told) ∙ not-false _ (c .before .before .before .before .before .before .before .before .before .before .before .if1 .left)) _ (c .before .before .before .before .before .before .before .before .before .before .before .before .before .put-uses .ensures .rows (not-false _ (c .before .before .before .before .before .before .before .before .before .before .before .if1 .left))))
+    rw (c .before .before .before .before .before .before .before .before .before .before .before .before .before .before .before .before .section .ensures, c .before .before .before .before .before .before .before .before .before .before .before .before .before .before .before .section2 .ensures)
+    (filled-long (start .args .consent) (start .args .first .now) (start .args .second .now)
+    (start .pre .0) (sym (c .before .before .before .before .before .before .before .before .before .before .before .before .before .put-uses .ensures .told)
+    ∙ not-false _ (c .before .before .before .before .before .before .before .before .before .before .before .if1 .left)) _
+    (c .before .before .before .before .before .before .before .before .before .before .before .before .before .put-uses .ensures .rows
+    (not-false _ (c .before .before .before .before .before .before .before .before .before .before .before .if1 .left))))
 
 write-policy-requires : tie.Need-write-policy-requires
 write-policy-requires c κs =
     let start = c .before .before .before .before .before .before .before .before .before .before .before .before .before .before .before .before .before .before .before .before .before .before in (
       rw (c .before .before .before .before .before .before .before .before .before .before .before .before .before .before .before .before .before .before .section .ensures, c .before .before .before .before .before .before .before .before .before .before .before .before .before .before .before .before .before .section2 .ensures)
-          (lent-tabled (start .args .consent) (start .args .first .now) (start .args .second .now) (start .pre .0) (sym (c .before .before .before .before .before .before .before .before .before .before .before .before .before .before .before .put-uses .ensures .told) ∙ not-false _ (c .before .before .before .before .before .before .before .before .before .before .before .before .before .if1 .left)) _ (c .before .before .before .before .before .before .before .before .before .before .before .before .before .before .before .put-uses .ensures .rows (not-false _ (c .before .before .before .before .before .before .before .before .before .before .before .before .before .if1 .left))) (rw (c .before .before .before .before .before .before .before .before .before .before .before .before .before .before .before .before .before .before .section .ensures) at (c .before .before .before .before .before .before .before .before .before .before .before .put-places .ensures)) (rw (c .before .before .before .before .before .before .before .before .before .before .before .before .before .before .before .before .before .before .section .ensures, c .before .before .before .before .before .before .before .before .before .before .before .before .before .before .before .before .before .section2 .ensures) at (c .before .before .before .before .before .before .before .before .put-users .ensures))),
+          (lent-tabled (start .args .consent) (start .args .first .now) (start .args .second .now)
+          (start .pre .0) (sym (c .before .before .before .before .before .before .before .before .before .before .before .before .before .before .before .put-uses .ensures .told)
+          ∙ not-false _ (c .before .before .before .before .before .before .before .before .before .before .before .before .before .if1 .left)) _
+          (c .before .before .before .before .before .before .before .before .before .before .before .before .before .before .before .put-uses .ensures .rows
+          (not-false _ (c .before .before .before .before .before .before .before .before .before .before .before .before .before .if1 .left)))
+          (rw (c .before .before .before .before .before .before .before .before .before .before .before .before .before .before .before .before .before .before .section .ensures)
+          at (c .before .before .before .before .before .before .before .before .before .before .before .put-places .ensures))
+          (rw (c .before .before .before .before .before .before .before .before .before .before .before .before .before .before .before .before .before .before .section .ensures, c .before .before .before .before .before .before .before .before .before .before .before .before .before .before .before .before .before .section2 .ensures)
+          at (c .before .before .before .before .before .before .before .before .put-users .ensures))),
       start .pre .1,
     )
 
 returns-2 : tie.Need-returns-2
 returns-2 c =
     let start = c .before .before .before .before .before .before .before .before .before .before .before .before .before .before .before .before .before .before .before .before .before .before .before .before .before in
-    lent-written (start .args .consent) (start .args .first .now) (start .args .second .now) (start .pre .0) (sym (c .before .before .before .before .before .before .before .before .before .before .before .before .before .before .before .before .before .before .put-uses .ensures .told) ∙ not-false _ (c .before .before .before .before .before .before .before .before .before .before .before .before .before .before .before .before .if1 .left)) _ (c .before .before .before .before .before .before .before .before .before .before .before .before .before .before .before .before .before .before .put-uses .ensures .rows (not-false _ (c .before .before .before .before .before .before .before .before .before .before .before .before .before .before .before .before .if1 .left))) (rw (c .before .before .before .before .before .before .before .before .before .before .before .before .before .before .before .before .before .before .before .before .before .section .ensures) at (c .before .before .before .before .before .before .before .before .before .before .before .before .before .before .put-places .ensures)) (rw (c .before .before .before .before .before .before .before .before .before .before .before .before .before .before .before .before .before .before .before .before .before .section .ensures, c .before .before .before .before .before .before .before .before .before .before .before .before .before .before .before .before .before .before .before .before .section2 .ensures) at (c .before .before .before .before .before .before .before .before .before .before .before .put-users .ensures))
-    (rw (c .before .before .before .before .before .before .before .before .before .before .before .before .before .before .before .before .before .before .before .before .before .section .ensures, c .before .before .before .before .before .before .before .before .before .before .before .before .before .before .before .before .before .before .before .before .section2 .ensures) at (c .before .before .write-policy .ensures))
+    lent-written (start .args .consent) (start .args .first .now) (start .args .second .now)
+    (start .pre .0) (sym (c .before .before .before .before .before .before .before .before .before .before .before .before .before .before .before .before .before .before .put-uses .ensures .told)
+    ∙ not-false _ (c .before .before .before .before .before .before .before .before .before .before .before .before .before .before .before .before .if1 .left)) _
+    (c .before .before .before .before .before .before .before .before .before .before .before .before .before .before .before .before .before .before .put-uses .ensures .rows
+    (not-false _ (c .before .before .before .before .before .before .before .before .before .before .before .before .before .before .before .before .if1 .left)))
+    (rw (c .before .before .before .before .before .before .before .before .before .before .before .before .before .before .before .before .before .before .before .before .before .section .ensures)
+    at (c .before .before .before .before .before .before .before .before .before .before .before .before .before .before .put-places .ensures))
+    (rw (c .before .before .before .before .before .before .before .before .before .before .before .before .before .before .before .before .before .before .before .before .before .section .ensures, c .before .before .before .before .before .before .before .before .before .before .before .before .before .before .before .before .before .before .before .before .section2 .ensures)
+    at (c .before .before .before .before .before .before .before .before .before .before .before .put-users .ensures))
+    (rw (c .before .before .before .before .before .before .before .before .before .before .before .before .before .before .before .before .before .before .before .before .before .section .ensures, c .before .before .before .before .before .before .before .before .before .before .before .before .before .before .before .before .before .before .before .before .section2 .ensures)
+    at (c .before .before .write-policy .ensures))
 
 pub write-pair-spec : {M : Type 1} → statement M
 write-pair-spec =
