@@ -10,6 +10,7 @@ use lib.ListN.{length, getD, take, drop, length-append, length-map}
 use lib.Seq.{take-at, length-take-le}
 use borrow.Author.Tests.{ltb-true, lt-ltb, eqb-true, ne-eqb}
 use borrow.Rule.Slice.PartMut.{putMid}
+use Rattle.lists.specs.Counting.{countFrom}
 use Rattle.lists.specs.Lists.{every, joined}
 use Rattle.lists.proofs.Bools.{and-in, and-0, and-1, or-0, or-cases}
 use Rattle.lists.proofs.Every.{every-0, every-1, every-nil, every-cons, every-imp, every-map, every-getD}
@@ -32,7 +33,7 @@ use Rattle.normaliser.specs.Writer.{formWidth, formRow, normalUse, formWords, p
 use Rattle.normaliser.proofs.WriterLaws.{words-length, words-tabled, words-answered}
 use Rattle.composition.specs.Composed.{composedUse, composedUses, composedPlace, composedPlaces, composedOwned}
 use Rattle.composition.specs.Images.{shortUse, usesShort, rulesFew, limitGood}
-use Rattle.composition.specs.Tables.{Paired, pairUses, useCount, UsesPut, ownNumbers, countFrom, pairOwned, PairWritten}
+use Rattle.composition.specs.Tables.{Paired, pairUses, useCount, UsesPut, ownNumbers, pairOwned, PairWritten}
 use Rattle.composition.proofs.UseLaws.{Alike, alike-uses, Matched, uses-append, uses-normal, uses-count, normalTest, owned-uses}
 use Rattle.composition.proofs.ImageLaws.{matched}
 use Rattle.composition.proofs.UseNumbers.{use-count, pair-count}

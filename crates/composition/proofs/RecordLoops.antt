@@ -10,6 +10,8 @@ use lib.ListN.{length, getD, drop, length-map, drop-of-length-le}
 use lib.Seq.{drop-cons}
 use borrow.Author.Tests.{eq-eqb, ne-eqb}
 use Rattle.lists.specs.Lists.{joined}
+use Rattle.lists.specs.Counting.{countFrom}
+use Rattle.lists.proofs.Counting.{count-length, count-at}
 use Rattle.lists.proofs.Places.{map-at}
 use Rattle.fields.specs.Bytes.{bytesOf, field}
 use Rattle.fields.specs.Writing.{Wrote}
@@ -22,7 +24,7 @@ use Rattle.image.specs.Normal.{containerBytes}
 use Rattle.image.proofs.Encode.{container-wide}
 use Rattle.image.proofs.RecordsByPlace.{containers-count}
 use Rattle.composition.specs.Images.{sameContainers}
-use Rattle.composition.specs.Tables.{ownNumbers, countFrom}
+use Rattle.composition.specs.Tables.{ownNumbers}
 use Rattle.composition.proofs.UseNumbers.{noContainer, kind-at, atom-at}
 
 -- ---- containers with rules of their own
@@ -80,17 +82,6 @@ module _ (s : List ℕ) where
   own-end g l = rows-end g (omega (arith, rows-count))
 
 -- ---- users with rules of their own
-
-count-length : (k n : ℕ) → length (countFrom k n) ≡ n
-unfolding countFrom
-count-length k zero = refl
-count-length k (suc n) = ap suc (count-length (suc k) n)
-
-count-at : (k n i : ℕ) → i < n → getD (countFrom k n) i 0 ≡ k + i
-unfolding countFrom
-count-at k zero i l = absurd (omega arith)
-count-at k (suc n) zero l = let e : k ≡ k + 0 = omega arith in e
-count-at k (suc n) (suc i) l = let e : suc k + i ≡ k + suc i = omega arith in count-at (suc k) n i (omega arith) ∙ e
 
 abbrev pub userRows : ℕ → ℕ → List (List ℕ)
 userRows k n = map (bytesOf userSize) (countFrom k n)

@@ -1,6 +1,6 @@
 -- What the code keeps on the way: mixtures that enter, rows of composed uses, and records with rule numbers of their own. These are the
 -- contracts of this crate's private functions; no public contract cites this file.
-use Prim.Native.Nat.{ℕ, zero, suc, _+_}
+use Prim.Native.Nat.{ℕ, suc, _+_}
 use mathlib.Core.Path.{_≡_}
 use mathlib.Core.Bool.{Bool, true, cond}
 use mathlib.Core.List.{List, [], _∷_, _++_, map}
@@ -74,11 +74,6 @@ pub record UsesPut (us : List Use) (after : List ℕ) (fits : Bool) : Type 0 whe
 unfoldable pub ownNumbers : ℕ → List Container → List Container
 ownNumbers k [] = []
 ownNumbers k (c ∷ cs) = record { kind = c .kind; atom = c .atom; permit = k; run = suc k } ∷ ownNumbers (suc (suc k)) cs
-
--- n numbers from k on
-unfoldable pub countFrom : ℕ → ℕ → List ℕ
-countFrom k zero = []
-countFrom k (suc n) = k ∷ countFrom (suc k) n
 
 -- ---- the image
 

@@ -4,6 +4,7 @@ ghost use mathlib.Core.Bool.{true, _&&_};
 ghost use mathlib.Core.List.{map};
 ghost use Prim.Native.Nat.{_+_, _*_, _/_, _≤_, _<_};
 ghost use lib.ListN.{length, getD};
+ghost use Rattle.lists.specs.Counting.{countFrom};
 ghost use Rattle.lists.specs.Lists.{sameList, joined};
 ghost use Rattle.fields.specs.Bytes.{bytesOf};
 ghost use Rattle.fields.specs.Writing.{Wrote};
@@ -18,7 +19,7 @@ ghost use Rattle.normaliser.specs.Normaliser.{normalEffect};
 ghost use Rattle.normaliser.specs.Writer.{formWidth, formRow};
 ghost use Rattle.composition.specs.Composed.{consentGood, consenting, enters, entering, composedRule, composedOwner, composedUse};
 ghost use Rattle.composition.specs.Images.{sameContainers, sameShape, inputGood, composeAnswer, composeEffect};
-ghost use Rattle.composition.specs.Tables.{enteringLimit, Entered, WordsComposed, usedNumbers, UsePut, Paired, pairUses, useCount, UsesPut, ownNumbers, countFrom, pairOwned, PairWritten, repeatAnswer};
+ghost use Rattle.composition.specs.Tables.{enteringLimit, Entered, WordsComposed, usedNumbers, UsePut, Paired, pairUses, useCount, UsesPut, ownNumbers, pairOwned, PairWritten, repeatAnswer};
 use rules::Bounded;
 
 // The most mixtures of two rules.
