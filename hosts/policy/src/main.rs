@@ -210,7 +210,12 @@ fn compose(arguments: &[OsString]) -> Result<(), Failure> {
     let (first_image, second_image) = (first.load()?, second.load()?);
     let one = named_policy(&first, &first_image, names)?;
     let other = named_policy(&second, &second_image, names)?;
-    let bytes = read_consent(&consent.load()?, &sources(names)?);
+    let text = consent.load()?;
+    if text.is_empty() {
+        // If standard error cannot be written, the composed policy says the same.
+        let _ = writeln!(io::stderr(), "warning: {} is empty, so nobody consents", consent.file.display());
+    }
+    let bytes = read_consent(&text, &sources(names)?);
     let bytes = bytes.map_err(|error| Refused(format!("{}:{error}", consent.file.display())))?;
     let mut out = vec![0; OUTPUT_LENGTH];
     let length = compose_into(&first_image, &second_image, &bytes, &mut out).map_err(|refusal| {
