@@ -1,5 +1,5 @@
 -- The refusal numbers (the paper, "Refused because of the input" and "Refused because of the session"; change requests No. 1, 5, 6,
--- 10, 11, 13 and 14), each named once.
+-- 10, 11, 13 and 14; the last two are of explanations, which the paper does not have), each named once.
 use Prim.Native.Nat.{ℕ}
 
 -- "1 image under 18 or over 20,480 bytes"
@@ -94,3 +94,11 @@ trimTrace = 22
 -- change request No. 14: "23 when a = b, either is no object, or a count is outside these bounds"
 abbrev pub gameBounds : ℕ
 gameBounds = 23
+
+-- an explanation is asked for of a number that is no container's or no atom's
+abbrev pub explainBounds : ℕ
+explainBounds = 24
+
+-- an explanation is asked for of a trace whose last record is neither answered by an alert nor blocked
+abbrev pub explainTrace : ℕ
+explainTrace = 25

@@ -77,6 +77,12 @@ pub const TRIM_TRACE: u32 = 22;
 // A game whose objects are not two, or of which a count is outside its bounds.
 pub const GAME_BOUNDS: u32 = 23;
 
+// An explanation of a number that is no container's or no atom's.
+pub const EXPLAIN_BOUNDS: u32 = 24;
+
+// An explanation of a trace whose last record is neither answered by an alert nor blocked.
+pub const EXPLAIN_TRACE: u32 = 25;
+
 // The number of a quiet answer.
 pub const QUIET_NUMBER: u32 = 0;
 
