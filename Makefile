@@ -92,7 +92,7 @@ install: lib
 	chmod 644 $(DESTDIR)$(LIBDIR)/pkgconfig/yaslaurel.pc
 	$(INSTALL) -m 644 target/lib/man/man3/*.3 $(DESTDIR)$(MANDIR)/man3/
 	$(INSTALL) -m 644 docs/FORMATS.md $(DESTDIR)$(DOCDIR)/
-	$(INSTALL) -m 644 examples/c/host.c examples/c/guard.c $(DESTDIR)$(DOCDIR)/examples/
+	$(INSTALL) -m 644 hosts/c/host.c hosts/c/guard.c $(DESTDIR)$(DOCDIR)/examples/
 	$(INSTALL) -m 644 hosts/rust/Cargo.toml hosts/rust/build.rs $(DESTDIR)$(CRATEDIR)/
 	$(INSTALL) -m 644 $(addprefix hosts/rust/,$(CRATE_SOURCES)) $(DESTDIR)$(CRATEDIR)/src/
 

@@ -78,7 +78,7 @@ fi
 cd "$root" || exit 2
 cat >"$work/live/story" <<'END'
 source tests/host/judge/src/lib.rs
-source examples/c/host.c
+source hosts/c/host.c
 permit README.md: tests/host/judge/src/lib.rs
 END
 built="cargo build --offline --quiet -p judge --target-dir $work/built && tests/host/c/run ${self:-}"
