@@ -20,9 +20,12 @@
 #   make test              everything that can fail, as the gate runs it; as root it begins with make setup
 #   make bench             ratios against Rust, in one run
 #   make covering          the cover test alone, which the bench and a host test measure
+#   make mutants CRATE=..  small changes of a crate, one at a time: which are still proved? SPECS=1 changes definitions, ABOVE=1 asks the
+#                          crates that stand on it too, COUNT=10, SEED=1
+#   make generated         the tables and pictures that documents have from the sources
 
 .DEFAULT_GOAL = help
-.PHONY: help try demo month policy record night profiles-demo vendor-demo lib install install-programs uninstall setup test bench covering
+.PHONY: help try demo month policy record night profiles-demo vendor-demo lib install install-programs uninstall setup test bench covering mutants generated
 
 PREFIX = /usr/local
 BINDIR = $(PREFIX)/bin
@@ -119,3 +122,11 @@ covering:
 
 bench: lib covering
 	bench/run
+
+COUNT = 10
+SEED = 1
+mutants:
+	@tools/mutants $(CRATE) --count $(COUNT) --seed $(SEED) $(if $(SPECS),--specs) $(if $(ABOVE),--above)
+
+generated:
+	@tools/documents/run
