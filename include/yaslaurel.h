@@ -17,8 +17,10 @@
  *     answer = yaslaurel_step(session, length, record, sizeof record,
  *                             &receiver, &tag, &position);
  *
- * An image comes from a file, from an access matrix (yaslaurel_matrix_policy), from a text of profiles
- * (yaslaurel_profiles_policy) or from two others (yaslaurel_image_compose). FORMATS.md, which comes with it, has each format in full and a remedy for each refusal.
+ * An alert is explained by yaslaurel_why and yaslaurel_explain, from the image and the records so far. An image comes
+ * from a file, from an access matrix (yaslaurel_matrix_policy), from a text of profiles (yaslaurel_profiles_policy) or
+ * from two others (yaslaurel_image_compose). FORMATS.md, which comes with it, has each format in full and a remedy for
+ * each refusal.
  *
  * The library holds no state of its own, allocates nothing, takes no locks, leaves errno alone and calls nothing but the C
  * library's functions on memory (memset, memcpy and the like): it reads and writes only its own stack and the memory that
@@ -36,9 +38,10 @@
  *              length; yaslaurel_image_compose writes the length behind a pointer
  *   256        yaslaurel_step and yaslaurel_run alone: alert
  *   257        yaslaurel_step and yaslaurel_run alone: blocked, neither accepted nor refused
- *   1 to 23    otherwise: refused, with the number of the first condition that fails, in the order below; 18 is a refusal
+ *   1 to 25    otherwise: refused, with the number of the first condition that fails, in the order below; 18 is a refusal
  *              from yaslaurel_step and yaslaurel_run alone, 20 and 21 from yaslaurel_image_compose, 22 from
- *              yaslaurel_trace_trim, 23 from yaslaurel_matrix_game, which return no length
+ *              yaslaurel_trace_trim, 23 from yaslaurel_matrix_game, 24 from yaslaurel_explain, 25 from yaslaurel_why,
+ *              which return no length
  *
  * yaslaurel_meaning has a text for each refusal, yaslaurel_verdict_meaning, yaslaurel_silence_meaning,
  * yaslaurel_judgement_meaning and yaslaurel_outcome_meaning for the answers of these four functions, whose 0 to 4 are no
@@ -47,7 +50,8 @@
  * REFUSALS
  *
  *   9   the session is not YASLAUREL_SESSION_LENGTH numbers, or the output is under YASLAUREL_OUTPUT_LENGTH bytes, for
- *       positions under YASLAUREL_TRIM_LIMIT
+ *       positions under YASLAUREL_TRIM_LIMIT; for an explanation: links under YASLAUREL_LINKS_LENGTH of the trace's records,
+ *       steps under their number, a reason under YASLAUREL_WHY_LENGTH
  *   1   the image is under YASLAUREL_HEADER_LENGTH or over YASLAUREL_IMAGE_LIMIT bytes
  *   2   the image's leading number, or the offsets and lengths of its four sections
  *   3   a section's length is no multiple of its record, or it has too many records
@@ -75,6 +79,8 @@
  *       alert
  *   23  a game: source and target are the same or one is no object, over 3 subjects or objects, 0 or over 4 rounds, over 2
  *       withdrawals
+ *   24  an explanation: the container is over 255, or the atom over 63
+ *   25  an explanation: the trace has no record, or its last is answered neither alert nor blocked
  *
  * A refused call changes no lent memory: neither a slice nor a number behind a pointer. The one exception is
  * yaslaurel_run: a refusal other than 9 is its last record's alone, so the records before it stay done.
@@ -124,7 +130,7 @@
 
 /* The version of this header, in one number to compare with. yaslaurel_version gives the library's. */
 #define YASLAUREL_VERSION_MAJOR 0u
-#define YASLAUREL_VERSION_MINOR 3u
+#define YASLAUREL_VERSION_MINOR 4u
 #define YASLAUREL_VERSION_PATCH 0u
 #define YASLAUREL_VERSION                                                                                              \
     (YASLAUREL_VERSION_MAJOR * 65536u + YASLAUREL_VERSION_MINOR * 256u + YASLAUREL_VERSION_PATCH)
@@ -202,6 +208,30 @@
 
 /* Records of a trace that is trimmed, at most, and bytes that an output for their positions must hold. */
 #define YASLAUREL_TRIM_LIMIT 256u
+
+/*
+ * An explanation: the links that it is lent for a trace of so many records (a short last one counts), in numbers of 64
+ * bits; its steps are as many as the records. Then the numbers of a reason, and the places in it; behind
+ * YASLAUREL_WHY_LACKED_AT there is one for each mixture of the rule, zeros behind the last.
+ */
+#define YASLAUREL_TRACE_RECORDS(trace_length) (((size_t)(trace_length) + 7) / 8)
+#define YASLAUREL_LINKS_LENGTH(records) (258 + 2 * (size_t)(records))
+#define YASLAUREL_NO_CHAIN 256u /* a file: there is no chain */
+#define YASLAUREL_WHY_LENGTH 17
+#define YASLAUREL_WHY_RECEIVER_AT 0u
+#define YASLAUREL_WHY_TAG_AT 1u       /* as answered */
+#define YASLAUREL_WHY_ORIGIN_AT 2u    /* one of the four below */
+#define YASLAUREL_WHY_RECORD_AT 3u    /* of the new file, or of the exec; 0 for the own rule */
+#define YASLAUREL_WHY_FROM_AT 4u      /* the container, the user, or the file where the run rule's chain begins */
+#define YASLAUREL_WHY_RULE_AT 5u      /* the rule's number in the image */
+#define YASLAUREL_WHY_OWNER_AT 6u     /* its owner, or YASLAUREL_NO_OWNER */
+#define YASLAUREL_WHY_FIRST_AT 7u     /* where the records of the run rule's chain stand in the steps, up to their end */
+#define YASLAUREL_WHY_MIXTURES_AT 8u  /* how many mixtures the rule has in the image */
+#define YASLAUREL_WHY_LACKED_AT 9u    /* the least atom of the tag that each of them lacks, in the image's order */
+#define YASLAUREL_ORIGIN_OWN 0u       /* the container's own permit rule */
+#define YASLAUREL_ORIGIN_MADE 1u      /* the rule of the user for whom the file was made */
+#define YASLAUREL_ORIGIN_USER 2u      /* the rule of the user for whom the process runs */
+#define YASLAUREL_ORIGIN_RUN 3u       /* a run rule of what the process runs */
 
 /*
  * Codes of operations: process p does it to object o. The receiver is p for read, exec and end, else o. The first five
@@ -284,6 +314,8 @@
 #define YASLAUREL_REFUSED_COMPOSITION_LIMIT 21u
 #define YASLAUREL_REFUSED_TRIM 22u
 #define YASLAUREL_REFUSED_GAME 23u
+#define YASLAUREL_REFUSED_EXPLAIN_BOUNDS 24u
+#define YASLAUREL_REFUSED_EXPLAIN_TRACE 25u
 
 /*
  * Bytes of stack that a call needs at most, with its arguments and all that it calls. What the C library's memory
@@ -297,6 +329,8 @@
 #define YASLAUREL_STEP_STACK 1536u
 #define YASLAUREL_RUN_STACK 1536u
 #define YASLAUREL_TRACE_TRIM_STACK 92160u
+#define YASLAUREL_EXPLAIN_STACK 53248u
+#define YASLAUREL_WHY_STACK 106496u
 #define YASLAUREL_MATRIX_VERDICT_STACK 256u
 #define YASLAUREL_MATRIX_SILENT_STACK 256u
 #define YASLAUREL_MATRIX_GAME_STACK 512u
@@ -395,6 +429,45 @@ uint32_t yaslaurel_run(uint64_t *session, size_t session_len, const uint8_t *rec
 YASLAUREL_MUST_USE
 uint32_t yaslaurel_trace_trim(const uint8_t *image, size_t image_len, const uint8_t *trace, size_t trace_len,
                               uint8_t *positions, size_t positions_len, size_t *kept);
+
+/*
+ * Tells how an atom came into a container: a chain. The records of `trace`, one behind the other, run on a new session
+ * of the image; the last may be short. A chain begins in a file that holds the atom from the start, and goes on by
+ * records that were accepted, each taking it up where the one before put it down: by a read or an exec into p, by a
+ * write, an append or a fork into o. An exec turns a data atom into its running atom. There is a chain exactly where
+ * the container holds the atom, and of all that there are it is the one by which the atom came first to be where it
+ * stands. A last record that is blocked is followed as if it had been made. A trace up to its record n is `trace` with
+ * length 8 * (n + 1). The call needs about 50 KiB of stack: see YASLAUREL_EXPLAIN_STACK.
+ *
+ * Returns 0: `file` is the number of the file where the chain begins, YASLAUREL_NO_CHAIN if there is none, and the end
+ * of `steps`, from place `first` on, has the numbers of its records, counted from 0 in `trace` with the refused ones,
+ * rising; `first` is `steps_len` where there are none. What stands before `first` stays, and so do links behind
+ * YASLAUREL_LINKS_LENGTH of the trace's records; those before it are the call's own, whatever they held. Else 9, then 1
+ * to 6, then 24, and everything that is lent keeps what it held.
+ */
+YASLAUREL_MUST_USE
+uint32_t yaslaurel_explain(const uint8_t *image, size_t image_len, const uint8_t *trace, size_t trace_len,
+                           size_t container, size_t atom, uint64_t *links, size_t links_len, uint64_t *steps,
+                           size_t steps_len, uint64_t *file, uint64_t *first);
+
+/*
+ * Tells why the last record of a trace is answered alert or blocked: which rule forbids what the receiver holds, or
+ * would hold, and for each of its mixtures the least atom of the tag that it lacks. With a chain for each of these
+ * atoms (yaslaurel_explain of the receiver) it is a certificate, which can be checked by hand: FORMATS.md says how. The
+ * rule governs the receiver: the permit rule of a file of the image, the rule of the user for whom a file was made, or
+ * of a process one of those that it has from its last exec, or from that of the process which it was forked from: the
+ * user's if it does not cover the tag, else a run rule. A run rule comes from a file of the image along a chain of its
+ * own into the executed file, just before the exec: of the files in rising number whose run rule does not cover the
+ * tag, the first with such a chain gives the rule, and the file where its chain begins its number and owner. The call
+ * needs about 100 KiB of stack: see YASLAUREL_WHY_STACK.
+ *
+ * Returns 0: the front of `why` has YASLAUREL_WHY_LENGTH numbers (the places above), and the end of `steps` the record
+ * numbers of the run rule's chain, as from yaslaurel_explain; its place is `steps_len` for the other origins. Else 9,
+ * then 1 to 6, then 25, and everything that is lent keeps what it held.
+ */
+YASLAUREL_MUST_USE
+uint32_t yaslaurel_why(const uint8_t *image, size_t image_len, const uint8_t *trace, size_t trace_len, uint64_t *links,
+                       size_t links_len, uint64_t *steps, size_t steps_len, uint64_t *why, size_t why_len);
 
 /*
  * Gives the verdict on an access matrix. `reads` and `writes` have one row for each of 1 to 8 subjects, bit k for object k
@@ -531,7 +604,7 @@ static inline void yaslaurel_record(uint32_t code, uint32_t p, uint32_t o, uint3
  * Tells what a refusal means. Not for the answers of yaslaurel_matrix_verdict, yaslaurel_matrix_silent,
  * yaslaurel_matrix_game and yaslaurel_matrix_judge, whose 0 to 4 are no refusals, and not for a length.
  *
- * Returns a constant text of a few words, "no refusal" for 0, 19 and every number over 23.
+ * Returns a constant text of a few words, "no refusal" for 0, 19 and every number over 25.
  */
 static inline const char *yaslaurel_meaning(uint32_t refusal)
 {
@@ -560,6 +633,8 @@ static inline const char *yaslaurel_meaning(uint32_t refusal)
         "a place of the composed policy has over 8 mixtures, or it needs over 256 rules",
         "the trace has no record, too many, one not accepted, or no alert at its end",
         "the game's objects, or one of its counts, are out of bounds",
+        "there is no such container or atom",
+        "the trace has no record, or its last is answered neither alert nor blocked",
     };
     return meanings[refusal < sizeof meanings / sizeof meanings[0] ? refusal : 0];
 }

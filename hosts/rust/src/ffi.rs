@@ -12,6 +12,8 @@ pub const ALERT: u32 = 256;
 pub const BLOCKED: u32 = 257;
 /// The position where no mixture holds the tag.
 pub const NO_POSITION: u32 = 255;
+/// The file of [`yaslaurel_explain`] where there is no chain.
+pub const NO_CHAIN: u64 = 256;
 
 extern "C" {
     pub fn yaslaurel_version() -> u32;
@@ -45,6 +47,32 @@ extern "C" {
         positions: *mut u8,
         positions_len: usize,
         kept: *mut usize,
+    ) -> u32;
+    pub fn yaslaurel_explain(
+        image: *const u8,
+        image_len: usize,
+        trace: *const u8,
+        trace_len: usize,
+        container: usize,
+        atom: usize,
+        links: *mut u64,
+        links_len: usize,
+        steps: *mut u64,
+        steps_len: usize,
+        file: *mut u64,
+        first: *mut u64,
+    ) -> u32;
+    pub fn yaslaurel_why(
+        image: *const u8,
+        image_len: usize,
+        trace: *const u8,
+        trace_len: usize,
+        links: *mut u64,
+        links_len: usize,
+        steps: *mut u64,
+        steps_len: usize,
+        why: *mut u64,
+        why_len: usize,
     ) -> u32;
     pub fn yaslaurel_matrix_verdict(
         reads: *const u32,

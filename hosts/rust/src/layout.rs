@@ -120,6 +120,36 @@ pub mod record {
     pub const NO_USER: u16 = 65535;
 }
 
+/// The reason of an alert, in numbers of 64 bits, as [`why_in`](crate::why_in) writes it.
+pub mod why {
+    use super::session::RULE_MIXTURES;
+
+    /// Where the number of the receiver is.
+    pub const RECEIVER: usize = 0;
+    /// Where its tag is, as answered.
+    pub const TAG: usize = 1;
+    /// Where the origin of the rule is: 0 the container's own, 1 of the user for whom it was made, 2 of the user for whom it runs, 3 a run
+    /// rule.
+    pub const ORIGIN: usize = 2;
+    /// Where the record of the new file or the exec is; 0 for the container's own.
+    pub const RECORD: usize = 3;
+    /// Where the container is, the user, or the file where the run rule's chain begins.
+    pub const FROM: usize = 4;
+    /// Where the number of the rule is.
+    pub const RULE: usize = 5;
+    /// Where its owner is.
+    pub const OWNER: usize = 6;
+    /// Where it says at which place of the steps the chain of the run rule begins.
+    pub const FIRST: usize = 7;
+    /// Where the count of the rule's mixtures is.
+    pub const MIXTURES: usize = 8;
+    /// Where the atoms begin that the mixtures lack.
+    pub const LACKED: usize = 9;
+
+    /// Numbers of a reason.
+    pub const LENGTH: usize = LACKED + RULE_MIXTURES;
+}
+
 /// A session, in numbers of 64 bits.
 pub mod session {
     use super::image::{CONTAINERS, USERS};

@@ -33,6 +33,8 @@
 //! # Ok::<(), yaslaurel::Refusal>(())
 //! ```
 //!
+//! [`why()`] tells which rule an alert broke and what it lacks, [`explain`] how that came there; [`Session::recording`] keeps what they need.
+//!
 //! [`Policy`] makes an image by names and gives the names for messages.
 //!
 //! The functions whose names end in `_into` or `_in` work on memory that the caller lends, of any length: a wrong length
@@ -43,6 +45,7 @@
 
 mod composition;
 mod container;
+mod explain;
 pub mod ffi;
 mod game;
 pub mod layout;
@@ -58,6 +61,9 @@ use std::fmt;
 
 pub use composition::{compose, compose_into};
 pub use container::{Container, Kind};
+pub use explain::{
+    explain, explain_in, links_length, trace_records, why, why_in, Chain, Origin, Recording, Why, WhyByName, WHY_LENGTH,
+};
 pub use game::{play, Move, Outcome};
 pub use operation::Operation;
 pub use policy::{Policy, PolicyContainer, PolicyError};
@@ -155,6 +161,7 @@ const _: () = {
     const fn crosses_threads<T: Send + Sync>() {}
     crosses_threads::<(Session, Run<'_>, Answer, Verdict, Container, Kind)>();
     crosses_threads::<(Operation, Refusal, Matrix<'_>, MatrixVerdict, Judgement, Outcome)>();
+    crosses_threads::<(Chain, Origin, Why, WhyByName<'_>, Recording)>();
     crosses_threads::<(Policy, PolicyContainer, PolicyError, Source, Mixture, Rule)>();
 };
 

@@ -4,8 +4,8 @@ use std::fmt;
 
 /// Why a call was refused. A refused call changes nothing that it was lent.
 ///
-/// The numbers are the paper's. Where several conditions fail, the least refusal counts: they are ordered 9, 1 to 8, 10 to
-/// 14, 18, 15 to 17, 20 to 23, as published, and not by number.
+/// The numbers are the paper's, but for 24 and 25, which are this product's own. Where several conditions fail, the least refusal
+/// counts: they are ordered 9, 1 to 8, 10 to 14, 18, 15 to 17, 20 to 25, as published, and not by number.
 ///
 /// ```
 /// use yaslaurel::Refusal;
@@ -37,7 +37,8 @@ pub enum Refusal {
     /// The matrix: row counts differ, 0 or over 8 subjects, 0 or over 32 objects, or a bit beyond the objects.
     Matrix = 8,
     /// The session is not [`SESSION_LENGTH`](crate::SESSION_LENGTH) numbers, or the output is under
-    /// [`OUTPUT_LENGTH`](crate::OUTPUT_LENGTH) bytes, or for positions under [`TRIM_LIMIT`](crate::TRIM_LIMIT).
+    /// [`OUTPUT_LENGTH`](crate::OUTPUT_LENGTH) bytes, or for positions under [`TRIM_LIMIT`](crate::TRIM_LIMIT), or an explanation is
+    /// lent under [`links_length`](crate::links_length) links, a step for each record or [`WHY_LENGTH`](crate::WHY_LENGTH) numbers.
     LentLength = 9,
     /// A session row that the record names is not well formed.
     Row = 10,
@@ -69,10 +70,14 @@ pub enum Refusal {
     /// A game: source and target are the same or one is no object, over 3 subjects or objects, 0 or over 4 rounds, over 2
     /// withdrawals.
     GameBounds = 23,
+    /// An explanation: the container is over 255, or the atom over 63.
+    ExplainBounds = 24,
+    /// An explanation: the trace has no record, or its last is answered neither alert nor blocked.
+    ExplainTrace = 25,
 }
 
 /// All refusals in the published order.
-const PUBLISHED: [Refusal; 22] = [
+const PUBLISHED: [Refusal; 24] = [
     Refusal::LentLength,
     Refusal::ImageLength,
     Refusal::Sections,
@@ -95,6 +100,8 @@ const PUBLISHED: [Refusal; 22] = [
     Refusal::CompositionLimit,
     Refusal::TrimTrace,
     Refusal::GameBounds,
+    Refusal::ExplainBounds,
+    Refusal::ExplainTrace,
 ];
 
 impl Refusal {
@@ -103,7 +110,7 @@ impl Refusal {
     /// ```
     /// use yaslaurel::Refusal;
     /// let numbers: Vec<u32> = Refusal::all().map(Refusal::number).collect();
-    /// assert_eq!(numbers, [9, 1, 2, 3, 4, 5, 6, 7, 8, 10, 11, 12, 13, 14, 18, 15, 16, 17, 20, 21, 22, 23]);
+    /// assert_eq!(numbers, [9, 1, 2, 3, 4, 5, 6, 7, 8, 10, 11, 12, 13, 14, 18, 15, 16, 17, 20, 21, 22, 23, 24, 25]);
     /// assert!(Refusal::all().zip(Refusal::all().skip(1)).all(|(one, next)| one < next));
     /// ```
     pub fn all() -> impl Iterator<Item = Refusal> {
@@ -131,7 +138,7 @@ impl Refusal {
         PUBLISHED.iter().position(|refusal| *refusal == self)
     }
 
-    /// The paper's number.
+    /// Its number.
     #[inline]
     #[must_use]
     pub fn number(self) -> u32 {
@@ -168,6 +175,8 @@ impl Refusal {
             }
             Refusal::TrimTrace => "the trace has no record, too many, one not accepted, or no alert at its end",
             Refusal::GameBounds => "the game's objects, or one of its counts, are out of bounds",
+            Refusal::ExplainBounds => "there is no such container or atom",
+            Refusal::ExplainTrace => "the trace has no record, or its last is answered neither alert nor blocked",
         }
     }
 }

@@ -32,7 +32,7 @@ pub struct Chain {
 }
 
 /// "Codes 1 and 4 carry from o to p, codes 2, 3 and 5 from p to o." The others carry nothing.
-fn carries(step: Record) -> Option<(usize, usize)> {
+pub(crate) fn carries(step: Record) -> Option<(usize, usize)> {
     match step.code {
         1 | 4 => Some((step.o, step.p)),
         2 | 3 | 5 => Some((step.p, step.o)),
@@ -42,7 +42,7 @@ fn carries(step: Record) -> Option<(usize, usize)> {
 
 /// The container that leaves at a step: "Code 8 ends process p"; "code 9 lets p remove file or volatile o" (change request
 /// No. 4).
-fn leaves(step: Record) -> Option<usize> {
+pub(crate) fn leaves(step: Record) -> Option<usize> {
     match step.code {
         8 => Some(step.p),
         9 => Some(step.o),
@@ -52,7 +52,7 @@ fn leaves(step: Record) -> Option<usize> {
 
 /// "A write ends what o held before". "An exec no longer ends a chain of data in p; for the twins and run rules that p
 /// held it still does" (change request No. 2). "A chain ends when its holder leaves" (No. 4).
-fn ends(step: Record, container: usize, carried: Carried) -> bool {
+pub(crate) fn ends(step: Record, container: usize, carried: Carried) -> bool {
     match step.code {
         2 => step.o == container,
         4 => step.p == container && !matches!(carried, Carried::Data(_)),
@@ -61,7 +61,7 @@ fn ends(step: Record, container: usize, carried: Carried) -> bool {
 }
 
 /// What a carrier makes of what it takes up: "exec turns it into its twin; twins pass by 2, 3 and 5 only".
-fn passes(code: u8, carried: Carried) -> Option<Carried> {
+pub(crate) fn passes(code: u8, carried: Carried) -> Option<Carried> {
     match carried {
         Carried::RunRule(_) => Some(carried),
         Carried::Data(atom) if code == 4 => Some(Carried::Running(atom)),

@@ -6,7 +6,7 @@
 //! paper, not to be fast.
 //!
 //! [`chains`] is a second judge of its own: it finds the alerts from the history of accepted steps, by listing the
-//! chains, and holds no tags.
+//! chains, and holds no tags. [`witness`] finds the chain that is shown for an item, and judges explanations of alerts.
 
 pub mod chains;
 pub mod composition;
@@ -22,3 +22,4 @@ pub mod rules;
 pub mod session;
 pub mod trim;
 pub mod withdrawals;
+pub mod witness;

@@ -133,3 +133,10 @@ pub const TRACE_RECORDS: usize = 1_000_000;
 
 /// Change request No. 13: "From up to 256 records".
 pub const POSITIONS: usize = 256;
+
+/// "A tag or a mixture is a set of these 64".
+pub const ATOMS: usize = 64;
+
+/// This product's own: what stands for the file of no chain, and the numbers of the reason of an alert.
+pub const NO_CHAIN: u64 = 256;
+pub const WHY: usize = 17;

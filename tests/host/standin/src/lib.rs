@@ -2,6 +2,7 @@
 //! tests: the whole judge must pass them, and with a planted fault (`faults`) they must fail.
 
 mod composition;
+mod explain;
 pub mod faults;
 mod game;
 mod owners;
@@ -369,5 +370,55 @@ pub unsafe extern "C" fn yaslaurel_image_compose(
         from_raw_parts(consent, consent_length),
         from_raw_parts_mut(out, out_length),
         &mut *length,
+    )
+}
+
+/// # Safety
+/// As `include/yaslaurel.h` says.
+#[no_mangle]
+pub unsafe extern "C" fn yaslaurel_explain(
+    bytes: *const u8,
+    length: usize,
+    trace: *const u8,
+    trace_length: usize,
+    container: usize,
+    atom: usize,
+    links: *mut u64,
+    links_length: usize,
+    steps: *mut u64,
+    steps_length: usize,
+    file: *mut u64,
+    first: *mut u64,
+) -> u32 {
+    explain::put_chain(
+        (from_raw_parts(bytes, length), from_raw_parts(trace, trace_length)),
+        (container, atom),
+        from_raw_parts_mut(links, links_length),
+        from_raw_parts_mut(steps, steps_length),
+        (&mut *file, &mut *first),
+    )
+}
+
+/// # Safety
+/// As `include/yaslaurel.h` says.
+#[no_mangle]
+pub unsafe extern "C" fn yaslaurel_why(
+    bytes: *const u8,
+    length: usize,
+    trace: *const u8,
+    trace_length: usize,
+    links: *mut u64,
+    links_length: usize,
+    steps: *mut u64,
+    steps_length: usize,
+    why: *mut u64,
+    why_length: usize,
+) -> u32 {
+    explain::put_why(
+        from_raw_parts(bytes, length),
+        from_raw_parts(trace, trace_length),
+        from_raw_parts_mut(links, links_length),
+        from_raw_parts_mut(steps, steps_length),
+        from_raw_parts_mut(why, why_length),
     )
 }
