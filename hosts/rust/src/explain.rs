@@ -3,7 +3,7 @@
 use std::fmt;
 
 use crate::layout::{image as format, record, why as places};
-use crate::{ffi, refusal, Answer, Mixture, Operation, Policy, Refusal, Session};
+use crate::{ffi, refusal, Answer, Mixture, Operation, Policy, Refusal, Rule, Session};
 
 /// Numbers of the reason that [`why_in`] writes.
 pub const WHY_LENGTH: usize = places::LENGTH;
@@ -325,7 +325,8 @@ fn reason(image: &[u8], numbers_of: &[u64; WHY_LENGTH], steps: &[u64]) -> Why {
     };
     let rule = at(places::RULE) as u16;
     let lacked = &numbers_of[places::LACKED..][..at(places::MIXTURES) as usize];
-    let mixtures = mixtures(image, rule).zip(lacked).map(|(mixture, &atom)| (mixture, atom as u32)).collect();
+    let mixtures =
+        mixtures(image, rule).into_iter().zip(lacked).map(|(mixture, &atom)| (mixture, atom as u32)).collect();
     let owner = at(places::OWNER);
     Why {
         receiver: at(places::RECEIVER) as u8,
@@ -338,16 +339,20 @@ fn reason(image: &[u8], numbers_of: &[u64; WHY_LENGTH], steps: &[u64]) -> Why {
 }
 
 /// The mixtures of a rule of an accepted image, in the image's order.
-fn mixtures(image: &[u8], rule: u16) -> impl Iterator<Item = Mixture> + '_ {
+fn mixtures(image: &[u8], rule: u16) -> Vec<Mixture> {
+    if rule == format::UNRESTRICTED {
+        return Rule::unrestricted().mixtures().to_vec();
+    }
     let number = |place: usize| usize::from(u16::from_le_bytes([image[place], image[place + 1]]));
     let place = number(format::RULES.offset_at()) + usize::from(rule) * format::RULES.record;
     let (first, count) = (number(place + format::FIRST), number(place + format::COUNT));
     let size = format::MIXTURES.record;
     let begin = number(format::MIXTURES.offset_at()) + first * size;
-    image[begin..begin + count * size].chunks_exact(size).map(|bytes| {
+    let mixtures = image[begin..begin + count * size].chunks_exact(size).map(|bytes| {
         let bytes = bytes.try_into().expect("eight bytes");
         Mixture::from_bits(u64::from_le_bytes(bytes))
-    })
+    });
+    mixtures.collect()
 }
 
 /// The same in lent memory: links and steps as for [`explain_in`], and [`WHY_LENGTH`] numbers or more for the reason, at whose front it
@@ -492,7 +497,7 @@ impl fmt::Debug for Recording {
 #[cfg(test)]
 mod tests {
     use super::*;
-    use crate::{Rule, Verdict};
+    use crate::Verdict;
 
     /// A policy with two sources, a data file for each, a program, a process and a user with this rule.
     fn policy(of_user: Rule, run: Rule) -> Policy {

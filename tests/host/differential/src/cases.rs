@@ -5,6 +5,7 @@ mod allowed;
 mod batches;
 mod compositions;
 mod cuts;
+mod explanations;
 mod games;
 mod guarded;
 mod histories;
@@ -13,7 +14,9 @@ mod matrices;
 mod operations;
 mod pairs;
 mod profiles;
+mod programs;
 mod proposals;
+mod reasons;
 pub mod traces;
 
 use crate::case::Part;
@@ -35,4 +38,6 @@ pub const PARTS: &[Part] = &[
     cuts::PART,
     games::PART,
     games::ALL,
+    explanations::PART,
+    reasons::PART,
 ];

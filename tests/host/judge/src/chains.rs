@@ -114,7 +114,7 @@ fn extend(
 }
 
 /// The chains into a container after the first `after` steps.
-fn into(chains: &[Chain], container: usize, after: usize) -> impl Iterator<Item = &Chain> {
+pub fn into(chains: &[Chain], container: usize, after: usize) -> impl Iterator<Item = &Chain> {
     chains.iter().filter(move |chain| {
         chain.into == container
             && chain.steps.last().is_none_or(|&last| last < after)
