@@ -856,6 +856,8 @@ static int random_matrices(uint64_t *seed, int round)
     return good && (answer <= 4 || answer == 8);
 }
 
+#include "explanations.h"
+
 /* Random bytes and numbers everywhere: every answer is one that the function can give. */
 static void random_bytes(void)
 {
@@ -874,6 +876,7 @@ static void random_bytes(void)
         good = good && (answer == 0 ? normal >= HEADER && normal <= OUTPUT : normal == answer);
         uint32_t trimmed = trim(image, length, image, length, YASLAUREL_TRIM_LIMIT);
         good = good && (answer == 0 ? trimmed == 0 || trimmed == 22 : trimmed == answer);
+        good = good && random_explanations(image, length, answer, &seed);
         good = good && random_steps(&seed, image, length) && random_matrices(&seed, round);
         good = good && yaslaurel_profiles_policy(image, length, out, OUTPUT) == (length == 0 ? 26u : 16u);
     }
@@ -1012,7 +1015,7 @@ static void refusal_meanings(void)
     const char *none = yaslaurel_meaning(0);
 
     check(strcmp(none, "no refusal") == 0, "meaning: of 0");
-    for (uint32_t i = 1; i <= 23; i++) {
+    for (uint32_t i = 1; i <= 25; i++) {
         if (i == 19) {
             continue;
         }
@@ -1022,13 +1025,14 @@ static void refusal_meanings(void)
         }
         check(own, "meaning: a refusal has a text of its own");
     }
-    check(strcmp(yaslaurel_meaning(19), none) == 0 && yaslaurel_meaning(24) == none && yaslaurel_meaning(YASLAUREL_ALERT) == none &&
+    check(strcmp(yaslaurel_meaning(19), none) == 0 && yaslaurel_meaning(26) == none && yaslaurel_meaning(YASLAUREL_ALERT) == none &&
               yaslaurel_meaning(UINT32_MAX) == none,
           "meaning: of numbers that are no refusals");
     check(strcmp(yaslaurel_meaning(YASLAUREL_REFUSED_NO_PROCESS), "p is no process") == 0 &&
               strcmp(yaslaurel_meaning(YASLAUREL_REFUSED_KIND), "o is of the wrong kind") == 0 &&
               strcmp(yaslaurel_meaning(YASLAUREL_REFUSED_TRIM),
                      "the trace has no record, too many, one not accepted, or no alert at its end") == 0 &&
+              strcmp(yaslaurel_meaning(YASLAUREL_REFUSED_EXPLAIN_BOUNDS), "there is no such container or atom") == 0 &&
               strcmp(yaslaurel_meaning(YASLAUREL_REFUSED_OTHER_USER),
                      "a new file for another user than the process's own") == 0,
           "meaning: the texts stand under their numbers");
@@ -1097,6 +1101,7 @@ int main(void)
     profile_limits();
     withdrawals();
     compositions();
+    explanations();
     random_bytes();
     printf("%u passed, %u failed\n", passed, failed);
     return failed != 0;

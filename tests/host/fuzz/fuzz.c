@@ -790,6 +790,7 @@ static void try_profiles(void)
 }
 
 #include "compositions.h"
+#include "explanations.h"
 
 /* Whether a function gave each of the wanted answers; prints the counts if asked. */
 static int reached(int print, const char *name, const unsigned long *counts, const int *wanted, size_t count)
@@ -823,6 +824,8 @@ static int all_reached(int print)
     all &= REACHED(print, profiles, LENGTH, 9, 16, 17);
     all &= REACHED(print, proposals, 0, 1, 2, 3, 4, 8);
     all &= REACHED(print, pairs, 0, 1, 2, 3, 4, 5, 6, 9, 20, 21);
+    all &= REACHED(print, chains, 0, 1, 2, 3, 4, 5, 6, 9, 24);
+    all &= REACHED(print, reasons, 0, 1, 2, 3, 4, 5, 6, 9, 25);
     return all;
 }
 
@@ -843,6 +846,7 @@ static void reserve_all(void)
     reserve(&second_at, sizeof image);
     reserve(&consent_at, 64);
     reserve(&length_at, 64);
+    reserve_explanations();
     for (size_t i = 0; i < 6; i++) {
         reserve(&rights_at[i], 64);
     }
@@ -877,6 +881,7 @@ static void try_all(void)
         try_session();
     }
     try_trim(length);
+    try_explanations(length);
     try_matrix();
     try_proposal();
     try_profiles();

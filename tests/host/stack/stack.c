@@ -44,6 +44,8 @@ static uint8_t record[YASLAUREL_RECORD_LENGTH];
 static uint8_t trace[YASLAUREL_TRIM_LIMIT * YASLAUREL_RECORD_LENGTH];
 static size_t trace_length;
 static uint8_t positions[YASLAUREL_TRIM_LIMIT];
+static uint64_t links[YASLAUREL_LINKS_LENGTH(YASLAUREL_TRIM_LIMIT)];
+static uint64_t chain[YASLAUREL_TRIM_LIMIT], reason[YASLAUREL_WHY_LENGTH], file, first;
 static uint32_t rows[6][SUBJECTS];
 static char text[YASLAUREL_TEXT_LIMIT + 1];
 static uint32_t answer;
@@ -95,6 +97,21 @@ static void call_trim(void)
 {
     NOTE();
     answer = yaslaurel_trace_trim(image, image_length, trace, trace_length, positions, sizeof positions, &taken);
+}
+
+static void call_explain(void)
+{
+    NOTE();
+    answer = yaslaurel_explain(image, image_length, trace, trace_length, (size_t)(receiver % YASLAUREL_CONTAINERS),
+                               (size_t)(tag % 64), links, sizeof links / sizeof links[0], chain,
+                               sizeof chain / sizeof chain[0], &file, &first);
+}
+
+static void call_why(void)
+{
+    NOTE();
+    answer = yaslaurel_why(image, image_length, trace, trace_length, links, sizeof links / sizeof links[0], chain,
+                           sizeof chain / sizeof chain[0], reason, sizeof reason / sizeof reason[0]);
 }
 
 static void call_verdict(void)
@@ -156,6 +173,8 @@ static struct function {
     {"yaslaurel_step", call_step, YASLAUREL_STEP_STACK, 0},
     {"yaslaurel_run", call_run, YASLAUREL_RUN_STACK, 0},
     {"yaslaurel_trace_trim", call_trim, YASLAUREL_TRACE_TRIM_STACK, 0},
+    {"yaslaurel_explain", call_explain, YASLAUREL_EXPLAIN_STACK, 0},
+    {"yaslaurel_why", call_why, YASLAUREL_WHY_STACK, 0},
     {"yaslaurel_matrix_verdict", call_verdict, YASLAUREL_MATRIX_VERDICT_STACK, 0},
     {"yaslaurel_matrix_silent", call_silent, YASLAUREL_MATRIX_SILENT_STACK, 0},
     {"yaslaurel_matrix_game", call_game, YASLAUREL_MATRIX_GAME_STACK, 0},
@@ -165,7 +184,7 @@ static struct function {
     {"yaslaurel_image_compose", call_compose, YASLAUREL_IMAGE_COMPOSE_STACK, 0},
 };
 
-enum { VERSION, CHECK, NORMALISE, START, STEP, RUN, TRIM, VERDICT, SILENT, GAME, JUDGE, POLICY, PROFILES, COMPOSE };
+enum { VERSION, CHECK, NORMALISE, START, STEP, RUN, TRIM, EXPLAIN, WHY, VERDICT, SILENT, GAME, JUDGE, POLICY, PROFILES, COMPOSE };
 
 /* Runs a call on the painted stack and keeps the most that was found. */
 static void measure(int which)
@@ -337,6 +356,8 @@ static void measure_all(int round)
     steps();
     make_trace();
     measure(TRIM);
+    measure(EXPLAIN);
+    measure(WHY);
     make_rows();
     measure(VERDICT);
     measure(SILENT);
