@@ -10,12 +10,14 @@
 //! `bench WATCH MONTH` also measures these programs, `bench watch PROGRAM` and `bench month PROGRAM` measure one alone; `bench
 //! operations` measures single operations alone, `bench batches` runs of records, `bench profiles` texts of profiles, `bench
 //! cover` the cover test of a rule of eight, `bench proposals` proposals to withdraw rights, `bench games` games of a desk
-//! against a guard, `bench trims` traces trimmed to their alert, `bench compositions` pairs of images.
+//! against a guard, `bench trims` traces trimmed to their alert, `bench compositions` pairs of images, `bench
+//! explanations` chains and reasons of alerts.
 //! `bench listing` is the watch program in natural Rust (`BufWriter`, `writeln!`), `bench figures` the month program, for the
 //! comparison of whole programs; `bench trace COUNT` writes the policy and trace that both watch programs read.
 
 mod compositions;
 mod cover;
+mod explanations;
 mod games;
 mod month;
 mod plain;
@@ -709,6 +711,10 @@ fn main() -> io::Result<()> {
             trims::trims();
             return Ok(());
         }
+        ["explanations"] => {
+            explanations::explanations();
+            return Ok(());
+        }
         ["proposals"] => {
             proposals();
             return Ok(());
@@ -732,6 +738,7 @@ fn main() -> io::Result<()> {
     cover::cover();
     batches();
     trims::trims();
+    explanations::explanations();
     images();
     compositions::compositions();
     matrices();

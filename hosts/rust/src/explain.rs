@@ -41,6 +41,7 @@ pub struct Chain {
 
 impl Chain {
     /// Its records as steps, which a listing counts from 1.
+    #[must_use]
     pub fn steps(&self) -> impl ExactSizeIterator<Item = usize> + '_ {
         self.records.iter().map(|number| number + 1)
     }

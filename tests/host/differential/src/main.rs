@@ -1,7 +1,7 @@
 //! `differential [SEED] [FACTOR] [PART]` compares the library with the judge.
 //!
 //! The seed is a number (without one it is taken from the clock), the factor multiplies the size of the run: with 1 it
-//! has over 200,000 images, 2,000,000 operations, 200,000 matrices, 80,000 texts of profiles, 60,000 proposals and 20,000 games. PART, the beginning of a part's name, runs that
+//! has over 200,000 images, 2,000,000 operations, 200,000 matrices, 80,000 texts of profiles, 60,000 proposals, 20,000 games and 30,000 reasons of alerts. PART, the beginning of a part's name, runs that
 //! part alone. A disagreement is made small and printed, with the
 //! seed that finds it again. The last line is `N passed, M failed`.
 //!
