@@ -1,9 +1,9 @@
 //! `differential [SEED] [FACTOR] [PART]` compares the library with the judge.
 //!
 //! The seed is a number (without one it is taken from the clock), the factor multiplies the size of the run: with 1 it
-//! has over 200,000 images, 2,000,000 operations, 200,000 matrices, 80,000 texts of profiles, 60,000 proposals, 20,000 games and 30,000 reasons of alerts. PART, the beginning of a part's name, runs that
-//! part alone. A disagreement is made small and printed, with the
-//! seed that finds it again. The last line is `N passed, M failed`.
+//! has over 200,000 images, 2,000,000 operations, 200,000 matrices, 80,000 texts of profiles, 60,000 proposals, 20,000
+//! games and 30,000 reasons of alerts. PART, the beginning of a part's name, runs that part alone. A disagreement is made
+//! small and printed, with the seed that finds it again. The last line is `N passed, M failed`.
 //!
 //! `differential files SEED COUNT FOLDER` writes COUNT folders into FOLDER, each with a random `policy.bin` and
 //! `trace.bin` and the judge's `listing.txt`, to compare the watch program with.

@@ -472,3 +472,174 @@ pub fn put_why(image: &[u8], trace: &[u8], links: usize, steps: &mut [u64], out:
         }
     }
 }
+
+#[cfg(test)]
+mod tests {
+    use super::*;
+    use crate::image::Container;
+    use crate::numbers::{NO_OWNER, UNRESTRICTED};
+
+    /// Files 0 and 1 with the atoms 0 and 1, of which 1 may hold itself alone, a program 2 with atom 2 that may run with atom 1, a file 3 without an
+    /// atom, processes 4 and 5, and a user whose rule is that of file 1.
+    fn policy() -> Policy {
+        let file = |atom, permit, run| Container { kind: Kind::File, atom, permit, run };
+        let process = Container { kind: Kind::Process, atom: None, permit: UNRESTRICTED, run: UNRESTRICTED };
+        let open = UNRESTRICTED;
+        let files = [file(Some(0), open, open), file(Some(1), 0, open), file(Some(2), open, 1), file(None, open, open)];
+        Policy {
+            containers: files.into_iter().chain([process, process]).collect(),
+            users: vec![open, 0],
+            rules: vec![vec![2, 2 | 7 << 32], vec![2 | 7 << 32]],
+            owners: vec![NO_OWNER, 1],
+        }
+    }
+
+    fn step(code: u8, p: usize, o: usize) -> Record {
+        Record { code, p, o, u: [4, 6].contains(&code).then_some(0) }
+    }
+
+    fn told(steps: &[Record]) -> Told {
+        Told { steps: steps.to_vec(), records: (0..steps.len()).collect(), last: None }
+    }
+
+    fn chain(file: usize, steps: &[usize]) -> Chain {
+        Chain { file, steps: steps.to_vec() }
+    }
+
+    /// Which chain is told, said once more: at a step's receiver what stood there and is not ended stays, else what the step carries.
+    fn by_definition(policy: &Policy, history: &[Record], item: &Item, container: usize) -> Option<Chain> {
+        let Some((&last, before)) = history.split_last() else {
+            return starts(policy, item, container).then(|| chain(container, &[]));
+        };
+        let held = |item: &Item, container| by_definition(policy, before, item, container);
+        if receiver(last) != container {
+            return held(item, container);
+        }
+        let stays = if ends(last, item) { None } else { held(item, container) };
+        stays.or_else(|| {
+            let (from, taken) = takes_up(last, item)?;
+            let mut found = held(&taken, from)?;
+            found.steps.push(before.len());
+            Some(found)
+        })
+    }
+
+    #[test]
+    fn the_first_chain_is_told() {
+        let policy = policy();
+        let mut state = 1u64;
+        let mut draw = |bound: u64| {
+            state = state.wrapping_mul(6_364_136_223_846_793_005).wrapping_add(1_442_695_040_888_963_407);
+            (state >> 33) % bound
+        };
+        let items = [Item::Data(0), Item::Data(1), Item::Running(0), Item::Running(2), Item::Run(policy.rule(1))];
+        let mut found = 0;
+        for _ in 0..600 {
+            let history: Vec<Record> = (0..draw(11))
+                .map(|_| {
+                    let codes = [1, 1, 1, 2, 3, 3, 4, 4, 5, 6, 7, 8, 9];
+                    let (code, p, file) = (codes[draw(13) as usize], 4 + draw(2) as usize, draw(4) as usize);
+                    match code {
+                        5 => step(5, p, 6),
+                        8 => step(8, 6, 6),
+                        code => step(code, p, file),
+                    }
+                })
+                .collect();
+            for item in &items {
+                for container in 0..7 {
+                    let told = witness(&policy, &history, item, container);
+                    assert_eq!(
+                        told,
+                        by_definition(&policy, &history, item, container),
+                        "{history:?} {item:?} {container}"
+                    );
+                    found += usize::from(told.as_ref().is_some_and(|told| told.steps.len() > 1));
+                    assert!(told.is_none_or(|told| is_chain(&policy, &history, &told, item, container)));
+                }
+            }
+        }
+        assert!(found > 200, "{found} chains of several steps");
+    }
+
+    /// What is no chain is not taken for one.
+    #[test]
+    fn other_steps_are_no_chain() {
+        let policy = policy();
+        let history = [step(1, 4, 0), step(3, 4, 3), step(1, 5, 3), step(4, 5, 2), step(2, 5, 1)];
+        let good =
+            |file, steps: &[usize], item, container| is_chain(&policy, &history, &chain(file, steps), &item, container);
+        assert!(good(0, &[0, 1, 2, 4], Item::Data(0), 1));
+        assert!(good(2, &[3, 4], Item::Running(2), 1));
+        assert!(good(2, &[3], Item::Run(policy.rule(1)), 5));
+        // Another file, another container, a step missing, too many, falling, not there; a read of a running atom, data by exec.
+        for (file, steps, item, container) in [
+            (1, &[0, 1, 2, 4][..], Item::Data(0), 1),
+            (0, &[0, 1, 2, 4], Item::Data(0), 3),
+            (0, &[0, 1, 4], Item::Data(0), 1),
+            (0, &[0, 1, 2, 3, 4], Item::Data(0), 1),
+            (0, &[1, 0, 2, 4], Item::Data(0), 1),
+            (0, &[0, 1, 2, 9], Item::Data(0), 1),
+            (0, &[0, 1, 2, 4], Item::Running(0), 1),
+            (2, &[3, 4], Item::Data(2), 1),
+            // The file's own atom and its run rule were ended by the write.
+            (1, &[], Item::Data(1), 1),
+            (1, &[], Item::Run(policy.rule(UNRESTRICTED)), 1),
+            (4, &[], Item::Data(0), 4),
+        ] {
+            assert!(!good(file, steps, item.clone(), container), "{file} {steps:?} {item:?} {container}");
+        }
+    }
+
+    /// A certificate, and changes of it in one place that are none.
+    #[test]
+    fn a_wrong_reason_is_no_certificate() {
+        let policy = policy();
+        let history = told(&[step(1, 4, 0), step(3, 4, 1)]);
+        let reason = Why { receiver: 1, tag: 3, origin: Origin::Own, rule: 0, owner: NO_OWNER, lacked: vec![0, 0] };
+        let ways = [(0, chain(0, &[0, 1]))];
+        let good = |why: &Why, ways: &[(u32, Chain)]| is_certificate(&policy, &history, why, ways);
+        assert!(good(&reason, &ways));
+        for wrong in [
+            Why { receiver: 4, ..reason.clone() },
+            Why { origin: Origin::User { record: 0, user: 1 }, ..reason.clone() },
+            Why { origin: Origin::Made { record: 1, user: 1 }, ..reason.clone() },
+            Why {
+                origin: Origin::Run { record: 0, chain: chain(2, &[]) },
+                rule: 1,
+                owner: 1,
+                lacked: vec![0],
+                ..reason.clone()
+            },
+            Why { rule: 1, ..reason.clone() },
+            Why { owner: 1, ..reason.clone() },
+            Why { lacked: vec![0], ..reason.clone() },
+            Why { lacked: vec![0, 1], ..reason.clone() },
+        ] {
+            assert!(!good(&wrong, &ways), "{wrong:?}");
+        }
+        assert!(!good(&reason, &[]));
+        assert!(!good(&reason, &[(0, chain(0, &[1]))]));
+    }
+
+    /// "for a process, those of its last exec (a forked process has its parent's as at the fork until it makes its own)".
+    #[test]
+    fn the_rules_of_an_exec() {
+        let policy = policy();
+        let exec = |p, o, user| Record { code: 4, p, o, u: Some(user) };
+        // Process 4 runs program 2, whose run rule came into file 3 too; its fork 6 reads file 0.
+        let steps = [step(1, 5, 2), step(2, 5, 3), exec(4, 3, 0), step(5, 4, 6), step(1, 6, 0)];
+        let history = told(&steps);
+        let (origin, rule) = forbidding(&policy, &history, 6, 1 | 1 << 34);
+        assert_eq!((&origin, rule), (&Origin::Run { record: 2, chain: chain(2, &[0, 1]) }, 1));
+        let reason = Why { receiver: 6, tag: 1 | 1 << 34, origin, rule, owner: 1, lacked: vec![0] };
+        let ways = [(0, chain(0, &[4]))];
+        assert!(is_certificate(&policy, &history, &reason, &ways));
+        // Behind an exec of its own the parent's is no longer right.
+        let own = told(&[&steps[..4], &[exec(6, 3, 0), step(1, 6, 0)]].concat());
+        assert!(!is_certificate(&policy, &own, &reason, &[(0, chain(0, &[5]))]));
+        // For the other user his rule comes first.
+        let user = told(&[exec(4, 2, 1), step(1, 4, 0)]);
+        assert_eq!(forbidding(&policy, &user, 4, 1 | 1 << 34), (Origin::User { record: 0, user: 1 }, 0));
+    }
+}

@@ -175,7 +175,7 @@ impl Question {
         if r.percent(4) {
             bytes.truncate(bytes.len() - r.below(RECORD).min(bytes.len()));
         }
-        let image = if r.percent(5) { generate::image(r) } else { trace.image };
+        let image = if r.percent(9) { generate::image(r) } else { trace.image };
         let more = |r: &mut Random| match r.below(40) {
             0 => -1,
             1 => 1,
@@ -184,7 +184,7 @@ impl Question {
         };
         let (mut more_links, mut more_steps) = (more(r), more(r));
         // A short record needs as much as a whole one.
-        if bytes.len() % RECORD != 0 && r.percent(40) {
+        if !bytes.len().is_multiple_of(RECORD) && r.percent(40) {
             (more_links, more_steps) = r.pick(&[(-1, 0), (-2, 0), (0, -1), (-2, -1)]);
         }
         Question { image, trace: bytes, more_links, more_steps, filler: r.below(6) as u64 }

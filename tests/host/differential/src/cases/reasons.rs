@@ -178,7 +178,7 @@ impl Reason {
     fn refused_as(&self, told: &Told) -> &'static str {
         match told.last {
             None => "no record",
-            Some(_) if self.question.trace.len() % RECORD != 0 => "a short last record",
+            Some(_) if !self.question.trace.len().is_multiple_of(RECORD) => "a short last record",
             Some(last) if outcome(last.number) == Outcome::Refused => "a refused last record",
             Some(_) => "a quiet last record",
         }
