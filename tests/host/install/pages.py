@@ -48,7 +48,7 @@ def main(name, manual):
     parts, findings = header.read(name), {}
     sections, said = rendered(manual, "yaslaurel")
     findings["yaslaurel"] = [heading for heading in OVERVIEW_HEADINGS if not sections.get(heading)] + said.split("\n")
-    for number in range(1, 19):
+    for number in [*range(1, 19), *range(20, 26)]:
         if not re.search(rf"(^| ){number} [a-z]", sections.get("REFUSALS", "")):
             findings["yaslaurel"].append(f"refusal {number}")
     for part in parts:

@@ -622,7 +622,8 @@ mod tests {
         assert!(!good(&reason, &[(0, chain(0, &[1]))]));
     }
 
-    /// "for a process, those of its last exec (a forked process has its parent's as at the fork until it makes its own)".
+    /// "for a process, those of its last exec (a forked process has its parent's as at the fork until it makes its own; none if there
+    /// was none)".
     #[test]
     fn the_rules_of_an_exec() {
         let policy = policy();
