@@ -4,6 +4,6 @@ use Prim.Native.Nat.{ℕ, _+_, _*_}
 abbrev pub versionNumber : ℕ → ℕ → ℕ → ℕ
 versionNumber major minor patch = major * 65536 + minor * 256 + patch
 
--- of this edition: 0.3.0
+-- of this edition: 0.4.0
 abbrev pub version : ℕ
-version = versionNumber 0 3 0
+version = versionNumber 0 4 0

@@ -25,8 +25,8 @@ const INCONSISTENT: u32 = 1;
 // The greater of the numbers of the two sides of a game; those above are refusals.
 const DESK: u32 = 1;
 
-// 0.3.0: major times 65536, minor times 256, patch.
-const VERSION: u32 = 768;
+// 0.4.0: major times 65536, minor times 256, patch.
+const VERSION: u32 = 1024;
 
 // The version of the library.
 #[no_mangle]
