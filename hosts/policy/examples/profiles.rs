@@ -1,5 +1,5 @@
 //! A small host for profiles: `profiles TEXT STEPS` starts a session from a text of profiles, reports the steps and prints what
-//! is not quiet, in words.
+//! is not quiet, in words, with the reason of each alert.
 //!
 //! A file goes by its path. The first process is `init`; another has the name that its fork gives it. A line of STEPS is
 //! an operation with its process and its object, and `#` begins a comment:
@@ -16,8 +16,8 @@ use std::error::Error;
 use std::process::ExitCode;
 use std::{env, fs};
 
-use policy_text::{profile_paths, Steps};
-use yaslaurel::{profiles_policy, Policy, Session, Source, Verdict};
+use policy_text::{held_before, profile_paths, receiver, what, Access, Asked, NamesByStep, Steps};
+use yaslaurel::{profiles_policy, Operation, Policy, Recording, Session, Source, Verdict};
 
 /// The policy of a text, whose files and sources go by their paths.
 fn named_policy(text: &[u8], image: &[u8]) -> Result<Policy, Box<dyn Error>> {
@@ -35,7 +35,9 @@ fn named_policy(text: &[u8], image: &[u8]) -> Result<Policy, Box<dyn Error>> {
 struct Watch {
     policy: Policy,
     names: Steps,
-    session: Session,
+    /// What containers were called at each step, for explanations.
+    called: NamesByStep,
+    session: Recording,
     steps: usize,
     alerts: usize,
     refusals: usize,
@@ -53,26 +55,33 @@ impl Watch {
         // The only user of a policy from profiles.
         let user = ["exec", "new-file"].contains(&word).then_some(0);
         let operation = self.names.operation(word, process, object, user)?;
-        let what = if word == "end" { operation.verb().into() } else { format!("{} {object}", operation.verb()) };
         self.steps += 1;
-        let step = self.steps;
+        if let Operation::Fork { .. } | Operation::NewFile { .. } | Operation::NewVolatile { .. } = operation {
+            self.called.take(receiver(operation), self.steps, object);
+        }
+        let before = held_before(self.session.session(), operation);
         match self.session.perform(operation) {
             Ok(answer) => match answer.verdict {
                 Verdict::Quiet => {}
-                Verdict::Alert => {
-                    self.alerts += 1;
-                    let holder = if operation.process() == answer.receiver { " and" } else { ", which" };
-                    let sources = self.policy.sources_in(answer.tag);
-                    println!("alert, step {step}: {process} {what}{holder} now holds {sources}");
-                }
+                Verdict::Alert => self.alert(Access::new(operation, answer, before))?,
                 // No policy from profiles has a guarded file.
                 unknown => return Err(format!("unknown answer {unknown:?}")),
             },
             Err(refusal) => {
                 self.refusals += 1;
-                println!("{refusal}, step {step}: {process} {what}");
+                let name = |number| self.called.at(number, self.steps).to_string();
+                println!("{refusal}, step {}: {}", self.steps, what(operation, name));
             }
         }
+        Ok(())
+    }
+
+    /// Prints an alert, the rule that forbids it, and how what the rule lacks came there.
+    fn alert(&mut self, access: Access) -> Result<(), String> {
+        self.alerts += 1;
+        let (policy, names, session) = (&self.policy, &self.called, &self.session);
+        let asked = Asked { policy, image: session.image(), trace: session.trace(), names, access, all: false };
+        print!("{}", asked.explanation().map_err(|refusal| refusal.to_string())?);
         Ok(())
     }
 }
@@ -80,8 +89,9 @@ impl Watch {
 /// Reports the steps to a session that the text starts; the exit status.
 fn watch(text: &[u8], image: &[u8], steps: &str) -> Result<u8, Box<dyn Error>> {
     let policy = named_policy(text, image)?;
-    let (names, session) = (Steps::new(&policy), Session::start(image)?);
-    let mut watch = Watch { policy, names, session, steps: 0, alerts: 0, refusals: 0 };
+    let (names, called) = (Steps::new(&policy), NamesByStep::new(&policy));
+    let session = Session::recording(image)?;
+    let mut watch = Watch { policy, names, called, session, steps: 0, alerts: 0, refusals: 0 };
     for (place, line) in steps.lines().enumerate() {
         let line = line.split('#').next().unwrap_or("").trim();
         if !line.is_empty() {

@@ -1,10 +1,13 @@
 //! Policies as text: stories become policies and steps, policies become readable text, and a text of profiles that is
-//! refused is told with its line. The formats are in `docs/FORMATS.md`.
+//! refused is told with its line; alerts are explained. The formats are in `docs/FORMATS.md`.
 
 #![warn(missing_docs, clippy::missing_errors_doc)]
 
+mod access;
 mod compose;
+mod explain;
 mod folder;
+mod names;
 mod profiles;
 mod show;
 mod statement;
@@ -14,8 +17,11 @@ mod token;
 mod trim;
 mod upgrade;
 
+pub use access::{held_before, receiver, what, Access};
 pub use compose::{emptied, input_fault, limit_fault, read_consent};
+pub use explain::{digraph, list, Asked, ExplainError, Explanation, Explanations};
 pub use folder::{read_holders, read_names, source_names, write_folder};
+pub use names::NamesByStep;
 pub use profiles::{profile_paths, ProfileFault};
 pub use show::show;
 pub use steps::{Holder, Step, Steps};

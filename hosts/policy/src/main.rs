@@ -8,8 +8,8 @@ use std::path::{Path, PathBuf};
 use std::process::ExitCode;
 
 use policy_text::{
-    emptied, input_fault, limit_fault, profile_paths, read_consent, read_holders, read_names, show, source_names,
-    trim_trace, upgraded, write_folder, Story, TrimError,
+    digraph, emptied, input_fault, limit_fault, list, profile_paths, read_consent, read_holders, read_names, show,
+    source_names, trim_trace, upgraded, write_folder, ExplainError, Explanations, Story, TrimError,
 };
 use yaslaurel::{compose_into, normalise, profiles_policy, Policy, Refusal, OUTPUT_LENGTH};
 
@@ -25,24 +25,32 @@ policy compose FIRST SECOND CONSENT [-n FOLDER] [-o FILE]
 policy trim IMAGE TRACE [--at STEP] [-n FOLDER] [-o FILE]
                                     prints the few records of a trace that lead to its first alert, or to the one at a step, and writes
                                     them as a trace
+policy explain FOLDER [--step N] [--all] [--json | --dot]
+                                    says of each alert and blocked access in FOLDER's trace.bin, or of the one at a step, which rule of
+                                    policy.bin forbids it, what that lacks, and how this came there (--all: how all that is there came
+                                    there), in words, as a list in JSON or as a digraph for dot; FOLDER has the names too, as policy make and
+                                    record --out write them. Each explanation takes time in proportion to the records before it
 policy make STORY [-o FOLDER]       writes policy.bin, trace.bin and the names of a story into FOLDER, or this folder
 policy help, policy --version
 
 A file called - is standard input.
 
-Exit status: 0 done; 4 the image, the text or the story is refused; 5 a failure: wrong arguments, a file that cannot be
-read, an output that cannot be written. What is refused or fails is told on standard error.
+Exit status: 0 done; 4 the image, the text or the story is refused, or the step is none to trim or explain; 5 a failure: wrong
+arguments (2 for policy explain), a file that cannot be read, an output that cannot be written. What is refused or fails is told on
+standard error.
 ";
 
 /// Why the program does not end with status 0.
 enum Failure {
+    /// Status 2, of `policy explain` alone.
+    Usage(String),
     /// Status 4.
     Refused(String),
     /// Status 5.
     Failed(String),
 }
 
-use Failure::{Failed, Refused};
+use Failure::{Failed, Refused, Usage};
 
 /// The arguments behind the word.
 struct Arguments {
@@ -184,7 +192,6 @@ fn make(arguments: &Arguments) -> Result<(), Failure> {
     written.map_err(|error| Failed(error.to_string()))
 }
 
-/// Trims a trace to its first alert, or to the one at a step, and says which records lead to it.
 /// A policy from a file's bytes, with the names that a folder has.
 fn named_policy(file: &Arguments, image: &[u8], names: Option<&Path>) -> Result<Policy, Failure> {
     let mut policy = Policy::from_image(image).map_err(|refusal| file.refused(refusal))?;
@@ -236,6 +243,7 @@ fn compose(arguments: &[OsString]) -> Result<(), Failure> {
     Ok(())
 }
 
+/// Trims a trace to its first alert, or to the one at a step, and says which records lead to it.
 fn trim(arguments: &[OsString]) -> Result<(), Failure> {
     let ([image, trace], [at, names, out]) = files_and_options("trim", arguments, ["--at", "-n", "-o"])?;
     let step = |text: OsString| text.to_str().and_then(|text| text.parse().ok()).filter(|&step: &usize| step > 0);
@@ -265,6 +273,88 @@ fn trim(arguments: &[OsString]) -> Result<(), Failure> {
     print(text.as_bytes())
 }
 
+/// How explanations are told.
+#[derive(Clone, Copy, PartialEq, Eq)]
+enum Form {
+    Text,
+    Json,
+    Dot,
+}
+
+/// The arguments of `policy explain`.
+struct Explained {
+    folder: PathBuf,
+    step: Option<usize>,
+    all: bool,
+    form: Form,
+}
+
+impl Explained {
+    fn read(arguments: &[OsString]) -> Result<Explained, Failure> {
+        let wrong = |what: String| Usage(format!("policy explain: {what}; see policy help"));
+        let (mut folder, mut step, mut all, mut form) = (None, None, false, Form::Text);
+        let mut rest = arguments.iter();
+        while let Some(argument) = rest.next() {
+            let shown = argument.to_string_lossy();
+            match &*shown {
+                "--step" if step.is_none() => {
+                    let number = rest.next().and_then(|text| text.to_str()?.parse().ok()).filter(|&step| step > 0);
+                    step = Some(number.ok_or_else(|| wrong("a step's number is not behind --step".into()))?);
+                }
+                "--all" if !all => all = true,
+                "--json" if form == Form::Text => form = Form::Json,
+                "--dot" if form == Form::Text => form = Form::Dot,
+                "--json" | "--dot" if form != Form::Text => {
+                    return Err(wrong(format!("{shown} is too much: one form is told")));
+                }
+                _ if folder.is_none() && !shown.starts_with('-') => folder = Some(PathBuf::from(argument)),
+                _ => return Err(wrong(format!("{shown} is too much"))),
+            }
+        }
+        let folder = folder.ok_or_else(|| wrong("a folder is missing".into()))?;
+        Ok(Explained { folder, step, all, form })
+    }
+}
+
+/// What is told if there is nothing to explain.
+fn nothing(records: usize) -> String {
+    format!("nothing to explain: none of {} is answered by an alert or blocked\n", count(records, "record"))
+}
+
+fn explain(arguments: &[OsString]) -> Result<(), Failure> {
+    let Explained { folder, step, all, form } = Explained::read(arguments)?;
+    let [image, trace] = ["policy.bin", "trace.bin"].map(|name| Arguments { file: folder.join(name), option: None });
+    let (image_bytes, bytes) = (image.load()?, trace.load()?);
+    let policy = named_policy(&image, &image_bytes, Some(&folder))?;
+    let holders = read_holders(&folder).map_err(|error| Failed(error.to_string()))?;
+    let refused = |error: ExplainError| match error {
+        ExplainError::Policy(refusal) => image.refused(refusal),
+        error => Refused(trace.said(error)),
+    };
+    let told = Explanations::new(&policy, &image_bytes, &holders, &bytes, all).map_err(refused)?;
+    let records = told.records();
+    let mut found = Vec::new();
+    match step {
+        Some(step) => found.push(told.at(step).map_err(refused)?),
+        None if form == Form::Text => {
+            // Each at once: a long trace may have many.
+            let mut some = false;
+            for explanation in told {
+                some = true;
+                print(explanation.map_err(refused)?.to_string().as_bytes())?;
+            }
+            return if some { Ok(()) } else { print(nothing(records).as_bytes()) };
+        }
+        None => found = told.collect::<Result<_, _>>().map_err(refused)?,
+    }
+    let text = match form {
+        Form::Text => found.iter().map(ToString::to_string).collect(),
+        Form::Json => list(&found),
+        Form::Dot => digraph(&found),
+    };
+    print(text.as_bytes())
+}
+
 fn run(arguments: &[OsString]) -> Result<(), Failure> {
     let (word, rest) = arguments.split_first().ok_or_else(|| Failed(format!("what is wanted?\n\n{HELP}")))?;
     let word = &*word.to_string_lossy();
@@ -277,6 +367,7 @@ fn run(arguments: &[OsString]) -> Result<(), Failure> {
         "upgrade" => upgrade(&read(Some("-o"))?),
         "compose" => compose(rest),
         "trim" => trim(rest),
+        "explain" => explain(rest),
         "make" => make(&read(Some("-o"))?),
         "help" | "--help" => print(HELP.as_bytes()),
         "--version" => print(concat!("policy ", env!("CARGO_PKG_VERSION"), "\n").as_bytes()),
@@ -288,6 +379,7 @@ fn main() -> ExitCode {
     let arguments: Vec<OsString> = env::args_os().skip(1).collect();
     let (message, status) = match run(&arguments) {
         Ok(()) => return ExitCode::SUCCESS,
+        Err(Usage(message)) => (message, 2),
         Err(Refused(message)) => (message, 4),
         Err(Failed(message)) => (message, 5),
     };

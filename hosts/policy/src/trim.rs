@@ -3,11 +3,11 @@
 use std::error::Error;
 use std::fmt;
 
-use yaslaurel::layout::image::CONTAINERS;
 use yaslaurel::layout::record;
 use yaslaurel::{trim, Operation, Policy, Refusal, Session, Verdict, TRIM_LIMIT};
 
-use crate::{quoted, Holder};
+use crate::names::FolderNames;
+use crate::{quoted, Holder, NamesByStep};
 
 /// The records that are left of a trace which was trimmed to one of its alerts.
 #[derive(Clone, Debug, PartialEq, Eq)]
@@ -69,59 +69,22 @@ impl fmt::Display for TrimError {
 
 impl Error for TrimError {}
 
-/// Who holds each number while a trace goes on: its names one after the other.
-struct Names<'a> {
-    policy: &'a Policy,
-    holders: &'a [Holder],
-    /// By number: who holds it now, and how many have so far.
-    now: Vec<(String, usize)>,
-}
-
-impl Names<'_> {
-    fn new<'a>(policy: &'a Policy, holders: &'a [Holder]) -> Names<'a> {
-        let mut now: Vec<(String, usize)> = policy.containers().map(|(name, _)| (name.into(), 1)).collect();
-        now.resize(CONTAINERS.most, (String::new(), 0));
-        Names { policy, holders, now }
-    }
-
-    /// A number is taken: by the next holder of it that is known, else by one named after its kind.
-    fn take(&mut self, number: u8, kind: &str) {
-        let (name, count) = &mut self.now[usize::from(number)];
-        let known = self.holders.iter().filter(|holder| holder.number == number).nth(*count);
-        *name = known.map_or_else(|| format!("{kind}-{number}"), |holder| holder.name.clone());
-        *count += 1;
-    }
-
-    fn container(&self, number: u8) -> String {
-        quoted(&self.now[usize::from(number)].0)
-    }
-
-    /// An accepted operation in the words of a story.
-    fn words(&mut self, operation: Operation) -> String {
-        let (word, process, object, user) = match operation {
-            Operation::Read { process, object } => ("read", process, object, None),
-            Operation::Write { process, object } => ("write", process, object, None),
-            Operation::Append { process, object } => ("append", process, object, None),
-            Operation::Exec { process, file, user } => ("exec", process, file, Some(user)),
-            Operation::Fork { process, child } => {
-                self.take(child, "process");
-                ("fork", process, child, None)
-            }
-            Operation::NewFile { process, file, user } => {
-                self.take(file, "file");
-                ("new-file", process, file, Some(user))
-            }
-            Operation::NewVolatile { process, volatile } => {
-                self.take(volatile, "volatile");
-                ("new-volatile", process, volatile, None)
-            }
-            Operation::End { process } => return format!("end {}", self.container(process)),
-            Operation::Delete { process, object } => ("delete", process, object, None),
-            other => return format!("{other:?}"),
-        };
-        let user = user.map_or_else(String::new, |user| format!(" as {}", quoted(&self.policy.user_name(user))));
-        format!("{word} {} {}{user}", self.container(process), self.container(object))
-    }
+/// An accepted operation in the words of a story, with the names of its step.
+fn words(policy: &Policy, names: &NamesByStep, step: usize, operation: Operation) -> String {
+    let (word, process, object, user) = match operation {
+        Operation::Read { process, object } => ("read", process, object, None),
+        Operation::Write { process, object } => ("write", process, object, None),
+        Operation::Append { process, object } => ("append", process, object, None),
+        Operation::Exec { process, file, user } => ("exec", process, file, Some(user)),
+        Operation::Fork { process, child } => ("fork", process, child, None),
+        Operation::NewFile { process, file, user } => ("new-file", process, file, Some(user)),
+        Operation::NewVolatile { process, volatile } => ("new-volatile", process, volatile, None),
+        Operation::End { process } => return format!("end {}", quoted(names.at(process, step))),
+        Operation::Delete { process, object } => ("delete", process, object, None),
+        other => return format!("{other:?}"),
+    };
+    let user = user.map_or_else(String::new, |user| format!(" as {}", quoted(&policy.user_name(user))));
+    format!("{word} {} {}{user}", quoted(names.at(process, step)), quoted(names.at(object, step)))
 }
 
 /// The front of a trace up to an alert, without the records that are refused or blocked, which change nothing.
@@ -141,7 +104,7 @@ fn front(
     at: Option<usize>,
 ) -> Result<Front, TrimError> {
     let mut session = Session::start(image).map_err(TrimError::Policy)?;
-    let mut names = Names::new(policy, holders);
+    let mut names = FolderNames::new(policy, holders);
     let mut found = Front { accepted: Vec::new(), refused: 0, blocked: 0 };
     let records = trace.chunks(record::LENGTH);
     let count = records.len();
@@ -165,7 +128,8 @@ fn front(
             _ => {}
         }
         let operation = Operation::try_from(bytes).expect("an accepted record is well formed");
-        found.accepted.push((step, bytes.to_vec(), names.words(operation)));
+        names.accepted(step, operation);
+        found.accepted.push((step, bytes.to_vec(), words(policy, &names.names, step, operation)));
         if verdict == Verdict::Alert && at.map_or(true, |at| at == step) {
             return Ok(found);
         }
