@@ -2,6 +2,7 @@
 //! outside of what is proved; `docs/RECORD.md` says what each call means and what is not seen.
 
 mod calls;
+mod explain;
 mod files;
 mod follow;
 mod line;
@@ -95,7 +96,7 @@ fn start(options: &Options, first: Option<&Path>, uid: Option<u32>, mut report: 
         ));
     }
     let folder = first.map(|first| first.as_os_str().to_os_string().into_vec());
-    let run = Start { uid, folder, keep: options.out.is_some(), why: options.why };
+    let run = Start { uid, folder, keep: options.out.is_some(), why: options.why, explain: !options.quiet_why };
     Follower::start(plan, report, run, options.strict).map_err(Failure::story)
 }
 

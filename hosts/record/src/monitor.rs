@@ -1,8 +1,10 @@
 //! The monitor's session, and the numbers of its containers: who has which, and which are free.
 
-use policy_text::Holder;
+use policy_text::{held_before, Access, Holder};
 use yaslaurel::layout::{image, session};
 use yaslaurel::{Answer, Operation, Policy, Refusal, Session};
+
+use crate::explain::{Explainer, Reason};
 
 /// How many containers there are at a time.
 pub const NUMBERS: usize = image::CONTAINERS.most;
@@ -30,27 +32,40 @@ pub struct Monitor {
     holders: usize,
     present: Vec<Option<Present>>,
     kept: Option<Kept>,
+    explainer: Option<Explainer>,
 }
 
 impl Monitor {
-    /// A monitor at the start of a run, which is kept if it shall be written.
-    pub fn start(policy: &Policy, keep: bool) -> Result<Monitor, Refusal> {
+    /// A monitor at the start of a run, which is kept if it shall be written, and whose records and names if alerts shall be
+    /// explained.
+    pub fn start(policy: &Policy, keep: bool, explain: bool) -> Result<Monitor, Refusal> {
         let session = Session::start(&policy.image())?;
         let present = (0..NUMBERS).map(|_| None).collect();
-        let mut monitor = Monitor { session, steps: 0, holders: 0, present, kept: keep.then(Kept::default) };
+        let (kept, explainer) = (keep.then(Kept::default), explain.then(|| Explainer::new(policy)));
+        let mut monitor = Monitor { session, steps: 0, holders: 0, present, kept, explainer };
         for (number, (name, _)) in policy.containers().enumerate() {
-            monitor.hold(number as u8, name);
+            monitor.note(number as u8, name);
         }
         Ok(monitor)
     }
 
     /// Reports an operation, which a line of the log has given.
-    pub fn perform(&mut self, line: usize, operation: Operation) -> Result<Answer, Refusal> {
+    pub fn perform(&mut self, line: usize, operation: Operation) -> Result<(Answer, Access), Refusal> {
         self.steps += 1;
         if let Some(kept) = &mut self.kept {
             kept.operations.push((line, operation));
         }
-        self.session.perform(operation)
+        if let Some(explainer) = &mut self.explainer {
+            explainer.record(operation);
+        }
+        let before = held_before(&self.session, operation);
+        let answer = self.session.perform(operation)?;
+        Ok((answer, Access::new(operation, answer, before)))
+    }
+
+    /// The reason of an alert, which the last operation has given; nothing if alerts are not explained.
+    pub fn reason(&mut self, policy: &Policy, access: Access) -> Option<Reason> {
+        self.explainer.as_mut().map(|explainer| explainer.reason(policy, access))
     }
 
     pub fn kept(&self) -> Option<&Kept> {
@@ -72,6 +87,19 @@ impl Monitor {
 
     /// Notes that a number is taken.
     pub fn hold(&mut self, number: u8, name: &str) {
+        let next = self.next_step();
+        if let Some(explainer) = &mut self.explainer {
+            explainer.names.take(number, next, name);
+        }
+        self.note(number, name);
+    }
+
+    /// The step of the next operation.
+    fn next_step(&self) -> usize {
+        self.steps as usize + 1
+    }
+
+    fn note(&mut self, number: u8, name: &str) {
         self.present[usize::from(number)] = Some(Present { name: name.into(), place: self.holders });
         self.holders += 1;
         if let Some(kept) = &mut self.kept {
@@ -86,6 +114,10 @@ impl Monitor {
 
     /// Another name for the holder of a number.
     pub fn rename(&mut self, number: u8, name: &str) {
+        let next = self.next_step();
+        if let Some(explainer) = &mut self.explainer {
+            explainer.names.rename(number, next, name);
+        }
         if let Some(present) = &mut self.present[usize::from(number)] {
             present.name = name.into();
             if let Some(kept) = &mut self.kept {

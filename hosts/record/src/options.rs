@@ -14,8 +14,10 @@ record help, record --version
   --keep LOG       keeps the log of a live run
   --strict         stops at the first call that is not followed or refused, and ends the command
   --why            tells also what is quiet, and which mixture of its rule let it through
+  --quiet-why      tells alerts without the rule that forbids, and without how what it lacks came there
 
 Alerts, refusals and what is not followed are told at once, in a live run on standard error; the last line is the summary.
+Under an alert stand the rule and what it lacks, then how that came there, as policy explain FOLDER tells it afterwards.
 
 Exit status: 0 quiet; 1 alerts; 2 something was refused or not followed; 3 both; 4 the story or its policy is refused;
 5 a failure: wrong arguments, a file that cannot be read or written, strace that cannot be run.
@@ -32,6 +34,7 @@ pub struct Options {
     pub keep: Option<PathBuf>,
     pub strict: bool,
     pub why: bool,
+    pub quiet_why: bool,
     pub command: Vec<OsString>,
 }
 
@@ -53,6 +56,10 @@ impl Options {
                 }
                 "--why" => {
                     options.why = true;
+                    continue;
+                }
+                "--quiet-why" => {
+                    options.quiet_why = true;
                     continue;
                 }
                 _ => {}

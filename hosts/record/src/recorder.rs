@@ -2,7 +2,7 @@
 
 use std::collections::HashMap;
 
-use yaslaurel::layout::record;
+use policy_text::what;
 use yaslaurel::{Answer, Operation, Refusal, Verdict};
 
 use crate::calls;
@@ -53,12 +53,14 @@ pub struct Start {
     pub keep: bool,
     /// Whether what is quiet is told too, with the mixture that let it through.
     pub why: bool,
+    /// Whether alerts are explained.
+    pub explain: bool,
 }
 
 impl Recorder {
     /// A recorder at the start of a run.
     pub fn start(plan: Plan, report: Report, run: Start) -> Result<Recorder, Refusal> {
-        let monitor = Monitor::start(&plan.policy, run.keep)?;
+        let monitor = Monitor::start(&plan.policy, run.keep, run.explain)?;
         let files = Files::new(&plan.files, plan::root_links());
         let mut held = vec![None; NUMBERS];
         for id in files.ids() {
@@ -269,21 +271,26 @@ impl Recorder {
 
     /// Reports an operation and tells what is not quiet.
     fn perform(&mut self, operation: Operation) {
-        let answer = self.monitor.perform(self.line, operation);
+        let answered = self.monitor.perform(self.line, operation);
         let step = self.monitor.steps();
-        let verdict = answer.map(|answer| answer.verdict);
-        if verdict == Ok(Verdict::Quiet) && !self.run.why {
+        let (answer, access) = match answered {
+            Ok(answered) => answered,
+            Err(refusal) => {
+                let words = what(operation, |number| self.monitor.name(number));
+                return self.report.refusal(step, refusal.number(), &words);
+            }
+        };
+        if answer.verdict == Verdict::Quiet && !self.run.why {
             return;
         }
-        let words = self.words(operation, answer.ok());
-        match verdict {
-            Ok(Verdict::Quiet) => {
-                let why = answer.ok().and_then(|answer| self.why(answer)).unwrap_or_default();
+        let words = access.words(&self.plan.policy, |number| self.monitor.name(number));
+        match answer.verdict {
+            Verdict::Quiet => {
+                let why = self.why(answer).unwrap_or_default();
                 self.report.line(&format!("quiet, step {step}: {words}{why}"));
             }
-            Ok(Verdict::Alert) => self.report.alert(step, &words),
-            Ok(unknown) => self.report.unknown(step, &format!("{unknown:?}"), &words),
-            Err(refusal) => self.report.refusal(step, refusal.number(), &words),
+            Verdict::Alert => self.report.alert(step, &words, || self.monitor.reason(&self.plan.policy, access)),
+            unknown => self.report.unknown(step, &format!("{unknown:?}"), &words),
         }
     }
 
@@ -295,23 +302,6 @@ impl Recorder {
             mixture => self.plan.policy.sources_in(mixture).to_string(),
         };
         Some(format!(", let through by mixture {place}: {mixture}"))
-    }
-
-    /// An operation in words, with what the receiver holds.
-    fn words(&self, operation: Operation, answer: Option<Answer>) -> String {
-        let (process, object) = (operation.process(), operation.record()[record::OBJECT]);
-        let who = format!("{} {}", self.monitor.name(process), operation.verb());
-        let done = match operation {
-            Operation::End { .. } => who,
-            _ => format!("{who} {}", self.monitor.name(object)),
-        };
-        match answer {
-            Some(answer) => {
-                let holder = if answer.receiver == object { ", which" } else { " and" };
-                format!("{done}{holder} now holds {}", self.plan.policy.sources_in(answer.tag))
-            }
-            None => done,
-        }
     }
 
     /// The number of a file, which takes one if it has none.

@@ -4,6 +4,8 @@ use std::collections::HashSet;
 use std::io::{self, IsTerminal, Write};
 use std::time::{Duration, Instant};
 
+use crate::explain::Reason;
+
 /// The exit statuses; alerts and refusals add up.
 pub mod status {
     pub const QUIET: u8 = 0;
@@ -48,14 +50,20 @@ impl Report {
         }
     }
 
-    /// An alert: what happened, and at which step. What was told before is counted.
-    pub fn alert(&mut self, step: u64, words: &str) {
+    /// An alert: what happened, at which step, and the reason. What was told before is counted.
+    pub fn alert(&mut self, step: u64, words: &str, reason: impl FnOnce() -> Option<Reason>) {
         self.alerts += 1;
-        if self.told.insert(words.to_string()) {
-            self.line(&format!("alert, step {step}: {words}"));
-        } else {
+        if !self.told.insert(words.to_string()) {
             self.repeated += 1;
+            return;
         }
+        let (remark, lines) = match reason() {
+            Some(Reason::Remark(remark)) => (format!(" ({remark})"), Vec::new()),
+            Some(Reason::Lines(lines)) => (String::new(), lines),
+            None => Default::default(),
+        };
+        self.line(&format!("alert, step {step}: {words}{remark}"));
+        lines.iter().for_each(|line| self.line(&format!("  {line}")));
     }
 
     pub fn refusal(&mut self, step: u64, number: u32, words: &str) {
