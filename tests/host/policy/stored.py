@@ -1,7 +1,8 @@
 #!/usr/bin/env python3
-"""stored.py POLICY FOLDER: runs the program `policy` on the stored cases of stories.txt and profiles.txt, in FOLDER, and
-prints a line for each; the last line is `N passed, M failed`."""
+"""stored.py POLICY FOLDER LISTING: runs the program `policy` on the stored cases of stories.txt, profiles.txt and explanations.txt, in
+FOLDER, and prints a line for each; the last line is `N passed, M failed`. LISTING is a program that prints listings."""
 
+import json
 import subprocess
 import sys
 from pathlib import Path
@@ -11,6 +12,7 @@ sys.path.append(str(HERE.parents[2] / "hosts" / "python"))
 
 from formats import CODES, NO_USER, OPERATION
 
+WORDS_OF = HERE.parents[2] / "demo/words.py"
 WORDS = {code: word for word, code in CODES.items()}
 
 
@@ -29,6 +31,17 @@ def cases(path):
     return found
 
 
+def split(lines):
+    """Lines with those behind them that are set in."""
+    found = []
+    for line in lines:
+        if line.startswith("  "):
+            found[-1].append(line)
+        else:
+            found.append([line])
+    return found
+
+
 def trace_words(data):
     """The records of a trace, one in a line."""
     lines = []
@@ -41,8 +54,8 @@ def trace_words(data):
 
 
 class Runner:
-    def __init__(self, policy, folder):
-        self.policy, self.folder = policy, Path(folder)
+    def __init__(self, policy, folder, listing):
+        self.policy, self.folder, self.listing = policy, Path(folder), listing
         self.passed = self.failed = 0
 
     def run(self, *arguments):
@@ -80,6 +93,27 @@ class Runner:
         self.note(name, (0, "", ""), result)
         for part, expected in parts.items():
             self.note(f"{name}: {part}", expected, self.made(part))
+
+    def explained(self, name, parts):
+        """A story that is explained: in words, in JSON, step by step, and by the lines of the program `explain`."""
+        said, lines, every = parts.pop("explain"), parts.pop("lines", None), parts.pop("all", None)
+        self.story(name, parts)
+        self.note(f"{name}: explained", (0, said, ""), self.run("explain", "out"))
+        if every is not None:
+            self.note(f"{name}: all chains", (0, every, ""), self.run("explain", "out", "--all"))
+        blocks = ["".join(lines) for lines in split(said.splitlines(keepends=True)) if ", step " in lines[0]]
+        steps = [block.split(", step ")[1].split(":")[0] for block in blocks]
+        alone = [self.run("explain", "out", "--step", step) for step in steps]
+        self.note(f"{name}: each step alone", [(0, block, "") for block in blocks], alone)
+        status, out, err = self.run("explain", "--json", "out")
+        facts = [(fact["answer"], str(fact["step"])) for fact in json.loads(out)]
+        wanted = [(block.split(",")[0], step) for block, step in zip(blocks, steps)]
+        self.note(f"{name}: as JSON", (0, wanted, ""), (status, facts, err))
+        if lines is not None:
+            listing = subprocess.run([self.listing], cwd=self.folder / "out", capture_output=True, text=True).stdout
+            done = subprocess.run([WORDS_OF, "--why", "out"], cwd=self.folder, input=listing + lines, capture_output=True, text=True)
+            told = [line for line in done.stdout.splitlines(keepends=True) if not line.startswith("refused ")]
+            self.note(f"{name}: the program's lines in words", ("".join(blocks), ""), ("".join(told[:-1]), done.stderr))
 
     def profiles(self, name, parts):
         folder = HERE.parent / "profiles" / name
@@ -122,11 +156,13 @@ def different_rules(count):
 
 
 def main():
-    runner = Runner(*sys.argv[1:3])
+    runner = Runner(*sys.argv[1:4])
     for name, parts in cases(HERE / "stories.txt"):
         runner.story(name, parts)
     for name, parts in cases(HERE / "profiles.txt"):
         runner.profiles(name, parts)
+    for name, parts in cases(HERE / "explanations.txt"):
+        runner.explained(name, parts)
     runner.limits()
     print(f"{runner.passed} passed, {runner.failed} failed")
     return runner.failed > 0

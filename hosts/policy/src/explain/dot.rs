@@ -22,7 +22,8 @@ struct Edge {
 /// The part of one explanation.
 struct Part {
     step: usize,
-    nodes: Vec<String>,
+    /// Each with its attributes.
+    nodes: Vec<(String, String)>,
     edges: Vec<Edge>,
 }
 
@@ -30,7 +31,12 @@ impl Part {
     /// A node for each container, told apart by number and holder.
     fn node(&mut self, place: &Place, more: &str) -> String {
         let id = format!("s{}_{}_{}", self.step, place.number, place.holder);
-        self.nodes.push(format!("{id} [label={}{more}];", spelled(&place.name)));
+        match self.nodes.iter_mut().find(|(other, _)| *other == id) {
+            // What begins a chain of what is lacked is told first.
+            Some((_, attributes)) if !attributes.contains("filled") => attributes.push_str(more),
+            Some(_) => {}
+            None => self.nodes.push((id.clone(), format!("label={}{more}", spelled(&place.name)))),
+        }
         id
     }
 
@@ -71,17 +77,12 @@ impl Explanation {
         if let From::Run { chain, .. } = &self.rule.from {
             part.chain(chain, &format!("run rule of {}", chain.begins.name), true);
         }
-        let mut seen = Vec::new();
-        part.nodes.retain(|node| {
-            !seen.contains(node) && {
-                seen.push(node.clone());
-                true
-            }
-        });
         let label = format!("{}, step {}: {}\n{}", self.answer(), self.step, self.what, self.lines()[0]);
         let mut out = format!("  subgraph cluster_{} {{\n", self.step);
         out += &format!("    label={};\n", spelled(&label).replace('\n', "\\n"));
-        part.nodes.iter().for_each(|node| out += &format!("    {node}\n"));
+        for (node, attributes) in &part.nodes {
+            out += &format!("    {node} [{attributes}];\n");
+        }
         for edge in &part.edges {
             let red = if edge.lacked { ", color=red" } else { "" };
             let dashed = if edge.rule { ", style=dashed" } else { "" };
