@@ -87,3 +87,64 @@ impl Explainer {
         }
     }
 }
+
+#[cfg(test)]
+mod tests {
+    use super::*;
+    use policy_text::held_before;
+    use yaslaurel::{Mixture, Session, Verdict};
+
+    /// A policy of a source, a process and so many files that may hold nothing of it.
+    fn policy(files: usize) -> Policy {
+        let mut policy = Policy::new();
+        let (source, other) = (policy.source("a").unwrap(), policy.source("b").unwrap());
+        let process = policy.process("job").unwrap();
+        let carrier = policy.file("a").unwrap();
+        policy.set_source(carrier, source).unwrap();
+        assert_eq!((process, carrier), (0, 1));
+        for number in 0..files {
+            let file = policy.file(&format!("out-{number}")).unwrap();
+            policy.set_permit_rule(file, Mixture::of([other])).unwrap();
+        }
+        policy
+    }
+
+    /// A run of operations: what is told of the alerts.
+    fn reasons(policy: &Policy, operations: impl IntoIterator<Item = Operation>) -> Vec<Reason> {
+        let (mut session, mut explainer) = (Session::start(&policy.image()).unwrap(), Explainer::new(policy));
+        let mut told = Vec::new();
+        for operation in operations {
+            explainer.record(operation);
+            let before = held_before(&session, operation);
+            let answer = session.perform(operation).unwrap();
+            if answer.verdict == Verdict::Alert {
+                told.push(explainer.reason(policy, Access::new(operation, answer, before)));
+            }
+        }
+        told
+    }
+
+    const READ: Operation = Operation::Read { process: 0, object: 1 };
+
+    #[test]
+    fn so_many_of_a_run_are_explained() {
+        let policy = policy(40);
+        let writes = (0..40 * OF_A_NAME).map(|number| Operation::Write { process: 0, object: 2 + (number % 40) as u8 });
+        let told = reasons(&policy, std::iter::once(READ).chain(writes));
+        assert_eq!(told.len(), 40 * OF_A_NAME);
+        assert!(told[..OF_A_RUN].iter().all(|reason| matches!(reason, Reason::Lines(lines) if lines.len() == 2)));
+        let rest = "not explained: 256 alerts are";
+        assert!(told[OF_A_RUN..].iter().all(|reason| matches!(reason, Reason::Remark(remark) if remark == rest)));
+    }
+
+    #[test]
+    fn none_is_explained_behind_so_many_records() {
+        let policy = policy(2);
+        let append = |object| Operation::Append { process: 0, object };
+        let reads = std::iter::repeat(READ).take(RECORDS - 1);
+        let told = reasons(&policy, reads.chain([append(2), append(3), append(2)]));
+        assert!(matches!(&told[0], Reason::Lines(lines) if lines.len() == 2));
+        assert!(matches!(&told[1], Reason::Remark(remark) if remark == "not explained: over 1000000 records"));
+        assert!(matches!(&told[2], Reason::Remark(remark) if remark == "explained at step 1000000"));
+    }
+}

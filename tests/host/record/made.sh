@@ -147,6 +147,8 @@ printf '%s\n' "file 33 35 as 0" "exec 34 35 as 0" "read 34 0" "delete 34 30" "de
     "append 34 30" "file 33 32 as 0" "append 34 32" >"$work/wanted"
 cat >"$work/words" <<'END'
 alert, step 7: sh (1000) appends to p15, which now holds s1
+  the rule of p15, under whose name it was made (step 6), permits {s15}: it lacks s1
+  s1 came by s1 -> sh (1000) (step 3, reads) -> p15 (step 7, appends)
 not followed, line 9: p16 is a new file of that name, and no user is left that has the story's rule
 not followed, line 11: p16 is another file now, and no user is left that has the story's rule
 9 records, 38 containers: 1 alerts, 0 refused, 2 not followed
@@ -154,3 +156,80 @@ END
 "$record" --log "$work/log" --story "$work/story" --out "$work/rules" >"$work/out"
 [ $? -eq 3 ] && followed rules "$work/wanted"
 note $? "more different permit rules than users are told where they do not hold"
+
+# A leak, and behind it 30 processes that append to the same file and have read nothing: each is an alert, and none has brought anything.
+{
+    echo '1000  execve("/bin/sh", ["sh"], 0x7ffc00000000 /* 1 var */) = 0'
+    echo '1000  openat(AT_FDCWD</srv/x>, "out", O_WRONLY|O_APPEND) = 3</srv/x/out>'
+    echo '1000  fork()                            = 1001'
+    echo '1001  openat(AT_FDCWD</srv/x>, "a", O_RDONLY) = 4</srv/x/a>'
+    echo '1001  read(4</srv/x/a>, "A", 10)        = 1'
+    echo '1001  write(3</srv/x/out>, "A", 1)      = 1'
+    echo '1001  +++ exited with 0 +++'
+    for pid in $(seq 2001 2030); do
+        echo "1000  fork()                            = $pid"
+        echo "$pid  write(3</srv/x/out>, \"x\", 1)      = 1"
+        echo "$pid  +++ exited with 0 +++"
+    done
+    # Another source behind it is told with what it brought.
+    echo '1000  openat(AT_FDCWD</srv/x>, "c", O_RDONLY) = 4</srv/x/c>'
+    echo '1000  read(4</srv/x/c>, "C", 10)        = 1'
+    echo '1000  write(3</srv/x/out>, "C", 1)      = 1'
+    echo '1000  write(3</srv/x/out>, "C", 1)      = 1'
+} >"$work/log"
+printf '%s\n' "source a" "source b" "source c" "permit out: b" >"$work/story"
+# a 0, b 1, c 2, out 3, the recorder 4, the first process 5, its program 6, the others 7
+{
+    printf '%s\n' "file 4 6 as 0" "exec 5 6 as 0" "fork 5 7" "read 7 0" "append 7 3" "end 7"
+    for pid in $(seq 2001 2030); do printf '%s\n' "fork 5 7" "append 7 3" "end 7"; done
+    printf '%s\n' "read 5 2" "append 5 3" "append 5 3"
+} >"$work/wanted"
+{
+    echo "alert, step 5: sh (1001) appends to out, which now holds a"
+    echo "  its own permit rule permits {b}: it lacks a"
+    echo "  a came by a -> sh (1001) (step 4, reads) -> out (step 5, appends)"
+    for pid in $(seq 2001 2030); do
+        echo "alert, step $((8 + 3 * (pid - 2001))): sh ($pid) appends to out, which still holds a; this access brought nothing new (explained at step 5)"
+    done
+    echo "alert, step 98: sh (1000) appends to out, which now holds a, c; this access brought c"
+    echo "  its own permit rule permits {b}: it lacks a (and c)"
+    echo "  a came by a -> sh (1001) (step 4, reads) -> out (step 5, appends)"
+    echo "alert, step 99: sh (1000) appends to out, which still holds a, c; this access brought nothing new (explained at step 98)"
+    echo "99 records, 38 containers: 33 alerts, 0 refused, 0 not followed"
+} >"$work/words"
+"$record" --log "$work/log" --story "$work/story" --out "$work/innocent" >"$work/out"
+[ $? -eq 1 ] && followed innocent "$work/wanted"
+note $? "30 processes that append behind a leak are told to have brought nothing"
+judged "$work/innocent" "30 processes behind a leak"
+
+# Ten times the same leak by a write, by a process of its own each: eight are explained.
+{
+    echo '1000  execve("/bin/sh", ["sh"], 0x7ffc00000000 /* 1 var */) = 0'
+    echo '1000  openat(AT_FDCWD</srv/x>, "prices", O_RDONLY) = 3</srv/x/prices>'
+    for pid in $(seq 2001 2010); do
+        echo "1000  fork()                            = $pid"
+        echo "$pid  openat(AT_FDCWD</srv/x>, \"a\", O_RDONLY) = 3</srv/x/a>"
+        echo "$pid  read(3</srv/x/a>, \"A\", 10)        = 1"
+        echo "$pid  openat(AT_FDCWD</srv/x>, \"out\", O_WRONLY|O_TRUNC) = 4</srv/x/out>"
+        echo "$pid  write(4</srv/x/out>, \"A\", 1)      = 1"
+        echo "$pid  +++ exited with 0 +++"
+    done
+} >"$work/log"
+printf '%s\n' "source a" "source b" "permit out: b" >"$work/story"
+{
+    for pid in $(seq 2001 2010); do
+        step=$((5 + 4 * (pid - 2001)))
+        head="alert, step $step: sh ($pid) writes out, which now holds a"
+        if [ "$pid" -le 2008 ]; then
+            echo "$head"
+            echo "  its own permit rule permits {b}: it lacks a"
+            echo "  a came by a -> sh ($pid) (step $((step - 1)), reads) -> out (step $step, writes)"
+        else
+            echo "$head (not explained: 8 alerts at out are, the last at step 33)"
+        fi
+    done
+    echo "42 records, 16 containers: 10 alerts, 0 refused, 0 not followed"
+} >"$work/words"
+"$record" --log "$work/log" --story "$work/story" --out "$work/often" >"$work/out"
+[ $? -eq 1 ] && diff "$work/words" "$work/out"
+note $? "eight alerts at a name are explained, the others are told"
