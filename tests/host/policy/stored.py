@@ -110,6 +110,9 @@ class Runner:
         wanted = [(block.split(",")[0], step) for block, step in zip(blocks, steps)]
         self.note(f"{name}: as JSON", (0, wanted, ""), (status, facts, err))
         if lines is not None:
+            numbers = [line.split()[2] for line in lines.splitlines() if line.startswith("rule ")]
+            self.note(f"{name}: numbers of rules", numbers, [str(fact["origin"]["number"]) for fact in json.loads(out)])
+        if lines is not None:
             listing = subprocess.run([self.listing], cwd=self.folder / "out", capture_output=True, text=True).stdout
             done = subprocess.run([WORDS_OF, "--why", "out"], cwd=self.folder, input=listing + lines, capture_output=True, text=True)
             told = [line for line in done.stdout.splitlines(keepends=True) if not line.startswith("refused ")]
