@@ -1,6 +1,7 @@
 #!/usr/bin/env python3
-"""stored.py POLICY FOLDER LISTING: runs the program `policy` on the stored cases of stories.txt, profiles.txt and explanations.txt, in
-FOLDER, and prints a line for each; the last line is `N passed, M failed`. LISTING is a program that prints listings."""
+"""stored.py POLICY FOLDER LISTING [explanations]: runs the program `policy` on the stored cases of stories.txt, profiles.txt and
+explanations.txt, in FOLDER, and prints a line for each; the last line is `N passed, M failed`. LISTING is a program that prints listings. With
+`explanations` only those are run, up to the first that fails."""
 
 import json
 import subprocess
@@ -118,6 +119,14 @@ class Runner:
             told = [line for line in done.stdout.splitlines(keepends=True) if not line.startswith("refused ")]
             self.note(f"{name}: the program's lines in words", ("".join(blocks), ""), ("".join(told[:-1]), done.stderr))
 
+    def fails(self, name, parts):
+        """Whether a story is not explained as it must be."""
+        try:
+            self.explained(name, parts)
+        except (ValueError, KeyError):
+            self.note(f"{name}: no JSON", "", "found")
+        return self.failed > 0
+
     def profiles(self, name, parts):
         folder = HERE.parent / "profiles" / name
         text = (folder / "profiles.txt").read_bytes() if folder.is_dir() else parts["text"].encode()
@@ -160,6 +169,8 @@ def different_rules(count):
 
 def main():
     runner = Runner(*sys.argv[1:4])
+    if sys.argv[4:] == ["explanations"]:
+        return any(runner.fails(name, parts) for name, parts in cases(HERE / "explanations.txt"))
     for name, parts in cases(HERE / "stories.txt"):
         runner.story(name, parts)
     for name, parts in cases(HERE / "profiles.txt"):
