@@ -1,11 +1,12 @@
 # Watch, and write policies (analysts, operators)
 #   make try               seconds: compiles the watch program, not proved, and shows the demo's listing and alerts
-#   make demo              minutes, once: proves and builds the watch program, and shows the same
+#   make demo              minutes, once: proves and builds the programs, and shows the same with the alerts explained
 #   make month             proves and builds the month program, prints the figures of five days and draws their alerts
-#   make policy            builds the program `policy`, which makes, checks and shows policies, and prints where it is
+#   make policy            builds the program `policy`, which makes, checks and shows policies and explains alerts, and prints
+#                          where it is
 #   make record            builds the program `record`, which watches real programs, and prints where it is
-#   make night             watches eight commands of a shell script under strace, and names the alert
-#   make profiles-demo     turns the profiles in demo/profiles into a policy, and names the alerts of a session from it
+#   make night             watches eight commands of a shell script under strace, and explains the alert
+#   make profiles-demo     turns the profiles in demo/profiles into a policy, and explains the alerts of a session from it
 #   make vendor-demo       composes a vendor's policy with a house's, one source consenting
 #
 # Embed it (makers of platforms, in C or Rust)
