@@ -3,10 +3,11 @@
 rules, without the library.
 
 Each folder in FOLDER has policy.bin, trace.bin and listing.txt, from which only the verdicts are taken. The lines that the program `explain`
-must print of it (`lines`) go through `demo/words.py`; `policy explain` must print the same words, and the same facts as JSON. Names are given
-here, a number that is taken again having another one."""
+must print of it (`lines`) go through `demo/words.py`; `policy explain` must print the same words, and the same facts as JSON. If
+YASLAUREL_EXPLAIN names that program, it must print these lines. Names are given here, a number that is taken again having another one."""
 
 import json
+import os
 import subprocess
 import sys
 from pathlib import Path
@@ -221,7 +222,14 @@ def main():
         if listing[0].startswith("policy refused"):
             continue
         give_names(policy, folder, listing)
-        reasons = read_reasons(lines(folder, listing))
+        wanted_lines = lines(folder, listing)
+        reasons = read_reasons(wanted_lines)
+        if os.environ.get("YASLAUREL_EXPLAIN"):
+            printed = subprocess.run([os.environ["YASLAUREL_EXPLAIN"]], cwd=folder, capture_output=True, text=True).stdout
+            same = printed == "".join(f"{line}\n" for line in wanted_lines)
+            passed, failed = passed + same, failed + (not same)
+            if not same:
+                print(f"FAILED {folder.name}: the lines of the program explain")
         told = in_words(folder, listing, reasons)
         done = run(policy, folder)
         wanted = told or [f"nothing to explain: none of {len(listing) - 2} record{'s' * (len(listing) != 3)} is answered by an alert or blocked"]

@@ -1,9 +1,10 @@
 #!/usr/bin/env python3
 """stored.py POLICY FOLDER LISTING [explanations]: runs the program `policy` on the stored cases of stories.txt, profiles.txt and
 explanations.txt, in FOLDER, and prints a line for each; the last line is `N passed, M failed`. LISTING is a program that prints listings. With
-`explanations` only those are run, up to the first that fails."""
+`explanations` only those are run, up to the first that fails. If YASLAUREL_EXPLAIN names the program `explain`, that must print the stored lines."""
 
 import json
+import os
 import subprocess
 import sys
 from pathlib import Path
@@ -113,6 +114,10 @@ class Runner:
         if lines is not None:
             numbers = [line.split()[2] for line in lines.splitlines() if line.startswith("rule ")]
             self.note(f"{name}: numbers of rules", numbers, [str(fact["origin"]["number"]) for fact in json.loads(out)])
+        program = os.environ.get("YASLAUREL_EXPLAIN")
+        if lines is not None and program:
+            done = subprocess.run([program], cwd=self.folder / "out", capture_output=True, text=True)
+            self.note(f"{name}: the program's lines", (lines, ""), (done.stdout, done.stderr))
         if lines is not None:
             listing = subprocess.run([self.listing], cwd=self.folder / "out", capture_output=True, text=True).stdout
             done = subprocess.run([WORDS_OF, "--why", "out"], cwd=self.folder, input=listing + lines, capture_output=True, text=True)
