@@ -1,6 +1,6 @@
 #!/usr/bin/env python3
 """tests/host/policy/explained.py POLICY FOLDER: explanations of random traces, written a second time from the paper's words on chains and
-rules, without the library.
+rules, without the library. explained.py --show FOLDER prints those of one folder, whose listing is standard input.
 
 Each folder in FOLDER has policy.bin, trace.bin and listing.txt, from which only the verdicts are taken. The lines that the program `explain`
 must print of it (`lines`) go through `demo/words.py`; `policy explain` must print the same words, and the same facts as JSON. If
@@ -213,7 +213,15 @@ def as_json(policy, folder, reasons, texts):
         assert set(fact["stood"]) | set(fact["brought"]) == set(fact["holds"]) and not set(fact["stood"]) & set(fact["brought"])
 
 
+def show(folder, listing):
+    """Prints the lines of one folder, a blank line, and the same in words, with the folder's own names."""
+    found = lines(folder, listing)
+    print(*found, "", *in_words(folder, listing, read_reasons(found)), sep="\n")
+
+
 def main():
+    if sys.argv[1] == "--show":
+        return show(Path(sys.argv[2]), sys.stdin.read().splitlines())
     policy, folders = sys.argv[1], sorted(Path(sys.argv[2]).iterdir())
     passed = failed = reasons_told = 0
     kinds = {}
