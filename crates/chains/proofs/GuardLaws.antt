@@ -17,8 +17,8 @@ use Rattle.session.specs.Session.{startRow}
 use Rattle.chains.specs.History.{Step, read, write, append, exec, fork, newFile, newVolatile, end, delete, History, start, _▸_, receiver}
 use Rattle.chains.specs.Guards.{guardedFile, guarded, writing, writtenInto}
 use Rattle.chains.specs.Demand.{judged}
-use Rattle.chains.specs.Table.{State, freeRow, readRow, writeRow, appendRow, execRow, forkRow, newFileRow, newVolatileRow, fitsNeed, entry, processGood, objectGood, alerts, blocks, startRowOf, begin}
-use Rattle.chains.proofs.KindLaws.{process-free, guarded-used}
+use Rattle.chains.specs.Table.{State, freeRow, readRow, writeRow, appendRow, execRow, forkRow, newFileRow, newVolatileRow, entry, processGood, objectGood, alerts, blocks, startRowOf, begin}
+use Rattle.image.proofs.KindLaws.{process-free, guarded-used, free-kinds}
 use Rattle.chains.proofs.TableLaws.{Passed}
 
 -- the row w of container c is guarded as the history says; if it is, its permit rule covers what was written into it, or nothing was
@@ -121,12 +121,12 @@ module _ (P : Policy) (h : History) (σ : State) (G : (c : ℕ) → Guarding P h
 
   -- what is guarded stays so through the steps that are judged
   pub guarded-stays : (s : Step) → Passed σ s → judged s ≡ true → guarded P h (receiver s) ≡ true → guarded P (h ▸ s) (receiver s) ≡ true
-  unfolding entry objectGood fitsNeed
+  unfolding entry objectGood
   guarded-stays (read p o) g j q = q
   guarded-stays (write p o) g j q = q
   guarded-stays (append p o) g j q = q
   guarded-stays (exec p o u) g j q = q
-  guarded-stays (fork p o) g j q = clash (g .object) (guarded-used (σ .row o .kind) (G o .guards ∙ q))
+  guarded-stays (fork p o) g j q = clash (sym (free-kinds (σ .row o .kind)) ∙ g .object) (guarded-used (σ .row o .kind) (G o .guards ∙ q))
   guarded-stays (newFile p o u) g j q = clash j refl
   guarded-stays (newVolatile p o) g j q = clash j refl
   guarded-stays (end p) g j q = clash j refl

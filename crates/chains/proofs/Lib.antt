@@ -5,7 +5,6 @@ pub mod ChainLaws
 pub mod Inductive
 pub mod Steps
 -- rules, tags and rows that stand for chains
-pub mod KindLaws
 pub mod Exact
 pub mod Rows
 pub mod Start

@@ -15,7 +15,7 @@ use Rattle.rules.specs.Rules.{covers}
 use Rattle.lists.specs.Lists.{elem}
 use Rattle.rules.specs.Answers.{dataWidth}
 use Rattle.lists.proofs.Bools.{and-in, and-0, or-0, or-cases, clash, refuted, decide}
-use Rattle.image.specs.Limits.{isFree, isGuarded}
+use Rattle.image.specs.Limits.{isFree, isGuarded, isFile, isStore}
 use Rattle.image.specs.Policy.{Policy}
 use Rattle.chains.specs.History.{Step, read, write, append, exec, fork, newFile, newVolatile, end, delete, History, _▸_, receiver}
 use Rattle.lists.specs.Conditions.{firstFailed}
@@ -25,12 +25,34 @@ use Rattle.answers.specs.Answers.{accepted, isAlert, isBlocked, isRefused, rece
 use Rattle.answers.proofs.Cases.{accepted-given, blocked-given, unaccepted-cases}
 use Rattle.chains.specs.Demand.{judged, extend, after, historyFrom, AcceptedAt, GivenAt, BlockedTold, Taken}
 use Rattle.chains.specs.Guards.{guarded, writing, writtenInto}
-use Rattle.chains.specs.Table.{State, freeRow, readRow, writeRow, appendRow, execRow, forkRow, newFileRow, newVolatileRow, fitsNeed, ruleOr, entry, processGood, objectGood, userGood, tableConditions, alerts, blocks, verdict, placed, operate, Faithful}
+use Rattle.chains.specs.Table.{
+  State,
+  freeRow,
+  readRow,
+  writeRow,
+  appendRow,
+  execRow,
+  forkRow,
+  newFileRow,
+  newVolatileRow,
+  ruleOr,
+  entry,
+  processGood,
+  objectGood,
+  userGood,
+  tableConditions,
+  alerts,
+  blocks,
+  verdict,
+  placed,
+  operate,
+  Faithful,
+}
 use Rattle.session.specs.Rows.{Row}
 use Rattle.chains.proofs.Exact.{Exact, covers-in, covers-out, Tagged, tagged-none}
 use Rattle.chains.proofs.Rows.{Good, RowOk, other, read-good, write-good, append-good, exec-good, fork-good, new-file-good, new-volatile-good}
 use Rattle.lists.proofs.Places.{some-inj, none-some}
-use Rattle.chains.proofs.KindLaws.{process-used, guarded-used, file-used, store-used}
+use Rattle.image.proofs.KindLaws.{process-used, guarded-used, file-used, store-used, free-kinds}
 use Rattle.chains.proofs.TableLaws.{Passed, passed, operate-done, operate-given, rule-declared}
 use Rattle.chains.proofs.VerdictLaws.{verdict-blocked, verdict-alert, verdict-quiet, verdict-receiver, verdict-tag, blocked-blocks, accepted-put, alert-alerts, left-put, left-blocked}
 use Rattle.chains.proofs.GuardLaws.{Guarding, guarding-other, guarded-written, guards-next, guarded-stays, guarding-next}
@@ -80,7 +102,7 @@ module _ (P : Policy) where
 
   -- the row of the table, by its clauses
   puts : (h : History) (σ : State) → Inv P h σ → (s : Step) → Passed σ s → Put h s (entry σ s .row)
-  unfolding entry readRow writeRow appendRow execRow forkRow newFileRow newVolatileRow processGood objectGood userGood fitsNeed isFree
+  unfolding entry readRow writeRow appendRow execRow forkRow newFileRow newVolatileRow processGood objectGood userGood isFree isFile isStore
   puts h σ I (read p o) g =
       let up : isFree (σ .row p .kind) ≡ false = process-used (σ .row p .kind) (g .process) in
       let uo : isFree (σ .row o .kind) ≡ false = store-used (σ .row o .kind) (g .object) in
@@ -100,25 +122,25 @@ module _ (P : Policy) where
       used h (exec p o u) _ up (exec-good P h p o (σ .row p) (σ .row o) u (ruleOr (σ .user u)) (I .rows p .good up) (I .rows o .good uo) gu)
   puts h σ I (fork p o) g =
       let up : isFree (σ .row p .kind) ≡ false = process-used (σ .row p .kind) (g .process) in
-      used h (fork p o) _ up (fork-good P h p o (σ .row p) (σ .row o) (I .rows o .empty (g .object)) (I .rows p .good up))
+      used h (fork p o) _ up (fork-good P h p o (σ .row p) (σ .row o) (I .rows o .empty (sym (free-kinds (σ .row o .kind)) ∙ g .object)) (I .rows p .good up))
   puts h σ I (newFile p o u) g =
       let gu : Exact (λ r. UserRule P u r) (ruleOr (σ .user u)) = I .users u (ruleOr (σ .user u)) (rule-declared (σ .user u) (g .user)) in
-      used h (newFile p o u) _ refl (new-file-good P h p o (σ .row p) (σ .row o) u (ruleOr (σ .user u)) (I .rows o .empty (g .object)) gu)
+      used h (newFile p o u) _ refl (new-file-good P h p o (σ .row p) (σ .row o) u (ruleOr (σ .user u)) (I .rows o .empty (sym (free-kinds (σ .row o .kind)) ∙ g .object)) gu)
   puts h σ I (newVolatile p o) g =
-      used h (newVolatile p o) _ refl (new-volatile-good P h p o (σ .row p) (σ .row o) (I .rows o .empty (g .object)))
+      used h (newVolatile p o) _ refl (new-volatile-good P h p o (σ .row p) (σ .row o) (I .rows o .empty (sym (free-kinds (σ .row o .kind)) ∙ g .object)))
   puts h σ I (end p) g = left h (end p) refl (end-none P h p)
   puts h σ I (delete p o) g = left h (delete p o) refl (delete-none P h p o)
 
   -- what stands right after a free number is taken
   taken : (h : History) (σ : State) → Inv P h σ → (s : Step) → Passed σ s → Taken P h s
-  unfolding entry objectGood fitsNeed
+  unfolding entry objectGood
   taken h σ I (read p o) g = tt
   taken h σ I (write p o) g = tt
   taken h σ I (append p o) g = tt
   taken h σ I (exec p o u) g = tt
-  taken h σ I (fork p o) g = (fork-chains P h p o (I .rows o .empty (g .object)), fork-rules P h p o)
-  taken h σ I (newFile p o u) g = (new-file-none P h p o u (I .rows o .empty (g .object)), new-file-rules P h p o u)
-  taken h σ I (newVolatile p o) g = (new-volatile-none P h p o (I .rows o .empty (g .object)), new-volatile-rules P h p o)
+  taken h σ I (fork p o) g = (fork-chains P h p o (I .rows o .empty (sym (free-kinds (σ .row o .kind)) ∙ g .object)), fork-rules P h p o)
+  taken h σ I (newFile p o u) g = (new-file-none P h p o u (I .rows o .empty (sym (free-kinds (σ .row o .kind)) ∙ g .object)), new-file-rules P h p o u)
+  taken h σ I (newVolatile p o) g = (new-volatile-none P h p o (I .rows o .empty (sym (free-kinds (σ .row o .kind)) ∙ g .object)), new-volatile-rules P h p o)
   taken h σ I (end p) g = tt
   taken h σ I (delete p o) g = tt
 

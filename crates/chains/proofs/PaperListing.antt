@@ -11,14 +11,37 @@ use Rattle.rules.specs.Sets.{atom, holds, dataOf}
 use Rattle.rules.specs.Rules.{covers, coverFrom, coverPlace, distinct, heldIn, unheldIn, insert, sort, normal, intersections, meet, unrestricted}
 use Rattle.lists.specs.Conditions.{firstFailed}
 use Rattle.lists.specs.Lists.{elem, every}
-use Rattle.image.specs.Limits.{isGuarded, isFree, isFile, isVolatile, isProcess, isStore, fileKind, processKind, noAtom, unrestrictedNumber, noOwner}
+use Rattle.image.specs.Limits.{isGuarded, isFile, isVolatile, isProcess, fileKind, processKind, noAtom, unrestrictedNumber, noOwner, kindIn}
 use Rattle.image.specs.Policy.{Container, Policy, unrestrictedRule, ruleAt, named, ownerGood, containerGood, ruleGood, Sound}
 use Rattle.image.specs.Normal.{normalAt, placeOf, meaning}
 use Rattle.chains.specs.History.{Step, read, write, append, History, start, _▸_}
 use Rattle.chains.specs.Chains.{dataAtom, Chain, readAtom, appendAny}
 use Rattle.answers.specs.Answers.{quiet, alert, refused}
 use Rattle.chains.specs.Demand.{answers, historyOf, AcceptedAt}
-use Rattle.chains.specs.Table.{readRow, writeRow, appendRow, freeRow, fitsNeed, entry, processGood, objectGood, kindGood, freeGood, userGood, behalfFits, fits, meetGood, earlyConditions, tableConditions, alerts, blocks, verdict, placed, left, operate, begin}
+use Rattle.chains.specs.Table.{
+  readRow,
+  writeRow,
+  appendRow,
+  freeRow,
+  entry,
+  processGood,
+  objectGood,
+  kindGood,
+  freeGood,
+  userGood,
+  behalfFits,
+  fits,
+  meetGood,
+  earlyConditions,
+  tableConditions,
+  alerts,
+  blocks,
+  verdict,
+  placed,
+  left,
+  operate,
+  begin,
+}
 use Rattle.session.specs.Session.{startTag, startRow}
 use Rattle.chains.proofs.TableMonitor.{table-tag-told}
 
@@ -50,15 +73,15 @@ pub record Run : Type 0 where
   pub whole : historyOf operate some (begin P) steps ≡ four ▸ write 6 1
 
 listing : Run
-unfolding operate entry fitsNeed processGood objectGood kindGood freeGood userGood behalfFits meetGood earlyConditions tableConditions
+unfolding operate entry processGood objectGood kindGood freeGood userGood behalfFits meetGood earlyConditions tableConditions
     firstFailed every alerts blocks verdict placed left isGuarded fits readRow writeRow appendRow freeRow begin startRow startTag meaning
-    placeOf normalAt ruleAt unrestrictedRule unrestricted isFree isFile isVolatile isProcess isStore covers coverFrom coverPlace holds
+    placeOf normalAt ruleAt unrestrictedRule unrestricted kindIn atom isProcess covers coverFrom coverPlace holds
     dataOf elem distinct heldIn unheldIn insert sort normal intersections meet
 listing = record { told = refl; upToWrite = refl; whole = refl }
 
 -- the chain of the alert: atom 2 by steps 0, 1, 2 and 3 from file 2 into file 1
 chain : Chain P four (dataAtom 2) 1
-unfolding isFile
+unfolding isFile kindIn atom
 chain = (
   2,
   dataAtom 2,
@@ -104,7 +127,7 @@ chain = (
 )
 
 sound : Sound P
-unfolding every ruleGood containerGood named ownerGood isFile isVolatile isProcess
+unfolding every ruleGood containerGood named ownerGood isFile kindIn atom isVolatile isProcess
 sound = record {
   fewContainers = omega arith;
   fewUsers = omega arith;

@@ -20,7 +20,7 @@ use Rattle.chains.proofs.ChainLaws.{chain-none, chain-here}
 use Rattle.chains.proofs.Exact.{Exact, exact-unrestricted, exact-normal, exact-one, Tagged, tagged-none, tagged-one}
 use Rattle.chains.proofs.Rows.{Good, RowOk}
 use Rattle.lists.proofs.Places.{some-inj, none-some, mapped, mapped-at}
-use Rattle.chains.proofs.KindLaws.{not-file, Accepted, sound-at}
+use Rattle.image.proofs.KindLaws.{not-file, Accepted, sound-at}
 use Rattle.chains.proofs.GuardLaws.{Guarding, guarding-start}
 
 -- the state stands for the chains of the history and the rules governing after it

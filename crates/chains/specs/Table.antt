@@ -11,7 +11,7 @@ use lib.ListN.{length, getElem?}
 use Rattle.rules.specs.Sets.{dataOf, runningOf}
 use Rattle.rules.specs.Rules.{covers, coverPlace, meet}
 use Rattle.rules.specs.Answers.{dataWidth, mixtureLimit}
-use Rattle.image.specs.Limits.{isFree, isGuarded, isFile, isProcess, isStore, freeKind, fileKind, volatileKind}
+use Rattle.image.specs.Limits.{freeKind, fileKind, volatileKind, kindIn, freeKinds, fileKinds, storeKinds, processKinds, isGuarded, isProcess}
 use Rattle.image.specs.Policy.{Policy, unrestrictedRule}
 use Rattle.image.specs.Normal.{Place, meaning}
 use Rattle.lists.specs.Lists.{every}
@@ -80,29 +80,18 @@ newVolatileRow = record { kind = volatileKind; tag = 0; permit = unrestrictedRul
 
 -- ---- the table: what a step names and needs, the meets that it forms, and the receiver's row afterwards
 
--- the column "o": what a step needs of its object; an end needs a process
-pub data Need : Type 0 where
-  store file free process : Need
+-- the column "o": what a step needs of its object, as the set of the kinds that serve; an end needs a process
 
--- a container of the kind k serves as the object
-unfoldable pub fitsNeed : Need → ℕ → Bool
-fitsNeed store k = isStore k
-fitsNeed file k = isFile k
-fitsNeed free k = isFree k
-fitsNeed process k = isProcess k
+-- "free"
+abbrev pub needsFree : ℕ → Bool
+needsFree kinds = eqb kinds freeKinds
 
-abbrev pub needsFree : Need → Bool
-needsFree store = false
-needsFree file = false
-needsFree free = true
-needsFree process = false
-
--- a row of the table: the numbers of p and o, and of u where the code names one; what it needs of o; the meets; the row
+-- a row of the table: the numbers of p and o, and of u where the code names one; the kinds that serve as o; the meets; the row
 pub record Entry : Type 0 where
   pub process : ℕ
   pub object : ℕ
   pub user : Option ℕ
-  pub need : Need
+  pub need : ℕ
   pub meets : List (List ℕ)
   pub row : Row
 
@@ -117,18 +106,18 @@ entry σ (read p o) =
       process = p;
       object = o;
       user = none;
-      need = store;
+      need = storeKinds;
       meets = meet (σ .row p .run) (σ .row o .run) ∷ [];
       row = readRow (σ .row p) (σ .row o);
     }
 entry σ (write p o) =
-    record { process = p; object = o; user = none; need = store; meets = []; row = writeRow (σ .row p) (σ .row o) }
+    record { process = p; object = o; user = none; need = storeKinds; meets = []; row = writeRow (σ .row p) (σ .row o) }
 entry σ (append p o) =
     record {
       process = p;
       object = o;
       user = none;
-      need = store;
+      need = storeKinds;
       meets = meet (σ .row o .run) (σ .row p .run) ∷ [];
       row = appendRow (σ .row p) (σ .row o);
     }
@@ -137,19 +126,19 @@ entry σ (exec p o u) =
       process = p;
       object = o;
       user = some u;
-      need = file;
+      need = fileKinds;
       meets = meet (σ .row o .run) (ruleOr (σ .user u)) ∷ [];
       row = execRow (σ .row p) (σ .row o) (ruleOr (σ .user u)) u;
     }
 entry σ (fork p o) =
-    record { process = p; object = o; user = none; need = free; meets = []; row = forkRow (σ .row p) }
+    record { process = p; object = o; user = none; need = freeKinds; meets = []; row = forkRow (σ .row p) }
 entry σ (newFile p o u) =
-    record { process = p; object = o; user = some u; need = free; meets = []; row = newFileRow (ruleOr (σ .user u)) }
+    record { process = p; object = o; user = some u; need = freeKinds; meets = []; row = newFileRow (ruleOr (σ .user u)) }
 entry σ (newVolatile p o) =
-    record { process = p; object = o; user = none; need = free; meets = []; row = newVolatileRow }
+    record { process = p; object = o; user = none; need = freeKinds; meets = []; row = newVolatileRow }
 -- "The row becomes free" (change request No. 4)
-entry σ (end p) = record { process = p; object = p; user = none; need = process; meets = []; row = freeRow }
-entry σ (delete p o) = record { process = p; object = o; user = none; need = store; meets = []; row = freeRow }
+entry σ (end p) = record { process = p; object = p; user = none; need = processKinds; meets = []; row = freeRow }
+entry σ (delete p o) = record { process = p; object = o; user = none; need = storeKinds; meets = []; row = freeRow }
 
 -- ---- "Refused because of the session": 11 to 15 in the order of the paper, 18 "placed after 14"
 
@@ -157,9 +146,9 @@ entry σ (delete p o) = record { process = p; object = o; user = none; need = st
 unfoldable pub processGood : State → Step → Bool
 processGood σ t = isProcess (σ .row (entry σ t .process) .kind)
 
--- the need is met by the object
+-- the object is of one of the kinds that serve
 unfoldable pub objectGood : State → Step → Bool
-objectGood σ t = fitsNeed (entry σ t .need) (σ .row (entry σ t .object) .kind)
+objectGood σ t = kindIn (entry σ t .need) (σ .row (entry σ t .object) .kind)
 
 -- 12: "o of the wrong kind (codes 1 to 4)", and "code 9 with o of another kind" (change request No. 4)
 unfoldable pub kindGood : State → Step → Bool

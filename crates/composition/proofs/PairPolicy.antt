@@ -1,7 +1,7 @@
 -- The policy that the tables hand to the writer owns what the two images own together.
 use Prim.Native.Nat.{ℕ, zero, suc, _+_, _-_, _*_, _/_, _^_, _≤_, _<_}
 use mathlib.Core.Path.{_≡_, refl, sym, ap, ap₂, _∙_}
-use mathlib.Core.Bool.{Bool, true, false, cond, _&&_, _||_}
+use mathlib.Core.Bool.{Bool, true, false, _&&_}
 use mathlib.Core.List.{List, [], _∷_, _++_, map, append-assoc}
 use mathlib.Core.Logic.{⊎-elim}
 use native.Mathlib.Omega.{arith}
@@ -10,6 +10,7 @@ use lib.ListN.{length, getD, take, drop, length-append, length-map}
 use lib.Seq.{take-at, length-take-le}
 use borrow.Author.Tests.{ltb-true, lt-ltb, eqb-true, ne-eqb}
 use borrow.Rule.Slice.PartMut.{putMid}
+use Rattle.image.proofs.KindLaws.{kind-low}
 use Rattle.lists.specs.Counting.{countFrom}
 use Rattle.lists.specs.Lists.{every, joined}
 use Rattle.lists.proofs.Bools.{and-in, and-0, and-1, or-0, or-cases}
@@ -20,7 +21,7 @@ use Rattle.fields.specs.Writing.{overwritten, Wrote}
 use Rattle.fields.proofs.ByteLaws.{bytes-length, number-bytes, section-back}
 use Rattle.rules.specs.Rules.{normal}
 use Rattle.rules.specs.Answers.{dataWidth, mixtureLimit}
-use Rattle.image.specs.Limits.{containerSize, userSize, ruleSize, size8, size16, fileKind, guardedKind, volatileKind, processKind, noAtom, unrestrictedNumber, isFile, isVolatile, isProcess}
+use Rattle.image.specs.Limits.{containerSize, userSize, ruleSize, size8, size16, noAtom, unrestrictedNumber}
 use Rattle.image.specs.Policy.{Container, Policy, ruleAt, ownerAt, named, containerGood}
 use Rattle.image.specs.Image.{part, containerIn, containersIn, usersIn, policyIn}
 use Rattle.image.specs.Normal.{Use, normalAt, useAt, ownedPlace, owned, placeUses, uses, freeUse, policyOf, normalPolicy, normalImage, containerBytes}
@@ -60,18 +61,6 @@ own-uses k (c ∷ cs) =
 
 abbrev fits : Container → Bool
 fits c = ltb (c .kind) (256 ^ size8) && (ltb (c .atom) (256 ^ size8) && (ltb (c .permit) (256 ^ size16) && ltb (c .run) (256 ^ size16)))
-
-kind-low : (n : ℕ) (c : Container) → containerGood n c ≡ true → c .kind < 256 ^ size8
-unfolding containerGood isFile isVolatile isProcess
-kind-low n c = by (isFile (c .kind)) refl
-  where
-    by : (b : Bool) → isFile (c .kind) ≡ b
-        → cond b ((ltb (c .atom) dataWidth || eqb (c .atom) noAtom) && (named n (c .permit) && named n (c .run))) ((isVolatile (c .kind) || isProcess (c .kind)) && (eqb (c .atom) noAtom && (eqb (c .permit) unrestrictedNumber && eqb (c .run) unrestrictedNumber))) ≡ true
-        → c .kind < 256 ^ size8
-    by true e k = ⊎-elim (λ p. omega (arith, eqb-true (c .kind) fileKind p)) (λ p. omega (arith, eqb-true (c .kind) guardedKind p)) (or-cases (eqb (c .kind) fileKind) e)
-    by false e k =
-        ⊎-elim (λ p. omega (arith, eqb-true (c .kind) volatileKind p)) (λ p. omega (arith, eqb-true (c .kind) processKind p))
-        (or-cases (eqb (c .kind) volatileKind) (and-0 (isVolatile (c .kind) || isProcess (c .kind)) (eqb (c .atom) noAtom && (eqb (c .permit) unrestrictedNumber && eqb (c .run) unrestrictedNumber)) k))
 
 atom-low : (n : ℕ) (c : Container) → containerGood n c ≡ true → c .atom < 256 ^ size8
 atom-low n c h =

@@ -394,7 +394,7 @@ pub fn compose(first: &[u8], second: &[u8], consent: &[u8], out: &mut [u8]) -> C
     if is_repeated(first, second, consent) {
         return repeat(first, out);
     }
-    if out.len() < normaliser::OUTPUT_BOUND {
+    if out.len() < image::OUTPUT_BOUND {
         return Composition {
             refusal: answers::LENT_LENGTH,
             length: 0,

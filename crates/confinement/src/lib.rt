@@ -305,7 +305,7 @@ fn write_tables(own: &[usize], modes: &[u64], n: usize, m: usize, out: &mut [u8]
 pub fn derive(text: &[u8], out: &mut [u8]) -> u32
     ensures { λ r. ⌜ (r ≡ profileAnswer (now (text .entry)) (now (out .entry))) × (now (out .exit) ≡ profileEffect (now (text .entry)) (now (out .entry))) ⌝ }
 {
-    if out.len() < normaliser::OUTPUT_BOUND {
+    if out.len() < image::OUTPUT_BOUND {
         return answers::LENT_LENGTH;
     }
     let mut words = [0u32; profiles::WORD_LIMIT];

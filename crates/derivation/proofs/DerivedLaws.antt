@@ -10,8 +10,9 @@ use lib.Bits.{bitOr, or-lt}
 use lib.Dec.{eqb, ltb}
 use lib.ListN.{length, getD, replicate, length-append, length-map, length-replicate}
 use borrow.Author.Tests.{le-leb, lt-ltb, ltb-true, ne-eqb}
+use Rattle.rules.specs.Sets.{atom}
 use Rattle.lists.proofs.Bools.{and-in, or-0, or-1}
-use Rattle.image.specs.Limits.{isFile, isVolatile, isProcess, noOwner, headerSize, outputBound}
+use Rattle.image.specs.Limits.{isFile, isVolatile, isProcess, noOwner, headerSize, outputBound, kindIn}
 use Rattle.normaliser.proofs.WriterLaws.{normal-long, normal-short}
 use Rattle.lists.specs.Lists.{every, elem}
 use Rattle.lists.specs.Counting.{countFrom}
@@ -148,13 +149,13 @@ module _ (reads writes : List ℕ) (objects : ℕ) (g : Good reads writes object
       (permit-data b l))
 
   file-good : (b : ℕ) → b < objects → containerGood objects (objectFile b) ≡ true
-  unfolding containerGood objectFile isFile named
+  unfolding containerGood objectFile isFile kindIn atom named
   file-good b l =
       and-in (or-0 (ltb b 32) (eqb b 255) (lt-ltb b 32 (omega (arith, g .few))))
       (and-in (or-0 (ltb b objects) (eqb b 65535) (lt-ltb b objects l)) (or-1 (ltb 65535 objects) true refl))
 
   process-good : containerGood objects subjectProcess ≡ true
-  unfolding containerGood subjectProcess isFile isVolatile isProcess
+  unfolding containerGood subjectProcess isFile kindIn atom isVolatile isProcess
   process-good = refl
 
   rules-length : length (map (permitOf reads writes) (countFrom 0 objects)) ≡ objects

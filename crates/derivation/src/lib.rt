@@ -141,7 +141,7 @@ fn put_permits(words: &mut [u64], reads: &[u32], writes: &[u32], n: usize)
 pub fn derive(reads: &[u32], writes: &[u32], objects: u32, out: &mut [u8]) -> u32
     ensures { λ r. ⌜ (r ≡ derivedAnswer (now (reads .entry)) (now (writes .entry)) objects (now (out .entry))) × (now (out .exit) ≡ derivedEffect (now (reads .entry)) (now (writes .entry)) objects (now (out .entry))) ⌝ }
 {
-    if out.len() < normaliser::OUTPUT_BOUND {
+    if out.len() < image::OUTPUT_BOUND {
         return answers::LENT_LENGTH;
     }
     if !matrix::matrix_good(reads, writes, objects) {

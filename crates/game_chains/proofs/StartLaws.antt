@@ -7,10 +7,11 @@ use mathlib.Core.Option.{some}
 use Prim.Native.Nat.{ℕ, zero, suc, _+_, _<_}
 use native.Mathlib.Omega.{arith}
 use lib.ListN.{length, getElem?, replicate}
+use Rattle.rules.specs.Sets.{atom}
 use Rattle.lists.specs.Counting.{countFrom}
 use Rattle.lists.proofs.Bools.{clash}
 use Rattle.lists.proofs.Places.{some-inj}
-use Rattle.image.specs.Limits.{isFile}
+use Rattle.image.specs.Limits.{isFile, kindIn}
 use Rattle.image.specs.Policy.{Container, Policy}
 use Rattle.image.specs.Image.{policyIn}
 use Rattle.image.specs.Normal.{Place, Meaning, placeOf, meaning}
@@ -77,7 +78,7 @@ module _ (reads writes : List ℕ) (objects : ℕ) (good : matrixGood reads writ
       (ap (λ (q : List Place). getElem? q a) places ∙ file-at (filePlace reads writes) 0 objects a (replicate (length reads) processPlace) l ∙ ap (λ (x : ℕ). some (filePlace reads writes x)) e)
 
   pub atom-starts : (a c : ℕ) → a < objects → Starts P c (dataAtom a) ↔ (c ≡ a)
-  unfolding placeOf isFile
+  unfolding placeOf isFile kindIn atom
   atom-starts a c l = (to, from)
     where
       to : Starts P c (dataAtom a) → c ≡ a

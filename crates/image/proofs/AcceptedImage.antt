@@ -32,14 +32,13 @@ use Rattle.image.specs.Image.{
   part,
   containersIn,
   usersIn,
-  spansIn,
   ownersIn,
   imageLengthGood,
   partGood,
   pairsGood,
   wholeGood,
   sectionsGood,
-  spansGood,
+  ruleRecordsGood,
   rulesGood,
   containersGood,
   usersGood,
@@ -104,14 +103,14 @@ module _ (i : List ℕ) (e : checkOf i ≡ 0) where
   pub accepted-section : (k : ℕ) → k < sectionCount → (headerSize ≤ length i) × (k < sectionCount) × (offset i k + size i k ≤ length i)
   accepted-section k l = (accepted-long, l, part-ends i (tests .pairs) k l)
 
-  pub accepted-spans : spansGood (length (part i 3) / mixtureSize) 0 (spansIn (part i 2)) ≡ true
+  pub accepted-spans : ruleRecordsGood (part i 2) (part i 3) ≡ true
   unfolding rulesGood
   accepted-spans =
-      and-0 (spansGood (length (part i 3) / mixtureSize) 0 (spansIn (part i 2))) (every (ownerGood (length (part i 1) / userSize)) (ownersIn (part i 2))) (tests .rules)
+      and-0 (ruleRecordsGood (part i 2) (part i 3)) (every (ownerGood (length (part i 1) / userSize)) (ownersIn (part i 2))) (tests .rules)
 
   pub accepted-owners : every (ownerGood (length (part i 1) / userSize)) (ownersIn (part i 2)) ≡ true
   unfolding rulesGood
-  accepted-owners = and-1 (spansGood (length (part i 3) / mixtureSize) 0 (spansIn (part i 2))) (tests .rules)
+  accepted-owners = and-1 (ruleRecordsGood (part i 2) (part i 3)) (tests .rules)
 
   pub accepted-containers : every (containerGood (length (part i 2) / ruleSize)) (containersIn (part i 0)) ≡ true
   unfolding containersGood

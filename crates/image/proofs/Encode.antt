@@ -12,15 +12,59 @@ use lib.Seq.{drop-at, take-append-seam}
 use borrow.Author.Tests.{eq-eqb, le-leb, lt-ltb, ltb-true, eqb-true, leb-true}
 use Rattle.lists.proofs.Bools.{and-in, and-0, and-1, or-cases}
 use Rattle.rules.specs.Answers.{dataWidth, tagWidth, mixtureLimit}
-use Rattle.image.specs.Limits.{fileKind, volatileKind, processKind, guardedKind, isFile, isVolatile, isProcess, unrestrictedNumber, noOwner, noAtom, containerLimit, userLimit, ruleLimit, mixtureTotal, containerSize, userSize, ruleSize, mixtureSize, size8, size16, leadingNumber, headerSize, imageLimit, outputBound}
+use Rattle.image.specs.Limits.{
+  isFile,
+  isVolatile,
+  isProcess,
+  unrestrictedNumber,
+  noOwner,
+  noAtom,
+  containerLimit,
+  userLimit,
+  ruleLimit,
+  mixtureTotal,
+  containerSize,
+  userSize,
+  ruleSize,
+  mixtureSize,
+  size8,
+  size16,
+  leadingNumber,
+  headerSize,
+  imageLimit,
+  outputBound,
+}
 use Rattle.fields.specs.Bytes.{numberIn, bytesOf, field, Bytes}
 use Rattle.lists.specs.Lists.{every, joined}
 use Rattle.image.specs.Policy.{Container, Policy, named, ownerGood, containerGood, ruleGood, Sound}
-use Rattle.image.specs.Image.{Span, containerIn, spanIn, ruleIn, containersIn, usersIn, spansIn, mixturesIn, rulesIn, ownersIn, policyIn, part, wholeGood, sectionsGood, spansGood, rulesGood, containersGood, usersGood, imageConditions, checkOf}
+use Rattle.image.specs.Image.{
+  Span,
+  containerIn,
+  spanIn,
+  ruleIn,
+  containersIn,
+  usersIn,
+  spansIn,
+  mixturesIn,
+  rulesIn,
+  ownersIn,
+  policyIn,
+  part,
+  wholeGood,
+  sectionsGood,
+  spansGood,
+  ruleRecordsGood,
+  rulesGood,
+  containersGood,
+  usersGood,
+  imageConditions,
+  checkOf,
+}
 use Rattle.image.specs.Normal.{containerBytes, spanBytes, spansOf, pair, header, framed, encode}
 use Rattle.lists.proofs.Every.{every-0, every-1, every-nil, every-cons, every-append, every-imp, every-drop}
 use Rattle.fields.proofs.ByteLaws.{bytes-length, number-bytes, joined-length, section-back, byte, bytes-byte, joined-byte, every-bytes}
 use Rattle.image.proofs.ImageRefusals.{refused-by-none}
+use Rattle.image.proofs.KindLaws.{kind-low}
 use Rattle.image.proofs.FramedSections.{part-0, part-1, part-2, part-3, frame-length, frame-long, frame-pairs}
 
 -- ---- one record
@@ -35,39 +79,39 @@ record Fits (c : Container) : Type 0 where
   permit : c .permit < 256 ^ size16
   run : c .run < 256 ^ size16
 
--- a file's kind is one byte
-file-low : (k : ℕ) → isFile k ≡ true → k < 256 ^ size8
-unfolding isFile
-file-low k e = ⊎-elim (λ p. omega (arith, eqb-true k fileKind p)) (λ p. omega (arith, eqb-true k guardedKind p)) (or-cases (eqb k fileKind) e)
-
 container-fits : (n : ℕ) (c : Container) → n ≤ ruleLimit → containerGood n c ≡ true → Fits c
-unfolding containerGood isVolatile isProcess
-container-fits n c h = by (isFile (c .kind)) refl
+unfolding containerGood
+container-fits n c h g = by (kind-low n c g) (isFile (c .kind)) g
   where
-    file : isFile (c .kind) ≡ true → ((ltb (c .atom) dataWidth || eqb (c .atom) noAtom) && (named n (c .permit) && named n (c .run))) ≡ true → Fits c
+    file : c .kind < 256 ^ size8 → ((ltb (c .atom) dataWidth || eqb (c .atom) noAtom) && (named n (c .permit) && named n (c .run))) ≡ true → Fits c
     file e k =
         let g : (named n (c .permit) && named n (c .run)) ≡ true = and-1 (ltb (c .atom) dataWidth || eqb (c .atom) noAtom) k in
         record {
-          kind = file-low (c .kind) e;
+          kind = e;
           atom = ⊎-elim (λ p. omega (arith, ltb-true (c .atom) dataWidth p)) (λ p. omega (arith, eqb-true (c .atom) noAtom p)) (or-cases (ltb (c .atom) dataWidth) (and-0 (ltb (c .atom) dataWidth || eqb (c .atom) noAtom) (named n (c .permit) && named n (c .run)) k));
           permit = named-fits n (c .permit) h (and-0 (named n (c .permit)) (named n (c .run)) g);
           run = named-fits n (c .run) h (and-1 (named n (c .permit)) g);
         }
 
-    other : ((isVolatile (c .kind) || isProcess (c .kind)) && (eqb (c .atom) noAtom && (eqb (c .permit) unrestrictedNumber && eqb (c .run) unrestrictedNumber))) ≡ true → Fits c
-    other k =
+    other : c .kind < 256 ^ size8
+        → ((isVolatile (c .kind) || isProcess (c .kind)) && (eqb (c .atom) noAtom && (eqb (c .permit) unrestrictedNumber && eqb (c .run) unrestrictedNumber))) ≡ true
+        → Fits c
+    other e k =
         let g : (eqb (c .atom) noAtom && (eqb (c .permit) unrestrictedNumber && eqb (c .run) unrestrictedNumber)) ≡ true = and-1 (isVolatile (c .kind) || isProcess (c .kind)) k in
         let f : (eqb (c .permit) unrestrictedNumber && eqb (c .run) unrestrictedNumber) ≡ true = and-1 (eqb (c .atom) noAtom) g in
         record {
-          kind = ⊎-elim (λ p. omega (arith, eqb-true (c .kind) volatileKind p)) (λ p. omega (arith, eqb-true (c .kind) processKind p)) (or-cases (isVolatile (c .kind)) (and-0 (isVolatile (c .kind) || isProcess (c .kind)) (eqb (c .atom) noAtom && (eqb (c .permit) unrestrictedNumber && eqb (c .run) unrestrictedNumber)) k));
+          kind = e;
           atom = omega (arith, eqb-true (c .atom) noAtom (and-0 (eqb (c .atom) noAtom) (eqb (c .permit) unrestrictedNumber && eqb (c .run) unrestrictedNumber) g));
           permit = omega (arith, eqb-true (c .permit) unrestrictedNumber (and-0 (eqb (c .permit) unrestrictedNumber) (eqb (c .run) unrestrictedNumber) f));
           run = omega (arith, eqb-true (c .run) unrestrictedNumber (and-1 (eqb (c .permit) unrestrictedNumber) f));
         }
 
-    by : (b : Bool) → isFile (c .kind) ≡ b → cond b ((ltb (c .atom) dataWidth || eqb (c .atom) noAtom) && (named n (c .permit) && named n (c .run))) ((isVolatile (c .kind) || isProcess (c .kind)) && (eqb (c .atom) noAtom && (eqb (c .permit) unrestrictedNumber && eqb (c .run) unrestrictedNumber))) ≡ true → Fits c
-    by true e k = file e k
-    by false e k = other k
+    by : c .kind < 256 ^ size8 → (b : Bool)
+        → cond b ((ltb (c .atom) dataWidth || eqb (c .atom) noAtom) && (named n (c .permit) && named n (c .run)))
+        ((isVolatile (c .kind) || isProcess (c .kind)) && (eqb (c .atom) noAtom && (eqb (c .permit) unrestrictedNumber && eqb (c .run) unrestrictedNumber))) ≡ true
+        → Fits c
+    by e true k = file e k
+    by e false k = other e k
 
 container-back : (n : ℕ) → n ≤ ruleLimit → (c : Container) → containerGood n c ≡ true → containerIn (containerBytes c) ≡ c
 unfolding containerIn containerBytes field bytesOf
@@ -272,7 +316,7 @@ module _ (p : Policy) (h : Sound p) where
   framed-owners = rw (users-count, owners-back 0 (p .rules) (p .owners) (h .ownersLong)) (h .ownersGood)
 
   framed-rules : rulesGood (framed c u r m) ≡ true
-  unfolding rulesGood ownersIn
+  unfolding rulesGood ruleRecordsGood ownersIn
   framed-rules =
       rw (part-3 c u r m fits, part-2 c u r m fits, part-1 c u r m fits, r-back)
       (and-in (spans-good (length m / mixtureSize) 0 0 (p .rules) (p .owners) (omega arith) (omega (arith, m-length)) (h .rulesGood)) framed-owners)

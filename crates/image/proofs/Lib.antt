@@ -2,6 +2,7 @@
 pub mod Theorems
 -- other crates cite these
 pub mod AcceptedImage
+pub mod KindLaws
 pub mod Decode
 pub mod Encode
 pub mod FramedSections

@@ -9,7 +9,7 @@ use lib.ListN.{length, getD, take, drop, length-map}
 use borrow.Author.Tests.{leb-true}
 use Rattle.lists.proofs.Bools.{and-0, and-1}
 use Rattle.fields.specs.Bytes.{numberIn, field, records}
-use Rattle.image.specs.Image.{Span, containerIn, containersIn, usersIn, spanIn, spansIn, ruleIn, rulesIn, ownersIn, mixturesIn, spansGood}
+use Rattle.image.specs.Image.{Span, containerIn, containersIn, usersIn, spanIn, spansIn, ruleIn, rulesIn, ownersIn, mixturesIn, spansGood, ruleRecordsGood}
 use Rattle.fields.proofs.FieldLaws.{field-record}
 use Rattle.fields.proofs.RecordLaws.{records-count, record-at}
 use Rattle.lists.proofs.Places.{map-at}
@@ -74,11 +74,12 @@ good-at m from (r ∷ rs) zero d h l =
 good-at m from (r ∷ rs) (suc n) d h l =
     good-at m (r .first) rs n d (and-1 (leb (r .first + r .count) m) (and-1 (leb (r .count) mixtureLimit) (and-1 (leb from (r .first)) h))) (omega arith)
 
-module _ (r m : List ℕ) (h : spansGood (length m / mixtureSize) 0 (spansIn r) ≡ true) (n : ℕ) (l : n < length r / ruleSize) where
+module _ (r m : List ℕ) (h : ruleRecordsGood r m ≡ true) (n : ℕ) (l : n < length r / ruleSize) where
   inside : n < length (spansIn r)
   inside = omega (arith, spans-count r)
 
   pub rule-fits : (field r (n * ruleSize + countField) size16 ≤ mixtureLimit) × (field r (n * ruleSize) size16 + field r (n * ruleSize + countField) size16 ≤ length m / mixtureSize)
+  unfolding ruleRecordsGood
   rule-fits =
       let g = good-at (length m / mixtureSize) 0 (spansIn r) n span-zero h inside in
       (rw (span-at r n l) at (g .0), rw (span-at r n l) at (g .1))

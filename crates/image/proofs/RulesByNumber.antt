@@ -17,7 +17,7 @@ use Rattle.rule_words.specs.Words.{wordsOf}
 use Rattle.rule_words.proofs.WordLaws.{bounded-words}
 use Rattle.fields.specs.Bytes.{field}
 use Rattle.image.specs.Policy.{unrestrictedRule, ruleAt, named}
-use Rattle.image.specs.Image.{mixturesIn, spansIn, rulesIn, spansGood}
+use Rattle.image.specs.Image.{mixturesIn, rulesIn, ruleRecordsGood}
 use Rattle.image.specs.Normal.{normalAt}
 use Rattle.rules.proofs.RuleLaws.{normal-length}
 use native.Mathlib.Decide.{ℕ-discrete}
@@ -35,7 +35,8 @@ module _ (m : List ℕ) (first n : ℕ) (h : first + n ≤ length m / mixtureSiz
 
 -- ---- a rule by its number
 
-pub own-rule : (r m : List ℕ) (n first count : ℕ) → spansGood (length m / mixtureSize) 0 (spansIn r) ≡ true → n < length r / ruleSize → first ≡ field r (n * ruleSize) size16 → count ≡ field r (n * ruleSize + countField) size16 → take count (drop first (mixturesIn m)) ≡ getD (rulesIn r m) n []
+pub own-rule : (r m : List ℕ) (n first count : ℕ) → ruleRecordsGood r m ≡ true → n < length r / ruleSize
+    → first ≡ field r (n * ruleSize) size16 → count ≡ field r (n * ruleSize + countField) size16 → take count (drop first (mixturesIn m)) ≡ getD (rulesIn r m) n []
 own-rule r m n first count h l e f = ap₂ (λ (k a : ℕ). take k (drop a (mixturesIn m))) f e ∙ sym (rule-at r m h n l)
 
 unrestricted-at : (rules : List (List ℕ)) (n : ℕ) → n ≡ unrestrictedNumber → normalAt rules n ≡ unrestricted tagWidth
@@ -59,7 +60,7 @@ own-normal rules n d = rw (ne-eqb n unrestrictedNumber d)
 
 -- ---- a rule of an image has at most 8 mixtures
 
-pub normal-short : (r m : List ℕ) (n : ℕ) → spansGood (length m / mixtureSize) 0 (spansIn r) ≡ true → named (length r / ruleSize) n ≡ true → length (normalAt (rulesIn r m) n) ≤ mixtureLimit
+pub normal-short : (r m : List ℕ) (n : ℕ) → ruleRecordsGood r m ≡ true → named (length r / ruleSize) n ≡ true → length (normalAt (rulesIn r m) n) ≤ mixtureLimit
 normal-short r m n h k = by (ℕ-discrete n unrestrictedNumber)
   where
     by : Dec (n ≡ unrestrictedNumber) → length (normalAt (rulesIn r m) n) ≤ mixtureLimit

@@ -15,9 +15,9 @@ use Rattle.answers.specs.Refusals.{imageLength, sections, recordCount, ruleReco
 use Rattle.fields.specs.Bytes.{Bytes}
 use Rattle.rules.specs.Rules.{normal}
 use Rattle.rule_words.proofs.WordLaws.{normal-is}
-use Rattle.image.specs.Limits.{userSize, mixtureSize, headerSize, outputBound}
+use Rattle.image.specs.Limits.{userSize, headerSize, outputBound}
 use Rattle.image.specs.Policy.{Policy, Sound, ownerGood}
-use Rattle.image.specs.Image.{part, spansIn, ownersIn, policyIn, spansGood, imageLengthGood, pairsGood, sectionsGood, rulesGood, containersGood, usersGood, imageConditions, checkOf}
+use Rattle.image.specs.Image.{part, ownersIn, policyIn, ruleRecordsGood, imageLengthGood, pairsGood, sectionsGood, rulesGood, containersGood, usersGood, imageConditions, checkOf}
 use Rattle.image.specs.Normal.{meaning, Owned, owned, uses, ownersAt, sameUse, freeUse, writtenUses, writtenBy, policyOf, normalPolicy, encode, normalImage}
 use Rattle.image.proofs.RuleRecordScan.{last-fails}
 use Rattle.image.proofs.ImageRefusals.{refused-at, refused-by-none}
@@ -52,7 +52,7 @@ module _ (i : List ℕ) where
       → every (ownerGood (length (part i 1) / userSize)) (ownersIn (part i 2)) ≡ false → checkOf i ≡ ruleRecord
   unfolding rulesGood
   refused-4-owner a b c e =
-      refused-4 .1 (a, (b, (c, sym (last-fails (spansGood (length (part i 3) / mixtureSize) 0 (spansIn (part i 2))) (sym e)))))
+      refused-4 .1 (a, (b, (c, sym (last-fails (ruleRecordsGood (part i 2) (part i 3)) (sym e)))))
 
   pub refused-5 : (checkOf i ≡ containerRecord)
       ↔ ((imageLengthGood i ≡ true) × ((pairsGood i ≡ true) × ((sectionsGood i ≡ true) × ((rulesGood i ≡ true) × (containersGood i ≡ false)))))

@@ -134,10 +134,13 @@ spansGood m from [] = true
 spansGood m from (r ∷ rs) =
     leb from (r .first) && (leb (r .count) mixtureLimit && (leb (r .first + r .count) m && spansGood m (r .first) rs))
 
+-- so are the records of the section r of rules, among the mixtures of the section m: the rules of an image are accepted
+unfoldable pub ruleRecordsGood : List ℕ → List ℕ → Bool
+ruleRecordsGood r m = spansGood (length m / mixtureSize) 0 (spansIn r)
+
 -- and each owner is "a declared user or 65535 for nobody"
 unfoldable pub rulesGood : List ℕ → Bool
-rulesGood i =
-    spansGood (length (part i 3) / mixtureSize) 0 (spansIn (part i 2)) && every (ownerGood (length (part i 1) / userSize)) (ownersIn (part i 2))
+rulesGood i = ruleRecordsGood (part i 2) (part i 3) && every (ownerGood (length (part i 1) / userSize)) (ownersIn (part i 2))
 
 -- 5: "container record"
 unfoldable pub containersGood : List ℕ → Bool

@@ -1,7 +1,8 @@
 -- The numbers of the paper's section "Policy image", each named once, and the tests of a container's kind.
-use Prim.Native.Nat.{ℕ, _+_, _*_}
-use mathlib.Core.Bool.{Bool, _||_}
+use Prim.Native.Nat.{ℕ, _+_, _*_, _^_}
+use mathlib.Core.Bool.{Bool}
 use lib.Dec.{eqb}
+use Rattle.rules.specs.Sets.{atom}
 
 -- ---- "kind (8 bits: 1 file, 2 volatile, 3 process)"; in a session 0 is a free row
 
@@ -25,15 +26,42 @@ guardedKind = 4
 abbrev pub lastKind : ℕ
 lastKind = guardedKind
 
--- the only place that says which kinds serve as what
+-- ---- sets of kinds ("One table of codes gives the kind that each code needs", the paper, "Operations"): kind k is worth 2 to the k, as
+-- atom k in a tag. The only place that says which kinds serve as what.
+
+-- the kind k is one of the set
+unfoldable pub kindIn : ℕ → ℕ → Bool
+kindIn kinds k = eqb (atom kinds k) 1
+
+abbrev pub noKinds : ℕ
+noKinds = 0
+
+-- "free"
+abbrev pub freeKinds : ℕ
+freeKinds = 2 ^ freeKind
+
+-- "file": a guarded one too
+abbrev pub fileKinds : ℕ
+fileKinds = 2 ^ fileKind + 2 ^ guardedKind
+
+-- "file, volatile": what a process reads, writes and appends to
+abbrev pub storeKinds : ℕ
+storeKinds = fileKinds + 2 ^ volatileKind
+
+abbrev pub processKinds : ℕ
+processKinds = 2 ^ processKind
+
+-- "0 free, else as in the image": the kinds of a container in use
+abbrev pub usedKinds : ℕ
+usedKinds = storeKinds + processKinds
+
+-- ---- the tests of a kind
+
 unfoldable pub isFree : ℕ → Bool
 isFree k = eqb k freeKind
 
 unfoldable pub isGuarded : ℕ → Bool
 isGuarded k = eqb k guardedKind
-
-unfoldable pub isFile : ℕ → Bool
-isFile k = eqb k fileKind || eqb k guardedKind
 
 unfoldable pub isVolatile : ℕ → Bool
 isVolatile k = eqb k volatileKind
@@ -41,13 +69,14 @@ isVolatile k = eqb k volatileKind
 unfoldable pub isProcess : ℕ → Bool
 isProcess k = eqb k processKind
 
--- a file or a volatile: what a process reads, writes and appends to
-unfoldable pub isStore : ℕ → Bool
-isStore k = isFile k || isVolatile k
+unfoldable pub isFile : ℕ → Bool
+isFile k = kindIn fileKinds k
 
--- "0 free, else as in the image": a container in use
+unfoldable pub isStore : ℕ → Bool
+isStore k = kindIn storeKinds k
+
 unfoldable pub usedKind : ℕ → Bool
-usedKind k = isStore k || isProcess k
+usedKind k = kindIn usedKinds k
 
 -- ---- "atom (8 bits: 0 to 31, 255 none)"; "Rule number 65535 is the unrestricted rule"
 
@@ -127,20 +156,23 @@ abbrev pub leadingNumber : ℕ
 leadingNumber = 5
 
 abbrev pub pairSize : ℕ
-pairSize = 4
+pairSize = 2 * size16
 
 -- where the offset of section k stands, and its length
 abbrev pub offsetAt : ℕ → ℕ
-offsetAt k = 2 + pairSize * k
+offsetAt k = size16 + pairSize * k
 
 abbrev pub sizeAt : ℕ → ℕ
-sizeAt k = 4 + pairSize * k
+sizeAt k = size16 + size16 + pairSize * k
 
+-- the leading number, and a pair for each section
 abbrev pub headerSize : ℕ
-headerSize = 18
+headerSize = size16 + sectionCount * pairSize
 
 abbrev pub imageLimit : ℕ
 imageLimit = 20480
 
+-- the header, and each section with all the records that it may have
 abbrev pub outputBound : ℕ
-outputBound = 19506
+outputBound =
+    headerSize + containerLimit * containerSize + userLimit * userSize + ruleLimit * ruleSize + mixtureTotal * mixtureSize

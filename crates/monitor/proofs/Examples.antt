@@ -4,22 +4,45 @@ use mathlib.Core.Path.{_≡_, refl}
 use mathlib.Core.Bool.{true}
 use mathlib.Core.List.{List, [], _∷_, _++_}
 use lib.Bits.{or-zero-r}
-use Rattle.rules.specs.Sets.{holds, dataOf, runningOf}
+use Rattle.rules.specs.Sets.{holds, dataOf, runningOf, atom}
 use Rattle.rules.specs.Rules.{covers, coverFrom, coverPlace, distinct, heldIn, unheldIn, insert, sort, normal, intersections, meet, unrestricted}
 use Rattle.lists.specs.Lists.{elem, sameList, every}
 use Rattle.rules.specs.Answers.{padded}
-use Rattle.image.specs.Limits.{isFree, isGuarded, isFile, isVolatile, isProcess, isStore, fileKind, processKind, guardedKind, noAtom, unrestrictedNumber, noOwner, usedKind}
+use Rattle.image.specs.Limits.{isFree, isGuarded, isProcess, fileKind, processKind, guardedKind, noAtom, unrestrictedNumber, noOwner, usedKind, kindIn}
 use Rattle.fields.specs.Bytes.{numberIn, bytesOf, field}
 use Rattle.image.specs.Policy.{Container, Policy, unrestrictedRule, ruleAt}
 use Rattle.image.specs.Normal.{normalAt, placeOf, meaning}
-use Rattle.chains.proofs.KindLaws.{process-used}
+use Rattle.image.proofs.KindLaws.{process-used, free-kinds}
 use Rattle.session.specs.Rows.{Row, rowWords, freeWords, permitWords, runWords, rowOf, behalfGood, containerRowGood, userWords, isDeclared, userRuleWords, userRuleOf, userRowGood, containerRow, userRow, putRow}
 use Rattle.rule_words.specs.Words.{allZero, keptWell, ruleOf, wordsOf, isNormal}
 use Rattle.session.specs.Session.{startTag, startRow, placeWords, filled, sessionOf, startOf, sessionLengthGood}
 use Rattle.answers.specs.Answers.{quiet, alert, blocked, refused}
 use Rattle.answers.specs.Refusals.{notFree}
 use Rattle.chains.specs.History.{fork}
-use Rattle.chains.specs.Table.{State, freeRow, readRow, writeRow, appendRow, execRow, forkRow, newFileRow, fitsNeed, entry, processGood, objectGood, kindGood, freeGood, userGood, behalfFits, fits, meetGood, earlyConditions, tableConditions, alerts, blocks, verdict}
+use Rattle.chains.specs.Table.{
+  State,
+  freeRow,
+  readRow,
+  writeRow,
+  appendRow,
+  execRow,
+  forkRow,
+  newFileRow,
+  entry,
+  processGood,
+  objectGood,
+  kindGood,
+  freeGood,
+  userGood,
+  behalfFits,
+  fits,
+  meetGood,
+  earlyConditions,
+  tableConditions,
+  alerts,
+  blocks,
+  verdict,
+}
 use Rattle.lists.specs.Conditions.{firstFailed}
 use Rattle.records.specs.Codes.{readCode, writeCode, appendCode, execCode, forkCode, newFileCode, endCode, deleteCode, stepWith, noRows, codeAt, isCode}
 use Rattle.records.specs.Records.{noUser, requestIn, stepIn, userFits, ownObject, numbersGood, recordGood}
@@ -237,11 +260,11 @@ pub record CheckedRuns : Type 0 where
 
 pub checked-runs : CheckedRuns
 unfolding holds dataOf runningOf covers coverFrom coverPlace elem distinct heldIn unheldIn insert sort normal intersections meet unrestricted
-    sameList padded isFree isFile isGuarded isVolatile isProcess isStore numberIn bytesOf field unrestrictedRule ruleAt
+    sameList padded kindIn atom isFree isGuarded isProcess numberIn bytesOf field unrestrictedRule ruleAt
     normalAt placeOf meaning ruleOf wordsOf allZero isNormal keptWell rowWords freeWords permitWords runWords
     rowOf usedKind behalfGood containerRowGood userWords isDeclared userRuleWords userRuleOf userRowGood containerRow userRow
     putRow startTag startRow placeWords filled sessionOf startOf readRow writeRow appendRow execRow forkRow fits
-    alerts verdict every firstFailed freeRow fitsNeed entry stepWith noRows codeAt isCode stepIn view rowsGood
+    alerts verdict every firstFailed freeRow entry stepWith noRows codeAt isCode stepIn view rowsGood
     processGood objectGood kindGood freeGood userGood behalfFits meetGood earlyConditions tableConditions sessionConditions
     madeAnswer madeEffect blocks newFileRow requestIn userFits ownObject numbersGood recordGood sessionLengthGood stepAsked stepConditions refusalOf
     stepAnswer stepEffect stepOn runAnswers
@@ -251,8 +274,8 @@ checked-runs = record { forkItself = refl; execHolding = refl; execKeeping = ref
 
 -- p itself is a process, so it is not free
 pub fork-itself : (σ : State) (p : ℕ) → processGood σ (fork p p) ≡ true → firstFailed (tableConditions σ (fork p p)) ≡ notFree
-unfolding firstFailed tableConditions earlyConditions processGood kindGood freeGood objectGood entry fitsNeed
-fork-itself σ p h = rw (h, process-used (σ .row p .kind) h)
+unfolding firstFailed tableConditions earlyConditions processGood kindGood freeGood objectGood entry
+fork-itself σ p h = rw (h, free-kinds, process-used (σ .row p .kind) h)
 
 -- for a p that held nothing
 pub exec-holding : (p o : Row) (v : List ℕ) (u : ℕ) → p .tag ≡ 0 → o .tag ≡ 2 ^ 1 + 2 ^ 34 → execRow p o v u .tag ≡ 2 ^ 33

@@ -25,7 +25,7 @@ use Rattle.chains.specs.History.{Step, fork, newFile, newVolatile, end, delete,
 use Rattle.chains.specs.Behalf.{onBehalf}
 use Rattle.chains.specs.Demand.{historyOf}
 use Rattle.chains.specs.Table.{entry, isSome, processGood, userGood, behalfFits, meetGood}
-use Rattle.chains.proofs.KindLaws.{process-used}
+use Rattle.image.proofs.KindLaws.{process-used}
 use Rattle.records.specs.Records.{recordGood, stepOf}
 use Rattle.operations.specs.View.{view}
 use Rattle.operations.proofs.PlacedRows.{Valid}

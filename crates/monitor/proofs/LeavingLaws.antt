@@ -15,14 +15,34 @@ use Rattle.answers.specs.Refusals.{notDeclared, otherUser}
 use Rattle.answers.specs.Answers.{isBlocked, accepted}
 use Rattle.rules.specs.Answers.{padded}
 use Rattle.rule_words.specs.Words.{wordsOf}
-use Rattle.image.specs.Limits.{containerLimit, isFree, isProcess}
+use Rattle.image.specs.Limits.{containerLimit, isFree, isProcess, freeKinds, isStore}
 use Rattle.session.specs.Limits.{sessionLength, rowWidth}
 use Rattle.session.specs.Rows.{rowWords, rowOf, containerRowGood, containerRow}
 use Rattle.session.specs.Session.{sessionLengthGood}
 use Rattle.chains.specs.History.{Step, read, write, append, exec, fork, newFile, newVolatile, end, delete, receiver}
 use Rattle.chains.specs.Guards.{writing}
-use Rattle.chains.specs.Table.{State, freeRow, readRow, writeRow, appendRow, execRow, forkRow, newFileRow, newVolatileRow, free, fitsNeed, entry, processGood, objectGood, kindGood, freeGood, userGood, behalfFits, meetGood, earlyConditions, tableConditions}
-use Rattle.chains.proofs.KindLaws.{process-used, store-used}
+use Rattle.chains.specs.Table.{
+  State,
+  freeRow,
+  readRow,
+  writeRow,
+  appendRow,
+  execRow,
+  forkRow,
+  newFileRow,
+  newVolatileRow,
+  entry,
+  processGood,
+  objectGood,
+  kindGood,
+  freeGood,
+  userGood,
+  behalfFits,
+  meetGood,
+  earlyConditions,
+  tableConditions,
+}
+use Rattle.image.proofs.KindLaws.{process-used, store-used, free-kinds}
 use Rattle.records.specs.Records.{recordGood}
 use Rattle.operations.specs.View.{view}
 use Rattle.operations.specs.Effects.{userNamedGood, rowsGood, sessionConditions}
@@ -56,7 +76,7 @@ zeros-free s c z = by (decLt c containerLimit)
 -- one that passes 11 and 12 and is neither an end nor a delete leaves a row in use
 pub free-left : (σ : State) (t : Step) → processGood σ t ≡ true → kindGood σ t ≡ true → isFree (entry σ t .row .kind) ≡ true
     → (t ≡ end (receiver t)) ⊎ ((p : ℕ) × (t ≡ delete p (receiver t)))
-unfolding entry processGood kindGood objectGood fitsNeed readRow writeRow appendRow execRow forkRow newFileRow newVolatileRow isFree
+unfolding entry processGood kindGood objectGood isStore readRow writeRow appendRow execRow forkRow newFileRow newVolatileRow isFree
 free-left σ (read p o) hp hk f = clash f (process-used (σ .row p .kind) hp)
 free-left σ (write p o) hp hk f = clash f (store-used (σ .row o .kind) hk)
 free-left σ (append p o) hp hk f = clash f (store-used (σ .row o .kind) hk)
@@ -79,12 +99,12 @@ left-free σ t c (inr (p, e)) = rw e (refl, refl)
 -- no meet.
 module _ (s r : List ℕ) (long : length s ≡ sessionLength) (good : recordGood r ≡ true) (p c : ℕ)
     (zeros : containerRow s c ≡ replicate rowWidth 0) (row : containerRowGood (containerRow s p) ≡ true) (runs : isProcess (view s .row p .kind) ≡ true) where
-  pub free-taken : (t : Step) → stepAsked r ≡ t → entry (view s) t .process ≡ p → entry (view s) t .object ≡ c → entry (view s) t .need ≡ free
+  pub free-taken : (t : Step) → stepAsked r ≡ t → entry (view s) t .process ≡ p → entry (view s) t .object ≡ c → entry (view s) t .need ≡ freeKinds
       → entry (view s) t .meets ≡ [] → userNamedGood s (entry (view s) t .user) ≡ true
       → refusalOf s r ≡ cond (userGood (view s) t) (cond (behalfFits (view s) t) 0 otherUser) notDeclared
-  unfolding refusalOf stepConditions sessionConditions tableConditions earlyConditions sessionLengthGood rowsGood processGood kindGood freeGood objectGood meetGood fitsNeed every firstFailed
+  unfolding refusalOf stepConditions sessionConditions tableConditions earlyConditions sessionLengthGood rowsGood processGood kindGood freeGood objectGood meetGood every firstFailed
   free-taken t e ep eo en em gu =
-      rw (e, ep, eo, en, em, eq-eqb (length s) sessionLength long, good, row, zeros, zeros-good, gu, runs, zeros-free s c zeros)
+      rw (e, ep, eo, en, em, eq-eqb (length s) sessionLength long, good, row, zeros, zeros-good, gu, runs, free-kinds, zeros-free s c zeros)
 
 -- On a valid session a step that passes 12, 13 and 15 and is no write or append is left to its process, its user and on whose behalf it is made.
 pub valid-taken : (s r : List ℕ) → Valid s → recordGood r ≡ true → (t : Step) → stepAsked r ≡ t

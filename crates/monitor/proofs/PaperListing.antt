@@ -4,12 +4,38 @@ use Prim.Native.Nat.{ℕ}
 use mathlib.Core.Path.{_≡_, refl, ap, _∙_}
 use mathlib.Core.List.{List, [], _∷_, _++_}
 use lib.ListN.{length, replicate}
-use Rattle.image.specs.Limits.{isFile, isVolatile, isProcess}
+use Rattle.rules.specs.Sets.{atom}
+use Rattle.image.specs.Limits.{isFile, isVolatile, isProcess, kindIn}
 use Rattle.fields.specs.Bytes.{numberIn, field, cut, records}
 use Rattle.lists.specs.Lists.{every}
 use Rattle.lists.specs.Conditions.{firstFailed}
 use Rattle.image.specs.Policy.{named, ownerGood, containerGood}
-use Rattle.image.specs.Image.{containerIn, spanIn, ruleIn, containersIn, usersIn, spansIn, mixturesIn, rulesIn, ownersIn, policyIn, offset, size, part, imageLengthGood, partGood, pairsGood, wholeGood, sectionsGood, spansGood, rulesGood, containersGood, usersGood, imageConditions}
+use Rattle.image.specs.Image.{
+  containerIn,
+  spanIn,
+  ruleIn,
+  containersIn,
+  usersIn,
+  spansIn,
+  mixturesIn,
+  rulesIn,
+  ownersIn,
+  policyIn,
+  offset,
+  size,
+  part,
+  imageLengthGood,
+  partGood,
+  pairsGood,
+  wholeGood,
+  sectionsGood,
+  spansGood,
+  rulesGood,
+  containersGood,
+  usersGood,
+  imageConditions,
+  ruleRecordsGood,
+}
 use Rattle.session.specs.Limits.{sessionLength}
 use Rattle.session.specs.Session.{startOf, sessionLengthGood, startConditions, startAnswer, startEffect}
 use Rattle.session.proofs.Canonical.{effect-start}
@@ -35,7 +61,10 @@ pub record Read : Type 0 where
   pub spelled : policyIn image ≡ M
 
 pub read-image : Read
-unfolding numberIn field cut records every named ownerGood containerGood isFile isVolatile isProcess containerIn spanIn ruleIn containersIn usersIn spansIn mixturesIn rulesIn ownersIn policyIn offset size part imageLengthGood partGood pairsGood wholeGood sectionsGood spansGood rulesGood containersGood usersGood imageConditions firstFailed sessionLengthGood startConditions startAnswer
+unfolding numberIn field cut records every named ownerGood containerGood isFile kindIn atom isVolatile isProcess
+    containerIn spanIn ruleIn containersIn usersIn spansIn mixturesIn rulesIn ownersIn policyIn offset size part
+    imageLengthGood partGood pairsGood wholeGood sectionsGood spansGood ruleRecordsGood rulesGood containersGood usersGood
+    imageConditions firstFailed sessionLengthGood startConditions startAnswer
 read-image = record { long = refl; unrefused = refl; spelled = refl }
 
 -- from the bytes of the image and of the trace, on a buffer of zeros that the start fills

@@ -36,8 +36,8 @@ use Rattle.chains.specs.History.{Step, read, write, append, exec, fork, newFile
 use Rattle.chains.specs.Chains.{Governs, Reaches, Forbidden}
 use Rattle.chains.specs.Behalf.{onBehalf}
 use Rattle.chains.specs.Demand.{judged, historyOf, Demand3, TagTold, TakenAnew}
-use Rattle.chains.specs.Table.{State, fitsNeed, ruleOr, entry, isSome, processGood, objectGood, kindGood, freeGood, userGood, behalfFits, meetGood, earlyConditions, tableConditions, begin}
-use Rattle.chains.proofs.KindLaws.{process-used}
+use Rattle.chains.specs.Table.{State, ruleOr, entry, isSome, processGood, objectGood, kindGood, freeGood, userGood, behalfFits, meetGood, earlyConditions, tableConditions, begin}
+use Rattle.image.proofs.KindLaws.{process-used, free-kinds, process-kinds}
 use Rattle.chains.proofs.Theorems as chains
 use Rattle.records.specs.Records.{recordLength, recordGood, stepOf}
 use Rattle.records.specs.Traces.{traceRecords}
@@ -273,44 +273,44 @@ module _ (s r : List ℕ) where
 module _ (σ : State) (p o : ℕ) where
   -- 1, 2, 3: 12 unless o is a file or a volatile
   pub object-read : (kindGood σ (read p o) ≡ isStore (σ .row o .kind)) × (freeGood σ (read p o) ≡ true)
-  unfolding kindGood freeGood objectGood fitsNeed entry
+  unfolding kindGood freeGood objectGood entry isStore
   object-read = (refl, refl)
 
   pub object-write : (kindGood σ (write p o) ≡ isStore (σ .row o .kind)) × (freeGood σ (write p o) ≡ true)
-  unfolding kindGood freeGood objectGood fitsNeed entry
+  unfolding kindGood freeGood objectGood entry isStore
   object-write = (refl, refl)
 
   pub object-append : (kindGood σ (append p o) ≡ isStore (σ .row o .kind)) × (freeGood σ (append p o) ≡ true)
-  unfolding kindGood freeGood objectGood fitsNeed entry
+  unfolding kindGood freeGood objectGood entry isStore
   object-append = (refl, refl)
 
   -- 4: 12 unless o is a file
   pub object-exec : (u : ℕ) → (kindGood σ (exec p o u) ≡ isFile (σ .row o .kind)) × (freeGood σ (exec p o u) ≡ true)
-  unfolding kindGood freeGood objectGood fitsNeed entry
+  unfolding kindGood freeGood objectGood entry isFile
   object-exec u = (refl, refl)
 
   -- 5, 6, 7: 13 unless the row of o is free
   pub object-fork : (kindGood σ (fork p o) ≡ true) × (freeGood σ (fork p o) ≡ isFree (σ .row o .kind))
-  unfolding kindGood freeGood objectGood fitsNeed entry
-  object-fork = (refl, refl)
+  unfolding kindGood freeGood objectGood entry
+  object-fork = (refl, free-kinds (σ .row o .kind))
 
   pub object-file : (u : ℕ) → (kindGood σ (newFile p o u) ≡ true) × (freeGood σ (newFile p o u) ≡ isFree (σ .row o .kind))
-  unfolding kindGood freeGood objectGood fitsNeed entry
-  object-file u = (refl, refl)
+  unfolding kindGood freeGood objectGood entry
+  object-file u = (refl, free-kinds (σ .row o .kind))
 
   pub object-volatile : (kindGood σ (newVolatile p o) ≡ true) × (freeGood σ (newVolatile p o) ≡ isFree (σ .row o .kind))
-  unfolding kindGood freeGood objectGood fitsNeed entry
-  object-volatile = (refl, refl)
+  unfolding kindGood freeGood objectGood entry
+  object-volatile = (refl, free-kinds (σ .row o .kind))
 
   -- 9: 12 unless o is a file or a volatile
   pub object-delete : (kindGood σ (delete p o) ≡ isStore (σ .row o .kind)) × (freeGood σ (delete p o) ≡ true)
-  unfolding kindGood freeGood objectGood fitsNeed entry
+  unfolding kindGood freeGood objectGood entry isStore
   object-delete = (refl, refl)
 
 -- 8: no more than 11 asks of p, so that 12 and 13 are never given
 pub object-end : (σ : State) (p : ℕ) → (kindGood σ (end p) ≡ processGood σ (end p)) × (freeGood σ (end p) ≡ true)
-unfolding kindGood freeGood objectGood fitsNeed entry processGood
-object-end σ p = (refl, refl)
+unfolding kindGood freeGood objectGood entry processGood
+object-end σ p = (process-kinds (σ .row p .kind), refl)
 
 pub end-never-12 : (s r : List ℕ) (p : ℕ) → stepAsked r ≡ end p → refusalOf s r ≢ wrongKind
 end-never-12 s r p e h =

@@ -15,7 +15,7 @@ pub fn step(session: &mut [u64], bytes: &[u8]) -> Answer
         return Answer::Refused(answers::LENT_LENGTH);
     }
     let need = records::need_of(bytes);
-    if need.object == records::NO_NEED {
+    if need.object == image::NO_KINDS {
         return Answer::Refused(answers::OPERATION_RECORD);
     }
     operations::perform(session, records::request_of(bytes), need)

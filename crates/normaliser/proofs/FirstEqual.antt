@@ -102,7 +102,7 @@ module _ (forms : List ℕ) (k j : ℕ) (l : k < length forms / formWidth) (g : 
   step =
       let q : j < length (records formWidth forms) = omega (arith, records-count formWidth forms, g .place) in
       let s : j < length forms / formWidth = omega (arith, g .place) in
-      rw (add-one, drop-cons (records formWidth forms) j [] q, words-at forms j s)
+      rw (add-one j, drop-cons (records formWidth forms) j [] q, words-at forms j s)
 
   pub seek-found : true ≡ sameList (wordsAt forms k) (wordsAt forms j) → j ≡ position (wordsAt forms k) (records formWidth forms)
   seek-found h = omega (arith, rw (← h) at step, g .rest)

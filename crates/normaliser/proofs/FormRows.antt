@@ -18,8 +18,8 @@ use Rattle.rules.specs.Rules.{normal}
 use Rattle.rules.proofs.RuleLaws.{normal-length}
 use Rattle.rule_words.specs.Words.{ruleWidth, wordsOf}
 use Rattle.rule_words.proofs.WordLaws.{words-nine}
-use Rattle.image.specs.Limits.{size16, noOwner, ruleSize, ownerField, mixtureSize, ruleLimit}
-use Rattle.image.specs.Image.{Span, spansIn, mixturesIn, ruleIn, rulesIn, ownersIn, spansGood}
+use Rattle.image.specs.Limits.{size16, noOwner, ruleSize, ownerField, ruleLimit}
+use Rattle.image.specs.Image.{Span, spansIn, mixturesIn, ruleIn, rulesIn, ownersIn, ruleRecordsGood}
 use Rattle.image.specs.Normal.{Use, freeUse, normalImage}
 use Rattle.image.proofs.RecordsByPlace.{rules-count, owner-at, rule-at, rule-fits}
 use Rattle.fields.specs.Writing.{Wrote}
@@ -67,7 +67,7 @@ module _ (rules mixtures : List ℕ) where
 abbrev pub wordRows : List ℕ → List ℕ → List (List ℕ)
 wordRows rules mixtures = map formRow (map normalUse (ownedIn rules mixtures))
 
-module _ (rules mixtures : List ℕ) (good : spansGood (length mixtures / mixtureSize) 0 (spansIn rules) ≡ true) where
+module _ (rules mixtures : List ℕ) (good : ruleRecordsGood rules mixtures ≡ true) where
   abbrev given : List Use
   given = ownedIn rules mixtures
 

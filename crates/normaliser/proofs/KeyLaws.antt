@@ -22,7 +22,7 @@ use Rattle.normaliser.specs.Writer.{formWidth, formIn, useLimit}
 use Rattle.normaliser.specs.Tables.{useOf, classOf, Classified}
 use Rattle.rule_words.specs.Words.{ruleWidth}
 use borrow.Author.Tests.{eq-eqb, ne-eqb}
-use Rattle.normaliser.specs.Keys.{wordsAt, mixed, keyLimit, spread, keyOf, alike, slotOf, Keyed}
+use Rattle.normaliser.specs.Keys.{wordsAt, mixed, keyLimit, spread, keyOf, alike, slotOf, Keyed, wordBits, rotation, halfWords, spreadFactor}
 use Rattle.normaliser.proofs.FirstEqual.{Seeking, seek-start, seek-next, seek-end}
 
 pub zeros-at : (n v : ℕ) → _≡_ {A = ℕ} (getD (replicate n 0) v 0) 0
@@ -33,7 +33,7 @@ zeros-at (suc n) (suc v) = zeros-at n v
 -- ---- the words, one after the other
 
 module _ (ws : List ℕ) (h i : ℕ) (inv : mixed h (drop i ws) ≡ mixed 0 ws) where
-  pub mixed-next : i < length ws → mixed (bitXor (bitOr (h * 2 ^ 5 % 2 ^ 64) (h / 2 ^ 59)) (getD ws i 0)) (drop (i + 1) ws) ≡ mixed 0 ws
+  pub mixed-next : i < length ws → mixed (bitXor (bitOr (h * 2 ^ rotation % 2 ^ wordBits) (h / 2 ^ (wordBits - rotation))) (getD ws i 0)) (drop (i + 1) ws) ≡ mixed 0 ws
   unfolding mixed
   mixed-next l =
       sym (ap (mixed h) (drop-cons ws i 0 l ∙ ap (λ (k : ℕ). getD ws i 0 ∷ drop k ws) (sym (add-one i)))) ∙ inv
@@ -44,23 +44,23 @@ module _ (ws : List ℕ) (h i : ℕ) (inv : mixed h (drop i ws) ≡ mixed 0 ws) 
 
 -- ---- a key is below n
 
-spread-small : (h : ℕ) → spread h < 2 ^ 32
+spread-small : (h : ℕ) → spread h < halfWords
 unfolding spread
 spread-small h = omega arith
 
-key-product : (x n : ℕ) → x < 2 ^ 32 → x * n + n ≤ 2 ^ 32 * n
-key-product x n l = let q : suc x * n ≤ 2 ^ 32 * n = mul-le-mul-right n l in omega (arith, suc-mul x n)
+key-product : (x n : ℕ) → x < halfWords → x * n + n ≤ halfWords * n
+key-product x n l = let q : suc x * n ≤ halfWords * n = mul-le-mul-right n l in omega (arith, suc-mul x n)
 
 module _ (h n : ℕ) where
-  pub key-fits : n ≤ keyLimit → (h / 4294967296 + h % 4294967296) % 4294967296 * 2654435761 % 4294967296 * n < 2 ^ 64
+  pub key-fits : n ≤ keyLimit → (h / halfWords + h % halfWords) % halfWords * spreadFactor % halfWords * n < 2 ^ 64
   unfolding spread
   key-fits l = omega (arith, key-product (spread h) n (spread-small h))
 
-  pub key-is : (ws : List ℕ) → h ≡ mixed 0 ws → (h / 4294967296 + h % 4294967296) % 4294967296 * 2654435761 % 4294967296 * n / 4294967296 ≡ keyOf n ws
+  pub key-is : (ws : List ℕ) → h ≡ mixed 0 ws → (h / halfWords + h % halfWords) % halfWords * spreadFactor % halfWords * n / halfWords ≡ keyOf n ws
   unfolding keyOf spread
-  key-is ws e = ap (λ (x : ℕ). (x / 2 ^ 32 + x % 2 ^ 32) % 2 ^ 32 * 2654435761 % 2 ^ 32 * n / 2 ^ 32) e
+  key-is ws e = ap (λ (x : ℕ). (x / halfWords + x % halfWords) % halfWords * spreadFactor % halfWords * n / halfWords) e
 
-  pub key-below : 0 < n → (h / 4294967296 + h % 4294967296) % 4294967296 * 2654435761 % 4294967296 * n / 4294967296 < n
+  pub key-below : 0 < n → (h / halfWords + h % halfWords) % halfWords * spreadFactor % halfWords * n / halfWords < n
   unfolding spread
   key-below l = omega (arith, key-product (spread h) n (spread-small h))
 

@@ -14,14 +14,28 @@ use Rattle.normaliser.specs.Writer.{formWidth}
 unfoldable pub wordsAt : List ℕ → ℕ → List ℕ
 wordsAt forms k = take formWidth (drop (k * formWidth) forms)
 
+-- the bits of a word, and by how many a number is rotated
+abbrev pub wordBits : ℕ
+wordBits = 64
+
+abbrev pub rotation : ℕ
+rotation = 5
+
 -- the words go into h one after the other: h is rotated, then takes the word's bits
 unfoldable pub mixed : ℕ → List ℕ → ℕ
 mixed h [] = h
-mixed h (w ∷ ws) = mixed (bitXor (bitOr (h * 2 ^ 5 % 2 ^ 64) (h / 2 ^ 59)) w) ws
+mixed h (w ∷ ws) = mixed (bitXor (bitOr (h * 2 ^ rotation % 2 ^ wordBits) (h / 2 ^ (wordBits - rotation))) w) ws
+
+-- how many numbers of half as many bits there are, and the factor that spreads them
+abbrev pub halfWords : ℕ
+halfWords = 2 ^ 32
+
+abbrev pub spreadFactor : ℕ
+spreadFactor = 2654435761
 
 -- a number of 64 bits as one of 32, each bit of which depends on many
 unfoldable pub spread : ℕ → ℕ
-spread h = (h / 2 ^ 32 + h % 2 ^ 32) % 2 ^ 32 * 2654435761 % 2 ^ 32
+spread h = (h / halfWords + h % halfWords) % halfWords * spreadFactor % halfWords
 
 -- the most keys of a table
 abbrev pub keyLimit : ℕ
@@ -36,7 +50,7 @@ manyKeys = 2048
 
 -- the key of the words among n
 unfoldable pub keyOf : ℕ → List ℕ → ℕ
-keyOf n ws = spread (mixed 0 ws) * n / 2 ^ 32
+keyOf n ws = spread (mixed 0 ws) * n / halfWords
 
 -- words with the same first mixture and the same owner
 unfoldable pub alike : List ℕ → List ℕ → Bool

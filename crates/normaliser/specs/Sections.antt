@@ -8,7 +8,7 @@ use Rattle.lists.specs.Lists.{joined, every}
 use Rattle.fields.specs.Bytes.{bytesOf}
 use Rattle.image.specs.Limits.{size16, leadingNumber, headerSize, containerSize, userSize, ruleSize, mixtureSize}
 use Rattle.image.specs.Policy.{Container, Sound}
-use Rattle.image.specs.Image.{Span, containersIn, usersIn, spansIn, ruleIn, mixturesIn, spansGood}
+use Rattle.image.specs.Image.{Span, containersIn, usersIn, spansIn, ruleIn, mixturesIn, ruleRecordsGood}
 use Rattle.image.specs.Normal.{Use, containerBytes, spanBytes, spansOf}
 use Rattle.normaliser.specs.Writer.{containerUses, policyGiven}
 use Rattle.normaliser.specs.Tables.{formAt, formOwner, formGood, found, newNumber}
@@ -69,4 +69,4 @@ ownedIn r m = map (ownedRule (mixturesIn m)) (spansIn r)
 -- the four sections of an image that is accepted
 pub record SectionsAccepted (containers users rules mixtures : List ℕ) : Type 0 where
   pub sound : Sound (policyGiven containers users (ownedIn rules mixtures))
-  pub spans : spansGood (length mixtures / mixtureSize) 0 (spansIn rules) ≡ true
+  pub spans : ruleRecordsGood rules mixtures ≡ true

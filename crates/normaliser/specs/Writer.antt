@@ -36,7 +36,7 @@ unowned r = record { owner = noOwner; mixtures = r }
 
 -- how many words a rule's row has: those of the rule, and its owner
 abbrev pub formWidth : ℕ
-formWidth = 10
+formWidth = ruleWidth + 1
 
 -- the row of a rule
 unfoldable pub formRow : Use → List ℕ

@@ -8,7 +8,7 @@ ghost use Rattle.lists.specs.Lists.{joined, every, position};
 ghost use Rattle.fields.specs.Bytes.{records};
 ghost use Rattle.fields.specs.Writing.{Wrote};
 ghost use Rattle.image.specs.Limits.{pairSize, unrestrictedNumber, containerSize, userSize, ruleSize, mixtureSize, headerSize, outputBound};
-ghost use Rattle.image.specs.Image.{containersIn, usersIn, spansIn, spansGood};
+ghost use Rattle.image.specs.Image.{containersIn, usersIn, ruleRecordsGood};
 ghost use Rattle.image.specs.Normal.{containerBytes, spanBytes, framed, normalImage, sameUse, freeUse};
 ghost use Rattle.normaliser.specs.Normaliser.{normalAnswer, normalEffect};
 ghost use Rattle.normaliser.specs.Writer.{formWidth, formRow, normalUse, formIn, useLimit, containerUses, policyGiven, policyAt, formWords, Tabled, Answered};
@@ -16,16 +16,13 @@ ghost use Rattle.normaliser.specs.Keys.{wordsAt, mixed, keyLimit, keyOf,
 ghost use Rattle.normaliser.specs.Tables.{formAt, formGood, classOf, Classified, classAt, classNamed, withClass, withClasses, Ordered, Placeable, newNumber, found, Cleared, fewRules};
 ghost use Rattle.normaliser.specs.Sections.{pairBytes, headerBytes, containerSection, userSection, ruleSection, mixtureBytes, mixtureSection, Writable, ownedIn, SectionsAccepted};
 
-// The bytes that an output has at least.
-pub const OUTPUT_BOUND: usize = 19506;
-
 // The words of a rule's row: those of the rule, and behind them its owner.
 pub const FORM_WIDTH: usize = rule_words::RULE_WIDTH + 1;
 
 pub const OWNER_WORD: usize = rule_words::RULE_WIDTH;
 
 // The most uses of a rule: two for each container, one for each user. A policy has no more rules to write.
-pub const USE_LIMIT: usize = 528;
+pub const USE_LIMIT: usize = 2 * image::CONTAINER_LIMIT + image::USER_LIMIT;
 
 // The most rules for which small tables do, and how many keys the small and the large tables have.
 const FEW_RULES: usize = 16;
@@ -33,6 +30,21 @@ const FEW_RULES: usize = 16;
 const FEW_KEYS: usize = 64;
 
 const MANY_KEYS: usize = 2048;
+
+// How a key is made: by how many of its 64 bits a number is rotated for each word, how many numbers of half as many bits there are, and
+// the factor that spreads them.
+const WORD_BITS: u64 = 64;
+
+const ROTATION: u64 = 5;
+
+const ROTATED_BACK: u64 = WORD_BITS - ROTATION;
+
+const HALF_WORDS: u64 = 1 << 32;
+
+const SPREAD_FACTOR: u64 = 2654435761;
+
+// What a spread number times the number of keys is divided by.
+const KEY_DIVISOR: usize = HALF_WORDS as usize;
 
 // The words of the rows of few rules, and of as many as an image can have.
 const FEW_WORDS: usize = FEW_RULES * FORM_WIDTH;
@@ -127,7 +139,7 @@ fn mixed(words: &[u64]) -> u64
     let mut h: u64 = 0;
     let mut i: usize = 0;
     while i < words.len() {
-        h = (h << 5 | h >> 59) ^ words[i];
+        h = (h << ROTATION | h >> ROTATED_BACK) ^ words[i];
         i += 1;
     }
     h
@@ -139,9 +151,9 @@ fn key(words: &[u64], n: usize) -> usize
     ensures { λ r. ⌜ (r ≡ keyOf n (now (words .entry))) × (r < n) ⌝ }
 {
     let h = mixed(words);
-    let folded = (h / 4294967296 + h % 4294967296) % 4294967296;
-    let spread = folded * 2654435761 % 4294967296;
-    spread as usize * n / 4294967296
+    let folded = (h / HALF_WORDS + h % HALF_WORDS) % HALF_WORDS;
+    let spread = folded * SPREAD_FACTOR % HALF_WORDS;
+    spread as usize * n / KEY_DIVISOR
 }
 
 // The rows have the same first mixture and the same owner.
@@ -504,7 +516,7 @@ pub fn write_policy(containers: &[u8], users: &[u8], forms: &[u64], out: &mut [u
 
 // Rule k of an image's sections in normal form, with its owner.
 fn put_row(row: &mut [u64], rules: &[u8], mixtures: &[u8], k: usize)
-    requires { ⌜ (length (now row) ≡ formWidth) × (k < length (now rules) / ruleSize) × (spansGood (length (now mixtures) / mixtureSize) 0 (spansIn (now rules)) ≡ true) ⌝ }
+    requires { ⌜ (length (now row) ≡ formWidth) × (k < length (now rules) / ruleSize) × (ruleRecordsGood (now rules) (now mixtures) ≡ true) ⌝ }
     ensures { λ _. ⌜ now (row .exit) ≡ formRow (normalUse (getD (ownedIn (now (rules .entry)) (now (mixtures .entry))) k freeUse)) ⌝ }
 {
     image::put_own_rule(&mut row[0..OWNER_WORD], rules, mixtures, k);
@@ -513,7 +525,7 @@ fn put_row(row: &mut [u64], rules: &[u8], mixtures: &[u8], k: usize)
 
 // The rules of an image's sections, in normal form.
 fn fill_forms(forms: &mut [u64], rules: &[u8], mixtures: &[u8])
-    requires { ⌜ (length (now forms) ≡ length (now rules) / ruleSize * formWidth) × (spansGood (length (now mixtures) / mixtureSize) 0 (spansIn (now rules)) ≡ true) ⌝ }
+    requires { ⌜ (length (now forms) ≡ length (now rules) / ruleSize * formWidth) × (ruleRecordsGood (now rules) (now mixtures) ≡ true) ⌝ }
     ensures { λ _. ⌜ now (forms .exit) ≡ formWords (ownedIn (now (rules .entry)) (now (mixtures .entry))) ⌝ }
 {
     let n = rules.len() / image::RULE_SIZE;
@@ -575,7 +587,7 @@ fn rewrite(containers: &[u8], users: &[u8], rules: &[u8], mixtures: &[u8], out: 
 pub fn normalise(image: &[u8], out: &mut [u8]) -> u32
     ensures { λ r. ⌜ (r ≡ normalAnswer (now (image .entry)) (now (out .entry))) × (now (out .exit) ≡ normalEffect (now (image .entry)) (now (out .entry))) ⌝ }
 {
-    if out.len() < OUTPUT_BOUND {
+    if out.len() < image::OUTPUT_BOUND {
         return answers::LENT_LENGTH;
     }
     let refusal = image::check(image);

@@ -29,7 +29,7 @@ use Rattle.session.specs.Rows.{Row, rowOf, rowWords, freeWords, permitWords, ru
 use Rattle.session.proofs.PutLaws.{container-row-length, row-lent, row-returned}
 use Rattle.chains.specs.History.{Step, read, write, append, exec, fork, newFile, newVolatile, receiver}
 use Rattle.chains.specs.Demand.{judged}
-use Rattle.chains.proofs.KindLaws.{process-free}
+use Rattle.image.proofs.KindLaws.{process-free}
 use Rattle.chains.specs.Table.{freeRow, readRow, writeRow, appendRow, execRow, forkRow, newFileRow, newVolatileRow, ruleOr, entry, fits, meetGood, alerts, blocks, verdict}
 use Rattle.operations.specs.View.{view}
 use Rattle.operations.specs.Effects.{madeAnswer, madeEffect}

@@ -7,13 +7,14 @@ use mathlib.Core.List.{List, [], _∷_}
 use lib.Dec.{eqb}
 use lib.ListN.{length, getD, drop, length-take, length-drop}
 use borrow.Author.Tests.{eq-eqb, lt-ltb}
+use Rattle.rules.specs.Sets.{atom}
 use Rattle.lists.specs.Lists.{every}
 use Rattle.lists.proofs.Bools.{and-0, and-in, or-1}
 use Rattle.rules.specs.Rules.{normal, meet, intersections, unrestricted}
 use Rattle.rules.specs.Answers.{mixtureLimit, padded}
 use Rattle.rules.proofs.RuleLaws.{normal-normal}
 use Rattle.rules.proofs.MeetAll.{normal-one}
-use Rattle.image.specs.Limits.{userLimit, fileKind, volatileKind, processKind, isFree, isFile, isVolatile, isProcess, isStore, usedKind}
+use Rattle.image.specs.Limits.{userLimit, fileKind, volatileKind, processKind, isFree, isProcess, usedKind, kindIn}
 use Rattle.image.specs.Policy.{unrestrictedRule}
 use Rattle.rule_words.specs.Words.{ruleWidth, ruleOf, wordsOf, allZero}
 use Rattle.session.specs.Limits.{rowWidth, permitAt, nobody}
@@ -108,7 +109,7 @@ module _ (s : List ℕ) where
 
   -- the row of the table, by its clauses
   pub entry-laid : (t : Step) → Ready s t → meetGood (view s) t ≡ true → Laid (entry (view s) t .row)
-  unfolding entry meetGood readRow writeRow appendRow execRow forkRow newFileRow newVolatileRow usedKind isStore isFile isVolatile
+  unfolding entry meetGood readRow writeRow appendRow execRow forkRow newFileRow newVolatileRow usedKind kindIn atom
   entry-laid (read p o) h m =
       let up : UsedAt s p = ready-process s (read p o) h in
       made _ (in-use p up .used) (permit-rule p up) (met-kept (view s .row p .run) (view s .row o .run) m) (in-use p up .behalfKept)

@@ -5,15 +5,16 @@ use mathlib.Core.Bool.{Bool, true, false, not, cond, _&&_, _||_}
 use mathlib.Core.List.{List}
 use mathlib.Core.Option.{some, none}
 use borrow.Author.Tests.{eqb-true}
+use Rattle.rules.specs.Sets.{atom}
 use Rattle.lists.specs.Lists.{elem}
 use Rattle.lists.specs.Conditions.{AllHold, firstFailed, numbersOf, numbersGood}
 use Rattle.lists.proofs.Bools.{and-0, and-1, clash}
 use Rattle.lists.proofs.Conditions.{given-none}
-use Rattle.image.specs.Limits.{processKind, isFree, isProcess}
+use Rattle.image.specs.Limits.{processKind, isProcess, kindIn, freeKind}
 use Rattle.session.specs.Rows.{Row, rowOf, userRuleOf, containerRow, userRow, containerRowGood, isDeclared}
-use Rattle.chains.specs.History.{Step}
-use Rattle.chains.specs.Table.{Need, store, file, free, process, needsFree, fitsNeed, entry, isSome, processGood, objectGood, kindGood, freeGood, userGood, earlyConditions}
-use Rattle.chains.proofs.KindLaws.{process-used, file-used, store-used}
+use Rattle.chains.specs.History.{Step, read, write, append, exec, fork, newFile, newVolatile, end, delete}
+use Rattle.chains.specs.Table.{State, needsFree, entry, isSome, processGood, objectGood, kindGood, freeGood, userGood, earlyConditions}
+use Rattle.image.proofs.KindLaws.{kind-used, process-used}
 use Rattle.operations.specs.View.{view}
 use Rattle.operations.specs.Effects.{userNamedGood, rowsGood}
 use Rattle.operations.specs.Parts.{firstConditions, Ready, UsedAt, DeclaredAt}
@@ -45,13 +46,18 @@ tests s t e = of (given-none (firstConditions s t) numbers .0 e)
       user = h .1 .1 .1 .1 .0;
     })
 
--- what a need asks of a kind makes it used, unless it is a free one
-fit-used : (n : Need) (k : ℕ) → needsFree n ≡ false → fitsNeed n k ≡ true → isFree k ≡ false
-unfolding fitsNeed
-fit-used store k e h = store-used k h
-fit-used file k e h = file-used k h
-fit-used free k e h = clash refl e
-fit-used process k e h = process-used k h
+-- a step that needs no free row is served by none
+need-used : (σ : State) (t : Step) → needsFree (entry σ t .need) ≡ false → kindIn (entry σ t .need) freeKind ≡ false
+unfolding entry kindIn atom
+need-used σ (read p o) e = refl
+need-used σ (write p o) e = refl
+need-used σ (append p o) e = refl
+need-used σ (exec p o u) e = refl
+need-used σ (fork p o) e = clash refl e
+need-used σ (newFile p o u) e = clash refl e
+need-used σ (newVolatile p o) e = clash refl e
+need-used σ (end p) e = refl
+need-used σ (delete p o) e = refl
 
 module _ (s : List ℕ) (t : Step) (h : Ready s t) where
   found : Tests s t
@@ -84,7 +90,9 @@ module _ (s : List ℕ) (t : Step) (h : Ready s t) where
     long = h .long;
     low = h .object;
     good = and-0 (containerRowGood (containerRow s (entry (view s) t .object))) _ other-rows;
-    used = fit-used (entry (view s) t .need) _ n (ap (λ (w : Row). fitsNeed (entry (view s) t .need) (w .kind)) (sym (view-row s (entry (view s) t .object) (h .object))) ∙ found .object);
+    used =
+        kind-used (entry (view s) t .need) _ (need-used (view s) t n)
+        (ap (λ (w : Row). kindIn (entry (view s) t .need) (w .kind)) (sym (view-row s (entry (view s) t .object) (h .object))) ∙ found .object);
   }
 
   pub ready-user : (u : ℕ) → entry (view s) t .user ≡ some u → DeclaredAt s u

@@ -9,22 +9,21 @@ use mathlib.Core.Option.{none, some}
 use lib.Dec.{eqb}
 use lib.ListN.{getD, take, drop}
 use lib.Seq.{getD-drop, getD-take}
-use borrow.Author.Tests.{eq-eqb, ne-eqb, not-true, not-false}
+use borrow.Author.Tests.{eq-eqb, eqb-true, ne-eqb, not-true, not-false}
 use Rattle.lists.specs.Conditions.{firstFailed}
-use Rattle.lists.proofs.Bools.{and-0, and-1, or-1, passes-test, fails-test, clash, refuted}
+use Rattle.lists.proofs.Bools.{and-0, and-1, or-1, passes-test, fails-test, refuted}
 use Rattle.answers.specs.Refusals.{row, noProcess, wrongKind, notFree, notDeclared, otherUser}
-use Rattle.image.specs.Limits.{isProcess, lastKind, containerLimit, userLimit}
+use Rattle.image.specs.Limits.{isProcess, lastKind, containerLimit, userLimit, kindIn, freeKinds}
 use Rattle.session.specs.Limits.{rowWidth, userWidth, usersAt, kindAt, declaredAt, declared, nobody}
 use Rattle.session.specs.Rows.{Row, containerRow, userRow, rowOf, isDeclared, userRuleOf, containerRowGood, userRowGood}
 use Rattle.session.proofs.PutLaws.{row-lent, user-lent}
 use Rattle.session.proofs.RowLaws.{good-kind}
-use Rattle.chains.specs.Table.{Need, store, file, free, process, needsFree, fitsNeed, entry, isSome, processGood, objectGood, kindGood, freeGood, userGood, behalfFits, earlyConditions}
+use Rattle.chains.specs.Table.{needsFree, entry, isSome, processGood, objectGood, kindGood, freeGood, userGood, behalfFits, earlyConditions}
 use Rattle.records.specs.declared.Code.{Code}
 use Rattle.records.specs.declared.Request.{Request}
-use Rattle.records.specs.Codes as codes
-use Rattle.records.specs.Codes.{newFileCode, needNumber, objectFits, codeAt}
+use Rattle.records.specs.Codes.{newFileCode, codeAt}
 use Rattle.records.specs.Records.{stepIn, Asked}
-use Rattle.records.proofs.CodeLaws.{Entered, entered, need-fits, behalf-other, behalf-file, unnamed-other}
+use Rattle.records.proofs.CodeLaws.{Entered, entered, behalf-other, behalf-file, unnamed-other}
 use Rattle.operations.specs.View.{view}
 use Rattle.operations.specs.Effects.{Named, userNamedGood, rowsGood}
 use Rattle.operations.specs.Parts.{firstConditions}
@@ -103,24 +102,16 @@ module _ (s : List ℕ) (q : Request) (a : Asked q) where
   unfolding processGood
   process-told = rw (e .process) (ap isProcess (seen (q .p) (a .process)))
 
-  abbrev need : Need
+  abbrev need : ℕ
   need = entry (view s) (stepIn q) .need
 
-  object-told : (k : ℕ) → k ≡ codeAt (q .code) .object → objectFits k (getD s (q .o * rowWidth + kindAt) 0) ≡ objectGood (view s) (stepIn q)
+  object-told : (k : ℕ) → k ≡ codeAt (q .code) .object → kindIn k (getD s (q .o * rowWidth + kindAt) 0) ≡ objectGood (view s) (stepIn q)
   unfolding objectGood
   object-told k h =
-      ap₂ objectFits (h ∙ e .need) (seen (q .o) (a .object))
-      ∙ need-fits need (view s .row (q .o) .kind)
-      ∙ ap (λ (c : ℕ). fitsNeed need (view s .row c .kind)) (sym (e .object))
+      ap₂ kindIn (h ∙ e .need) (seen (q .o) (a .object)) ∙ ap (λ (c : ℕ). kindIn need (view s .row c .kind)) (sym (e .object))
 
-  free-told : (k : ℕ) → k ≡ codeAt (q .code) .object → (k ≡ codes.needsFree) ↔ (needsFree need ≡ true)
-  free-told k h = rw (h ∙ e .need) (by need)
-    where
-      by : (n : Need) → (needNumber n ≡ codes.needsFree) ↔ (needsFree n ≡ true)
-      by store = (λ z. absurd (omega arith), λ z. clash z refl)
-      by file = (λ z. absurd (omega arith), λ z. clash z refl)
-      by free = (λ z. refl, λ z. refl)
-      by process = (λ z. absurd (omega arith), λ z. clash z refl)
+  free-told : (k : ℕ) → k ≡ codeAt (q .code) .object → (k ≡ freeKinds) ↔ (needsFree need ≡ true)
+  free-told k h = (λ z. eq-eqb need freeKinds (sym (h ∙ e .need) ∙ z), λ z. h ∙ e .need ∙ eqb-true need freeKinds z)
 
   user-told : codeAt (q .code) .user ≡ true → (b : Bool) → eqb (getD s (usersAt + q .u * userWidth) 0) declared ≡ b → userGood (view s) (stepIn q) ≡ b
   unfolding userGood isDeclared
@@ -147,18 +138,18 @@ module _ (s : List ℕ) (q : Request) (a : Asked q) where
       unfolding firstConditions earlyConditions firstFailed
       early-11 g = simp (passes-test r h, fails-test (ep ∙ process-told) g)
 
-      module _ (g : not p ≡ false) (k : Code) (ke : k ≡ codeAt (q .code)) (f : Bool) (fe : f ≡ objectFits (k .object) (getD s (q .o * rowWidth + kindAt) 0)) where
+      module _ (g : not p ≡ false) (k : Code) (ke : k ≡ codeAt (q .code)) (f : Bool) (fe : f ≡ kindIn (k .object) (getD s (q .o * rowWidth + kindAt) 0)) where
         need-is : k .object ≡ codeAt (q .code) .object
         need-is = ap (λ (x : Code). x .object) ke
 
         fit : f ≡ objectGood (view s) (stepIn q)
         fit = fe ∙ object-told (k .object) need-is
 
-        pub early-13 : not f ≡ true → k .object ≡ codes.needsFree → notFree ≡ firstFailed (firstConditions s (stepIn q))
+        pub early-13 : not f ≡ true → k .object ≡ freeKinds → notFree ≡ firstFailed (firstConditions s (stepIn q))
         unfolding firstConditions earlyConditions firstFailed kindGood freeGood
         early-13 n z = simp (passes-test r h, passes-test (ep ∙ process-told) g, fails-test fit n, free-told (k .object) need-is .0 z)
 
-        pub early-12 : not f ≡ true → (k .object ≡ codes.needsFree → ⊥) → wrongKind ≡ firstFailed (firstConditions s (stepIn q))
+        pub early-12 : not f ≡ true → (k .object ≡ freeKinds → ⊥) → wrongKind ≡ firstFailed (firstConditions s (stepIn q))
         unfolding firstConditions earlyConditions firstFailed kindGood freeGood
         early-12 n z = simp (passes-test r h, passes-test (ep ∙ process-told) g, fails-test fit n, refuted (needsFree need) (λ y. z (free-told (k .object) need-is .1 y)))
 

@@ -11,12 +11,12 @@ ghost use Rattle.answers.specs.Answers.{quiet, blocked};
 ghost use Rattle.answers.specs.Refusals.{otherUser};
 ghost use Rattle.rules.specs.Rules.{noPosition, meet};
 ghost use Rattle.rules.specs.Answers.{mixtureLimit, boundedOf};
-ghost use Rattle.image.specs.Limits.{containerLimit, processKind, lastKind};
+ghost use Rattle.image.specs.Limits.{containerLimit, processKind, lastKind, kindIn};
 ghost use Rattle.rule_words.specs.Words.{ruleOf};
 ghost use Rattle.session.specs.Limits.{sessionLength, rowWidth, nobody};
 ghost use Rattle.session.specs.Rows.{rowOf, permitWords, runWords, freeWords, putRow};
 ghost use Rattle.chains.specs.History.{read, write, append, exec, fork, newFile, newVolatile};
-ghost use Rattle.records.specs.Codes.{objectFits, codeAt};
+ghost use Rattle.records.specs.Codes.{codeAt};
 ghost use Rattle.records.specs.Records.{stepIn};
 ghost use Rattle.operations.specs.View.{view};
 ghost use Rattle.operations.specs.Effects.{Named, rowsGood, performAnswer, performEffect};
@@ -46,10 +46,10 @@ use session::USERS_AT;
 
 // ---- the refusals that come before a meet
 
-// A container of the kind serves as the object: the kind is in the set.
+// A container of the kind serves as the object: it is one of the kinds that a code needs.
 fn object_fits(need: u8, kind: u64) -> bool
     requires { ⌜ kind ≤ lastKind ⌝ }
-    ensures { λ r. ⌜ r ≡ objectFits need kind ⌝ }
+    ensures { λ r. ⌜ r ≡ kindIn need kind ⌝ }
 {
     (need >> kind) % 2 == 1
 }
@@ -101,7 +101,7 @@ fn early_refusal(s: &[u64], q: Request, need: Code) -> u32
     }
     let b = q.o * ROW_WIDTH;
     if !object_fits(need.object, s[b + KIND_AT]) {
-        if need.object == records::NEEDS_FREE {
+        if need.object == image::FREE_KINDS {
             return answers::NOT_FREE;
         }
         return answers::WRONG_KIND;

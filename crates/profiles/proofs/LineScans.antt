@@ -13,7 +13,7 @@ use Rattle.lists.specs.Lists.{joined}
 use Rattle.profiles.specs.Profiles.{Mode, Entry, modeText, modesText, profileWord, profileEnd, modesStart, modesEnd, profileLine, entryLine, endLine, pathGood, modesGood, entryGood}
 use Rattle.profiles.specs.Tokens.{given, starts, tokens}
 use Rattle.profiles.specs.Reading.{Line, opens, enters, closes, lineText, lineGood, pathIn, modesIn, entryIn, linesToTry, lineAmong, lineIn, linesIn}
-use Rattle.profiles.specs.Scanning.{modeBits, profileKind, entryKind, endKind, lineScan, noScan, lineAt}
+use Rattle.profiles.specs.Scanning.{modeBits, profileKind, entryKind, endKind, lineScan, noScan, lineAt, letterP, closingBrace}
 use Rattle.profiles.proofs.TokenLaws.{starts-split, starts-append, tokens-step}
 use Rattle.profiles.proofs.LineLaws.{and-false, path-front, mode-long, modes-front, line-long, line-passed, no-profile-line, no-entry-line, no-end-line}
 
@@ -62,7 +62,7 @@ first-at t at = let e : at + 0 ≡ at = omega arith in getD-drop at t 0 0 ∙ ap
 
 -- ---- `profile PATH {`
 
-module _ (t : List ℕ) (at end : ℕ) (f : getD t at 0 ≡ 112) (e : end ≡ at + 8 + length (pathIn (drop (at + 8) t))) where
+module _ (t : List ℕ) (at end : ℕ) (f : getD t at 0 ≡ letterP) (e : end ≡ at + 8 + length (pathIn (drop (at + 8) t))) where
   profile-tried : lineIn (drop at t)
       ≡ cond (pathGood (pathIn (drop (at + 8) t)) && starts (profileLine (pathIn (drop (at + 8) t))) (drop at t)) (some (opens (pathIn (drop (at + 8) t)))) none
   unfolding lineIn linesToTry lineAmong lineGood lineText profileWord ascii
@@ -115,7 +115,7 @@ module _ (t : List ℕ) (at end : ℕ) (f : getD t at 0 ≡ 112) (e : end ≡ at
 
 -- ---- `PATH MODES,`
 
-module _ (t : List ℕ) (at end next : ℕ) (f : getD t at 0 ≢ 112) (g : getD t at 0 ≢ 125) (e : end ≡ at + length (pathIn (drop at t)))
+module _ (t : List ℕ) (at end next : ℕ) (f : getD t at 0 ≢ letterP) (g : getD t at 0 ≢ closingBrace) (e : end ≡ at + length (pathIn (drop at t)))
     (n : next ≡ end + 1 + length (modesText (modesIn (drop (end + 1) t)))) where
   entry-is : entryIn (drop at t) ≡ record { path = pathIn (drop at t); modes = modesIn (drop (end + 1) t) }
   unfolding entryIn
@@ -193,7 +193,7 @@ module _ (t : List ℕ) (at end next : ℕ) (f : getD t at 0 ≢ 112) (g : getD 
 
 -- ---- `}`
 
-module _ (t : List ℕ) (at : ℕ) (f : getD t at 0 ≡ 125) where
+module _ (t : List ℕ) (at : ℕ) (f : getD t at 0 ≡ closingBrace) where
   end-scan : lineAt t at ≡ cond (starts endLine (drop at t)) (lineScan at closes) noScan
   unfolding lineAt lineIn linesToTry lineAmong lineGood lineText
   end-scan =

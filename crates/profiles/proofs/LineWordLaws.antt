@@ -13,7 +13,7 @@ use Rattle.profiles.specs.Profiles.{Mode, mode-r, mode-w, mode-a, mode-l
 use Rattle.profiles.specs.Reading.{Line, opens, enters, closes, lineText, lineIn, linesIn}
 use Rattle.profiles.specs.Texts.{textLimit}
 use Rattle.profiles.specs.Notes.{lengthLimit}
-use Rattle.profiles.specs.Scanning.{modeBit, withModes, modeBits, lineScan, noScan, lineAt}
+use Rattle.profiles.specs.Scanning.{modeBit, withModes, modeBits, lineScan, noScan, lineAt, modesLimit}
 use Rattle.profiles.specs.LineWords.{lineWord, namedPath, lineWords}
 use Rattle.profiles.specs.declared.ScannedLine.{ScannedLine}
 use Rattle.profiles.proofs.PathLaws.{path-parts}
@@ -40,7 +40,7 @@ unfolding withModes
 with-small n [] h = h
 with-small n (m ∷ ms) h = with-small (bitOr n (modeBit m)) ms (or-lt 10 n (modeBit m) h (bit-small m))
 
-bits-small : (ms : List Mode) → modeBits ms < 1024
+bits-small : (ms : List Mode) → modeBits ms < modesLimit
 unfolding modeBits
 bits-small ms = omega (arith, with-small 0 ms (omega arith))
 
@@ -49,7 +49,7 @@ bits-small ms = omega (arith, with-small 0 ms (omega arith))
 pub record Small (s : ScannedLine) : Type 0 where
   pub path : s .path < textLimit
   pub size : s .length < lengthLimit
-  pub modes : s .modes < 1024
+  pub modes : s .modes < modesLimit
 
 pub small-line : (t : List ℕ) (at : ℕ) → at < length t → length t ≤ textLimit → (s : ScannedLine) → s ≡ lineAt t at → Small s
 unfolding lineScan noScan entryGood

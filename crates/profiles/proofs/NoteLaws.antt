@@ -16,7 +16,7 @@ use Rattle.lists.proofs.Same.{same-eq}
 use Rattle.profiles.specs.Profiles.{pathGood}
 use Rattle.profiles.specs.Reading.{pathIn}
 use Rattle.profiles.specs.Texts.{textLimit}
-use Rattle.profiles.specs.Notes.{lengthLimit, keyFrom, pathKey, noteOf, notedPath, noteGood, PathAt, ToNote, notedPaths, notedPlace, withNote}
+use Rattle.profiles.specs.Notes.{lengthLimit, keyFrom, pathKey, noteOf, notedPath, noteGood, PathAt, ToNote, notedPaths, notedPlace, withNote, keyFactor, keyLimit}
 use Rattle.profiles.proofs.TokenLaws.{starts-split}
 use Rattle.profiles.proofs.LineLaws.{path-front}
 use Rattle.profiles.proofs.ScanLaws.{drop-next}
@@ -25,10 +25,10 @@ use Rattle.profiles.proofs.PathLaws.{path-parts}
 
 -- ---- keys
 
-key-below : (p : List ℕ) (k : ℕ) → k < 2 ^ 42 → keyFrom k p < 2 ^ 42
+key-below : (p : List ℕ) (k : ℕ) → k < keyLimit → keyFrom k p < keyLimit
 unfolding keyFrom
 key-below [] k l = l
-key-below (b ∷ p) k l = key-below p ((k * 1000003 + b) % 2 ^ 42) (omega arith)
+key-below (b ∷ p) k l = key-below p ((k * keyFactor + b) % keyLimit) (omega arith)
 
 pub key-small : (p : List ℕ) → pathGood p ≡ true → pathKey p * textLimit < 2 ^ 63
 unfolding pathKey
@@ -37,14 +37,14 @@ key-small p h = omega (arith, path-parts p h .2, key-below p 0 (omega arith))
 -- the bytes up to i are in the sum
 pub record Summed (p : List ℕ) (i k : ℕ) : Type 0 where
   pub place : i ≤ length p
-  pub below : k < 2 ^ 42
+  pub below : k < keyLimit
   pub rest : keyFrom k (drop i p) ≡ keyFrom 0 p
 
 pub sum-start : (p : List ℕ) → Summed p 0 0
 sum-start p = record { place = omega arith; below = omega arith; rest = refl }
 
 module _ (p : List ℕ) (i k : ℕ) (g : Summed p i k) where
-  pub sum-next : i < length p → Summed p (i + 1) ((k * 1000003 + getD p i 0) % 2 ^ 42)
+  pub sum-next : i < length p → Summed p (i + 1) ((k * keyFactor + getD p i 0) % keyLimit)
   unfolding keyFrom
   sum-next l = record { place = omega arith; below = omega arith; rest = sym (ap (keyFrom k) (drop-next p i l)) ∙ g .rest }
 

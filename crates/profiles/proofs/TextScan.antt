@@ -16,7 +16,7 @@ use Rattle.profiles.specs.Profiles.{modesText, modesStart, modesEnd, ent
 use Rattle.profiles.specs.Reading.{opens, enters, closes, lineText, pathIn, readingOf}
 use Rattle.profiles.specs.Texts.{textLimit, readsWell, textGood}
 use Rattle.profiles.specs.Scanning.{noLine, profileKind, entryKind, endKind, lineAt}
-use Rattle.profiles.specs.LineWords.{lineWord, textWords, mayStand, noText, Judged}
+use Rattle.profiles.specs.LineWords.{lineWord, textWords, mayStand, noText, Judged, profileLeast, entryLeast}
 use Rattle.profiles.specs.Notes.{noteGood, ToNote, notedPaths, notedPlace, withNote}
 use Rattle.profiles.proofs.NoteLaws.{is-known, is-new, notes-long, notes-good, paths-more}
 use Rattle.profiles.specs.declared.ScannedLine.{ScannedLine}
@@ -30,18 +30,18 @@ use Rattle.profiles.proofs.TextLaws.{leftGood, left-whole, left-end, le
 -- what is left of the text is judged as the whole is
 pub record TextScanned (t notes₀ words₀ notes words : List ℕ) (at count named : ℕ) (b : Bool) : Type 0 where
   pub short : length t ≤ textLimit
-  pub room : length t ≤ 13 * length notes
+  pub room : length t ≤ profileLeast * length notes
   pub size : length notes ≡ length notes₀
   pub place : at ≤ length t
-  pub few : count * 13 ≤ at
+  pub few : count * profileLeast ≤ at
   pub noted : every (noteGood t) (take count notes) ≡ true
   pub rest : leftGood t (notedPaths t notes count) b at ≡ readsWell (readingOf t)
-  pub wide : length t ≤ 6 * length words
+  pub wide : length t ≤ entryLeast * length words
   pub width : length words ≡ length words₀
-  pub fewer : 6 * named ≤ at
+  pub fewer : entryLeast * named ≤ at
   pub listed : take named words ++ wordsFrom t at ≡ textWords t
 
-pub text-start : (t notes words : List ℕ) → length t ≤ textLimit → length t ≤ 13 * length notes → length t ≤ 6 * length words
+pub text-start : (t notes words : List ℕ) → length t ≤ textLimit → length t ≤ profileLeast * length notes → length t ≤ entryLeast * length words
     → TextScanned t notes words notes words 0 0 0 false
 unfolding notedPaths wordsFrom textWords
 text-start t notes words s r w =

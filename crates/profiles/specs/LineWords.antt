@@ -32,9 +32,23 @@ lineWords at (closes ∷ ls) = lineWords (at + length (lineText closes)) ls
 unfoldable pub textWords : List ℕ → List ℕ
 textWords t = lineWords 0 (linesIn t)
 
--- numbers enough for every text: a line that names a path has at least 6 bytes
+-- the least bytes of a profile's first line, `profile /a {` and byte 10, and of any line that names a path, `/a r,` and byte 10
+abbrev pub profileLeast : ℕ
+profileLeast = 13
+
+abbrev pub entryLeast : ℕ
+entryLeast = 6
+
+-- numbers enough for every text
 abbrev pub wordLimit : ℕ
-wordLimit = 2731
+wordLimit = textLimit / entryLeast + 1
+
+-- the bytes of a text for which few notes do: it has at most as many profiles
+abbrev pub fewProfiles : ℕ
+fewProfiles = 64
+
+abbrev pub shortLimit : ℕ
+shortLimit = fewProfiles * profileLeast
 
 -- ---- what the functions give
 

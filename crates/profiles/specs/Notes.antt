@@ -15,10 +15,17 @@ use Rattle.profiles.specs.Texts.{textLimit}
 abbrev pub lengthLimit : ℕ
 lengthLimit = 128
 
--- the sum of the bytes, each times a power of 1,000,003, behind bytes with the sum k
+-- the factor of the sum of a key, and its limit
+abbrev pub keyFactor : ℕ
+keyFactor = 1000003
+
+abbrev pub keyLimit : ℕ
+keyLimit = 2 ^ 42
+
+-- the sum of the bytes, each times a power of the factor, behind bytes with the sum k
 unfoldable pub keyFrom : ℕ → List ℕ → ℕ
 keyFrom k [] = k
-keyFrom k (b ∷ p) = keyFrom ((k * 1000003 + b) % 2 ^ 42) p
+keyFrom k (b ∷ p) = keyFrom ((k * keyFactor + b) % keyLimit) p
 
 -- the length and the sum of the bytes
 unfoldable pub pathKey : List ℕ → ℕ

@@ -89,15 +89,33 @@ slash = 47
 abbrev pub dot : ℕ
 dot = 46
 
+abbrev pub firstDigit : ℕ
+firstDigit = 48
+
+abbrev pub lastDigit : ℕ
+lastDigit = 57
+
+abbrev pub firstCapital : ℕ
+firstCapital = 65
+
+abbrev pub lastCapital : ℕ
+lastCapital = 90
+
+abbrev pub firstSmall : ℕ
+firstSmall = 97
+
+abbrev pub lastSmall : ℕ
+lastSmall = 122
+
 unfoldable pub isBetween : ℕ → ℕ → ℕ → Bool
 isBetween low high b = leb low b && leb b high
 
 -- of ASCII
 unfoldable pub isDigit : ℕ → Bool
-isDigit b = isBetween 48 57 b
+isDigit b = isBetween firstDigit lastDigit b
 
 unfoldable pub isLetter : ℕ → Bool
-isLetter b = isBetween 97 122 b || isBetween 65 90 b
+isLetter b = isBetween firstSmall lastSmall b || isBetween firstCapital lastCapital b
 
 -- "letters, digits, dots or slashes"
 unfoldable pub isPathByte : ℕ → Bool

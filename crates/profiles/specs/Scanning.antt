@@ -1,6 +1,6 @@
 -- Lines of a text in numbers, as the code that walks a text hands them on: what sort of line stands at a place, where its
 -- path is, its modes as a set, and where the next line begins. A text that has a reading is, line by line, the lines of it.
-use Prim.Native.Nat.{ℕ, _+_}
+use Prim.Native.Nat.{ℕ, _+_, _^_}
 use mathlib.Core.Bool.{cond}
 use mathlib.Core.List.{List, [], _∷_}
 use mathlib.Core.Option.{Option, none, some}
@@ -13,6 +13,17 @@ use Rattle.profiles.specs.Reading.{Line, opens, enters, closes, lineText
 use Rattle.profiles.specs.declared.ScannedMode.{ScannedMode}
 use Rattle.profiles.specs.declared.ScannedModes.{ScannedModes}
 use Rattle.profiles.specs.declared.ScannedLine.{ScannedLine}
+
+-- ---- the bytes by which a line is told: those of `profile` and of `}` in front, and of `x` behind the first letter of a mode
+
+abbrev pub letterP : ℕ
+letterP = 112
+
+abbrev pub closingBrace : ℕ
+closingBrace = 125
+
+abbrev pub letterX : ℕ
+letterX = 120
 
 -- ---- modes
 
@@ -29,6 +40,10 @@ modeBit mode-Px = 128
 modeBit mode-ux = 256
 modeBit mode-Ux = 512
 
+-- above every set of modes
+abbrev pub modesLimit : ℕ
+modesLimit = 2 ^ 10
+
 -- the bits of a set and of modes
 unfoldable pub withModes : ℕ → List Mode → ℕ
 withModes n [] = n
@@ -44,7 +59,7 @@ modeScan (some m) = record { bit = modeBit m; width = length (modeText m) }
 
 -- the mode of two letters that has this bit, if the second is x
 unfoldable pub withX : ℕ → ℕ → ScannedMode
-withX second bit = cond (eqb second 120) (record { bit = bit; width = 2 }) (record { bit = 0; width = 0 })
+withX second bit = cond (eqb second letterX) (record { bit = bit; width = 2 }) (record { bit = 0; width = 0 })
 
 unfoldable pub modeAt : List ℕ → ℕ → ScannedMode
 modeAt t at = modeScan (modeIn (drop at t))

@@ -11,36 +11,33 @@ ghost use Rattle.profiles.specs.Tokens.{starts};
 ghost use Rattle.profiles.specs.Reading.{pathIn, readingOf};
 ghost use Rattle.profiles.specs.Texts.{textLimit, readsWell, textGood};
 ghost use Rattle.profiles.specs.Notes.{lengthLimit, pathKey, notedPath, noteGood, PathAt, ToNote, notedPlace, withNote};
-ghost use Rattle.profiles.specs.Scanning.{withX, modeAt, modesAt, noScan, lineAt};
-ghost use Rattle.profiles.specs.LineWords.{lineWord, namedPath, wordLimit, mayStand, noText, Judged, scannedOf, tableOf};
+ghost use Rattle.profiles.specs.Scanning.{withX, modeAt, modesAt, noScan, lineAt, letterP, closingBrace, modesLimit};
+ghost use Rattle.profiles.specs.LineWords.{lineWord, namedPath, wordLimit, mayStand, noText, Judged, scannedOf, tableOf, profileLeast, entryLeast, shortLimit};
 
 // ---- the bytes and numbers of the format
 
 // The most bytes of a text.
 pub const TEXT_LIMIT: usize = 16384;
 
-// The most bytes of a text that has at most 64 profiles.
-const SHORT_LIMIT: usize = 832;
-
 // The places of a text, of which a note has one.
-const NOTE_PLACES: u64 = 16384;
+const NOTE_PLACES: u64 = TEXT_LIMIT as u64;
 
 // The key of a path: above every length, the factor of the sum, and its limit.
 const LENGTH_LIMIT: u64 = 128;
 
 const KEY_FACTOR: u64 = 1000003;
 
-const KEY_LIMIT: u64 = 4398046511104;
+const KEY_LIMIT: u64 = 1 << 42;
 
-const DOT: u8 = 46;
+const DOT: u8 = b'.';
 
-const SLASH: u8 = 47;
+const SLASH: u8 = b'/';
 
-const P: u8 = 112;
+const P: u8 = b'p';
 
-const X: u8 = 120;
+const X: u8 = b'x';
 
-const BRACE: u8 = 125;
+const BRACE: u8 = b'}';
 
 // The least and the most bytes of a path.
 const PATH_LEAST: usize = 2;
@@ -111,13 +108,13 @@ fn is_between(low: u8, high: u8, b: u8) -> bool
 fn is_path_byte(b: u8) -> bool
     ensures { λ r. ⌜ r ≡ isPathByte b ⌝ }
 {
-    if is_between(97, 122, b) {
+    if is_between(b'a', b'z', b) {
         return true;
     }
-    if is_between(65, 90, b) {
+    if is_between(b'A', b'Z', b) {
         return true;
     }
-    if is_between(48, 57, b) {
+    if is_between(b'0', b'9', b) {
         return true;
     }
     if b == DOT {
@@ -188,31 +185,31 @@ fn mode_at(text: &[u8], at: usize) -> ScannedMode
 {
     let second = byte(text, at + 1);
     match byte(text, at) {
-        114 => ScannedMode {
+        b'r' => ScannedMode {
             bit: MODE_R,
             width: 1,
         },
-        119 => ScannedMode {
+        b'w' => ScannedMode {
             bit: MODE_W,
             width: 1,
         },
-        97 => ScannedMode {
+        b'a' => ScannedMode {
             bit: MODE_A,
             width: 1,
         },
-        108 => ScannedMode {
+        b'l' => ScannedMode {
             bit: MODE_L,
             width: 1,
         },
-        109 => ScannedMode {
+        b'm' => ScannedMode {
             bit: MODE_M,
             width: 1,
         },
-        105 => with_x(second, MODE_IX),
-        112 => with_x(second, MODE_PX),
-        80 => with_x(second, MODE_PX_SCRUBBED),
-        117 => with_x(second, MODE_UX),
-        85 => with_x(second, MODE_UX_SCRUBBED),
+        b'i' => with_x(second, MODE_IX),
+        b'p' => with_x(second, MODE_PX),
+        b'P' => with_x(second, MODE_PX_SCRUBBED),
+        b'u' => with_x(second, MODE_UX),
+        b'U' => with_x(second, MODE_UX_SCRUBBED),
         _ => ScannedMode { bit: 0, width: 0 },
     }
 }
@@ -282,7 +279,7 @@ fn no_line() -> ScannedLine
 
 // The line `profile PATH {` at a place that has the letter p.
 fn profile_line(text: &[u8], at: usize) -> ScannedLine
-    requires { ⌜ (at ≤ length (now text)) × (getD (now text) at 0 ≡ 112) ⌝ }
+    requires { ⌜ (at ≤ length (now text)) × (getD (now text) at 0 ≡ letterP) ⌝ }
     ensures { λ r. ⌜ r ≡ lineAt (now (text .entry)) at ⌝ }
 {
     if !starts(text, at, b"profile ") {
@@ -307,7 +304,7 @@ fn profile_line(text: &[u8], at: usize) -> ScannedLine
 
 // The line `PATH MODES,` at a place.
 fn entry_line(text: &[u8], at: usize) -> ScannedLine
-    requires { ⌜ (at ≤ length (now text)) × (getD (now text) at 0 ≢ 112) × (getD (now text) at 0 ≢ 125) ⌝ }
+    requires { ⌜ (at ≤ length (now text)) × (getD (now text) at 0 ≢ letterP) × (getD (now text) at 0 ≢ closingBrace) ⌝ }
     ensures { λ r. ⌜ r ≡ lineAt (now (text .entry)) at ⌝ }
 {
     let end = path_end(text, at);
@@ -337,7 +334,7 @@ fn entry_line(text: &[u8], at: usize) -> ScannedLine
 
 // The line `}` at a place that has this byte.
 fn end_line(text: &[u8], at: usize) -> ScannedLine
-    requires { ⌜ (at ≤ length (now text)) × (getD (now text) at 0 ≡ 125) ⌝ }
+    requires { ⌜ (at ≤ length (now text)) × (getD (now text) at 0 ≡ closingBrace) ⌝ }
     ensures { λ r. ⌜ r ≡ lineAt (now (text .entry)) at ⌝ }
 {
     if !starts(text, at, b"}\n") {
@@ -370,12 +367,17 @@ fn line_at(text: &[u8], at: usize) -> ScannedLine
 // ---- lines that name a path
 
 // The places of a text and the lengths of a path, in the number of a line.
-const PLACES: u32 = 16384;
+const PLACES: u32 = TEXT_LIMIT as u32;
 
-const LENGTHS: u32 = 128;
+const LENGTHS: u32 = LENGTH_LIMIT as u32;
+
+// The least bytes of a profile's first line, and of any line that names a path: its shortest has a space and one letter of a mode.
+const PROFILE_LEAST: usize = WORD_LENGTH + PATH_LEAST + PROFILE_END;
+
+const ENTRY_LEAST: usize = PATH_LEAST + 2 + LINE_END;
 
 // Numbers enough for every text.
-pub const WORD_LIMIT: usize = 2731;
+pub const WORD_LIMIT: usize = TEXT_LIMIT / ENTRY_LEAST + 1;
 
 // The path that a line names: where it begins, how long it is, and the modes on it, none in a profile's first line.
 pub struct NamedPath {
@@ -386,7 +388,7 @@ pub struct NamedPath {
 
 // The number of a line.
 fn line_word(line: ScannedLine) -> u32
-    requires { ⌜ (line .path < textLimit) × (line .length < lengthLimit) × (line .modes < 1024) ⌝ }
+    requires { ⌜ (line .path < textLimit) × (line .length < lengthLimit) × (line .modes < modesLimit) ⌝ }
     ensures { λ r. ⌜ r ≡ lineWord line ⌝ }
 {
     line.path as u32 + PLACES * (line.length as u32 + LENGTHS * line.modes as u32)
@@ -506,10 +508,17 @@ fn may_stand(kind: usize, inside: bool) -> bool
     inside
 }
 
-// The lines of a text are profiles, and no path is profiled twice; the numbers of its lines. A profile's first line has at
-// least 13 bytes and one that names a path 6, so there are not more notes and numbers than room for them.
+// Notes enough for a text of few profiles, and the most bytes of such a text; notes enough for every text.
+const FEW_PROFILES: usize = 64;
+
+const SHORT_LIMIT: usize = FEW_PROFILES * PROFILE_LEAST;
+
+const PROFILE_LIMIT: usize = TEXT_LIMIT / PROFILE_LEAST + 1;
+
+// The lines of a text are profiles, and no path is profiled twice; the numbers of its lines. There are not more notes and numbers than
+// room for them, by the least bytes of the lines.
 fn scan_lines(text: &[u8], notes: &mut [u64], words: &mut [u32]) -> ScannedText
-    requires { ⌜ (length (now text) ≤ textLimit) × (length (now text) ≤ 13 * length (now notes)) × (length (now text) ≤ 6 * length (now words)) ⌝ }
+    requires { ⌜ (length (now text) ≤ textLimit) × (length (now text) ≤ profileLeast * length (now notes)) × (length (now text) ≤ entryLeast * length (now words)) ⌝ }
     ensures { λ r. ⌜ Judged (now (text .entry)) (now (words .exit)) (readsWell (readingOf (now (text .entry)))) r ⌝ }
 {
     let mut at = 0;
@@ -544,10 +553,10 @@ fn scan_lines(text: &[u8], notes: &mut [u64], words: &mut [u32]) -> ScannedText
 
 // A short text, with few notes.
 fn scan_short(text: &[u8], words: &mut [u32]) -> ScannedText
-    requires { ⌜ (length (now text) ≤ 832) × (length (now words) ≡ wordLimit) ⌝ }
+    requires { ⌜ (length (now text) ≤ shortLimit) × (length (now words) ≡ wordLimit) ⌝ }
     ensures { λ r. ⌜ Judged (now (text .entry)) (now (words .exit)) (readsWell (readingOf (now (text .entry)))) r ⌝ }
 {
-    let mut notes = [0u64; 64];
+    let mut notes = [0u64; FEW_PROFILES];
     scan_lines(text, &mut notes, words)
 }
 
@@ -555,7 +564,7 @@ fn scan_long(text: &[u8], words: &mut [u32]) -> ScannedText
     requires { ⌜ (length (now text) ≤ textLimit) × (length (now words) ≡ wordLimit) ⌝ }
     ensures { λ r. ⌜ Judged (now (text .entry)) (now (words .exit)) (readsWell (readingOf (now (text .entry)))) r ⌝ }
 {
-    let mut notes = [0u64; 1261];
+    let mut notes = [0u64; PROFILE_LIMIT];
     scan_lines(text, &mut notes, words)
 }
 

@@ -1,27 +1,22 @@
 -- A request has one of the codes: what holds of each of them holds of all. What the table says of a code, whatever the rows.
-use Prim.Native.Nat.{ℕ, zero, suc, _≤_, _<_, _^_}
+use Prim.Native.Nat.{ℕ, zero, suc, _≤_, _<_}
 use native.Mathlib.Omega.{arith}
 use native.Mathlib.Decide.{ℕ-discrete}
-use native.Mathlib.Nat.{lt-of-lt-of-le}
-use mathlib.Core.Path.{_≡_, refl, sym, ap, _∙_}
+use mathlib.Core.Path.{_≡_, refl, sym, ap}
 use mathlib.Core.Logic.{_⊎_, inl, inr}
 use mathlib.Core.Bool.{true, false, cond, _||_}
 use mathlib.Core.List.{List, [], _∷_}
 use mathlib.Core.Option.{none, some}
 use lib.Dec.{eqb}
 use lib.ListN.{getD}
-use lib.Pow.{pow-mono}
-use borrow.Author.Tests.{ne-eqb}
 use Rattle.lists.proofs.Bools.{clash}
-use Rattle.rules.specs.Sets.{atom}
-use Rattle.rules.proofs.SetLaws.{atom-above}
-use Rattle.image.specs.Limits.{freeKind, fileKind, volatileKind, processKind, guardedKind, lastKind, isFree, isFile, isVolatile, isProcess, isStore, containerLimit}
+use Rattle.image.specs.Limits.{noKinds, freeKinds, fileKinds, storeKinds, processKinds, containerLimit}
 use Rattle.session.specs.Limits.{nobody}
-use Rattle.chains.specs.History.{read, write, append, exec, fork, newFile, newVolatile, end, delete, receiver}
-use Rattle.chains.specs.Table.{State, Need, store, file, free, process, fitsNeed, entry, behalfFits}
+use Rattle.chains.specs.History.{Step, read, write, append, exec, fork, newFile, newVolatile, end, delete, receiver}
+use Rattle.chains.specs.Table.{State, entry, behalfFits}
 use Rattle.records.specs.declared.Code.{Code}
 use Rattle.records.specs.declared.Request.{Request}
-use Rattle.records.specs.Codes.{readCode, writeCode, appendCode, execCode, forkCode, newFileCode, newVolatileCode, endCode, deleteCode, codeCount, stepWith, needsStore, needsFile, needsFree, needsProcess, needNumber, objectFits, noRows, codeAt}
+use Rattle.records.specs.Codes.{readCode, writeCode, appendCode, execCode, forkCode, newFileCode, newVolatileCode, endCode, deleteCode, codeCount, stepWith, noRows, codeAt}
 use Rattle.records.specs.Records.{stepIn, Asked}
 
 abbrev pub request : ℕ → ℕ → ℕ → ℕ → Request
@@ -56,7 +51,7 @@ pub record Entered (σ : State) (q : Request) : Type 0 where
   pub process : entry σ (stepIn q) .process ≡ q .p
   pub object : entry σ (stepIn q) .object ≡ q .o
   pub user : entry σ (stepIn q) .user ≡ cond (codeAt (q .code) .user) (some (q .u)) none
-  pub need : codeAt (q .code) .object ≡ needNumber (entry σ (stepIn q) .need)
+  pub need : codeAt (q .code) .object ≡ entry σ (stepIn q) .need
 
 pub entered : (σ : State) (q : Request) → Asked q → Entered σ q
 unfolding stepIn stepWith entry codeAt noRows
@@ -73,38 +68,21 @@ entered σ q a =
     (λ p o u own. record { process = refl; object = refl; user = refl; need = refl })
     q (a .codeLow) (a .codeHigh) (a .own)
 
--- kind by kind
-module _ (P : ℕ → Type 0) (frees : P freeKind) (files : P fileKind) (volatiles : P volatileKind) (processes : P processKind) (guardeds : P guardedKind)
-    (others : (k : ℕ) → lastKind < k → P k) where
-  by-kind : (k : ℕ) → P k
-  by-kind zero = frees
-  by-kind (suc zero) = files
-  by-kind (suc (suc zero)) = volatiles
-  by-kind (suc (suc (suc zero))) = processes
-  by-kind (suc (suc (suc (suc zero)))) = guardeds
-  by-kind (suc (suc (suc (suc (suc k))))) = others (suc (suc (suc (suc (suc k))))) (omega arith)
-
--- no need names another kind
-other-kind : (m k : ℕ) → m < 2 ^ suc lastKind → lastKind < k → eqb (atom m k) 1 ≡ false
-other-kind m k l h = ap (λ (x : ℕ). eqb x 1) (atom-above m k (lt-of-lt-of-le l (pow-mono h)))
-
-pub need-fits : (n : Need) (k : ℕ) → objectFits (needNumber n) k ≡ fitsNeed n k
-unfolding objectFits fitsNeed atom isStore isFile isVolatile isFree isProcess
-need-fits store = by-kind (λ k. eqb (atom needsStore k) 1 ≡ isStore k) refl refl refl refl refl (λ k h. other-kind needsStore k (omega arith) h ∙ sym (simp (ne-eqb k fileKind (λ e. omega (arith, h, e)), ne-eqb k guardedKind (λ e. omega (arith, h, e)), ne-eqb k volatileKind (λ e. omega (arith, h, e)))))
-need-fits file = by-kind (λ k. eqb (atom needsFile k) 1 ≡ isFile k) refl refl refl refl refl (λ k h. other-kind needsFile k (omega arith) h ∙ sym (simp (ne-eqb k fileKind (λ e. omega (arith, h, e)), ne-eqb k guardedKind (λ e. omega (arith, h, e)))))
-need-fits free = by-kind (λ k. eqb (atom needsFree k) 1 ≡ isFree k) refl refl refl refl refl (λ k h. other-kind needsFree k (omega arith) h ∙ sym (ne-eqb k freeKind (λ e. omega (arith, h, e))))
-need-fits process = by-kind (λ k. eqb (atom needsProcess k) 1 ≡ isProcess k) refl refl refl refl refl (λ k h. other-kind needsProcess k (omega arith) h ∙ sym (ne-eqb k processKind (λ e. omega (arith, h, e))))
-
 -- every code needs something
-pub needed : (n : ℕ) → codeAt n .object ≡ 0 → ⊥
-unfolding codeAt
-needed n = by (entry noRows (stepWith n 0 0 0) .need)
+pub needed : (n : ℕ) → codeAt n .object ≡ noKinds → ⊥
+unfolding codeAt entry
+needed n = by (stepWith n 0 0 0)
   where
-    by : (x : Need) → needNumber x ≡ 0 → ⊥
-    by store e = omega (arith, e)
-    by file e = omega (arith, e)
-    by free e = omega (arith, e)
-    by process e = omega (arith, e)
+    by : (t : Step) → entry noRows t .need ≡ noKinds → ⊥
+    by (read p o) e = omega (arith, e)
+    by (write p o) e = omega (arith, e)
+    by (append p o) e = omega (arith, e)
+    by (exec p o u) e = omega (arith, e)
+    by (fork p o) e = omega (arith, e)
+    by (newFile p o u) e = omega (arith, e)
+    by (newVolatile p o) e = omega (arith, e)
+    by (end p) e = omega (arith, e)
+    by (delete p o) e = omega (arith, e)
 
 -- what 18 asks: nothing unless the code is that of a new file
 pub behalf-other : (σ : State) (q : Request) → Asked q → (q .code ≡ newFileCode → ⊥) → behalfFits σ (stepIn q) ≡ true
@@ -183,16 +161,16 @@ module _ (q : Request) where
 
 abbrev pub rows : List Code
 rows =
-    record { object = 0; user = false }
-    ∷ record { object = needsStore; user = false }
-    ∷ record { object = needsStore; user = false }
-    ∷ record { object = needsStore; user = false }
-    ∷ record { object = needsFile; user = true }
-    ∷ record { object = needsFree; user = false }
-    ∷ record { object = needsFree; user = true }
-    ∷ record { object = needsFree; user = false }
-    ∷ record { object = needsProcess; user = false }
-    ∷ record { object = needsStore; user = false }
+    record { object = noKinds; user = false }
+    ∷ record { object = storeKinds; user = false }
+    ∷ record { object = storeKinds; user = false }
+    ∷ record { object = storeKinds; user = false }
+    ∷ record { object = fileKinds; user = true }
+    ∷ record { object = freeKinds; user = false }
+    ∷ record { object = freeKinds; user = true }
+    ∷ record { object = freeKinds; user = false }
+    ∷ record { object = processKinds; user = false }
+    ∷ record { object = storeKinds; user = false }
     ∷ []
 
 pub row-at : (n : ℕ) (z : Code) → 1 ≤ n → n < codeCount → getD rows n z ≡ codeAt n

@@ -1,13 +1,12 @@
 -- "One table of codes gives the kind that each code needs" (the paper, "Operations"): the codes, the step that each asks for, and
 -- what the table of steps (crate chains, specs/Table) says of it.
-use Prim.Native.Nat.{ℕ, _+_, _^_}
+use Prim.Native.Nat.{ℕ}
 use mathlib.Core.Bool.{Bool, false, cond, _&&_}
 use mathlib.Core.Option.{none}
 use lib.Dec.{eqb, ltb}
-use Rattle.rules.specs.Sets.{atom}
-use Rattle.image.specs.Limits.{freeKind, fileKind, volatileKind, processKind, guardedKind}
+use Rattle.image.specs.Limits.{noKinds}
 use Rattle.chains.specs.History.{Step, read, write, append, exec, fork, newFile, newVolatile, end, delete}
-use Rattle.chains.specs.Table.{State, freeRow, Need, store, file, free, process, entry, isSome}
+use Rattle.chains.specs.Table.{State, freeRow, entry, isSome}
 use Rattle.records.specs.declared.Code.{Code}
 
 -- ---- the codes
@@ -59,39 +58,8 @@ stepWith code p o u =
     (cond (eqb code endCode) (end p)
     (delete p o))))))))
 
--- ---- what a code needs of its object, as the set of the kinds that serve, kind k being worth 2 to the k
-
--- no kind serves
-abbrev pub noNeed : ℕ
-noNeed = 0
-
--- "free"
-abbrev pub needsFree : ℕ
-needsFree = 2 ^ freeKind
-
--- "file"
-abbrev pub needsFile : ℕ
-needsFile = 2 ^ fileKind + 2 ^ guardedKind
-
--- "file, volatile"
-abbrev pub needsStore : ℕ
-needsStore = 2 ^ fileKind + 2 ^ volatileKind + 2 ^ guardedKind
-
--- a process
-abbrev pub needsProcess : ℕ
-needsProcess = 2 ^ processKind
-
-abbrev pub needNumber : Need → ℕ
-needNumber store = needsStore
-needNumber file = needsFile
-needNumber free = needsFree
-needNumber process = needsProcess
-
--- the need is met by the object's kind
-unfoldable pub objectFits : ℕ → ℕ → Bool
-objectFits need kind = eqb (atom need kind) 1
-
--- ---- the table by codes: what each needs of its object, and whether it names a user ("u is 65535 except for codes 4 and 6")
+-- ---- the table by codes: what each needs of its object, as the set of the kinds that serve, and whether it names a user ("u is 65535
+-- except for codes 4 and 6")
 
 -- rows do not matter to either
 unfoldable pub noRows : State
@@ -100,10 +68,10 @@ noRows = record { row = λ c. freeRow; user = λ u. none }
 unfoldable pub codeAt : ℕ → Code
 codeAt n =
     record {
-      object = needNumber (entry noRows (stepWith n 0 0 0) .need);
+      object = entry noRows (stepWith n 0 0 0) .need;
       user = isSome (entry noRows (stepWith n 0 0 0) .user);
     }
 
 -- place 0 of the table: no kind serves, and no user is named
 unfoldable pub noCode : Code
-noCode = record { object = noNeed; user = false }
+noCode = record { object = noKinds; user = false }

@@ -34,57 +34,46 @@ pub struct Code {
     pub user: bool,
 }
 
-// No kind serves: what no code needs.
-pub const NO_NEED: u8 = 0;
-
-pub const NEEDS_FREE: u8 = 1;
-
-const NEEDS_FILE: u8 = 18;
-
-const NEEDS_STORE: u8 = 22;
-
-const NEEDS_PROCESS: u8 = 8;
-
 // The table of codes: 0 no code, 1 read, 2 write, 3 append, 4 exec, 5 fork, 6 new file, 7 new volatile, 8 end, 9 delete.
 const CODES: [Code; CODE_COUNT] = [
     Code {
-        object: NO_NEED,
+        object: image::NO_KINDS,
         user: false,
     },
     Code {
-        object: NEEDS_STORE,
+        object: image::STORE_KINDS,
         user: false,
     },
     Code {
-        object: NEEDS_STORE,
+        object: image::STORE_KINDS,
         user: false,
     },
     Code {
-        object: NEEDS_STORE,
+        object: image::STORE_KINDS,
         user: false,
     },
     Code {
-        object: NEEDS_FILE,
+        object: image::FILE_KINDS,
         user: true,
     },
     Code {
-        object: NEEDS_FREE,
+        object: image::FREE_KINDS,
         user: false,
     },
     Code {
-        object: NEEDS_FREE,
+        object: image::FREE_KINDS,
         user: true,
     },
     Code {
-        object: NEEDS_FREE,
+        object: image::FREE_KINDS,
         user: false,
     },
     Code {
-        object: NEEDS_PROCESS,
+        object: image::PROCESS_KINDS,
         user: false,
     },
     Code {
-        object: NEEDS_STORE,
+        object: image::STORE_KINDS,
         user: false,
     },
 ];

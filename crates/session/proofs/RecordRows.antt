@@ -11,11 +11,11 @@ use borrow.Author.Tests.{eq-eqb, le-leb, leb-true}
 use borrow.Rule.Slice.PartMut.{putMid}
 use Rattle.rules.specs.Answers.{dataWidth, mixtureLimit}
 use Rattle.rule_words.specs.Words.{wordsOf}
-use Rattle.image.specs.Limits.{containerLimit, userLimit, noAtom, containerSize, userSize, ruleSize, mixtureSize, size8, size16, kindField, atomField, permitField, runField}
+use Rattle.image.specs.Limits.{containerLimit, userLimit, noAtom, containerSize, userSize, ruleSize, size8, size16, kindField, atomField, permitField, runField}
 use Rattle.fields.specs.Bytes.{field, numberIn}
 use Rattle.lists.specs.Lists.{every}
 use Rattle.image.specs.Policy.{Container, named, containerGood}
-use Rattle.image.specs.Image.{containerIn, containersIn, usersIn, spansIn, rulesIn, spansGood}
+use Rattle.image.specs.Image.{containerIn, containersIn, usersIn, rulesIn, ruleRecordsGood}
 use Rattle.image.specs.Normal.{Place, normalAt, placeOf}
 use Rattle.lists.proofs.Every.{every-map, every-getD}
 use Rattle.image.proofs.WrittenMeaning.{container-named, container-atom}
@@ -35,7 +35,7 @@ use Rattle.session.proofs.RowsOfOneWidth.{wide, Rowed, rowed-next, rowe
 abbrev pub userRows : List ℕ → List ℕ → List ℕ → List (List ℕ)
 userRows users rules m = map userWords (map (normalAt (rulesIn rules m)) (usersIn users))
 
-module _ (users rules m : List ℕ) (good : every (named (length rules / ruleSize)) (usersIn users) ≡ true) (spans : spansGood (length m / mixtureSize) 0 (spansIn rules) ≡ true) where
+module _ (users rules m : List ℕ) (good : every (named (length rules / ruleSize)) (usersIn users) ≡ true) (spans : ruleRecordsGood rules m ≡ true) where
   pub user-named : (i : ℕ) → i < length users / userSize → named (length rules / ruleSize) (field users (i * userSize) userSize) ≡ true
   unfolding usersIn field
   user-named i l =
@@ -70,7 +70,7 @@ module _ (users rules m : List ℕ) (good : every (named (length rules / ruleSiz
 
 -- ---- one container
 
-module _ (r rules m : List ℕ) (good : containerGood (length rules / ruleSize) (containerIn r) ≡ true) (spans : spansGood (length m / mixtureSize) 0 (spansIn rules) ≡ true) where
+module _ (r rules m : List ℕ) (good : containerGood (length rules / ruleSize) (containerIn r) ≡ true) (spans : ruleRecordsGood rules m ≡ true) where
   pub permit-named : named (length rules / ruleSize) (field r permitField size16) ≡ true
   unfolding containerIn
   permit-named = container-named (length rules / ruleSize) (containerIn r) good .0
@@ -95,7 +95,7 @@ module _ (r rules m : List ℕ) (good : containerGood (length rules / ruleSize) 
 abbrev pub containerRows : List ℕ → List ℕ → List ℕ → List (List ℕ)
 containerRows cs rules m = map placeWords (map (placeOf (rulesIn rules m)) (containersIn cs))
 
-module _ (cs rules m : List ℕ) (good : every (containerGood (length rules / ruleSize)) (containersIn cs) ≡ true) (spans : spansGood (length m / mixtureSize) 0 (spansIn rules) ≡ true) where
+module _ (cs rules m : List ℕ) (good : every (containerGood (length rules / ruleSize)) (containersIn cs) ≡ true) (spans : ruleRecordsGood rules m ≡ true) where
   pub container-good : (i : ℕ) → i < length cs / containerSize → containerGood (length rules / ruleSize) (containerIn (take containerSize (drop (i * containerSize) cs))) ≡ true
   unfolding containersIn
   container-good i l =

@@ -1,50 +1,24 @@
 -- Rows as numbers and as what they say.
 use Prim.Native.Nat.{ℕ, _+_, _≤_}
 use mathlib.Core.Path.{_≡_, refl, sym, ap, ap₂, _∙_}
-use mathlib.Core.Bool.{Bool, true, false, cond, _&&_, _||_}
+use mathlib.Core.Bool.{Bool, true, false, cond, _&&_}
 use mathlib.Core.List.{List, [], _∷_, _++_}
-use mathlib.Core.Logic.{⊎-elim}
 use native.Mathlib.Omega.{arith}
 use lib.Dec.{eqb}
 use lib.ListN.{length, getD, take, drop, replicate, length-take, length-drop, length-append, take-append-drop, drop-of-length-le}
 use lib.Seq.{getD-drop, drop-cons, drop-drop, drop-at, take-at, take-all}
 use borrow.Author.Tests.{eqb-true, ne-eqb}
-use Rattle.lists.proofs.Bools.{and-0, and-1, or-cases, clash}
+use Rattle.image.proofs.KindLaws.{used-kind, used-free}
+use Rattle.lists.proofs.Bools.{and-0, and-1, clash}
 use Rattle.rules.specs.Rules.{normal}
 use Rattle.rules.specs.Answers.{mixtureLimit}
-use Rattle.image.specs.Limits.{fileKind, volatileKind, processKind, guardedKind, lastKind, isFree, isFile, isVolatile, isProcess, isStore, usedKind}
+use Rattle.image.specs.Limits.{lastKind, isFree, usedKind}
 use Rattle.session.specs.Limits.{rowWidth, userWidth, kindAt, tagAt, permitAt, runAt, behalfAt, nobody, declaredAt, userRuleAt, declared}
 use Rattle.rule_words.specs.Words.{ruleWidth, ruleOf, wordsOf, allZero, keptWell}
 use Rattle.session.specs.Rows.{Row, rowWords, freeWords, permitWords, runWords, rowOf, behalfGood, containerRowGood, InUse, userWords, undeclaredWords, isDeclared, userRuleWords, userRuleOf, userRowGood}
 use Rattle.rule_words.proofs.ZeroLaws.{zeros, zero-is}
 use Rattle.rule_words.proofs.KeptWords.{words-kept, kept-count, kept-normal, kept-short, kept-words}
 use Rattle.rule_words.proofs.WordLaws.{words-rule, words-nine}
-
--- ---- kinds
-
-pub used-kind : (k : ℕ) → usedKind k ≡ true → (1 ≤ k) × (k ≤ lastKind)
-unfolding usedKind isStore isFile isVolatile isProcess
-used-kind k h =
-    ⊎-elim
-    (λ p. ⊎-elim (λ q. ⊎-elim (λ x. file (eqb-true k fileKind x)) (λ x. guarded (eqb-true k guardedKind x)) (or-cases (eqb k fileKind) q)) (λ q. volatile (eqb-true k volatileKind q)) (or-cases (eqb k fileKind || eqb k guardedKind) p))
-    (λ p. process (eqb-true k processKind p))
-    (or-cases ((eqb k fileKind || eqb k guardedKind) || eqb k volatileKind) h)
-  where
-    file : k ≡ fileKind → (1 ≤ k) × (k ≤ lastKind)
-    file e = (omega arith, omega arith)
-
-    guarded : k ≡ guardedKind → (1 ≤ k) × (k ≤ lastKind)
-    guarded e = (omega arith, omega arith)
-
-    volatile : k ≡ volatileKind → (1 ≤ k) × (k ≤ lastKind)
-    volatile e = (omega arith, omega arith)
-
-    process : k ≡ processKind → (1 ≤ k) × (k ≤ lastKind)
-    process e = (omega arith, omega arith)
-
-pub used-free : (k : ℕ) → usedKind k ≡ true → isFree k ≡ false
-unfolding isFree
-used-free k h = ne-eqb k 0 (λ e. omega (arith, used-kind k h .0))
 
 -- ---- on whose behalf
 

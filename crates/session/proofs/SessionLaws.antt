@@ -10,10 +10,11 @@ use lib.Pow.{pow-lt, pow-pos}
 use lib.ListN.{length, getD, take, drop, replicate, length-append, length-drop, length-map}
 use lib.Seq.{take-append-le, drop-append-le, drop-append-add}
 use borrow.Author.Tests.{eq-eqb, leb-true, le-leb, eqb-true}
+use Rattle.image.proofs.KindLaws.{used-kind, shape-known}
 use Rattle.lists.proofs.Bools.{and-in, and-0, and-1}
 use Rattle.lists.specs.Lists.{sameList, every}
 use Rattle.rules.specs.Answers.{dataWidth, tagWidth, mixtureLimit}
-use Rattle.image.specs.Limits.{noAtom, isFile, isVolatile, isProcess, isStore, containerLimit, userLimit, usedKind}
+use Rattle.image.specs.Limits.{noAtom, containerLimit, userLimit, usedKind}
 use Rattle.image.specs.Policy.{unrestrictedRule, ruleGood}
 use Rattle.image.specs.Normal.{Place, Meaning}
 use Rattle.lists.proofs.Every.{every-map, map-apart, append-apart}
@@ -21,7 +22,7 @@ use Rattle.image.proofs.WrittenMeaning.{formGood, shapeGood, placeGood, Encodab
 use Rattle.session.specs.Limits.{sessionLength, rowWidth, userWidth, usersAt}
 use Rattle.session.specs.Rows.{Row, rowWords, rowOf, InUse, userWords, userRuleOf, containerRow, userRow}
 use Rattle.session.specs.Session.{filled, startTag, startRow, placeWords, sessionOf}
-use Rattle.session.proofs.RowLaws.{nobody-good, used-kind, row-length, row-words, row-kind, user-length, user-words}
+use Rattle.session.proofs.RowLaws.{nobody-good, row-length, row-words, row-kind, user-length, user-words}
 use Rattle.session.proofs.RowsOfOneWidth.{wide, used, all-wide, filled-length, filled-row, filled-apart}
 
 -- ---- what a good place and a good rule say
@@ -31,14 +32,10 @@ unfolding ruleGood
 form-short r h = leb-true (length r) mixtureLimit (and-0 (leb (length r) mixtureLimit) (every (λ m. ltb m (2 ^ tagWidth)) r) (form-rule r h))
 
 shape-used : (p : Place) → shapeGood p ≡ true → usedKind (p .kind) ≡ true
-unfolding shapeGood usedKind isStore
-shape-used p = by (isFile (p .kind))
-  where
-    by : (b : Bool)
-        → cond b (ltb (p .atom) dataWidth || eqb (p .atom) noAtom) ((isVolatile (p .kind) || isProcess (p .kind)) && (eqb (p .atom) noAtom && (sameList (p .permit) unrestrictedRule && sameList (p .run) unrestrictedRule))) ≡ true
-        → ((b || isVolatile (p .kind)) || isProcess (p .kind)) ≡ true
-    by true h = refl
-    by false h = and-0 (isVolatile (p .kind) || isProcess (p .kind)) (eqb (p .atom) noAtom && (sameList (p .permit) unrestrictedRule && sameList (p .run) unrestrictedRule)) h
+unfolding shapeGood
+shape-used p h =
+    shape-known (p .kind) (ltb (p .atom) dataWidth || eqb (p .atom) noAtom)
+    (eqb (p .atom) noAtom && (sameList (p .permit) unrestrictedRule && sameList (p .run) unrestrictedRule)) h
 
 pub place-used : (p : Place) → placeGood p ≡ true → InUse (startRow p)
 unfolding placeGood startRow

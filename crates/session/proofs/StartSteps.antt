@@ -8,8 +8,8 @@ use lib.ListN.{length, take, drop, replicate, length-replicate, drop-of-length-l
 use lib.Seq.{take-at, drop-at, drop-drop}
 use borrow.Author.Tests.{eq-eqb, ne-eqb}
 use borrow.Rule.Slice.PartMut.{putMid}
-use Rattle.image.specs.Limits.{containerLimit, userLimit, containerSize, userSize, ruleSize, mixtureSize}
-use Rattle.image.specs.Image.{part, containersIn, usersIn, spansIn, rulesIn, spansGood, policyIn, checkOf}
+use Rattle.image.specs.Limits.{containerLimit, userLimit, containerSize, userSize, ruleSize}
+use Rattle.image.specs.Image.{part, containersIn, usersIn, rulesIn, ruleRecordsGood, policyIn, checkOf}
 use Rattle.image.specs.Normal.{placeOf, normalAt, meaning}
 use Rattle.rule_words.proofs.ZeroLaws.{drop-zeros}
 use Rattle.session.specs.Limits.{sessionLength, rowWidth, userWidth, usersAt}
@@ -40,7 +40,7 @@ rows-part-length i h =
 -- the sections as they are lent: s holds the containers or users, r the rules, m the mixtures
 module _ (i r m : List ℕ) (e : r ≡ part i 2) (f : m ≡ part i 3) where
   module _ (h : checkOf i ≡ 0) where
-    pub spans-lent : spansGood (length m / mixtureSize) 0 (spansIn r) ≡ true
+    pub spans-lent : ruleRecordsGood r m ≡ true
     spans-lent = rw (e, f) (accepted-spans i h)
 
     pub containers-lent : (s : List ℕ) → s ≡ part i 0 → (length s / containerSize ≤ containerLimit) × (every (containerGood (length r / ruleSize)) (containersIn s) ≡ true)

@@ -6,10 +6,10 @@ ghost use lib.Dec.{eqb, ltb};
 ghost use Prim.Native.Nat.{_*_, _/_, _≤_};
 ghost use lib.ListN.{length, replicate};
 ghost use Rattle.rules.specs.Answers.{dataWidth};
-ghost use Rattle.image.specs.Limits.{noAtom, containerLimit, userLimit, containerSize, userSize, ruleSize, mixtureSize};
+ghost use Rattle.image.specs.Limits.{noAtom, containerLimit, userLimit, containerSize, userSize, ruleSize};
 ghost use Rattle.lists.specs.Lists.{every};
 ghost use Rattle.image.specs.Policy.{named, containerGood};
-ghost use Rattle.image.specs.Image.{containerIn, containersIn, usersIn, spansIn, rulesIn, spansGood};
+ghost use Rattle.image.specs.Image.{containerIn, containersIn, usersIn, rulesIn, ruleRecordsGood};
 ghost use Rattle.image.specs.Normal.{normalAt, placeOf};
 ghost use Rattle.session.specs.Limits.{rowWidth, userWidth};
 ghost use Rattle.session.specs.Rows.{behalfGood, containerRowGood, userWords, userRowGood};
@@ -18,36 +18,36 @@ use rules::Bounded;
 
 // ---- the numbers of the layout, in words
 
-pub const SESSION_LENGTH: usize = 5536;
-
-pub const ROW_WIDTH: usize = 21;
-
-pub const USER_WIDTH: usize = 10;
-
-// The user rows begin behind the container rows.
-pub const USERS_AT: usize = 5376;
-
-// The places in a container row.
+// The places in a container row, and how many they are.
 pub const KIND_AT: usize = 0;
 
 pub const TAG_AT: usize = 1;
 
 pub const PERMIT_AT: usize = 2;
 
-pub const RUN_AT: usize = 11;
+pub const RUN_AT: usize = PERMIT_AT + rule_words::RULE_WIDTH;
 
-pub const BEHALF_AT: usize = 20;
+pub const BEHALF_AT: usize = RUN_AT + rule_words::RULE_WIDTH;
+
+pub const ROW_WIDTH: usize = BEHALF_AT + 1;
 
 // The number there of a process that runs on behalf of no user, and of every file and volatile.
 pub const NOBODY: u64 = 65535;
 
-// The places in a user row.
+// The places in a user row, and how many they are.
 pub const DECLARED_AT: usize = 0;
 
 pub const USER_RULE_AT: usize = 1;
 
+pub const USER_WIDTH: usize = USER_RULE_AT + rule_words::RULE_WIDTH;
+
 // The first number of a declared user's row.
 pub const DECLARED: u64 = 1;
+
+// The user rows begin behind the container rows.
+pub const USERS_AT: usize = image::CONTAINER_LIMIT * ROW_WIDTH;
+
+pub const SESSION_LENGTH: usize = USERS_AT + image::USER_LIMIT * USER_WIDTH;
 
 // ---- the test of a row
 
@@ -105,7 +105,7 @@ pub fn user_row_good(row: &[u64]) -> bool
 
 // The row of a user whose rule has the number n.
 fn put_user(row: &mut [u64], rules: &[u8], m: &[u8], n: usize)
-    requires { ⌜ (length (now row) ≡ userWidth) × (named (length (now rules) / ruleSize) n ≡ true) × (spansGood (length (now m) / mixtureSize) 0 (spansIn (now rules)) ≡ true) ⌝ }
+    requires { ⌜ (length (now row) ≡ userWidth) × (named (length (now rules) / ruleSize) n ≡ true) × (ruleRecordsGood (now rules) (now m) ≡ true) ⌝ }
     ensures { λ _. ⌜ now (row .exit) ≡ userWords (normalAt (rulesIn (now (rules .entry)) (now (m .entry))) n) ⌝ }
 {
     row[DECLARED_AT] = DECLARED;
@@ -119,7 +119,9 @@ fn put_user(row: &mut [u64], rules: &[u8], m: &[u8], n: usize)
 
 // The user rows: those of the users, over zeros.
 fn fill_users(out: &mut [u64], users: &[u8], rules: &[u8], m: &[u8])
-    requires { ⌜ (now out ≡ replicate (userLimit * userWidth) 0) × (length (now users) / userSize ≤ userLimit) × (every (named (length (now rules) / ruleSize)) (usersIn (now users)) ≡ true) × (spansGood (length (now m) / mixtureSize) 0 (spansIn (now rules)) ≡ true) ⌝ }
+    requires { ⌜ (now out ≡ replicate (userLimit * userWidth) 0)
+        × (length (now users) / userSize ≤ userLimit) × (every (named (length (now rules) / ruleSize)) (usersIn (now users)) ≡ true)
+        × (ruleRecordsGood (now rules) (now m) ≡ true) ⌝ }
     ensures { λ _. ⌜ now (out .exit) ≡ filled userWidth userLimit (map userWords (map (normalAt (rulesIn (now (rules .entry)) (now (m .entry)))) (usersIn (now (users .entry))))) ⌝ }
 {
     let n = users.len() / image::USER_SIZE;
@@ -164,7 +166,8 @@ pub fn put_row(row: &mut [u64], kind: u64, tag: u64, permit: Bounded, run: Bound
 
 // The row of a container record.
 fn put_container(row: &mut [u64], r: &[u8], rules: &[u8], m: &[u8])
-    requires { ⌜ (length (now row) ≡ rowWidth) × (length (now r) ≡ containerSize) × (containerGood (length (now rules) / ruleSize) (containerIn (now r)) ≡ true) × (spansGood (length (now m) / mixtureSize) 0 (spansIn (now rules)) ≡ true) ⌝ }
+    requires { ⌜ (length (now row) ≡ rowWidth) × (length (now r) ≡ containerSize) × (containerGood (length (now rules) / ruleSize) (containerIn (now r)) ≡ true)
+        × (ruleRecordsGood (now rules) (now m) ≡ true) ⌝ }
     ensures { λ _. ⌜ now (row .exit) ≡ placeWords (placeOf (rulesIn (now (rules .entry)) (now (m .entry))) (containerIn (now (r .entry)))) ⌝ }
 {
     row[BEHALF_AT] = NOBODY;
@@ -186,7 +189,9 @@ fn put_container(row: &mut [u64], r: &[u8], rules: &[u8], m: &[u8])
 
 // The container rows: those of the containers, over zeros.
 fn fill_containers(out: &mut [u64], cs: &[u8], rules: &[u8], m: &[u8])
-    requires { ⌜ (now out ≡ replicate (containerLimit * rowWidth) 0) × (length (now cs) / containerSize ≤ containerLimit) × (every (containerGood (length (now rules) / ruleSize)) (containersIn (now cs)) ≡ true) × (spansGood (length (now m) / mixtureSize) 0 (spansIn (now rules)) ≡ true) ⌝ }
+    requires { ⌜ (now out ≡ replicate (containerLimit * rowWidth) 0)
+        × (length (now cs) / containerSize ≤ containerLimit) × (every (containerGood (length (now rules) / ruleSize)) (containersIn (now cs)) ≡ true)
+        × (ruleRecordsGood (now rules) (now m) ≡ true) ⌝ }
     ensures { λ _. ⌜ now (out .exit) ≡ filled rowWidth containerLimit (map placeWords (map (placeOf (rulesIn (now (rules .entry)) (now (m .entry)))) (containersIn (now (cs .entry))))) ⌝ }
 {
     let n = cs.len() / image::CONTAINER_SIZE;

@@ -13,7 +13,7 @@ use Rattle.lists.specs.Conditions.{firstFailed}
 use Rattle.lists.specs.Counting.{countFrom, someBelow, allBelow}
 use Rattle.rules.specs.Answers.{padded}
 use Rattle.answers.specs.Answers.{quiet, alert}
-use Rattle.image.specs.Limits.{isFree, isGuarded, isFile, isVolatile, isProcess, isStore, fileKind, processKind, noAtom, usedKind}
+use Rattle.image.specs.Limits.{isFree, isGuarded, isProcess, fileKind, processKind, noAtom, usedKind, kindIn}
 use Rattle.fields.specs.Bytes.{numberIn, bytesOf, field}
 use Rattle.image.specs.Policy.{Policy, unrestrictedRule}
 use Rattle.image.specs.Image.{policyIn}
@@ -27,7 +27,26 @@ use Rattle.matrix.specs.Verdicts.{ungranted, ungrantedFrom, consistent, matrixC
 use Rattle.derivation.specs.Derived.{writerMixtures, orAlone, permitOf, derivedImage}
 use Rattle.derivation.proofs.Theorems.{derived-read, derived-means}
 use Rattle.chains.specs.History.{read, append}
-use Rattle.chains.specs.Table.{freeRow, readRow, writeRow, appendRow, fitsNeed, entry, processGood, objectGood, kindGood, freeGood, userGood, behalfFits, fits, meetGood, earlyConditions, tableConditions, alerts, blocks, verdict}
+use Rattle.chains.specs.Table.{
+  freeRow,
+  readRow,
+  writeRow,
+  appendRow,
+  entry,
+  processGood,
+  objectGood,
+  kindGood,
+  freeGood,
+  userGood,
+  behalfFits,
+  fits,
+  meetGood,
+  earlyConditions,
+  tableConditions,
+  alerts,
+  blocks,
+  verdict,
+}
 use Rattle.records.specs.Codes.{stepWith, noRows, codeAt, isCode}
 use Rattle.records.specs.Records.{requestIn, stepIn, userFits, ownObject, numbersGood, recordGood, stepOf}
 use Rattle.operations.specs.View.{view}
@@ -110,11 +129,11 @@ session = ap (λ (p : Policy). sessionOf (meaning p)) (derived-read reads writes
 
 run : runAnswers (sessionOf (record { places = places; users = unrestrictedRule ∷ [] })) (front ++ (last ∷ [])) ≡ quiet 3 1 0 ∷ quiet 1 3 0 ∷ quiet 4 4 0 ∷ alert 1 7 255 ∷ []
 unfolding holds dataOf runningOf covers coverFrom coverPlace elem distinct heldIn unheldIn insert sort normal intersections meet unrestricted
-    sameList padded isFree isGuarded isFile isVolatile isProcess isStore numberIn bytesOf field unrestrictedRule
+    sameList padded kindIn isFree isGuarded isProcess numberIn bytesOf field unrestrictedRule
     ruleOf wordsOf allZero isNormal keptWell rowWords freeWords permitWords runWords
     rowOf usedKind behalfGood containerRowGood userWords isDeclared userRuleWords userRuleOf userRowGood containerRow userRow
     putRow startTag startRow placeWords filled sessionOf readRow writeRow appendRow fits
-    alerts blocks verdict every firstFailed freeRow fitsNeed entry stepWith noRows codeAt isCode stepIn view rowsGood
+    alerts blocks verdict every firstFailed freeRow entry stepWith noRows codeAt isCode stepIn view rowsGood
     processGood objectGood kindGood freeGood userGood behalfFits meetGood earlyConditions tableConditions sessionConditions
     madeAnswer madeEffect requestIn userFits ownObject numbersGood recordGood sessionLengthGood stepAsked stepConditions refusalOf
     stepAnswer stepEffect stepOn runAnswers countFrom permitOf writerMixtures orAlone has atom

@@ -18,7 +18,7 @@ use Rattle.rules.specs.Rules.{covers, normal, meet, unrestricted}
 use Rattle.rules.specs.Answers.{dataWidth, tagWidth}
 use Rattle.rules.proofs.SetLaws.{atom-le, atoms-holds, holds-all, holds-has, single-same, or-has, data-has}
 use Rattle.rules.proofs.RuleLaws.{covers-normal, covers-part, meet-self}
-use Rattle.image.specs.Limits.{fileKind, processKind, isGuarded, isFile, isVolatile, isStore, isProcess}
+use Rattle.image.specs.Limits.{fileKind, processKind, isGuarded, isProcess, kindIn, storeKinds}
 use Rattle.image.specs.Policy.{unrestrictedRule}
 use Rattle.image.proofs.WrittenMeaning.{normal-unrestricted}
 use Rattle.session.specs.Rows.{Row}
@@ -31,7 +31,26 @@ use Rattle.matrix.proofs.BitLaws.{has-atom, bits-has}
 use Rattle.derivation.specs.Derived.{permitOf}
 use Rattle.chains.specs.History.{Step, read, write, append, receiver}
 use Rattle.chains.specs.Demand.{judged}
-use Rattle.chains.specs.Table.{State, readRow, writeRow, appendRow, entry, fitsNeed, processGood, objectGood, kindGood, freeGood, userGood, behalfFits, fits, meetGood, earlyConditions, tableConditions, alerts, blocks, placed}
+use Rattle.chains.specs.Table.{
+  State,
+  readRow,
+  writeRow,
+  appendRow,
+  entry,
+  processGood,
+  objectGood,
+  kindGood,
+  freeGood,
+  userGood,
+  behalfFits,
+  fits,
+  meetGood,
+  earlyConditions,
+  tableConditions,
+  alerts,
+  blocks,
+  placed,
+}
 use Rattle.silence.specs.Silent.{sourcesOf, quietObject}
 use Rattle.silence.specs.Sessions.{Allowed, mayRead, mayWrite, mayAppend}
 
@@ -87,8 +106,8 @@ module _ (reads writes : List ℕ) (n : ℕ) (even : length writes ≡ length re
   flows s b k l m w (o, lo, r, c) = onward c m (or-1 (eqb o b) (subjectCarries reads writes o b) (carries reads writes s o b l even r w))
 
   module _ (σ : State) (H : Holding reads writes n σ) where
-    object-store : (b : ℕ) → b < n → isStore (σ .row b .kind) ≡ true
-    unfolding isStore isFile isVolatile
+    object-store : (b : ℕ) → b < n → kindIn storeKinds (σ .row b .kind) ≡ true
+    unfolding kindIn atom
     object-store b l = rw (H .object b l .kind) refl
 
     subject-process : (s : ℕ) → s < length reads → isProcess (σ .row (n + s) .kind) ≡ true
@@ -97,7 +116,7 @@ module _ (reads writes : List ℕ) (n : ℕ) (even : length writes ≡ length re
 
     -- nothing is refused
     pub passes : (t : Step) → Allowed reads writes n t → firstFailed (tableConditions σ t) ≡ 0
-    unfolding tableConditions earlyConditions firstFailed processGood kindGood freeGood objectGood userGood behalfFits meetGood entry fitsNeed every
+    unfolding tableConditions earlyConditions firstFailed processGood kindGood freeGood objectGood userGood behalfFits meetGood entry every
     passes (read p o) (mayRead {s} {k} l m h) =
         rw (subject-process s l, object-store k m, H .subject s l .run, H .object k m .run, unrestricted-meet, unrestricted-fits) refl
     passes (write p o) (mayWrite {s} {k} l m h) = rw (subject-process s l, object-store k m) refl

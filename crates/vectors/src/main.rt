@@ -1,7 +1,7 @@
 // The checked examples of the paper that are run and not proved; the listing is the watch program's.
 use image::HEADER_SIZE;
+use image::OUTPUT_BOUND;
 use libc::STDOUT_FILENO;
-use normaliser::OUTPUT_BOUND;
 use records::RECORD_LENGTH;
 use session::SESSION_LENGTH;
 

@@ -1,17 +1,14 @@
 -- The tests, one after the other, are those of `usedKind`.
-use mathlib.Core.Path.{sym, _∙_}
-use Rattle.image.specs.Limits.{usedKind}
 use borrow.Author.Needs.{needs}
+use Rattle.image.proofs.KindLaws.{used-tests}
 use Rattle.image.proofs.used_kind.Statement.{statement}
 use Rattle.image.proofs.used_kind.Tie as tie
 
 returns : tie.Need-returns
-unfolding usedKind
-returns c = rw (sym (c .before .is-store .ensures) ∙ c .if1 .taken)
+returns c = rw (used-tests, ← c .before .is-store .ensures, c .if1 .taken)
 
 returns-2 : tie.Need-returns-2
-unfolding usedKind
-returns-2 c = rw (sym (c .before .before .is-store .ensures) ∙ c .before .if1 .left) (c .is-process .ensures)
+returns-2 c = rw (used-tests, ← c .before .before .is-store .ensures, c .before .if1 .left) (c .is-process .ensures)
 
 pub used-kind-spec : {M : Type 1} → statement M
 used-kind-spec = tie.close (tie.spec (λ c κs. search needs) returns (λ c κs. search needs) returns-2)
