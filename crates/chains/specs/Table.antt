@@ -80,9 +80,8 @@ newVolatileRow = record { kind = volatileKind; tag = 0; permit = unrestrictedRul
 
 -- ---- the table: what a step names and needs, the meets that it forms, and the receiver's row afterwards
 
--- the column "o": what a step needs of its object, as the set of the kinds that serve; an end needs a process
-
--- "free"
+-- the column "o": what a step needs of its object is the set of the kinds that serve (crate image, specs/Limits); an end needs a process.
+-- "free": it needs a free row
 abbrev pub needsFree : ℕ → Bool
 needsFree kinds = eqb kinds freeKinds
 

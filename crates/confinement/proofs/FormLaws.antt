@@ -22,7 +22,7 @@ use Rattle.rules.specs.Rules.{normal}
 use Rattle.rules.specs.Answers.{mixtureLimit}
 use Rattle.normaliser.specs.Writer.{unowned, formWidth}
 use Rattle.normaliser.proofs.FormLaws.{row-long}
-use Rattle.image.specs.Limits.{noOwner}
+use Rattle.image.specs.Limits.{noOwner, fileKind}
 use Rattle.image.specs.Limits.{containerSize}
 use Rattle.image.specs.Policy.{Container}
 use Rattle.image.specs.Normal.{containerBytes}
@@ -134,7 +134,7 @@ forming-stop f count forms e = record { told = sym e; words = λ t. clash t refl
 -- ---- files
 
 abbrev pub file : ℕ → Container
-file k = record { kind = 1; atom = k; permit = 2 * k; run = 2 * k + 1 }
+file k = record { kind = fileKind; atom = k; permit = 2 * k; run = 2 * k + 1 }
 
 pub files-same : (k : ℕ) (qs : List (List ℕ)) → filesFrom k qs ≡ filesFrom k (replicate (length qs) [])
 unfolding filesFrom

@@ -9,7 +9,7 @@ use lib.Bits.{bitOr, or-lt}
 use lib.Dec.{eqb, ltb, leb}
 use lib.ListN.{length, replicate, length-append, length-replicate}
 use borrow.Author.Tests.{lt-ltb, leb-true}
-use Rattle.rules.specs.Sets.{atom}
+use Rattle.image.proofs.KindLaws.{file-accepted, process-accepted}
 use Rattle.lists.specs.Lists.{every, elem, known, position, sameList}
 use Rattle.lists.proofs.Bools.{and-in, and-0, and-1, or-0, or-1}
 use Rattle.lists.proofs.Elem.{elem-here, elem-there}
@@ -18,7 +18,7 @@ use Rattle.lists.proofs.Known.{position-lt}
 use Rattle.rules.specs.Rules.{normal, unrestricted}
 use Rattle.rules.specs.Answers.{dataWidth, tagWidth, mixtureLimit}
 use Rattle.rules.proofs.RuleLaws.{normal-among}
-use Rattle.image.specs.Limits.{isFile, isVolatile, isProcess, unrestrictedNumber, noOwner, kindIn}
+use Rattle.image.specs.Limits.{unrestrictedNumber, noOwner, noAtom, fileKind}
 use Rattle.image.specs.Policy.{unrestrictedRule, ownerGood, named, containerGood, ruleGood, Sound}
 use Rattle.profiles.specs.Profiles.{Mode, Profile}
 use Rattle.confinement.specs.Confinement.{pathsOf, someOf, reading, executing, writing, unconfined, inheriting, confined, modesOn, fileAtoms, atomsFrom, runMixture, programsWith, profilesAt, orElse, ifSome, permitMixtures, runMixtures, rulesFrom, rulesOf, filesFrom, initialProcess, profilePolicy}
@@ -157,18 +157,18 @@ module _ (ns : List (List ℕ)) (few : length ns ≤ dataWidth) (ps : List Profi
       (rules-good (suc k) qs (omega arith) (every-1 short (normal (runMixtures ns ps q)) (rulesFrom ns ps (suc k) qs) h1)))
 
 files-good : (n k : ℕ) (qs : List (List ℕ)) → k + length qs ≤ dataWidth → 2 * (k + length qs) ≤ n → every (containerGood n) (filesFrom k qs) ≡ true
-unfolding filesFrom containerGood isFile kindIn atom named
+unfolding filesFrom named
 files-good n k [] l h = every-nil (containerGood n)
 files-good n k (q ∷ qs) l h =
-    every-cons (containerGood n) (record { kind = 1; atom = k; permit = 2 * k; run = 2 * k + 1 }) (filesFrom (suc k) qs)
-    (and-in (or-0 (ltb k dataWidth) (eqb k 255) (lt-ltb k dataWidth (omega arith)))
-    (and-in (or-0 (ltb (2 * k) n) (eqb (2 * k) unrestrictedNumber) (lt-ltb (2 * k) n (omega arith)))
-    (or-0 (ltb (2 * k + 1) n) (eqb (2 * k + 1) unrestrictedNumber) (lt-ltb (2 * k + 1) n (omega arith)))))
+    every-cons (containerGood n) (record { kind = fileKind; atom = k; permit = 2 * k; run = 2 * k + 1 }) (filesFrom (suc k) qs)
+    (file-accepted n k (2 * k) (2 * k + 1) (or-0 (ltb k dataWidth) (eqb k noAtom) (lt-ltb k dataWidth (omega arith)))
+    (or-0 (ltb (2 * k) n) (eqb (2 * k) unrestrictedNumber) (lt-ltb (2 * k) n (omega arith)))
+    (or-0 (ltb (2 * k + 1) n) (eqb (2 * k + 1) unrestrictedNumber) (lt-ltb (2 * k + 1) n (omega arith))))
     (files-good n (suc k) qs (omega arith) (omega arith))
 
 process-good : (n : ℕ) → containerGood n initialProcess ≡ true
-unfolding containerGood initialProcess isFile kindIn atom isVolatile isProcess
-process-good n = refl
+unfolding initialProcess
+process-good n = process-accepted n
 
 -- nobody owns a rule
 pub profile-none : (ps : List Profile) → profilePolicy ps .owners ≡ replicate (length (profilePolicy ps .rules)) noOwner

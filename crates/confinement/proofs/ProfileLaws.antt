@@ -59,9 +59,9 @@ module _ (ns : List (List ℕ)) (ps : List Profile) (rules : List (List ℕ)) wh
       run : normalAt rules (2 * k + 1) ≡ normal (runMixtures ns ps q)
       run = rule-at rules (2 * k) 1 (runMixtures ns ps q) (omega arith) (ap (λ (l : List (List ℕ)). getD l 1 []) h)
 
-      here : _≡_ {A = Place} (record { kind = 1; atom = k; permit = normalAt rules (2 * k); run = normalAt rules (2 * k + 1) })
-          (record { kind = 1; atom = k; permit = normal (permitMixtures ns ps k q); run = normal (runMixtures ns ps q) })
-      here = λ i. record { kind = 1; atom = k; permit = permit i; run = run i }
+      here : _≡_ {A = Place} (record { kind = fileKind; atom = k; permit = normalAt rules (2 * k); run = normalAt rules (2 * k + 1) })
+          (record { kind = fileKind; atom = k; permit = normal (permitMixtures ns ps k q); run = normal (runMixtures ns ps q) })
+      here = λ i. record { kind = fileKind; atom = k; permit = permit i; run = run i }
 
       rest : drop (2 * suc k) rules ≡ rulesFrom ns ps (suc k) qs
       rest =
@@ -88,7 +88,7 @@ module _ (ps : List Profile) (ok : limitsGood ps ≡ true) where
       process : placeOf (rulesOf ps) initialProcess ≡ processPlace
       process =
           unfold placeOf initialProcess in
-          (λ i. record { kind = 3; atom = 255; permit = unrestricted-at (rulesOf ps) i; run = unrestricted-at (rulesOf ps) i })
+          (λ i. record { kind = processKind; atom = noAtom; permit = unrestricted-at (rulesOf ps) i; run = unrestricted-at (rulesOf ps) i })
 
   -- ---- its normal image
 

@@ -10,9 +10,9 @@ use lib.Bits.{bitOr, or-lt}
 use lib.Dec.{eqb, ltb}
 use lib.ListN.{length, getD, replicate, length-append, length-map, length-replicate}
 use borrow.Author.Tests.{le-leb, lt-ltb, ltb-true, ne-eqb}
-use Rattle.rules.specs.Sets.{atom}
+use Rattle.image.proofs.KindLaws.{file-accepted, process-accepted}
 use Rattle.lists.proofs.Bools.{and-in, or-0, or-1}
-use Rattle.image.specs.Limits.{isFile, isVolatile, isProcess, noOwner, headerSize, outputBound, kindIn}
+use Rattle.image.specs.Limits.{noOwner, headerSize, outputBound, unrestrictedNumber, noAtom, fileKind, processKind}
 use Rattle.normaliser.proofs.WriterLaws.{normal-long, normal-short}
 use Rattle.lists.specs.Lists.{every, elem}
 use Rattle.lists.specs.Counting.{countFrom}
@@ -29,7 +29,7 @@ use Rattle.image.proofs.WrittenOwners.{owned-ownable, policy-sound, policy-owns
 use Rattle.image.proofs.OwnerLaws.{owned-parts, none-used, none-written}
 use Rattle.lists.proofs.Every.{every-elem, every-0, every-1, every-nil, every-cons, every-imp, every-append, every-replicate}
 use Rattle.matrix.specs.Limits.{subjectLimit}
-use Rattle.rules.specs.Answers.{mixtureLimit}
+use Rattle.rules.specs.Answers.{mixtureLimit, dataWidth}
 use Rattle.matrix.specs.Flows.{has, rowsWithin}
 use Rattle.derivation.specs.Derived.{writerMixtures, orAlone, permitOf, objectFile, subjectProcess, derivedPolicy, derivedImage}
 use Rattle.matrix.proofs.GoodLaws.{Good}
@@ -108,10 +108,10 @@ map-at f k (suc n) (suc b) l = let e : suc k + b ≡ k + suc b = omega arith in 
 
 -- what is stated of object b, and of a subject
 abbrev pub filePlace : List ℕ → List ℕ → ℕ → Place
-filePlace reads writes b = record { kind = 1; atom = b; permit = normal (permitOf reads writes b); run = unrestrictedRule }
+filePlace reads writes b = record { kind = fileKind; atom = b; permit = normal (permitOf reads writes b); run = unrestrictedRule }
 
 abbrev pub processPlace : Place
-processPlace = record { kind = 3; atom = 255; permit = unrestrictedRule; run = unrestrictedRule }
+processPlace = record { kind = processKind; atom = noAtom; permit = unrestrictedRule; run = unrestrictedRule }
 
 -- nobody owns a rule
 pub derived-none : (reads writes : List ℕ) (objects : ℕ) → derivedPolicy reads writes objects .owners ≡ replicate (length (derivedPolicy reads writes objects .rules)) noOwner
@@ -149,14 +149,14 @@ module _ (reads writes : List ℕ) (objects : ℕ) (g : Good reads writes object
       (permit-data b l))
 
   file-good : (b : ℕ) → b < objects → containerGood objects (objectFile b) ≡ true
-  unfolding containerGood objectFile isFile kindIn atom named
+  unfolding objectFile named
   file-good b l =
-      and-in (or-0 (ltb b 32) (eqb b 255) (lt-ltb b 32 (omega (arith, g .few))))
-      (and-in (or-0 (ltb b objects) (eqb b 65535) (lt-ltb b objects l)) (or-1 (ltb 65535 objects) true refl))
+      file-accepted objects b b unrestrictedNumber (or-0 (ltb b dataWidth) (eqb b noAtom) (lt-ltb b dataWidth (omega (arith, g .few))))
+      (or-0 (ltb b objects) (eqb b unrestrictedNumber) (lt-ltb b objects l)) (or-1 (ltb unrestrictedNumber objects) true refl)
 
   process-good : containerGood objects subjectProcess ≡ true
-  unfolding containerGood subjectProcess isFile kindIn atom isVolatile isProcess
-  process-good = refl
+  unfolding subjectProcess
+  process-good = process-accepted objects
 
   rules-length : length (map (permitOf reads writes) (countFrom 0 objects)) ≡ objects
   rules-length = length-map (countFrom 0 objects) (permitOf reads writes) ∙ count-length 0 objects
@@ -238,12 +238,12 @@ module _ (reads writes : List ℕ) (objects : ℕ) (g : Good reads writes object
       file-place : (b : ℕ) → b < objects → placeOf (map (permitOf reads writes) (countFrom 0 objects)) (objectFile b) ≡ filePlace reads writes b
       file-place b l =
           unfold placeOf objectFile in
-          (λ i. record { kind = 1; atom = b; permit = rule-here b l i; run = rule-unrestricted i })
+          (λ i. record { kind = fileKind; atom = b; permit = rule-here b l i; run = rule-unrestricted i })
 
       process-place : placeOf (map (permitOf reads writes) (countFrom 0 objects)) subjectProcess ≡ processPlace
       process-place =
           unfold placeOf subjectProcess in
-          (λ i. record { kind = 3; atom = 255; permit = rule-unrestricted i; run = rule-unrestricted i })
+          (λ i. record { kind = processKind; atom = noAtom; permit = rule-unrestricted i; run = rule-unrestricted i })
 
       means : meaning (derivedPolicy reads writes objects)
           ≡ record {

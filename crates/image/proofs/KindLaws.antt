@@ -14,7 +14,7 @@ use borrow.Author.Tests.{eqb-true, eq-eqb, ne-eqb, ltb-true}
 use Rattle.rules.specs.Answers.{dataWidth}
 use Rattle.rules.specs.Sets.{atom}
 use Rattle.rules.proofs.SetLaws.{atom-above, single-same, single-other}
-use Rattle.lists.proofs.Bools.{and-0, and-1, or-0, or-1, or-cases, clash, refuted}
+use Rattle.lists.proofs.Bools.{and-in, and-0, and-1, or-0, or-1, or-cases, clash, refuted}
 use Rattle.lists.proofs.Places.{every-at}
 use Rattle.image.specs.Limits.{
   freeKind,
@@ -103,14 +103,23 @@ pub kind-used : (kinds k : ℕ) → kindIn kinds freeKind ≡ false → kindIn k
 unfolding isFree
 kind-used kinds k f h = ne-eqb k freeKind (λ e. clash h (ap (kindIn kinds) e ∙ f))
 
+-- there is one kind of processes
+pub process-is : (k : ℕ) → isProcess k ≡ true → k ≡ processKind
+unfolding isProcess
+process-is k e = eqb-true k processKind e
+
+pub is-process : (k : ℕ) → k ≡ processKind → isProcess k ≡ true
+unfolding isProcess
+is-process k e = eq-eqb k processKind e
+
 pub process-used : (k : ℕ) → isProcess k ≡ true → isFree k ≡ false
-unfolding isProcess isFree
-process-used k e = ne-eqb k freeKind (λ z. omega (arith, eqb-true k processKind e))
+unfolding isFree
+process-used k e = ne-eqb k freeKind (λ z. omega (arith, process-is k e))
 
 -- a process is not guarded
 pub process-free : (k : ℕ) → isProcess k ≡ true → isGuarded k ≡ false
-unfolding isProcess isGuarded
-process-free k e = ne-eqb k guardedKind (λ z. omega (arith, z, eqb-true k processKind e))
+unfolding isGuarded
+process-free k e = ne-eqb k guardedKind (λ z. omega (arith, z, process-is k e))
 
 pub guarded-used : (k : ℕ) → isGuarded k ≡ true → isFree k ≡ false
 unfolding isGuarded isFree
@@ -168,6 +177,16 @@ unfolding containerGood
 container-known n K h =
     shape-known (K .kind) ((ltb (K .atom) dataWidth || eqb (K .atom) noAtom) && (named n (K .permit) && named n (K .run)))
     (eqb (K .atom) noAtom && (eqb (K .permit) unrestrictedNumber && eqb (K .run) unrestrictedNumber)) h
+
+-- the record of a file is accepted by its atom and its rules, and that of a process
+pub file-accepted : (n a p r : ℕ) → (ltb a dataWidth || eqb a noAtom) ≡ true → named n p ≡ true → named n r ≡ true
+    → containerGood n (record { kind = fileKind; atom = a; permit = p; run = r }) ≡ true
+unfolding containerGood isFile kindIn atom
+file-accepted n a p r h k l = and-in h (and-in k l)
+
+pub process-accepted : (n : ℕ) → containerGood n (record { kind = processKind; atom = noAtom; permit = unrestrictedNumber; run = unrestrictedNumber }) ≡ true
+unfolding containerGood isFile kindIn atom isVolatile isProcess
+process-accepted n = refl
 
 -- its kind is one byte
 pub kind-low : (n : ℕ) (K : Container) → containerGood n K ≡ true → K .kind < 256 ^ size8

@@ -33,6 +33,7 @@ lastKind = guardedKind
 unfoldable pub kindIn : ℕ → ℕ → Bool
 kindIn kinds k = eqb (atom kinds k) 1
 
+-- what is no operation record needs none
 abbrev pub noKinds : ℕ
 noKinds = 0
 
@@ -48,6 +49,7 @@ fileKinds = 2 ^ fileKind + 2 ^ guardedKind
 abbrev pub storeKinds : ℕ
 storeKinds = fileKinds + 2 ^ volatileKind
 
+-- what an end needs: its own process
 abbrev pub processKinds : ℕ
 processKinds = 2 ^ processKind
 

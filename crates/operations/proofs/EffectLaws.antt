@@ -7,7 +7,7 @@ use native.Mathlib.Omega.{arith}
 use lib.Bits.{bitOr}
 use lib.Dec.{eqb}
 use lib.ListN.{length, getD, take, drop, replicate}
-use borrow.Author.Tests.{eq-eqb, le-leb, not-true, not-false}
+use borrow.Author.Tests.{le-leb, not-true, not-false}
 use borrow.Rule.Slice.PartMut.{putMid}
 use Rattle.lists.specs.Lists.{every}
 use Rattle.lists.proofs.Bools.{and-1}
@@ -21,7 +21,7 @@ use Rattle.rules.specs.Answers.{dataWidth, tagWidth, mixtureLimit, padded, boun
 use Rattle.rules.specs.declared.Bounded.{Bounded}
 use Rattle.rules.proofs.BoundedLaws.{bounded-some, padded-take}
 use Rattle.rules.proofs.CoverLaws.{place-missed, place-empty}
-use Rattle.image.specs.Limits.{containerLimit, userLimit, fileKind, volatileKind, processKind, isGuarded, isProcess}
+use Rattle.image.specs.Limits.{containerLimit, userLimit, fileKind, volatileKind, processKind, isGuarded}
 use Rattle.image.specs.Policy.{unrestrictedRule}
 use Rattle.rule_words.specs.Words.{ruleWidth, ruleOf, wordsOf}
 use Rattle.session.specs.Limits.{sessionLength, rowWidth, userWidth, usersAt, kindAt, permitAt, runAt, userRuleAt, nobody}
@@ -29,7 +29,7 @@ use Rattle.session.specs.Rows.{Row, rowOf, rowWords, freeWords, permitWords, ru
 use Rattle.session.proofs.PutLaws.{container-row-length, row-lent, row-returned}
 use Rattle.chains.specs.History.{Step, read, write, append, exec, fork, newFile, newVolatile, receiver}
 use Rattle.chains.specs.Demand.{judged}
-use Rattle.image.proofs.KindLaws.{process-free}
+use Rattle.image.proofs.KindLaws.{process-free, is-process}
 use Rattle.chains.specs.Table.{freeRow, readRow, writeRow, appendRow, execRow, forkRow, newFileRow, newVolatileRow, ruleOr, entry, fits, meetGood, alerts, blocks, verdict}
 use Rattle.operations.specs.View.{view}
 use Rattle.operations.specs.Effects.{madeAnswer, madeEffect}
@@ -120,8 +120,7 @@ bounded-rule r m e l = rw (e, bounded-some r (le-leb (length r) mixtureLimit l))
 
 -- a process is not guarded
 process-unguarded : (w : Row) → w .kind ≡ processKind → isGuarded (w .kind) ≡ false
-unfolding isProcess
-process-unguarded w e = process-free (w .kind) (eq-eqb (w .kind) processKind e)
+process-unguarded w e = process-free (w .kind) (is-process (w .kind) e)
 
 -- ---- the three ways in which an operation ends
 

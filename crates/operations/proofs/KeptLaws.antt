@@ -6,7 +6,8 @@ use mathlib.Core.Bool.{true}
 use mathlib.Core.List.{List, [], _∷_}
 use lib.Dec.{eqb}
 use lib.ListN.{length, getD, drop, length-take, length-drop}
-use borrow.Author.Tests.{eq-eqb, lt-ltb}
+use borrow.Author.Tests.{lt-ltb}
+use Rattle.image.proofs.KindLaws.{is-process}
 use Rattle.rules.specs.Sets.{atom}
 use Rattle.lists.specs.Lists.{every}
 use Rattle.lists.proofs.Bools.{and-0, and-in, or-1}
@@ -14,7 +15,7 @@ use Rattle.rules.specs.Rules.{normal, meet, intersections, unrestricted}
 use Rattle.rules.specs.Answers.{mixtureLimit, padded}
 use Rattle.rules.proofs.RuleLaws.{normal-normal}
 use Rattle.rules.proofs.MeetAll.{normal-one}
-use Rattle.image.specs.Limits.{userLimit, fileKind, volatileKind, processKind, isFree, isProcess, usedKind, kindIn}
+use Rattle.image.specs.Limits.{userLimit, fileKind, volatileKind, processKind, isFree, usedKind, kindIn}
 use Rattle.image.specs.Policy.{unrestrictedRule}
 use Rattle.rule_words.specs.Words.{ruleWidth, ruleOf, wordsOf, allZero}
 use Rattle.session.specs.Limits.{rowWidth, permitAt, nobody}
@@ -83,8 +84,8 @@ made w k p r b = laid-used w (record {
 
 -- a process may name any user's number
 user-behalf : (k u : ℕ) → k ≡ processKind → u < userLimit → behalfGood k u ≡ true
-unfolding behalfGood isProcess
-user-behalf k u e l = or-1 (eqb u nobody) _ (and-in (eq-eqb k processKind e) (lt-ltb u userLimit l))
+unfolding behalfGood
+user-behalf k u e l = or-1 (eqb u nobody) _ (and-in (is-process k e) (lt-ltb u userLimit l))
 
 -- ---- the rows and rules that a step finds
 

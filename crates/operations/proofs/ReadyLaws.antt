@@ -4,7 +4,6 @@ use mathlib.Core.Path.{_≡_, refl, sym, ap, _∙_}
 use mathlib.Core.Bool.{Bool, true, false, not, cond, _&&_, _||_}
 use mathlib.Core.List.{List}
 use mathlib.Core.Option.{some, none}
-use borrow.Author.Tests.{eqb-true}
 use Rattle.rules.specs.Sets.{atom}
 use Rattle.lists.specs.Lists.{elem}
 use Rattle.lists.specs.Conditions.{AllHold, firstFailed, numbersOf, numbersGood}
@@ -14,7 +13,7 @@ use Rattle.image.specs.Limits.{processKind, isProcess, kindIn, freeKind}
 use Rattle.session.specs.Rows.{Row, rowOf, userRuleOf, containerRow, userRow, containerRowGood, isDeclared}
 use Rattle.chains.specs.History.{Step, read, write, append, exec, fork, newFile, newVolatile, end, delete}
 use Rattle.chains.specs.Table.{State, needsFree, entry, isSome, processGood, objectGood, kindGood, freeGood, userGood, earlyConditions}
-use Rattle.image.proofs.KindLaws.{kind-used, process-used}
+use Rattle.image.proofs.KindLaws.{kind-used, process-used, process-is}
 use Rattle.operations.specs.View.{view}
 use Rattle.operations.specs.Effects.{userNamedGood, rowsGood}
 use Rattle.operations.specs.Parts.{firstConditions, Ready, UsedAt, DeclaredAt}
@@ -72,8 +71,8 @@ module _ (s : List ℕ) (t : Step) (h : Ready s t) where
   other-rows = and-1 (containerRowGood (containerRow s (entry (view s) t .process))) (found .rows)
 
   pub process-kind : view s .row (entry (view s) t .process) .kind ≡ processKind
-  unfolding processGood isProcess
-  process-kind = eqb-true (view s .row (entry (view s) t .process) .kind) processKind (found .process)
+  unfolding processGood
+  process-kind = process-is (view s .row (entry (view s) t .process) .kind) (found .process)
 
   pub ready-process : UsedAt s (entry (view s) t .process)
   unfolding processGood rowOf
