@@ -12,10 +12,9 @@ use Rattle.answers.specs.Tallies.{countOf}
 use Rattle.image.specs.Image.{checkOf}
 use Rattle.session.specs.Limits.{sessionLength}
 use Rattle.session.proofs.Canonical.{effect-start}
-use Rattle.monitor.proofs.PaperListing.{image, read-image}
+use Rattle.monitor.proofs.PaperListing.{image, read-image, traceBytes, given, answered}
 use Rattle.listing.specs.Text.{digit, digits, decimalIn, decimal}
 use Rattle.listing.specs.Lines.{line}
-use Rattle.trace_listing.proofs.Examples.{traceBytes, given, answered}
 use Rattle.figures.specs.Figures.{Figures, testAt, alertAt, figuresOf, noFigures, sumOf, tooMany}
 use Rattle.figures.specs.Lines.{nameOf, rateFields, containerFields, fieldsFrom, countFields, alertFields, figureFields, figuresLine, traceLine, totalLine}
 use Rattle.figures.specs.Months.{traceFigures, counting, traceLines, totalFigures, tracesText, monthText}

@@ -17,7 +17,7 @@ use Rattle.image.specs.Limits.{containerLimit}
 use Rattle.listing.specs.Text.{digits, decimal}
 use Rattle.listing.specs.Lines.{space, newline, line}
 use Rattle.listing.proofs.Theorems.{digit-code, decimal-fits}
-use Rattle.trace_listing.specs.Parts.{ListedText}
+use Rattle.listing.specs.Buffer.{ListedText}
 use Rattle.figures.specs.Figures.{Figures, countLimit, acceptedIn, alertsIn, tooMany}
 use Rattle.figures.specs.Lines.{nameOf, rateFields, containerFields, fieldsFrom, countFields, alertFields, figureFields, figuresLine, traceLine, totalLine}
 use Rattle.figures.specs.Counters.{Counters, figuresIn}

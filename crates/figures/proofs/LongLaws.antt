@@ -13,7 +13,7 @@ use Rattle.monitor.specs.Runs.{runAnswers}
 use Rattle.listing.specs.Text.{digit, decimalIn, decimal}
 use Rattle.listing.specs.Lines.{space, newline, line}
 use Rattle.listing.proofs.TextLaws.{decimal-some}
-use Rattle.trace_listing.proofs.CutLaws.{answers-length}
+use Rattle.monitor.proofs.TraceCuts.{answers-length}
 use Rattle.figures.specs.Figures.{Figures, acceptedIn, alertsIn, figuresOf, recordLimit, tooMany}
 use Rattle.figures.specs.Lines.{nameOf, rateFields, fieldsFrom, countFields, alertFields, figureFields, figuresLine, traceLine}
 use Rattle.figures.specs.Months.{traceFigures}

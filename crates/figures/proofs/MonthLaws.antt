@@ -17,9 +17,8 @@ use Rattle.records.proofs.TraceLaws.{records-append}
 use Rattle.monitor.specs.Runs.{runAnswers, runEffect}
 use Rattle.monitor.proofs.RunLaws.{runAnswers-append}
 use Rattle.listing.specs.Text.{decimal}
-use Rattle.trace_listing.proofs.CutLaws.{answers-length}
-use Rattle.trace_listing.specs.Listings.{partSession}
-use Rattle.trace_listing.specs.Parts.{WholeRecords, together}
+use Rattle.monitor.proofs.TraceCuts.{answers-length}
+use Rattle.monitor.specs.Parts.{partSession, WholeRecords, together}
 use Rattle.figures.specs.Figures.{Figures, countLimit, testAt, recordLimit, alertAt, figuresOf, noFigures, sumOf, tooMany}
 use Rattle.figures.specs.Lines.{nameOf, containerFields, fieldsFrom, countFields, alertFields, figureFields, figuresLine, traceLine, totalLine}
 use Rattle.figures.specs.Months.{traceFigures, counting, traceLines, totalFigures, traceLimit, tracesText}

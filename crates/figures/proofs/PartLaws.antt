@@ -14,7 +14,7 @@ use Rattle.records.specs.Traces.{traceRecords}
 use Rattle.records.proofs.TraceLaws.{next-record, no-record, record-length}
 use Rattle.monitor.specs.Steps.{stepAnswer, stepEffect}
 use Rattle.monitor.specs.Runs.{stepOn, runAnswers, runEffect}
-use Rattle.trace_listing.specs.Listings.{partSession}
+use Rattle.monitor.specs.Parts.{partSession}
 use Rattle.figures.specs.Figures.{countLimit, testAt}
 use Rattle.figures.specs.Counters.{Counters, valuesBelow, oneMore, oneAdded, counted, countedAll, partCounters}
 use Rattle.figures.proofs.CounterLaws.{values-list}

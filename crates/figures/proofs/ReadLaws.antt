@@ -10,7 +10,7 @@ use Rattle.image.specs.Image.{policyIn}
 use Rattle.session.specs.Session.{startOf}
 use Rattle.records.specs.Records.{recordLength}
 use Rattle.records.specs.Traces.{traceRecords}
-use Rattle.trace_listing.proofs.CutLaws.{answers-length}
+use Rattle.monitor.proofs.TraceCuts.{answers-length}
 use Rattle.figures.specs.Figures.{recordLimit, figuresOf, noFigures, sumOf, tooMany}
 use Rattle.figures.specs.Lines.{traceLine, totalLine}
 use Rattle.figures.specs.Months.{traceFigures, counting, traceLines, totalFigures, traceLimit, tracesText, monthText, TooLongFront, FrontsOf}

@@ -31,10 +31,9 @@ use Rattle.monitor.proofs.Theorems.{demand3}
 use Rattle.monitor.proofs.Guarded.{blocked-exactly}
 use Rattle.listing.specs.Text.{decimal}
 use Rattle.listing.specs.Lines as watched
-use Rattle.listing.specs.Lines.{line, policyLine}
-use Rattle.trace_listing.specs.Listings.{partTally, partSession, totalOf}
-use Rattle.trace_listing.specs.Parts.{together}
-use Rattle.trace_listing.proofs.CutLaws.{answers-length}
+use Rattle.listing.specs.Lines.{line, totalOf, policyLine}
+use Rattle.monitor.specs.Parts.{partTally, partSession, together}
+use Rattle.monitor.proofs.TraceCuts.{answers-length}
 use Rattle.figures.specs.Figures.{Figures, testAt, acceptedIn, alertsIn, refusedIn, blockedIn, alertAt, figuresOf, noFigures, sumOf, recordLimit, tooMany}
 use Rattle.figures.specs.Lines.{nameOf, rateFields, fieldsFrom, countFields, alertFields, figureFields, traceLine}
 use Rattle.figures.specs.Months.{traceFigures, counting, totalFigures, traceLimit, monthText, FrontsOf}

@@ -9,8 +9,7 @@ use Rattle.answers.specs.Answers.{isAlert, receiverOf}
 use Rattle.answers.specs.Tallies.{more}
 use Rattle.records.specs.Traces.{traceRecords}
 use Rattle.monitor.specs.Runs.{runAnswers}
-use Rattle.trace_listing.specs.Listings.{partSession}
-use Rattle.trace_listing.specs.Parts.{WholeRecords, together}
+use Rattle.monitor.specs.Parts.{partSession, WholeRecords, together}
 use Rattle.figures.specs.Figures.{Figures, countLimit, testAt, noFigures, sumOf, tooMany}
 use Rattle.figures.specs.Lines.{traceLine, totalLine}
 

@@ -8,19 +8,19 @@ ghost use Rattle.answers.specs.Refusals.{traceLength};
 ghost use Rattle.listing.specs.Text.{decimal};
 ghost use Rattle.listing.specs.Lines.{newline};
 ghost use Rattle.fields.specs.Writing.{Wrote};
-ghost use Rattle.trace_listing.specs.Listings.{partSession};
-ghost use Rattle.trace_listing.specs.Parts.{ListedText};
+ghost use Rattle.monitor.specs.Parts.{partSession};
+ghost use Rattle.listing.specs.Buffer.{ListedText};
 ghost use Rattle.figures.specs.Figures.{countLimit, testAt, tooMany};
 ghost use Rattle.figures.specs.Lines.{nameOf, rateFields, containerFields, traceLine, totalLine};
 ghost use Rattle.figures.specs.Counters.{counters, valuesBelow, oneAdded, countsWith, placesWith, counted, figuresIn, totalWith, partCounters};
 ghost use Rattle.figures.specs.Buffer.{leading, countsText, placesText, figuresText, fieldLimit, countsLimit, placesLimit, figuresLimit};
 use answers::Answer;
 use image::CONTAINER_LIMIT;
+use listing::BUFFER_SIZE;
 use listing::NEWLINE;
 use listing::SPACE;
 use std::num::wrapping_add_u32;
 use std::num::wrapping_add_u64;
-use trace_listing::BUFFER_SIZE;
 
 // The records of a trace at most.
 const RECORD_LIMIT: u64 = 1000000;

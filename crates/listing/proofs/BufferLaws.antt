@@ -8,7 +8,7 @@ use lib.ListN.{length, take, drop, set, length-append, length-drop, take-append-
 use lib.Seq.{length-take-le, take-at, drop-append-add, drop-drop, take-length}
 use Rattle.fields.specs.Writing.{overwritten, Wrote}
 use Rattle.fields.proofs.WritingLaws.{wrote-byte, wrote-as}
-use Rattle.listing.specs.Buffer.{WroteWithSpare}
+use Rattle.listing.specs.Buffer.{WroteWithSpare, ListedText, lineLimit}
 
 -- a text whose last bytes do not count
 spare-part : (x y b a : List ℕ) (at n k : ℕ) → at ≤ length b → Wrote (x ++ y) b a at n → length y ≤ k → WroteWithSpare x k b a at (at + length x)
@@ -96,3 +96,16 @@ pub spare-byte : {x b m : List ℕ} {at n k : ℕ} (d l : ℕ) → n < length m 
 spare-byte {m = m} {n = n} d l h f p =
     let g : n ≤ length m = omega arith in
     spare-join l f p (wrote-spare l g (wrote-byte d n m h))
+
+-- ---- a text at the front of a buffer
+
+-- one line is inside it
+pub line-listed : {text before after : List ℕ} {end : ℕ} → length text ≤ lineLimit → Wrote text before after 0 end → ListedText text before after end
+line-listed l h = record { front = h; room = omega (arith, h .ends) }
+
+-- the front of the buffer up to the end is the text
+pub listed-front : (text before after : List ℕ) (end : ℕ) → ListedText text before after end → take end after ≡ text
+unfolding Rattle.fields.specs.Writing.overwritten
+listed-front text before after end h =
+    let e : length text ≡ end = omega (arith, h .front .ends) in
+    ap (λ (l : List ℕ). take end l) (h .front .buffer) ∙ take-at text (drop (0 + length text) before) end e

@@ -5,14 +5,14 @@ use Prim.Native.Nat.{ℕ, _+_, _/_, _%_, _^_, _≤_, _<_}
 use native.Mathlib.Omega.{arith}
 use mathlib.Core.Path.{_≡_, refl}
 use mathlib.Core.List.{List, [], _∷_, _++_}
-use lib.ListN.{length, getD}
+use lib.ListN.{length, getD, take}
 use Rattle.fields.specs.Ascii.{ascii}
 use Rattle.answers.specs.declared.Answer.{Answer}
 use Rattle.answers.specs.Refusals.{operationRecord}
 use Rattle.answers.specs.Answers.{positionOf, refused}
 use Rattle.listing.specs.Text.{digit, decimalLimit, decimalIn, decimal, tagDigits, hexadecimal, decimalValue}
 use Rattle.listing.specs.Lines.{line, operationWord, verdictWord, answerWord, answerFields, heading, stepLine, shortLine, totalLine, policyLine}
-use Rattle.listing.specs.Buffer.{lineLimit, WroteWithSpare}
+use Rattle.listing.specs.Buffer.{lineLimit, WroteWithSpare, ListedText}
 use Rattle.fields.specs.Writing.{Wrote}
 use Rattle.listing.proofs.TextLaws as text
 use Rattle.listing.proofs.LineLaws as lines
@@ -84,3 +84,11 @@ spare-join = buffer.spare-join
 -- where there are none, every other byte is as it was
 pub spare-none : {x before after : List ℕ} {at next : ℕ} → WroteWithSpare x 0 before after at next → Wrote x before after at next
 spare-none = buffer.spare-none
+
+-- a line at the front of a buffer is inside it
+pub line-listed : {text before after : List ℕ} {end : ℕ} → length text ≤ lineLimit → Wrote text before after 0 end → ListedText text before after end
+line-listed = buffer.line-listed
+
+-- what is listed in front of a buffer is read there
+pub listed-front : (text before after : List ℕ) (end : ℕ) → ListedText text before after end → take end after ≡ text
+listed-front = buffer.listed-front

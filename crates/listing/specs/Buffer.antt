@@ -1,8 +1,9 @@
 -- What it is to write a part of a line, and how much room a line needs.
-use Prim.Native.Nat.{ℕ, _+_, _*_}
+use Prim.Native.Nat.{ℕ, _+_, _*_, _≤_}
 use mathlib.Core.Path.{_≡_}
 use mathlib.Core.List.{List, _++_}
 use lib.ListN.{length, take, drop}
+use Rattle.fields.specs.Writing.{Wrote}
 use Rattle.fields.specs.Bytes.{bytesOf}
 use Rattle.listing.specs.declared.Word.{Word}
 use Rattle.listing.specs.Text.{decimalLimit, tagDigits}
@@ -61,3 +62,13 @@ answerLimit = (verdictLimit + 1) + (decimalLimit + 1) + (tagDigits + 1) + (posit
 -- the most bytes of a line
 abbrev pub lineLimit : ℕ
 lineLimit = accessLimit + answerLimit
+
+-- ---- a buffer for lines
+
+abbrev pub bufferSize : ℕ
+bufferSize = 65536
+
+-- a text stands at the front of the buffer, every other byte is as it was, and it ends inside it
+pub record ListedText (text before after : List ℕ) (end : ℕ) : Type 0 where
+  pub front : Wrote text before after 0 end
+  pub room : end ≤ bufferSize

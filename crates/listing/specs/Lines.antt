@@ -3,6 +3,7 @@ use Prim.Native.Nat.{ℕ}
 use mathlib.Core.Bool.{cond}
 use mathlib.Core.List.{List, [], _∷_, _++_}
 use lib.Dec.{eqb}
+use Rattle.answers.specs.declared.Tally.{Tally}
 use Rattle.fields.specs.Ascii.{ascii}
 use Rattle.listing.specs.Text.{decimal, hexadecimal}
 use Rattle.answers.specs.declared.Verdict.{Verdict}
@@ -78,6 +79,10 @@ shortLine step = line (decimal step) (ascii "other 0 0 refused 7" ∷ [])
 unfoldable pub totalLine : ℕ → ℕ → ℕ → List ℕ
 totalLine records alerts refused =
     line (ascii "total") (decimal records ∷ ascii "alerts" ∷ decimal alerts ∷ ascii "refused" ∷ decimal refused ∷ [])
+
+-- the same of a tally
+unfoldable pub totalOf : Tally → List ℕ
+totalOf t = totalLine (t .records) (t .alerts) (t .refused)
 
 -- "A refused policy prints only `policy refused` and its number"
 unfoldable pub policyLine : ℕ → List ℕ

@@ -25,6 +25,9 @@ pub const SPACE: u8 = 32;
 
 pub const NEWLINE: u8 = 10;
 
+// The bytes of a buffer for lines: 512 lines of at most 122 bytes fit, and so does the longest line of figures.
+pub const BUFFER_SIZE: usize = 65536;
+
 // A text as it is given.
 pub fn put_text(out: &mut [u8], at: usize, text: &[u8]) -> usize
     requires { ⌜ at + length (now text) ≤ length (now out) ⌝ }

@@ -11,6 +11,7 @@ pub mod LeavingLaws
 pub mod UserLaws
 pub mod StartView
 pub mod RunLaws
+pub mod TraceCuts
 pub mod DemandLaws
 pub mod StopLoop
 pub mod StopLaws

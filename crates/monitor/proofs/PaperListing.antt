@@ -4,6 +4,8 @@ use Prim.Native.Nat.{ℕ}
 use mathlib.Core.Path.{_≡_, refl, ap, _∙_}
 use mathlib.Core.List.{List, [], _∷_, _++_}
 use lib.ListN.{length, replicate}
+use Rattle.answers.specs.declared.Answer.{Answer}
+use Rattle.records.specs.Traces.{traceRecords}
 use Rattle.rules.specs.Sets.{atom}
 use Rattle.image.specs.Limits.{isFile, isVolatile, isProcess, kindIn}
 use Rattle.fields.specs.Bytes.{numberIn, field, cut, records}
@@ -73,3 +75,21 @@ pub listing : runAnswers (startEffect image (replicate sessionLength 0)) trace
 listing =
     ap (λ (s : List ℕ). runAnswers s trace) (effect-start image (replicate sessionLength 0) (read-image .unrefused) .1 ∙ ap startOf (read-image .spelled))
     ∙ checked-runs .listing
+
+-- the bytes of the trace
+abbrev pub traceBytes : List ℕ
+traceBytes =
+    1 ∷ 0 ∷ 4 ∷ 0 ∷ 2 ∷ 0 ∷ 255 ∷ 255
+    ∷ 3 ∷ 0 ∷ 4 ∷ 0 ∷ 0 ∷ 0 ∷ 255 ∷ 255
+    ∷ 1 ∷ 0 ∷ 5 ∷ 0 ∷ 0 ∷ 0 ∷ 255 ∷ 255
+    ∷ 3 ∷ 0 ∷ 5 ∷ 0 ∷ 1 ∷ 0 ∷ 255 ∷ 255
+    ∷ 2 ∷ 0 ∷ 6 ∷ 0 ∷ 1 ∷ 0 ∷ 255 ∷ 255
+    ∷ 1 ∷ 0 ∷ 6 ∷ 0 ∷ 9 ∷ 0 ∷ 255 ∷ 255
+    ∷ []
+
+abbrev pub given : List Answer
+given = quiet 4 4 0 ∷ quiet 0 5 0 ∷ quiet 5 5 0 ∷ alert 1 7 255 ∷ quiet 1 0 0 ∷ refused 12 ∷ []
+
+pub answered : runAnswers (startOf (policyIn image)) (traceRecords traceBytes) ≡ given
+unfolding traceRecords cut
+answered = ap (λ p. runAnswers (startOf p) trace) (read-image .spelled) ∙ checked-runs .listing

@@ -18,9 +18,8 @@ use Rattle.session.specs.Limits.{sessionLength}
 use Rattle.session.specs.Session.{startOf, startEffect}
 use Rattle.session.proofs.Canonical.{started-effect}
 use Rattle.listing.specs.Lines.{policyLine}
-use Rattle.answers.specs.Tallies.{noTally}
-use Rattle.trace_listing.specs.Listings.{partSession}
-use Rattle.trace_listing.proofs.CutLaws.{session-cut}
+use Rattle.monitor.specs.Parts.{partSession}
+use Rattle.monitor.proofs.TraceCuts.{session-cut}
 use Rattle.figures.specs.Figures.{recordLimit, noFigures, figuresOf, tooMany}
 use Rattle.figures.specs.Lines.{nameOf, traceLine, totalLine}
 use Rattle.figures.specs.Months.{traceFigures, traceLines, totalFigures, traceLimit, tracesText, monthText}
@@ -78,7 +77,7 @@ module _ (name s begun s₁ part₁ : List ℕ) (c₁ : ℕ) (counts₁ places�
   now-leaves : s₂ ≡ partSession s (h .trace ++ take (got .size) part₂)
   now-leaves =
       e .1 ∙ ap (λ (z : List ℕ). partSession z (take (got .size) part₂)) (h .leaves)
-      ∙ sym (session-cut noTally s (h .trace) (take (got .size) part₂) (h .whole))
+      ∙ sym (session-cut s (h .trace) (take (got .size) part₂) (h .whole))
 
   now-counts : counters c₂ counts₂ places₂ ≡ partCounters noCounters s (h .trace ++ take (got .size) part₂)
   now-counts =

@@ -14,8 +14,8 @@ ghost use Rattle.month.specs.Runs.{TraceCounted, TraceShown, TracesShown
 use figures::COUNT_LIMIT;
 use figures::TRACE_LIMIT;
 use image::CONTAINER_LIMIT;
+use listing::BUFFER_SIZE;
 use session::SESSION_LENGTH;
-use trace_listing::BUFFER_SIZE;
 
 // One byte more than a policy may have: a longer file is refused for its length and not read further.
 const POLICY_ROOM: usize = image::IMAGE_LIMIT + 1;

@@ -1,7 +1,8 @@
 -- What a reader must believe of this crate: Normaliser, and Writer, what a producer of a policy hands over and is answered.
--- Tables, Keys and Sections name what private functions keep and write on the way there.
 pub mod Normaliser
 pub mod Writer
+-- Private contracts, which nothing public cites: the tables of the writer, how equal rules are found, and the sections that are
+-- written.
 pub mod Tables
 pub mod Keys
 pub mod Sections

@@ -1,4 +1,5 @@
--- What a reader must believe of this crate: View and Effects. Parts has the contracts of private functions.
+-- What a reader must believe of this crate: View and Effects.
 pub mod View
 pub mod Effects
+-- Private contracts, which nothing public cites: what is tested before a meet is formed, and the parts of an operation.
 pub mod Parts

@@ -1,48 +1,34 @@
-// The text of profiles (change request No. 1): the test of a text, and its lines one by one.
+// The text of profiles (change request No. 1): the test of a text, and the numbers of its lines. The module scanning has the line at a
+// place, notes the paths that are profiled.
 ghost use mathlib.Core.Path.{_≡_};
-ghost use mathlib.Core.Logic.{_≢_};
 ghost use mathlib.Core.Bool.{true};
-ghost use mathlib.Core.List.{map};
 ghost use Prim.Native.Nat.{_+_, _*_, _≤_, _<_};
-ghost use lib.ListN.{length, getD, take, drop, replicate};
-ghost use Rattle.lists.specs.Lists.{every, sameList, position};
-ghost use Rattle.profiles.specs.Profiles.{isBetween, isPathByte, pathGood};
-ghost use Rattle.profiles.specs.Tokens.{starts};
-ghost use Rattle.profiles.specs.Reading.{pathIn, readingOf};
+ghost use lib.ListN.{length, replicate};
+ghost use Rattle.profiles.specs.Reading.{readingOf};
 ghost use Rattle.profiles.specs.Texts.{textLimit, readsWell, textGood};
-ghost use Rattle.profiles.specs.Notes.{lengthLimit, pathKey, notedPath, noteGood, PathAt, ToNote, notedPlace, withNote};
-ghost use Rattle.profiles.specs.Scanning.{withX, modeAt, modesAt, noScan, lineAt, letterP, closingBrace, modesLimit};
+ghost use Rattle.profiles.specs.Notes.{lengthLimit};
+ghost use Rattle.profiles.specs.Scanning.{modesLimit};
 ghost use Rattle.profiles.specs.LineWords.{lineWord, namedPath, wordLimit, mayStand, noText, Judged, scannedOf, tableOf, profileLeast, entryLeast, shortLimit};
+
+mod notes;
+mod scanning;
 
 // ---- the bytes and numbers of the format
 
 // The most bytes of a text.
 pub const TEXT_LIMIT: usize = 16384;
 
-// The places of a text, of which a note has one.
-const NOTE_PLACES: u64 = TEXT_LIMIT as u64;
-
-// The key of a path: above every length, the factor of the sum, and its limit.
-const LENGTH_LIMIT: u64 = 128;
-
-const KEY_FACTOR: u64 = 1000003;
-
-const KEY_LIMIT: u64 = 1 << 42;
-
-const DOT: u8 = b'.';
-
-const SLASH: u8 = b'/';
-
-const P: u8 = b'p';
-
-const X: u8 = b'x';
-
-const BRACE: u8 = b'}';
-
 // The least and the most bytes of a path.
-const PATH_LEAST: usize = 2;
+pub const PATH_LEAST: usize = 2;
 
-const PATH_MOST: usize = 64;
+pub const PATH_MOST: usize = 64;
+
+// The bytes of `profile ` before a path, of ` {` and byte 10 behind it, and of `,` or `}` and byte 10.
+pub const WORD_LENGTH: usize = 8;
+
+pub const PROFILE_END: usize = 3;
+
+pub const LINE_END: usize = 2;
 
 // The bits of the modes r, w, a, l, m, ix, px, Px, ux, Ux.
 pub const MODE_R: u64 = 1;
@@ -65,96 +51,7 @@ pub const MODE_UX: u64 = 256;
 
 pub const MODE_UX_SCRUBBED: u64 = 512;
 
-// ---- bytes
-
-// The byte at a place, 0 behind the end.
-fn byte(text: &[u8], at: usize) -> u8
-    ensures { λ r. ⌜ r ≡ getD (now (text .entry)) at 0 ⌝ }
-{
-    if at < text.len() {
-        return text[at];
-    }
-    0
-}
-
-// The word stands at a place.
-fn starts(text: &[u8], at: usize, word: &[u8]) -> bool
-    requires { ⌜ at ≤ length (now text) ⌝ }
-    ensures { λ r. ⌜ r ≡ starts (now (word .entry)) (drop at (now (text .entry))) ⌝ }
-{
-    if text.len() - at < word.len() {
-        return false;
-    }
-    let mut i = 0;
-    while i < word.len() {
-        if text[at + i] != word[i] {
-            return false;
-        }
-        i += 1;
-    }
-    true
-}
-
-fn is_between(low: u8, high: u8, b: u8) -> bool
-    ensures { λ r. ⌜ r ≡ isBetween low high b ⌝ }
-{
-    if b < low {
-        return false;
-    }
-    b <= high
-}
-
-// A small letter, a capital, a digit, a dot or a slash.
-fn is_path_byte(b: u8) -> bool
-    ensures { λ r. ⌜ r ≡ isPathByte b ⌝ }
-{
-    if is_between(b'a', b'z', b) {
-        return true;
-    }
-    if is_between(b'A', b'Z', b) {
-        return true;
-    }
-    if is_between(b'0', b'9', b) {
-        return true;
-    }
-    if b == DOT {
-        return true;
-    }
-    b == SLASH
-}
-
-// ---- paths
-
-// The place behind the bytes of a path.
-fn path_end(text: &[u8], at: usize) -> usize
-    requires { ⌜ at ≤ length (now text) ⌝ }
-    ensures { λ r. ⌜ r ≡ at + length (pathIn (drop at (now (text .entry)))) ⌝ }
-{
-    let mut i = at;
-    while i < text.len() {
-        if !is_path_byte(text[i]) {
-            return i;
-        }
-        i += 1;
-    }
-    i
-}
-
-// A slash and 1 to 63 bytes behind it, `end` being the place behind the bytes of a path.
-fn path_good(text: &[u8], at: usize, end: usize) -> bool
-    requires { ⌜ end ≡ at + length (pathIn (drop at (now text))) ⌝ }
-    ensures { λ r. ⌜ r ≡ pathGood (pathIn (drop at (now (text .entry)))) ⌝ }
-{
-    if byte(text, at) != SLASH {
-        return false;
-    }
-    if end - at < PATH_LEAST {
-        return false;
-    }
-    end - at <= PATH_MOST
-}
-
-// ---- modes
+// ---- what is scanned
 
 // A mode's bit and its length; 0 and 0 where there is no mode.
 pub struct ScannedMode {
@@ -168,93 +65,14 @@ pub struct ScannedModes {
     pub next: usize,
 }
 
-// The mode of two letters that has this bit, if the second is x.
-fn with_x(second: u8, bit: u64) -> ScannedMode
-    ensures { λ r. ⌜ r ≡ withX second bit ⌝ }
-{
-    if second == X {
-        return ScannedMode { bit: bit, width: 2 };
-    }
-    ScannedMode { bit: 0, width: 0 }
-}
-
-// The mode at a place.
-fn mode_at(text: &[u8], at: usize) -> ScannedMode
-    requires { ⌜ at < length (now text) ⌝ }
-    ensures { λ r. ⌜ r ≡ modeAt (now (text .entry)) at ⌝ }
-{
-    let second = byte(text, at + 1);
-    match byte(text, at) {
-        b'r' => ScannedMode {
-            bit: MODE_R,
-            width: 1,
-        },
-        b'w' => ScannedMode {
-            bit: MODE_W,
-            width: 1,
-        },
-        b'a' => ScannedMode {
-            bit: MODE_A,
-            width: 1,
-        },
-        b'l' => ScannedMode {
-            bit: MODE_L,
-            width: 1,
-        },
-        b'm' => ScannedMode {
-            bit: MODE_M,
-            width: 1,
-        },
-        b'i' => with_x(second, MODE_IX),
-        b'p' => with_x(second, MODE_PX),
-        b'P' => with_x(second, MODE_PX_SCRUBBED),
-        b'u' => with_x(second, MODE_UX),
-        b'U' => with_x(second, MODE_UX_SCRUBBED),
-        _ => ScannedMode { bit: 0, width: 0 },
-    }
-}
-
-// The modes at a place.
-fn modes_at(text: &[u8], at: usize) -> ScannedModes
-    requires { ⌜ at ≤ length (now text) ⌝ }
-    ensures { λ r. ⌜ r ≡ modesAt (now (text .entry)) at ⌝ }
-{
-    let mut i = at;
-    let mut bits: u64 = 0;
-    while i < text.len() {
-        let mode = mode_at(text, i);
-        if mode.width == 0 {
-            return ScannedModes {
-                bits: bits,
-                next: i,
-            };
-        }
-        i += mode.width;
-        bits = bits | mode.bit;
-    }
-    ScannedModes {
-        bits: bits,
-        next: i,
-    }
-}
-
-// ---- lines
-
-// The bytes of `profile ` before a path, of ` {` and byte 10 behind it, and of `,` or `}` and byte 10.
-const WORD_LENGTH: usize = 8;
-
-const PROFILE_END: usize = 3;
-
-const LINE_END: usize = 2;
-
 // What a line is: nothing of the grammar, or one of its three.
-const NO_LINE: usize = 0;
+pub const NO_LINE: usize = 0;
 
-const PROFILE_LINE: usize = 1;
+pub const PROFILE_LINE: usize = 1;
 
-const ENTRY_LINE: usize = 2;
+pub const ENTRY_LINE: usize = 2;
 
-const END_LINE: usize = 3;
+pub const END_LINE: usize = 3;
 
 // A line: what it is, where its path begins and how long that is, the bits of its modes, and where the next line begins.
 pub struct ScannedLine {
@@ -265,106 +83,10 @@ pub struct ScannedLine {
     pub next: usize,
 }
 
-fn no_line() -> ScannedLine
-    ensures { λ r. ⌜ r ≡ noScan ⌝ }
-{
-    ScannedLine {
-        kind: NO_LINE,
-        path: 0,
-        length: 0,
-        modes: 0,
-        next: 0,
-    }
-}
-
-// The line `profile PATH {` at a place that has the letter p.
-fn profile_line(text: &[u8], at: usize) -> ScannedLine
-    requires { ⌜ (at ≤ length (now text)) × (getD (now text) at 0 ≡ letterP) ⌝ }
-    ensures { λ r. ⌜ r ≡ lineAt (now (text .entry)) at ⌝ }
-{
-    if !starts(text, at, b"profile ") {
-        return no_line();
-    }
-    let path = at + WORD_LENGTH;
-    let end = path_end(text, path);
-    if !path_good(text, path, end) {
-        return no_line();
-    }
-    if !starts(text, end, b" {\n") {
-        return no_line();
-    }
-    ScannedLine {
-        kind: PROFILE_LINE,
-        path: path,
-        length: end - path,
-        modes: 0,
-        next: end + PROFILE_END,
-    }
-}
-
-// The line `PATH MODES,` at a place.
-fn entry_line(text: &[u8], at: usize) -> ScannedLine
-    requires { ⌜ (at ≤ length (now text)) × (getD (now text) at 0 ≢ letterP) × (getD (now text) at 0 ≢ closingBrace) ⌝ }
-    ensures { λ r. ⌜ r ≡ lineAt (now (text .entry)) at ⌝ }
-{
-    let end = path_end(text, at);
-    if !path_good(text, at, end) {
-        return no_line();
-    }
-    if !starts(text, end, b" ") {
-        return no_line();
-    }
-    let first = end + 1;
-    let modes = modes_at(text, first);
-    let next = modes.next;
-    if next == first {
-        return no_line();
-    }
-    if !starts(text, next, b",\n") {
-        return no_line();
-    }
-    ScannedLine {
-        kind: ENTRY_LINE,
-        path: at,
-        length: end - at,
-        modes: modes.bits,
-        next: next + LINE_END,
-    }
-}
-
-// The line `}` at a place that has this byte.
-fn end_line(text: &[u8], at: usize) -> ScannedLine
-    requires { ⌜ (at ≤ length (now text)) × (getD (now text) at 0 ≡ closingBrace) ⌝ }
-    ensures { λ r. ⌜ r ≡ lineAt (now (text .entry)) at ⌝ }
-{
-    if !starts(text, at, b"}\n") {
-        return no_line();
-    }
-    ScannedLine {
-        kind: END_LINE,
-        path: at,
-        length: 0,
-        modes: 0,
-        next: at + LINE_END,
-    }
-}
-
-// The line at a place.
-fn line_at(text: &[u8], at: usize) -> ScannedLine
-    requires { ⌜ at ≤ length (now text) ⌝ }
-    ensures { λ r. ⌜ r ≡ lineAt (now (text .entry)) at ⌝ }
-{
-    let first = byte(text, at);
-    if first == P {
-        return profile_line(text, at);
-    }
-    if first == BRACE {
-        return end_line(text, at);
-    }
-    entry_line(text, at)
-}
-
 // ---- lines that name a path
+
+// Above the length of every path.
+pub const LENGTH_LIMIT: u64 = 128;
 
 // The places of a text and the lengths of a path, in the number of a line.
 const PLACES: u32 = TEXT_LIMIT as u32;
@@ -403,79 +125,6 @@ pub fn named_path(word: u32) -> NamedPath
         size: (word / PLACES % LENGTHS) as usize,
         modes: (word / (PLACES * LENGTHS)) as u64,
     }
-}
-
-// ---- paths profiled twice
-
-// Two texts are the same.
-fn same(a: &[u8], b: &[u8]) -> bool
-    ensures { λ r. ⌜ r ≡ sameList (now (a .entry)) (now (b .entry)) ⌝ }
-{
-    if a.len() != b.len() {
-        return false;
-    }
-    let mut i = 0;
-    while i < a.len() {
-        if a[i] != b[i] {
-            return false;
-        }
-        i += 1;
-    }
-    true
-}
-
-// The key of a path: its length, and a sum of its bytes.
-fn path_key(path: &[u8]) -> u64
-    ensures { λ r. ⌜ r ≡ pathKey (now (path .entry)) ⌝ }
-{
-    let mut sum: u64 = 0;
-    let mut i = 0;
-    while i < path.len() {
-        sum = (sum * KEY_FACTOR + path[i] as u64) % KEY_LIMIT;
-        i += 1;
-    }
-    (path.len() as u64) + LENGTH_LIMIT * sum
-}
-
-// The note is of the path at a place.
-fn is_noted(text: &[u8], note: u64, at: usize, length: usize, key: u64) -> bool
-    requires { ⌜ PathAt (now text) at length key × (noteGood (now text) note ≡ true) ⌝ }
-    ensures { λ r. ⌜ r ≡ sameList (take length (drop at (now (text .entry)))) (notedPath (now (text .entry)) note) ⌝ }
-{
-    if note / NOTE_PLACES != key {
-        return false;
-    }
-    let other = (note % NOTE_PLACES) as usize;
-    same(&text[at..at + length], &text[other..other + length])
-}
-
-// The place of the path among those of the notes, their number if none is of it.
-fn find_path(text: &[u8], notes: &[u64], at: usize, length: usize, key: u64) -> usize
-    requires { ⌜ PathAt (now text) at length key × (every (noteGood (now text)) (now notes) ≡ true) ⌝ }
-    ensures { λ r. ⌜ r ≡ position (take length (drop at (now (text .entry)))) (map (notedPath (now (text .entry))) (now (notes .entry))) ⌝ }
-{
-    let mut j = 0;
-    while j < notes.len() {
-        if is_noted(text, notes[j], at, length, key) {
-            return j;
-        }
-        j += 1;
-    }
-    j
-}
-
-// The place of the path among those of the first `count` notes; if none is of it, that is `count`, and it is noted there.
-fn note_path(text: &[u8], notes: &mut [u64], count: usize, at: usize, length: usize) -> usize
-    requires { ⌜ ToNote (now text) (now notes) count at length ⌝ }
-    ensures { λ r. ⌜ (r ≡ notedPlace (now (text .entry)) (now (notes .entry)) count at length) × (now (notes .exit) ≡ withNote (now (text .entry)) (now (notes .entry)) count at length) ⌝ }
-{
-    let key = path_key(&text[at..at + length]);
-    let place = find_path(text, &notes[0..count], at, length, key);
-    if place < count {
-        return place;
-    }
-    notes[count] = key * NOTE_PLACES + at as u64;
-    place
 }
 
 // ---- the text
@@ -526,14 +175,14 @@ fn scan_lines(text: &[u8], notes: &mut [u64], words: &mut [u32]) -> ScannedText
     let mut count = 0;
     let mut inside = false;
     while at < text.len() {
-        let line = line_at(text, at);
+        let line = scanning::line_at(text, at);
         if !may_stand(line.kind, inside) {
             return no_text();
         }
         words[count] = line_word(line);
         at = line.next;
         if line.kind == PROFILE_LINE {
-            if note_path(text, notes, profiles, line.path, line.length) < profiles {
+            if notes::note_path(text, notes, profiles, line.path, line.length) < profiles {
                 return no_text();
             }
             profiles += 1;

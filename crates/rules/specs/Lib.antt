@@ -3,4 +3,5 @@ pub mod Sets
 pub mod Rules
 pub mod Order
 pub mod Answers
+-- Private contracts, which nothing public cites: how the normal form is made.
 pub mod Sieve

@@ -7,7 +7,6 @@ use mathlib.Core.List.{List, [], _++_, append-assoc, append-nil}
 use lib.Dec.{eqb}
 use borrow.Author.Tests.{eq-eqb, ne-eqb}
 use lib.ListN.{length, take, drop, length-take, length-drop}
-use lib.Seq.{take-at}
 use Rattle.answers.specs.declared.Answer.{Answer}
 use Rattle.answers.specs.declared.Tally.{Tally}
 use Rattle.answers.specs.Tallies.{more, countedAll}
@@ -19,14 +18,15 @@ use Rattle.records.specs.Traces.{traceRecords}
 use Rattle.records.proofs.TraceLaws.{next-record, no-record, record-length}
 use Rattle.monitor.specs.Steps.{stepAnswer, stepEffect}
 use Rattle.monitor.specs.Runs.{stepOn, runAnswers, runEffect}
-use Rattle.listing.specs.Buffer.{lineLimit}
+use Rattle.monitor.specs.Parts.{partTally, partSession}
+use Rattle.listing.specs.Buffer.{lineLimit, bufferSize}
 use Rattle.answers.specs.Answers.{positionOf}
 use Rattle.monitor.proofs.PositionLaws.{small}
 use Rattle.listing.specs.Lines.{stepLine, shortLine}
 use Rattle.listing.proofs.Theorems.{step-fits, short-fits}
 use Rattle.trace_listing.specs.declared.Listed.{Listed}
-use Rattle.trace_listing.specs.Listings.{recordLine, linesOf, partText, partTally, partSession}
-use Rattle.trace_listing.specs.Parts.{partLimit, bufferSize, ListedText, ListedRecord, ListedPart}
+use Rattle.trace_listing.specs.Listings.{recordLine, linesOf, partText}
+use Rattle.trace_listing.specs.Parts.{partLimit, ListedRecord, ListedPart}
 
 -- ---- the line of a record
 
@@ -140,15 +140,3 @@ listing-end part t₀ s₀ before s out run at h l =
       counts = rw (no-record part at l) at (h .counts);
       leaves = rw (no-record part at l) at (h .leaves);
     }
-
--- ---- one line at the front of the buffer
-
-pub line-listed : {text before after : List ℕ} {end : ℕ} → length text ≤ lineLimit → Wrote text before after 0 end → ListedText text before after end
-line-listed l h = record { front = h; room = omega (arith, h .ends) }
-
--- the front of the buffer up to the end is the text
-pub listed-front : (text before after : List ℕ) (end : ℕ) → ListedText text before after end → take end after ≡ text
-unfolding Rattle.fields.specs.Writing.overwritten
-listed-front text before after end h =
-    let e : length text ≡ end = omega (arith, h .front .ends) in
-    ap (λ (l : List ℕ). take end l) (h .front .buffer) ∙ take-at text (drop (0 + length text) before) end e

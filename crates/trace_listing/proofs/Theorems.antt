@@ -16,11 +16,14 @@ use Rattle.session.specs.Session.{startOf}
 use Rattle.records.specs.Records.{recordLength}
 use Rattle.monitor.specs.Steps.{stepAnswer, stepEffect}
 use Rattle.monitor.specs.Runs.{stepOn, runAnswers, runEffect}
-use Rattle.listing.specs.Lines.{heading, policyLine}
-use Rattle.trace_listing.specs.Listings.{recordLine, linesOf, partText, partTally, partSession, totalOf, listingOf}
-use Rattle.trace_listing.specs.Parts.{partLimit, WholeRecords, together, partsText, partsTally, partsSession}
+use Rattle.monitor.specs.Parts.{partTally, partSession, WholeRecords, together, partsTally, partsSession}
+use Rattle.monitor.proofs.TraceCuts as cuts
+use Rattle.monitor.proofs.TraceCuts.{answers-length, tally-parts, session-parts}
+use Rattle.listing.specs.Lines.{heading, totalOf, policyLine}
+use Rattle.trace_listing.specs.Listings.{recordLine, linesOf, partText, listingOf}
+use Rattle.trace_listing.specs.Parts.{partLimit, partsText}
 use Rattle.trace_listing.proofs.CutLaws as cut
-use Rattle.trace_listing.proofs.CutLaws.{run-lines, answers-length, text-parts, tally-parts, session-parts}
+use Rattle.trace_listing.proofs.CutLaws.{run-lines, text-parts}
 
 -- ---- a trace in parts
 
@@ -44,10 +47,10 @@ module _ (t : Tally) (s x y : List ℕ) (h : length x % recordLength ≡ 0) wher
   text-cut = cut.text-cut t s x y h
 
   pub tally-cut : partTally t s (x ++ y) ≡ partTally (partTally t s x) (partSession s x) y
-  tally-cut = cut.tally-cut t s x y h
+  tally-cut = cuts.tally-cut s x y h t
 
   pub session-cut : partSession s (x ++ y) ≡ partSession (partSession s x) y
-  session-cut = cut.session-cut t s x y h
+  session-cut = cuts.session-cut s x y h
 
 -- So a part that is full is of whole records: only one that is not can end with a short one.
 pub full-part : (part : List ℕ) → length part ≡ partLimit → length part % recordLength ≡ 0

@@ -6,13 +6,14 @@ use lib.Dec.{eqb}
 use lib.ListN.{length}
 use Rattle.answers.specs.declared.Answer.{Answer}
 use Rattle.answers.specs.declared.Tally.{Tally}
-use Rattle.answers.specs.Tallies.{more, noTally, counted, countedAll}
+use Rattle.answers.specs.Tallies.{more, noTally, counted}
 use Rattle.image.specs.Image.{checkOf, policyIn}
 use Rattle.session.specs.Session.{startOf}
 use Rattle.records.specs.Records.{recordLength, requestIn}
 use Rattle.records.specs.Traces.{traceRecords}
-use Rattle.monitor.specs.Runs.{runAnswers, runEffect}
-use Rattle.listing.specs.Lines.{heading, stepLine, shortLine, totalLine, policyLine}
+use Rattle.monitor.specs.Runs.{runAnswers}
+use Rattle.monitor.specs.Parts.{partTally}
+use Rattle.listing.specs.Lines.{heading, stepLine, shortLine, totalOf, policyLine}
 
 -- ---- the line of a record
 
@@ -35,17 +36,7 @@ linesOf t (r ∷ rs) (a ∷ given) = recordLine (more (t .records)) r a ++ lines
 unfoldable pub partText : Tally → List ℕ → List ℕ → List ℕ
 partText t s part = linesOf t (traceRecords part) (runAnswers s (traceRecords part))
 
-unfoldable pub partTally : Tally → List ℕ → List ℕ → Tally
-partTally t s part = countedAll t (runAnswers s (traceRecords part))
-
-unfoldable pub partSession : List ℕ → List ℕ → List ℕ
-partSession s part = runEffect s (traceRecords part)
-
 -- ---- the whole listing
-
--- "the last gives the number of records, alerts and refusals"
-unfoldable pub totalOf : Tally → List ℕ
-totalOf t = totalLine (t .records) (t .alerts) (t .refused)
 
 -- "The first line names the fields"; "A refused policy prints only `policy refused` and its number."
 unfoldable pub listingOf : List ℕ → List ℕ → List ℕ

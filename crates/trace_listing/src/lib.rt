@@ -3,19 +3,19 @@ ghost use mathlib.Core.Path.{_≡_};
 ghost use Prim.Native.Nat.{_+_, _≤_};
 ghost use lib.ListN.{length, take};
 ghost use Rattle.fields.specs.Writing.{Wrote};
-ghost use Rattle.listing.specs.Buffer.{lineLimit};
-ghost use Rattle.listing.specs.Lines.{heading, policyLine};
-ghost use Rattle.trace_listing.specs.Listings.{recordLine, totalOf};
-ghost use Rattle.trace_listing.specs.Parts.{partLimit, bufferSize, ListedText, ListedRecord, ListedPart};
+ghost use Rattle.listing.specs.Buffer.{lineLimit, bufferSize, ListedText};
+ghost use Rattle.listing.specs.Lines.{heading, totalOf, policyLine};
+ghost use Rattle.trace_listing.specs.Listings.{recordLine};
+ghost use Rattle.trace_listing.specs.Parts.{partLimit, ListedRecord, ListedPart};
 use answers::Answer;
 use answers::Tally;
+use listing::BUFFER_SIZE;
 use records::RECORD_LENGTH;
 
-// The bytes of a part at most: 512 records.
-pub const PART_LIMIT: usize = 4096;
+// The records of a part at most, and its bytes.
+const PART_RECORDS: usize = 512;
 
-// The bytes of a buffer: 512 lines of at most 122 bytes fit.
-pub const BUFFER_SIZE: usize = 65536;
+pub const PART_LIMIT: usize = PART_RECORDS * RECORD_LENGTH;
 
 // The tally of the records so far, and the place behind their lines.
 pub struct Listed {

@@ -23,10 +23,13 @@ use Rattle.listing.specs.Lines.{heading, policyLine}
 use Rattle.files.specs.declared.Part.{Part}
 use Rattle.files.specs.Calls.{Handed, handed-none, handed-then, handed-as, Taken, taken-none, taken-then, Absent, FileIs, FileLoaded, PartRead}
 use Rattle.trace_listing.specs.declared.Listed.{Listed}
-use Rattle.trace_listing.specs.Listings.{linesOf, partText, partTally, partSession, totalOf, listingOf}
+use Rattle.monitor.specs.Parts.{partTally, partSession}
+use Rattle.listing.specs.Lines.{totalOf}
+use Rattle.trace_listing.specs.Listings.{linesOf, partText, listingOf}
 use Rattle.trace_listing.specs.Parts.{partLimit, ListedPart}
-use Rattle.trace_listing.proofs.PartLaws.{listed-front}
-use Rattle.trace_listing.proofs.CutLaws.{text-cut, tally-cut, session-cut}
+use Rattle.listing.proofs.Theorems.{listed-front}
+use Rattle.monitor.proofs.TraceCuts.{tally-cut, session-cut}
+use Rattle.trace_listing.proofs.CutLaws.{text-cut}
 use Rattle.trace_listing.proofs.Theorems.{listing-refused}
 use Rattle.watch.specs.Runs.{TraceListed, Watched, ListingShown}
 
@@ -86,8 +89,8 @@ module _ (name s : List ℕ) (a : ℕ) (s₁ part₁ : List ℕ) (t₁ : Tally) 
       let f = h .soFar in
       record {
         taken = taken-then (f .taken) (r .taken g);
-        leaves = l .1 .leaves ∙ ap (λ (z : List ℕ). partSession z y) (f .leaves) ∙ sym (session-cut noTally s x y (h .whole));
-        counts = l .1 .counts ∙ ap₂ (λ (t : Tally) (z : List ℕ). partTally t z y) (f .counts) (f .leaves) ∙ sym (tally-cut noTally s x y (h .whole));
+        leaves = l .1 .leaves ∙ ap (λ (z : List ℕ). partSession z y) (f .leaves) ∙ sym (session-cut s x y (h .whole));
+        counts = l .1 .counts ∙ ap₂ (λ (t : Tally) (z : List ℕ). partTally t z y) (f .counts) (f .leaves) ∙ sym (tally-cut s x y (h .whole) noTally);
         handed =
             handed-as (sym (text-cut noTally s x y (h .whole)))
             (handed-then (f .handed)

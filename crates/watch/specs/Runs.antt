@@ -8,7 +8,9 @@ use Rattle.answers.specs.Tallies.{noTally}
 use Rattle.image.specs.Limits.{imageLimit}
 use Rattle.image.specs.Image.{checkOf}
 use Rattle.listing.specs.Lines.{heading}
-use Rattle.trace_listing.specs.Listings.{partText, partTally, partSession, totalOf, listingOf}
+use Rattle.monitor.specs.Parts.{partTally, partSession}
+use Rattle.listing.specs.Lines.{totalOf}
+use Rattle.trace_listing.specs.Listings.{partText, listingOf}
 use Rattle.files.specs.Calls.{Handed, FileIs, FileLoaded}
 
 -- the trace of this file, all of it, was run on the session, counted, and its lines were handed on

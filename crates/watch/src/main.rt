@@ -6,8 +6,8 @@ ghost use Rattle.files.specs.Calls.{DoneOrTold, OpenedAs, Handed};
 ghost use Rattle.listing.specs.Lines.{policyLine};
 ghost use Rattle.watch.specs.Runs.{TraceListed, Watched, ListingShown};
 use answers::Tally;
+use listing::BUFFER_SIZE;
 use session::SESSION_LENGTH;
-use trace_listing::BUFFER_SIZE;
 use trace_listing::PART_LIMIT;
 
 // One byte more than a policy may have: a longer file is refused for its length and not read further.

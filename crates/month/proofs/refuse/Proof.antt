@@ -1,7 +1,7 @@
 -- `month::refuse`. The line handed on.
 use Rattle.files.specs.Calls.{handed-as}
 use Rattle.files.proofs.CallLaws.{done-as}
-use Rattle.trace_listing.proofs.PartLaws.{listed-front}
+use Rattle.listing.proofs.Theorems.{listed-front}
 use borrow.Author.Needs.{needs}
 use Rattle.month.proofs.refuse.Statement.{statement}
 use Rattle.month.proofs.refuse.Tie as tie

@@ -2,7 +2,7 @@
 use Rattle.month.proofs.RunLaws.{trace-shown}
 use Rattle.files.specs.Calls.{handed-as}
 use Rattle.files.proofs.CallLaws.{told-as, done-as}
-use Rattle.trace_listing.proofs.PartLaws.{listed-front}
+use Rattle.listing.proofs.Theorems.{listed-front}
 use Rattle.figures.specs.Counters.{noCounters, countersOf, valuesBelow}
 use Rattle.figures.specs.Figures.{noFigures, figuresOf}
 use Rattle.answers.specs.Tallies.{countOf}

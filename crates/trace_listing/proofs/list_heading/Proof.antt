@@ -1,7 +1,6 @@
 -- `trace_listing::list_heading`. The line fits (`heading-fits`).
 use borrow.Author.Needs.{needs}
-use Rattle.listing.proofs.Theorems.{heading-fits}
-use Rattle.trace_listing.proofs.PartLaws.{line-listed}
+use Rattle.listing.proofs.Theorems.{heading-fits, line-listed}
 use Rattle.trace_listing.proofs.list_heading.Statement.{statement}
 use Rattle.trace_listing.proofs.list_heading.Tie as tie
 

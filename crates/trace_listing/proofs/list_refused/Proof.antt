@@ -1,7 +1,6 @@
 -- `trace_listing::list_refused`. The line fits (`policy-fits`).
 use borrow.Author.Needs.{needs}
-use Rattle.listing.proofs.Theorems.{policy-fits}
-use Rattle.trace_listing.proofs.PartLaws.{line-listed}
+use Rattle.listing.proofs.Theorems.{policy-fits, line-listed}
 use Rattle.trace_listing.proofs.list_refused.Statement.{statement}
 use Rattle.trace_listing.proofs.list_refused.Tie as tie
 

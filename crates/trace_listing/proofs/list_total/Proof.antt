@@ -1,8 +1,7 @@
 -- `trace_listing::list_total`. The line fits (`total-fits`).
 use borrow.Author.Needs.{needs}
-use Rattle.listing.proofs.Theorems.{total-fits}
-use Rattle.trace_listing.specs.Listings.{totalOf}
-use Rattle.trace_listing.proofs.PartLaws.{line-listed}
+use Rattle.listing.proofs.Theorems.{total-fits, line-listed}
+use Rattle.listing.specs.Lines.{totalOf}
 use Rattle.trace_listing.proofs.list_total.Statement.{statement}
 use Rattle.trace_listing.proofs.list_total.Tie as tie
 

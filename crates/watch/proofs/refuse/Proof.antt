@@ -1,6 +1,6 @@
 -- `watch::refuse`. The line handed on.
 use Rattle.files.specs.Calls.{handed-as}
-use Rattle.trace_listing.proofs.PartLaws.{listed-front}
+use Rattle.listing.proofs.Theorems.{listed-front}
 use Rattle.files.proofs.CallLaws.{done-as}
 use borrow.Author.Needs.{needs}
 use Rattle.watch.proofs.refuse.Statement.{statement}

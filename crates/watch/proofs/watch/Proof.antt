@@ -1,7 +1,7 @@
 -- `watch::watch`. Heading, lines, total, one behind the other.
 use Rattle.watch.proofs.RunLaws.{all-watched}
 use Rattle.files.specs.Calls.{handed-as}
-use Rattle.trace_listing.proofs.PartLaws.{listed-front}
+use Rattle.listing.proofs.Theorems.{listed-front}
 use Rattle.files.proofs.CallLaws.{failed, done-as}
 use Rattle.fields.specs.Ascii.{ascii}
 use borrow.Author.Tests.{not-true, not-false}

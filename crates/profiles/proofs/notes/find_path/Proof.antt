@@ -6,8 +6,8 @@ use Rattle.lists.proofs.Every.{every-getD}
 use Rattle.profiles.specs.Notes.{noteGood}
 use Rattle.profiles.proofs.NoteLaws.{NotesPassed, notes-start, notes-found, notes-next, notes-end}
 use borrow.Author.Needs.{needs}
-use Rattle.profiles.proofs.find_path.Statement.{statement}
-use Rattle.profiles.proofs.find_path.Tie as tie
+use Rattle.profiles.proofs.notes.find_path.Statement.{statement}
+use Rattle.profiles.proofs.notes.find_path.Tie as tie
 
 abbrev Inv-loop : tie.InvT-loop
 Inv-loop text notes at n key j₀ j = NotesPassed text notes (take n (drop at text)) j

@@ -7,8 +7,8 @@ use native.Mathlib.Nat.{add-sub-cancel-left}
 use Rattle.lists.specs.Lists.{sameList}
 use Rattle.profiles.proofs.NoteLaws.{key-differs, note-fits, note-text}
 use borrow.Author.Needs.{needs}
-use Rattle.profiles.proofs.is_noted.Statement.{statement}
-use Rattle.profiles.proofs.is_noted.Tie as tie
+use Rattle.profiles.proofs.notes.is_noted.Statement.{statement}
+use Rattle.profiles.proofs.notes.is_noted.Tie as tie
 
 returns : tie.Need-returns
 returns c = key-differs (c .before .before .args .text .now) (c .before .before .args .note) (c .before .before .args .at) (c .before .before .args .length)

@@ -7,8 +7,8 @@ use native.Mathlib.Nat.{add-sub-cancel-left}
 use Rattle.profiles.specs.Notes.{pathKey, notedPaths, notedPlace}
 use Rattle.profiles.proofs.NoteLaws.{noted-small, known-note, new-note}
 use borrow.Author.Needs.{needs}
-use Rattle.profiles.proofs.note_path.Statement.{statement}
-use Rattle.profiles.proofs.note_path.Tie as tie
+use Rattle.profiles.proofs.notes.note_path.Statement.{statement}
+use Rattle.profiles.proofs.notes.note_path.Tie as tie
 
 key-is : (c : tie.After-path-key) → c .path-key .result ≡ pathKey (take (c .before .before .before .before .args .length) (drop (c .before .before .before .before .args .at) (c .before .before .before .before .args .text .now)))
 key-is c = rw add-sub-cancel-left at (c .path-key .ensures)

@@ -4,8 +4,8 @@ use lib.ListN.{length}
 use native.Mathlib.Omega.{arith}
 use Rattle.profiles.proofs.NoteLaws.{Summed, sum-start, sum-next, sum-end}
 use borrow.Author.Needs.{needs}
-use Rattle.profiles.proofs.path_key.Statement.{statement}
-use Rattle.profiles.proofs.path_key.Tie as tie
+use Rattle.profiles.proofs.notes.path_key.Statement.{statement}
+use Rattle.profiles.proofs.notes.path_key.Tie as tie
 
 abbrev Inv-loop : tie.InvT-loop
 Inv-loop path sum₀ i₀ sum i = Summed path i sum

@@ -6,8 +6,8 @@ use Rattle.lists.specs.Lists.{sameList}
 use Rattle.lists.proofs.Same.{same-unlike, same-passed, same-stopped, same-ended}
 use native.Mathlib.Omega.{arith}
 use borrow.Author.Needs.{needs}
-use Rattle.profiles.proofs.same.Statement.{statement}
-use Rattle.profiles.proofs.same.Tie as tie
+use Rattle.profiles.proofs.notes.same.Statement.{statement}
+use Rattle.profiles.proofs.notes.same.Tie as tie
 
 abbrev Inv-loop : tie.InvT-loop
 Inv-loop a b i₀ i = (i ≤ length a) × (sameList (drop i a) (drop i b) ≡ sameList a b)

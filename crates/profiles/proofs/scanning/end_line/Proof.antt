@@ -5,8 +5,8 @@ use Rattle.lists.proofs.Bools.{passes-test, fails-test}
 use Rattle.profiles.specs.Profiles.{endLine}
 use Rattle.profiles.proofs.LineScans.{end-no-line, end-scanned}
 use borrow.Author.Needs.{needs}
-use Rattle.profiles.proofs.end_line.Statement.{statement}
-use Rattle.profiles.proofs.end_line.Tie as tie
+use Rattle.profiles.proofs.scanning.end_line.Statement.{statement}
+use Rattle.profiles.proofs.scanning.end_line.Tie as tie
 
 returns : tie.Need-returns
 unfolding endLine ascii

@@ -11,8 +11,8 @@ use Rattle.profiles.specs.Scanning.{modesScan, modesAt}
 use Rattle.profiles.specs.declared.ScannedModes.{ScannedModes}
 use Rattle.profiles.proofs.LineScans.{starts-room, path-room, modes-room, entry-no-path, entry-no-space, entry-no-mode, entry-no-end, entry-scanned}
 use borrow.Author.Needs.{needs}
-use Rattle.profiles.proofs.entry_line.Statement.{statement}
-use Rattle.profiles.proofs.entry_line.Tie as tie
+use Rattle.profiles.proofs.scanning.entry_line.Statement.{statement}
+use Rattle.profiles.proofs.scanning.entry_line.Tie as tie
 
 path-fits : (c : tie.After-path-end) → c .path-end .result ≤ length (c .before .before .args .text .now)
 path-fits c = omega (arith, c .path-end .ensures, path-room (c .before .before .args .text .now) (c .before .before .args .at) (c .before .before .pre .0))

@@ -1,8 +1,8 @@
 -- The two tests of the definition.
 use borrow.Author.Tests.{lt-leb, le-leb}
 use Rattle.profiles.specs.Profiles.{isBetween}
-use Rattle.profiles.proofs.is_between.Statement.{statement}
-use Rattle.profiles.proofs.is_between.Tie as tie
+use Rattle.profiles.proofs.scanning.is_between.Statement.{statement}
+use Rattle.profiles.proofs.scanning.is_between.Tie as tie
 
 returns : tie.Need-returns
 unfolding isBetween

@@ -3,8 +3,8 @@ use mathlib.Core.Path.{sym, _∙_}
 use borrow.Author.Tests.{eq-eqb, ne-eqb}
 use Rattle.profiles.specs.Profiles.{isDigit, isLetter, isPathByte}
 use borrow.Author.Needs.{needs}
-use Rattle.profiles.proofs.is_path_byte.Statement.{statement}
-use Rattle.profiles.proofs.is_path_byte.Tie as tie
+use Rattle.profiles.proofs.scanning.is_path_byte.Statement.{statement}
+use Rattle.profiles.proofs.scanning.is_path_byte.Tie as tie
 
 returns : tie.Need-returns
 unfolding isPathByte isLetter

@@ -7,8 +7,8 @@ use Rattle.profiles.specs.Reading.{modeAmong, allModes, modeIn}
 use Rattle.profiles.specs.Scanning.{modeBit, modeScan}
 use Rattle.profiles.proofs.ModeLaws.{one-letter, two-letters, no-letter, no-mode}
 use borrow.Author.Needs.{needs}
-use Rattle.profiles.proofs.mode_at.Statement.{statement}
-use Rattle.profiles.proofs.mode_at.Tie as tie
+use Rattle.profiles.proofs.scanning.mode_at.Statement.{statement}
+use Rattle.profiles.proofs.scanning.mode_at.Tie as tie
 
 returns : tie.Need-returns
 unfolding modeIn modeAmong allModes modeText modeBit modeScan ascii starts

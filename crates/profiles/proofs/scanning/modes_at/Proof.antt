@@ -4,8 +4,8 @@ use lib.ListN.{length}
 use native.Mathlib.Omega.{arith}
 use Rattle.profiles.proofs.ModeLaws.{ModesScanned, modes-start, modes-stop, mode-fits, modes-next, modes-end}
 use borrow.Author.Needs.{needs}
-use Rattle.profiles.proofs.modes_at.Statement.{statement}
-use Rattle.profiles.proofs.modes_at.Tie as tie
+use Rattle.profiles.proofs.scanning.modes_at.Statement.{statement}
+use Rattle.profiles.proofs.scanning.modes_at.Tie as tie
 
 abbrev Inv-loop : tie.InvT-loop
 Inv-loop text at i₀ bits₀ i bits = ModesScanned text at i bits

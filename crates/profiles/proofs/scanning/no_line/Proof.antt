@@ -1,8 +1,8 @@
 -- The definition's numbers.
 use mathlib.Core.Path.{refl}
 use Rattle.profiles.specs.Scanning.{noScan}
-use Rattle.profiles.proofs.no_line.Statement.{statement}
-use Rattle.profiles.proofs.no_line.Tie as tie
+use Rattle.profiles.proofs.scanning.no_line.Statement.{statement}
+use Rattle.profiles.proofs.scanning.no_line.Tie as tie
 
 returns : tie.Need-returns
 unfolding noScan

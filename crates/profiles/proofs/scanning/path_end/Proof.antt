@@ -4,8 +4,8 @@ use lib.ListN.{length}
 use Rattle.lists.proofs.Bools.{passes-test, fails-test}
 use Rattle.profiles.proofs.ScanLaws.{PathScanned, path-start, path-next, path-stop, path-end}
 use borrow.Author.Needs.{needs}
-use Rattle.profiles.proofs.path_end.Statement.{statement}
-use Rattle.profiles.proofs.path_end.Tie as tie
+use Rattle.profiles.proofs.scanning.path_end.Statement.{statement}
+use Rattle.profiles.proofs.scanning.path_end.Tie as tie
 
 abbrev Inv-loop : tie.InvT-loop
 Inv-loop text at i₀ i = PathScanned text at i

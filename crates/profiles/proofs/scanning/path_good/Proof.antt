@@ -7,8 +7,8 @@ use native.Mathlib.Omega.{arith}
 use Rattle.profiles.specs.Reading.{pathIn}
 use Rattle.profiles.proofs.PathLaws.{path-no-slash, path-short, path-fits}
 use borrow.Author.Needs.{needs}
-use Rattle.profiles.proofs.path_good.Statement.{statement}
-use Rattle.profiles.proofs.path_good.Tie as tie
+use Rattle.profiles.proofs.scanning.path_good.Statement.{statement}
+use Rattle.profiles.proofs.scanning.path_good.Tie as tie
 
 returns : tie.Need-returns
 returns c = path-no-slash (c .before .before .before .args .text .now) (c .before .before .before .args .at) (λ e. c .if1 .taken (c .before .byte .ensures ∙ e))

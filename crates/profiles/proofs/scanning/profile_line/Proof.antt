@@ -8,8 +8,8 @@ use Rattle.lists.proofs.Bools.{passes-test, fails-test}
 use Rattle.profiles.specs.Profiles.{profileWord, profileEnd}
 use Rattle.profiles.proofs.LineScans.{starts-room, path-room, profile-no-word, profile-no-path, profile-no-end, profile-scanned}
 use borrow.Author.Needs.{needs}
-use Rattle.profiles.proofs.profile_line.Statement.{statement}
-use Rattle.profiles.proofs.profile_line.Tie as tie
+use Rattle.profiles.proofs.scanning.profile_line.Statement.{statement}
+use Rattle.profiles.proofs.scanning.profile_line.Tie as tie
 
 word-fits : (c : tie.Else1) → c .before .before .before .before .args .at + 8 ≤ length (c .before .before .before .before .args .text .now)
 unfolding profileWord ascii

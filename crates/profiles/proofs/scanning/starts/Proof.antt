@@ -4,8 +4,8 @@ use lib.ListN.{length, length-drop}
 use native.Mathlib.Omega.{arith}
 use Rattle.profiles.proofs.ScanLaws.{starts-short, Matched, match-start, match-next, match-stop, match-end}
 use borrow.Author.Needs.{needs}
-use Rattle.profiles.proofs.starts.Statement.{statement}
-use Rattle.profiles.proofs.starts.Tie as tie
+use Rattle.profiles.proofs.scanning.starts.Statement.{statement}
+use Rattle.profiles.proofs.scanning.starts.Tie as tie
 
 abbrev Inv-loop : tie.InvT-loop
 Inv-loop text at word i₀ i = Matched word text at i

@@ -1,8 +1,8 @@
 -- The test of the definition.
 use borrow.Author.Tests.{eq-eqb, ne-eqb}
 use Rattle.profiles.specs.Scanning.{withX}
-use Rattle.profiles.proofs.with_x.Statement.{statement}
-use Rattle.profiles.proofs.with_x.Tie as tie
+use Rattle.profiles.proofs.scanning.with_x.Statement.{statement}
+use Rattle.profiles.proofs.scanning.with_x.Tie as tie
 
 returns : tie.Need-returns
 unfolding withX
