@@ -1,0 +1,19 @@
+-- Theorems is the file to read: what is proved of chains that are shown. The others prove it.
+pub mod Theorems
+pub mod LeadLaws
+pub mod WitnessLaws
+pub mod FirstLaws
+pub mod LowLaws
+pub mod NodeLaws
+pub mod SourceLaws
+pub mod CarryLaws
+pub mod TrackLaws
+pub mod BackLaws
+pub mod BeginLaws
+pub mod MixtureLaws
+pub mod TraceParts
+pub mod FollowLaws
+pub mod HistoryLaws
+pub mod TellLaws
+pub mod ExplainLaws
+pub mod ExplainFacts
