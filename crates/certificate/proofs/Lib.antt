@@ -1,0 +1,22 @@
+-- Read Theorems first: it states what is proved; the other files serve it.
+pub mod Theorems
+pub mod OriginLaws
+pub mod LackLaws
+pub mod CertificateLaws
+pub mod NumberLaws
+pub mod MarkLaws
+pub mod MarkOrigins
+pub mod ReasonLaws
+pub mod ToldLaws
+pub mod ReasonRight
+pub mod FollowLaws
+pub mod NumbersLaws
+pub mod JudgeLaws
+pub mod ReadLaws
+pub mod TellLaws
+pub mod SearchLaws
+pub mod PutLaws
+pub mod ExecLaws
+pub mod WhyCases
+pub mod WhyLaws
+pub mod CertifyLaws

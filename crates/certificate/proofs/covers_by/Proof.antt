@@ -1,0 +1,26 @@
+-- The mixtures of the rule are tested as they stand.
+use native.Mathlib.Omega.{arith}
+use Rattle.certificate.proofs.ReadLaws.{read-count, read-places, read-short, read-covers}
+use borrow.Author.Needs.{needs}
+use Rattle.certificate.proofs.covers_by.Statement.{statement}
+use Rattle.certificate.proofs.covers_by.Tie as tie
+
+part-covers-end : tie.Need-part-covers-end
+part-covers-end c = let a = c .before .before .before .before in omega (arith, read-count (a .args .image .now) (a .args .n) (a .pre) (c .before .before .rule-at .ensures), read-places (a .args .image .now) (a .args .n) (a .pre) (c .before .before .rule-at .ensures))
+
+covers-requires : tie.Need-covers-requires
+covers-requires c κs = let a = c .before .before .before .before .before in read-short (a .args .image .now) (a .args .n) (a .pre) (c .before .before .before .rule-at .ensures)
+
+returns : tie.Need-returns
+returns c = let a = c .before .before .before .before .before .before in read-covers (a .args .image .now) (a .args .n) (a .pre) (c .before .before .before .before .rule-at .ensures) (a .args .tag) (c .covers .ensures)
+
+pub covers-by-spec : {M : Type 1} → statement M
+covers-by-spec =
+    tie.close
+    (tie.spec
+    (λ c κs. search needs)
+    (λ c. search needs)
+    (λ c. search needs)
+    part-covers-end
+    covers-requires
+    returns)

@@ -1,0 +1,31 @@
+-- Nobody, or the field of the rule record.
+use native.Mathlib.Omega.{arith}
+use Rattle.image.proofs.AcceptedImage.{accepted-section}
+use Rattle.certificate.proofs.ReadLaws.{owner-nobody, owner-missed, owner-there}
+use borrow.Author.Needs.{needs}
+use Rattle.certificate.proofs.owner_at.Statement.{statement}
+use Rattle.certificate.proofs.owner_at.Tie as tie
+
+section-requires : tie.Need-section-requires
+section-requires c κs = accepted-section _ (c .before .pre) 2 (omega arith)
+
+returns : tie.Need-returns
+returns c = let a = c .before .before .before in owner-nobody (a .args .image .now) (a .args .n) (c .if1 .taken)
+
+returns-2 : tie.Need-returns-2
+returns-2 c = let a = c .before .before .before .before in owner-missed (a .args .image .now) (a .args .n) (c .before .if1 .left) (c .before .before .section .ensures) (c .if2 .taken)
+
+returns-3 : tie.Need-returns-3
+returns-3 c = let a = c .before .before .before .before .before in owner-there (a .args .image .now) (a .args .n) (c .before .before .if1 .left) (c .before .before .before .section .ensures) (c .before .if2 .left) (c .read16 .ensures .0)
+
+pub owner-at-spec : {M : Type 1} → statement M
+owner-at-spec =
+    tie.close
+    (tie.spec
+    section-requires
+    returns
+    returns-2
+    (λ c. search needs)
+    (λ c. search needs)
+    (λ c κs. search needs)
+    returns-3)
