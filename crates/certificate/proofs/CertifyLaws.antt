@@ -42,7 +42,8 @@ use Rattle.monitor.proofs.RunLaws.{record-last, answer-last, take-before}
 use Rattle.witness.specs.Witness.{Witness, witness}
 use Rattle.witness.specs.Told.{toldHistory, toldNumbers, itemOf, chainFile, foundIn, atEnd}
 use Rattle.witness.specs.Explains.{atomWitness, atomFound}
-use Rattle.witness.proofs.WitnessLaws.{Right, right}
+use Rattle.witness.specs.Tells.{Right}
+use Rattle.witness.proofs.WitnessLaws.{right}
 use Rattle.certificate.specs.Origins.{origin, From, Certificate, lackedBy}
 use Rattle.certificate.specs.Whys.{Reason, reasonOf, reasonNumbers, whyNumbers, answered, reasonIn, forbiddenLast, whyLength, whyRefusal, whyEffect, whySteps}
 use Rattle.certificate.specs.Certified.{ComesFrom, Certified}

@@ -22,7 +22,8 @@ use Rattle.chains.specs.History.{Step, History, size}
 use Rattle.chains.specs.Chains.{UserRule, Item, dataAtom, runningAtom, runRule, Starts, Carries, readAtom, readRule, writeAny, appendAny, execAtom, execRule, forkAny, Leads, Chain, Own}
 use Rattle.witness.specs.Witness.{Witness, rising, firstOf, witness}
 use Rattle.witness.specs.Told.{chainRecords}
-use Rattle.witness.proofs.WitnessLaws.{Right, right}
+use Rattle.witness.specs.Tells.{Right}
+use Rattle.witness.proofs.WitnessLaws.{right}
 use Rattle.certificate.specs.Origins.{Origin, own, made, started, nowhere, origin, before, From}
 use Rattle.certificate.specs.Whys.{permitOf, runOf, userNumber, coversBy, runForbids, runWitness, runChain, Reason, ownReason, userReason, runReason, execReason, reasonBy, userOrigin, runOrigin}
 use Rattle.certificate.specs.Certified.{ComesFrom}

@@ -29,7 +29,8 @@ use Rattle.witness.specs.Witness.{Witness, rising, firstOf, witness}
 use Rattle.witness.specs.Told.{chainFile, chainRecords, foundIn, atEnd}
 use Rattle.witness.specs.Links.{ofRule, linksLeft}
 use Rattle.witness.specs.Explains.{ruleWitness, ruleNumbers, ruleFound, ruleSteps, ruleLinks}
-use Rattle.witness.proofs.WitnessLaws.{Right, right}
+use Rattle.witness.specs.Tells.{Right}
+use Rattle.witness.proofs.WitnessLaws.{right}
 use Rattle.certificate.specs.Whys.{runOf, runForbids, runWitness, runChain, passLinks, searchLinks}
 use Rattle.certificate.specs.Marks.{forbidsAt, searchChain, searchedLinks, Roomy, FileFound, Searched}
 use Rattle.certificate.proofs.ReadLaws.{element-there, read-rule}

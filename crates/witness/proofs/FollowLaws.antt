@@ -9,7 +9,7 @@ use Rattle.fields.specs.Bytes.{cut}
 use Rattle.lists.specs.Lists.{every}
 use Rattle.image.specs.Limits.{ruleSize, mixtureSize}
 use Rattle.image.specs.Policy.{containerGood}
-use Rattle.image.specs.Image.{part, containersIn, spansIn, rulesIn, spansGood, checkOf, policyIn}
+use Rattle.image.specs.Image.{part, containersIn, spansIn, rulesIn, ruleRecordsGood, checkOf, policyIn}
 use Rattle.image.proofs.AcceptedImage.{accepted-spans, accepted-containers}
 use Rattle.session.specs.Session.{startOf}
 use Rattle.chains.specs.Demand.{historyOf}
@@ -73,7 +73,7 @@ module _ (trace : List ℕ) (one : length trace ≡ 0 → ⊥) where
 
 -- the sections of an accepted image
 pub rule-ready : (image : List ℕ) → checkOf image ≡ 0 → (cs rs ms : List ℕ) → cs ≡ part image 0 → rs ≡ part image 2 → ms ≡ part image 3
-    → (every (containerGood (length rs / ruleSize)) (containersIn cs) ≡ true) × (spansGood (length ms / mixtureSize) 0 (spansIn rs) ≡ true)
+    → (every (containerGood (length rs / ruleSize)) (containersIn cs) ≡ true) × (ruleRecordsGood rs ms ≡ true)
 rule-ready image ok cs rs ms ec er em = (rw (ec, er) (accepted-containers image ok), rw (er, em) (accepted-spans image ok))
 
 module _ (image trace rule cs rs ms s held links held′ links′ : List ℕ) (ec : cs ≡ part image 0) (er : rs ≡ part image 2) (em : ms ≡ part image 3)

@@ -13,7 +13,7 @@ use Rattle.rules.specs.Answers.{dataWidth, tagWidth}
 use Rattle.image.specs.Policy.{Policy, Sound}
 use Rattle.chains.specs.History.{Step, History}
 use Rattle.chains.specs.Chains.{Item, dataAtom, runningAtom, runRule, Starts, Carries, readAtom, readRule, writeAny, appendAny, execAtom, execRule, forkAny, Leads, Chain, Reaches}
-use Rattle.chains.proofs.KindLaws.{sound-at}
+use Rattle.image.proofs.KindLaws.{sound-at}
 use Rattle.witness.specs.Links.{ofAtom}
 use Rattle.witness.specs.Nodes.{OfFamily}
 

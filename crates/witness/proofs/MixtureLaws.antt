@@ -12,7 +12,7 @@ use Rattle.fields.specs.Bytes.{field}
 use Rattle.rules.specs.Rules.{unrestricted}
 use Rattle.image.specs.Limits.{ruleSize, mixtureSize, countField, size16, unrestrictedNumber}
 use Rattle.image.specs.Policy.{unrestrictedRule, ruleAt}
-use Rattle.image.specs.Image.{spansIn, mixturesIn, rulesIn, spansGood}
+use Rattle.image.specs.Image.{spansIn, mixturesIn, rulesIn, ruleRecordsGood}
 use Rattle.image.proofs.RecordsByPlace.{mixture-at, rule-at, rule-fits}
 use Rattle.image.proofs.RulesByNumber.{from-length, from-at}
 
@@ -42,7 +42,7 @@ module _ (rules : List (List ℕ)) (n : ℕ) (rule : List ℕ) where
   unfolding ruleAt unrestrictedRule unrestricted
   all-same x e ex = rw (eq-eqb n unrestrictedNumber e) ex
 
-module _ (r m : List ℕ) (n : ℕ) (rule : List ℕ) (good : spansGood (length m / mixtureSize) 0 (spansIn r) ≡ true) (l : n < length r / ruleSize)
+module _ (r m : List ℕ) (n : ℕ) (rule : List ℕ) (good : ruleRecordsGood r m ≡ true) (l : n < length r / ruleSize)
     (d : n ≡ unrestrictedNumber → ⊥) (first count : ℕ) (ef : first ≡ field r (n * ruleSize) size16) (ec : count ≡ field r (n * ruleSize + countField) size16) where
   own-at : ruleAt (rulesIn r m) n ≡ take count (drop first (mixturesIn m))
   unfolding ruleAt

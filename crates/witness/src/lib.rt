@@ -8,7 +8,7 @@ ghost use Rattle.lists.specs.Lists.{sameList, every};
 ghost use Rattle.rules.specs.Answers.{dataWidth, tagWidth};
 ghost use Rattle.image.specs.Limits.{containerLimit, containerSize, ruleSize, mixtureSize};
 ghost use Rattle.image.specs.Policy.{named, ruleAt, containerGood};
-ghost use Rattle.image.specs.Image.{containerIn, containersIn, spansIn, mixturesIn, rulesIn, spansGood, checkOf};
+ghost use Rattle.image.specs.Image.{containerIn, containersIn, spansIn, mixturesIn, rulesIn, ruleRecordsGood, checkOf};
 ghost use Rattle.chains.specs.History.{receiver};
 ghost use Rattle.chains.specs.Chains.{dataAtom, runRule};
 ghost use Rattle.records.specs.Records.{stepIn, Asked};
@@ -309,7 +309,7 @@ fn same_mixtures(m: &[u8], first: usize, rule: &[u64]) -> bool
 
 // The rule with the number n is this rule, mixture by mixture.
 fn is_rule(rules: &[u8], m: &[u8], n: usize, rule: &[u64]) -> bool
-    requires { ⌜ (named (length (now rules) / ruleSize) n ≡ true) × (spansGood (length (now m) / mixtureSize) 0 (spansIn (now rules)) ≡ true) ⌝ }
+    requires { ⌜ (named (length (now rules) / ruleSize) n ≡ true) × (ruleRecordsGood (now rules) (now m) ≡ true) ⌝ }
     ensures { λ x. ⌜ x ≡ sameList (ruleAt (rulesIn (now (rules .entry)) (now (m .entry))) n) (now (rule .entry)) ⌝ }
 {
     if n == image::UNRESTRICTED_NUMBER {
@@ -329,7 +329,7 @@ fn starts_rule(r: &[u8], rules: &[u8], m: &[u8], rule: &[u64]) -> bool
     requires { ⌜
         (length (now r) ≡ containerSize)
         × (containerGood (length (now rules) / ruleSize) (containerIn (now r)) ≡ true)
-        × (spansGood (length (now m) / mixtureSize) 0 (spansIn (now rules)) ≡ true) ⌝ }
+        × (ruleRecordsGood (now rules) (now m) ≡ true) ⌝ }
     ensures { λ x. ⌜ x ≡ startsAs (rulesIn (now (rules .entry)) (now (m .entry))) (runRule (now (rule .entry))) (containerIn (now (r .entry))) ⌝ }
 {
     if !image::is_file(fields::read8(r, image::KIND_FIELD) as u64) {
@@ -358,7 +358,7 @@ fn rule_node(cs: &[u8], rules: &[u8], m: &[u8], c: usize, rule: &[u64]) -> u64
     requires { ⌜
         (c < containerLimit)
         × (every (containerGood (length (now rules) / ruleSize)) (containersIn (now cs)) ≡ true)
-        × (spansGood (length (now m) / mixtureSize) 0 (spansIn (now rules)) ≡ true) ⌝ }
+        × (ruleRecordsGood (now rules) (now m) ≡ true) ⌝ }
     ensures { λ x. ⌜ x ≡ startNode (rulesIn (now (rules .entry)) (now (m .entry))) (runRule (now (rule .entry))) (getElem? (containersIn (now (cs .entry))) c) c ⌝ }
 {
     if cs.len() / image::CONTAINER_SIZE <= c {
@@ -389,7 +389,7 @@ fn begin_rule(held: &mut [u64], cs: &[u8], rules: &[u8], m: &[u8], rule: &[u64])
     requires { ⌜
         (length (now held) ≡ heldLength)
         × (every (containerGood (length (now rules) / ruleSize)) (containersIn (now cs)) ≡ true)
-        × (spansGood (length (now m) / mixtureSize) 0 (spansIn (now rules)) ≡ true) ⌝ }
+        × (ruleRecordsGood (now rules) (now m) ≡ true) ⌝ }
     ensures { λ _. ⌜ Begun (containersIn (now (cs .entry))) (rulesIn (now (rules .entry)) (now (m .entry))) (ofRule (now (rule .entry))) (now (held .exit)) ⌝ }
 {
     let mut c: usize = 0;
