@@ -9,6 +9,7 @@ use Rattle.answers.specs.Answers.{isAlert, isBlocked, isRefused, receivedOf, an
 use Rattle.monitor.specs.declared.Ran.{Ran}
 use Rattle.composition.specs.declared.Composition.{Composition}
 use Rattle.trim.specs.declared.Trimmed.{Trimmed}
+use Rattle.witness.specs.declared.Explained.{Explained}
 
 -- a number that a host points to: the value, or what stood there if the call is refused
 abbrev pub unlessRefused : Bool → ℕ → ℕ → ℕ
@@ -29,6 +30,13 @@ takenAfter w old = unlessRefused (eqb (answerNumber (w .answer)) lentLength) (w 
 -- how many positions are kept of a trimmed trace
 abbrev pub keptAfter : Trimmed → ℕ → ℕ
 keptAfter w old = unlessRefused (not (eqb (w .refusal) 0)) (w .kept) old
+
+-- the file where a chain begins that is told, and where the numbers of its records stand
+abbrev pub fileAfter : Explained → ℕ → ℕ
+fileAfter e old = unlessRefused (not (eqb (e .refusal) 0)) (e .file) old
+
+abbrev pub firstAfter : Explained → ℕ → ℕ
+firstAfter e old = unlessRefused (not (eqb (e .refusal) 0)) (e .first) old
 
 -- one of the three numbers of a matrix verdict: the value, or what stood there if the matrix is refused
 abbrev pub valueAfter : ℕ → ℕ → ℕ → ℕ

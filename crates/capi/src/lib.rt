@@ -6,6 +6,7 @@ ghost use Rattle.answers.specs.Answers.{received, answerNumber};
 ghost use Rattle.monitor.specs.Steps.{stepAnswer, stepEffect};
 ghost use Rattle.monitor.specs.Stops.{ran, ranEffect};
 ghost use Rattle.trim.specs.Trims.{trimAnswer, trimEffect};
+ghost use Rattle.witness.specs.Explains.{explainAnswer, explainSteps, explainLinks};
 ghost use Rattle.normaliser.specs.Normaliser.{normalAnswer, normalEffect};
 ghost use Rattle.matrix.specs.Verdicts.{matrixVerdict};
 ghost use Rattle.matrix.specs.Flows.{matrixOf};
@@ -15,7 +16,7 @@ ghost use Rattle.withdrawals.specs.Judgements.{judgementOf};
 ghost use Rattle.derivation.specs.Derived.{derivedAnswer, derivedEffect};
 ghost use Rattle.confinement.specs.Images.{profileAnswer, profileEffect};
 ghost use Rattle.composition.specs.Images.{composeAnswer, composeEffect};
-ghost use Rattle.capi.specs.Hosts.{receivedAfter, stopAfter, takenAfter, keptAfter, valueAfter, lengthAfter, moveAfter};
+ghost use Rattle.capi.specs.Hosts.{receivedAfter, stopAfter, takenAfter, keptAfter, fileAfter, firstAfter, valueAfter, lengthAfter, moveAfter};
 ghost use Rattle.capi.specs.Versions.{version};
 use matrix::Consistency;
 
@@ -143,6 +144,36 @@ pub extern "C" fn yaslaurel_trace_trim(
         return refusal;
     }
     *kept = trimmed.kept;
+    refusal
+}
+
+// 0 with the number of the file where the chain begins, 256 if there is none, and where the numbers of its records stand in the steps, up
+// to their end; else the refusal, 9, 1 to 6 or 24, and everything is as it was.
+#[no_mangle]
+pub extern "C" fn yaslaurel_explain(
+    image: &[u8],
+    trace: &[u8],
+    container: usize,
+    atom: usize,
+    links: &mut [u64],
+    steps: &mut [u64],
+    file: &mut u64,
+    first: &mut u64,
+) -> u32
+    ensures { λ r. ⌜
+        (r ≡ explainAnswer (now (image .entry)) (now (trace .entry)) container atom (now (links .entry)) (now (steps .entry)) .refusal)
+        × (now (links .exit) ≡ explainLinks (now (image .entry)) (now (trace .entry)) container atom (now (links .entry)) (now (steps .entry)))
+        × (now (steps .exit) ≡ explainSteps (now (image .entry)) (now (trace .entry)) container atom (now (links .entry)) (now (steps .entry)))
+        × (now (file .exit) ≡ fileAfter (explainAnswer (now (image .entry)) (now (trace .entry)) container atom (now (links .entry)) (now (steps .entry))) (now (file .entry)))
+        × (now (first .exit) ≡ firstAfter (explainAnswer (now (image .entry)) (now (trace .entry)) container atom (now (links .entry)) (now (steps .entry))) (now (first .entry))) ⌝ }
+{
+    let explained = witness::explain(image, trace, container, atom, links, steps);
+    let refusal = explained.refusal;
+    if refusal != 0 {
+        return refusal;
+    }
+    *file = explained.file as u64;
+    *first = explained.first as u64;
     refusal
 }
 
