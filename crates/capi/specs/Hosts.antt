@@ -15,6 +15,10 @@ use Rattle.witness.specs.declared.Explained.{Explained}
 abbrev pub unlessRefused : Bool → ℕ → ℕ → ℕ
 unlessRefused refused value old = cond refused old value
 
+-- the same of a call that gives its refusal by itself, 0 if there is none
+abbrev pub unlessRefusal : ℕ → ℕ → ℕ → ℕ
+unlessRefusal refusal value old = unlessRefused (not (eqb refusal 0)) value old
+
 -- receiver, tag and position after an answer; in a refusal they are as they were
 abbrev pub receivedAfter : Answer → Received → Received
 receivedAfter a old = cond (isRefused a) old (receivedOf a)
@@ -29,14 +33,14 @@ takenAfter w old = unlessRefused (eqb (answerNumber (w .answer)) lentLength) (w 
 
 -- how many positions are kept of a trimmed trace
 abbrev pub keptAfter : Trimmed → ℕ → ℕ
-keptAfter w old = unlessRefused (not (eqb (w .refusal) 0)) (w .kept) old
+keptAfter w old = unlessRefusal (w .refusal) (w .kept) old
 
 -- the file where a chain begins that is told, and where the numbers of its records stand
 abbrev pub fileAfter : Explained → ℕ → ℕ
-fileAfter e old = unlessRefused (not (eqb (e .refusal) 0)) (e .file) old
+fileAfter e old = unlessRefusal (e .refusal) (e .file) old
 
 abbrev pub firstAfter : Explained → ℕ → ℕ
-firstAfter e old = unlessRefused (not (eqb (e .refusal) 0)) (e .first) old
+firstAfter e old = unlessRefusal (e .refusal) (e .first) old
 
 -- one of the three numbers of a matrix verdict: the value, or what stood there if the matrix is refused
 abbrev pub valueAfter : ℕ → ℕ → ℕ → ℕ
@@ -44,7 +48,7 @@ valueAfter number value old = unlessRefused (eqb number matrix) value old
 
 -- the length of an image that was composed; in a refusal, what stood there
 abbrev pub lengthAfter : Composition → ℕ → ℕ
-lengthAfter made old = unlessRefused (not (eqb (made .refusal) 0)) (made .length) old
+lengthAfter made old = unlessRefusal (made .refusal) (made .length) old
 
 -- one of the three numbers of a game's first move: the value, or what stood there if the game is refused, by a number above those of the two
 -- sides

@@ -7,6 +7,7 @@ ghost use Rattle.monitor.specs.Steps.{stepAnswer, stepEffect};
 ghost use Rattle.monitor.specs.Stops.{ran, ranEffect};
 ghost use Rattle.trim.specs.Trims.{trimAnswer, trimEffect};
 ghost use Rattle.witness.specs.Explains.{explainAnswer, explainSteps, explainLinks};
+ghost use Rattle.certificate.specs.Whys.{whyRefusal, whyEffect, whySteps, whyLinks};
 ghost use Rattle.normaliser.specs.Normaliser.{normalAnswer, normalEffect};
 ghost use Rattle.matrix.specs.Verdicts.{matrixVerdict};
 ghost use Rattle.matrix.specs.Flows.{matrixOf};
@@ -175,6 +176,25 @@ pub extern "C" fn yaslaurel_explain(
     *file = explained.file as u64;
     *first = explained.first as u64;
     refusal
+}
+
+// 0 with the reason in seventeen numbers at the front of `why`, and the records of a run rule's chain at the end of the steps; else the
+// refusal, 9, 1 to 6 or 25, and everything is as it was.
+#[no_mangle]
+pub extern "C" fn yaslaurel_why(
+    image: &[u8],
+    trace: &[u8],
+    links: &mut [u64],
+    steps: &mut [u64],
+    why: &mut [u64],
+) -> u32
+    ensures { λ r. ⌜
+        (r ≡ whyRefusal (now (image .entry)) (now (trace .entry)) (now (links .entry)) (now (steps .entry)) (now (why .entry)))
+        × (now (why .exit) ≡ whyEffect (now (image .entry)) (now (trace .entry)) (now (links .entry)) (now (steps .entry)) (now (why .entry)))
+        × (now (steps .exit) ≡ whySteps (now (image .entry)) (now (trace .entry)) (now (links .entry)) (now (steps .entry)) (now (why .entry)))
+        × (now (links .exit) ≡ whyLinks (now (image .entry)) (now (trace .entry)) (now (links .entry)) (now (steps .entry)) (now (why .entry))) ⌝ }
+{
+    certificate::why(image, trace, links, steps, why)
 }
 
 // 0 consistent, with zeros; 1 with the number of flows and the first of them; else 8, and everything is as it was.
