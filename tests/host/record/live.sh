@@ -84,7 +84,8 @@ END
 built="cargo build --offline --quiet -p judge --target-dir $work/built && tests/host/c/run ${self:-}"
 CARGO_INCREMENTAL=0 YASLAUREL_LIB=$library "$record" --story "$work/live/story" --out "$work/first" --keep "$work/log" -- \
     sh -c "$built" >"$work/printed" 2>"$work/out"
-[ $? -eq 0 ] && grep -qE '^[0-9]+ passed, 0 failed$' "$work/printed" && grep -q '^the command ended with exit status: 0$' "$work/out"
+{ [ $? -eq 0 ] && grep -qE '^[0-9]+ passed, 0 failed$' "$work/printed" && grep -q '^the command ended with exit status: 0$' "$work/out"; } ||
+    { grep '^FAILED' "$work/printed"; tail -n 5 "$work/out"; false; }
 note $? "a build of host tests runs to its end: $(tail -n 1 "$work/out")"
 # The story has three files, so the recorder is 3.
 [ "$(wc -l <"$work/first/containers.txt")" -gt 256 ] && grep -q ': delete 3 ' "$work/first/records.txt"
