@@ -25,7 +25,7 @@ use Rattle.monitor.proofs.StepLaws.{step-record, answered-zero}
 use Rattle.monitor.proofs.Theorems.{given-spelled}
 use Rattle.witness.specs.Told.{frontOf, lastOf, withLast, toldHistory, numbersFrom, acceptedNumbers, lastNumber, toldNumbers}
 use Rattle.witness.specs.Links.{nodeOf, Family, ofAtom, linksAt, linksFrom, linksLast, linksLeft, toldLinks}
-use Rattle.witness.specs.Nodes.{heldLength, isRule, heldAfter, linksAfter, isStep, Tracks, tracks, tracksOn, tracksAll, tracksLast, tracksTold, Tracked}
+use Rattle.witness.specs.Nodes.{heldLength, isRule, heldAfter, linksAfter, isStep, Tracks, tracks, tracksOn, isLast, tracksAll, Tracked}
 use Rattle.witness.proofs.NodeLaws.{Within, tracked-skip, tracked-next, links-next}
 use Rattle.witness.proofs.SourceLaws.{within}
 
@@ -56,10 +56,10 @@ on-long b told t n s r = on (isStep told (stepAnswer s r))
     on true = links-long b (t .held) (t .links) n (stepAsked r)
     on false = refl
 
-all-long : (b : Bool) (t : Tracks) (n : ℕ) (s : List ℕ) (rs : List (List ℕ)) → length (tracksAll b t n s rs .links) ≡ length (t .links)
+all-long : (b told : Bool) (t : Tracks) (n : ℕ) (s : List ℕ) (rs : List (List ℕ)) → length (tracksAll b told t n s rs .links) ≡ length (t .links)
 unfolding tracksAll
-all-long b t n s [] = refl
-all-long b t n s (r ∷ rs) = all-long b (tracksOn b false t n s r) (suc n) (stepEffect s r) rs ∙ on-long b false t n s r
+all-long b told t n s [] = refl
+all-long b told t n s (r ∷ rs) = all-long b told (tracksOn b (isLast told rs) t n s r) (suc n) (stepEffect s r) rs ∙ on-long b (isLast told rs) t n s r
 
 drop-cons : (l : List ℕ) (k x : ℕ) (xs : List ℕ) → drop k l ≡ x ∷ xs → (x ≡ getD l k 0) × (drop (suc k) l ≡ xs)
 drop-cons [] zero x xs e = absurd (omega (arith, ap length e))
@@ -120,8 +120,8 @@ module _ (P : Policy) (F : Family) (ns : List ℕ) where
   -- a list of records
   reached-list : (h : History) (n : ℕ) (t : Tracks) (links : List ℕ) (s : List ℕ) (rs : List (List ℕ)) (tail : List ℕ) → nodeOf (n + length rs) ≤ length (t .links)
       → Reached h n t links (numbersFrom n s rs ++ tail)
-      → Reached (historyFrom stepOn stepOf h s rs) (n + length rs) (tracksAll (isRule F) t n s rs) (linksFrom P ns F h n s rs links) tail
-  unfolding tracksAll linksFrom numbersFrom stepOn
+      → Reached (historyFrom stepOn stepOf h s rs) (n + length rs) (tracksAll (isRule F) false t n s rs) (linksFrom P ns F h n s rs links) tail
+  unfolding tracksAll isLast linksFrom numbersFrom stepOn
   reached-list h n t links s [] tail room R = let e : n + 0 ≡ n = omega arith in rw e R
   reached-list h n t links s (r ∷ rs) tail room R =
       let e : n + suc (length rs) ≡ suc n + length rs = omega arith in
@@ -134,11 +134,40 @@ module _ (P : Policy) (F : Family) (ns : List ℕ) where
 
 -- ---- the paper's history, and that of an explanation
 
+abbrev tracksLast : Tracks → ℕ → List ℕ → List (List ℕ) → Tracks
+tracksLast t n s [] = t
+tracksLast t n s (r ∷ rs) = tracksOn false true t n s r
+
+front-cons : (r q : List ℕ) (rs : List (List ℕ)) → (frontOf (r ∷ q ∷ rs) ≡ r ∷ frontOf (q ∷ rs)) × (lastOf (r ∷ q ∷ rs) ≡ lastOf (q ∷ rs))
+unfolding frontOf lastOf
+front-cons r q rs =
+    let e : length (r ∷ q ∷ rs) - 1 ≡ suc (length (q ∷ rs) - 1) = omega arith in
+    (ap (λ (k : ℕ). take k (r ∷ q ∷ rs)) e, ap (λ (k : ℕ). drop k (r ∷ q ∷ rs)) e)
+
+front-one : (r : List ℕ) → (frontOf (r ∷ []) ≡ []) × (lastOf (r ∷ []) ≡ r ∷ [])
+unfolding frontOf lastOf
+front-one r = (refl, refl)
+
+-- the records of an explanation: those in front of the last one, then the last
+tracks-told : (t : Tracks) (n : ℕ) (s : List ℕ) (r : List ℕ) (rs : List (List ℕ)) → tracksAll false true t n s (r ∷ rs)
+    ≡ tracksLast (tracksAll false false t n s (frontOf (r ∷ rs))) (n + length rs) (runEffect s (frontOf (r ∷ rs))) (lastOf (r ∷ rs))
+unfolding tracksAll isLast runEffect stepOn
+tracks-told t n s r [] = let e = front-one r in let z : n + 0 ≡ n = omega arith in rw (e .0, e .1, z)
+tracks-told t n s r (q ∷ rs) =
+    let e = front-cons r q rs in
+    let z : n + suc (length rs) ≡ suc n + length rs = omega arith in
+    rw (e .0, e .1, z) (tracks-told (tracksOn false false t n s r) (suc n) (stepEffect s r) q rs)
+
+tracks-front : (t : Tracks) (s : List ℕ) (rs : List (List ℕ)) → tracksAll false true t 0 s rs
+    ≡ tracksLast (tracksAll false false t 0 s (frontOf rs)) (length rs - 1) (runEffect s (frontOf rs)) (lastOf rs)
+tracks-front t s [] = unfold tracksAll frontOf lastOf in refl
+tracks-front t s (r ∷ rs) = let z : 0 + length rs ≡ length (r ∷ rs) - 1 = omega arith in rw z at (tracks-told t 0 s r rs)
+
 -- what is followed of a list of records, from the start
 pub followed-all : (P : Policy) (F : Family) (t : Tracks) (s : List ℕ) (rs : List (List ℕ)) → nodeOf (length rs) ≤ length (t .links)
     → Tracked P F (acceptedNumbers s rs) start 0 (t .held) (t .links)
-    → Tracked P F (acceptedNumbers s rs) (historyOf stepOn stepOf s rs) (length rs) (tracksAll (isRule F) t 0 s rs .held) (tracksAll (isRule F) t 0 s rs .links)
-    × (tracksAll (isRule F) t 0 s rs .links ≡ linksLeft P F s rs (t .links))
+    → Tracked P F (acceptedNumbers s rs) (historyOf stepOn stepOf s rs) (length rs) (tracksAll (isRule F) false t 0 s rs .held) (tracksAll (isRule F) false t 0 s rs .links)
+    × (tracksAll (isRule F) false t 0 s rs .links ≡ linksLeft P F s rs (t .links))
 unfolding linksLeft acceptedNumbers
 followed-all P F t s rs room T =
     let z : 0 + length rs ≡ length rs = omega arith in
@@ -177,46 +206,46 @@ told-parts s rs = refl
 -- what is followed of the records of an explanation
 pub followed-told : (P : Policy) (d : ℕ) (t : Tracks) (s : List ℕ) (rs : List (List ℕ)) → nodeOf (length rs) ≤ length (t .links)
     → Tracked P (ofAtom d) (toldNumbers s rs) start 0 (t .held) (t .links)
-    → Tracked P (ofAtom d) (toldNumbers s rs) (toldHistory s rs) (length rs) (tracksTold t s rs .held) (tracksTold t s rs .links)
-    × (tracksTold t s rs .links ≡ toldLinks P (ofAtom d) s rs (t .links))
-unfolding toldHistory tracksTold toldLinks
+    → Tracked P (ofAtom d) (toldNumbers s rs) (toldHistory s rs) (length rs) (tracksAll false true t 0 s rs .held) (tracksAll false true t 0 s rs .links)
+    × (tracksAll false true t 0 s rs .links ≡ toldLinks P (ofAtom d) s rs (t .links))
+unfolding toldHistory toldLinks
 followed-told P d t s rs room T =
     let ns : List ℕ = toldNumbers s rs in
     let z : 0 + length (frontOf rs) ≡ length rs - 1 = front-long rs in
     let e : toldNumbers s rs ≡ numbersFrom 0 s (frontOf rs) ++ lastNumber (length rs - 1) (runEffect s (frontOf rs)) (lastOf rs) = told-parts s rs in
     let R = reached-list P (ofAtom d) ns start 0 t (t .links) s (frontOf rs) (lastNumber (length rs - 1) (runEffect s (frontOf rs)) (lastOf rs)) (omega (arith, z, room))
     (record { tracked = T; left = refl; numbers = e }) in
-    let L = last-reached P d ns rs (historyOf stepOn stepOf s (frontOf rs)) (tracksAll false t 0 s (frontOf rs)) (linksFrom P ns (ofAtom d) start 0 s (frontOf rs) (t .links))
-    (runEffect s (frontOf rs)) (lastOf rs) refl (omega (arith, all-long false t 0 s (frontOf rs), room)) (rw z at R) in
-    (L .tracked, L .left)
+    let L = last-reached P d ns rs (historyOf stepOn stepOf s (frontOf rs)) (tracksAll false false t 0 s (frontOf rs)) (linksFrom P ns (ofAtom d) start 0 s (frontOf rs) (t .links))
+    (runEffect s (frontOf rs)) (lastOf rs) refl (omega (arith, all-long false false t 0 s (frontOf rs), room)) (rw z at R) in
+    rw (tracks-front t s rs) (L .tracked, L .left)
 
 -- ---- the loop over the records of a trace
 
 -- the records before `at` are followed
-pub record Tracking (b : Bool) (trace : List ℕ) (t₀ : Tracks) (s₀ s : List ℕ) (t : Tracks) (at : ℕ) : Type 0 where
+pub record Tracking (b told : Bool) (trace : List ℕ) (t₀ : Tracks) (s₀ s : List ℕ) (t : Tracks) (at : ℕ) : Type 0 where
   pub inside : at ≤ length trace
   pub whole : at < length trace → at % recordLength ≡ 0
   pub session : length s ≡ length s₀
   pub longHeld : length (t .held) ≡ heldLength
   pub longLinks : length (t .links) ≡ length (t₀ .links)
-  pub same : tracksAll b t (at / recordLength) s (traceRecords (drop at trace)) ≡ tracksAll b t₀ 0 s₀ (traceRecords trace)
-  pub leaves : runEffect s (traceRecords (drop at trace)) ≡ runEffect s₀ (traceRecords trace)
+  pub same : tracksAll b told t (at / recordLength) s (traceRecords (drop at trace)) ≡ tracksAll b told t₀ 0 s₀ (traceRecords trace)
 
-pub tracking-start : (b : Bool) (trace : List ℕ) (t : Tracks) (s : List ℕ) → length (t .held) ≡ heldLength → Tracking b trace t s s t 0
-tracking-start b trace t s l = record { inside = omega arith; whole = λ z. omega arith; session = refl; longHeld = l; longLinks = refl; same = refl; leaves = refl }
+pub tracking-start : (b told : Bool) (trace : List ℕ) (t : Tracks) (s : List ℕ) → length (t .held) ≡ heldLength → Tracking b told trace t s s t 0
+tracking-start b told trace t s l = record { inside = omega arith; whole = λ z. omega arith; session = refl; longHeld = l; longLinks = refl; same = refl }
 
-module _ (b : Bool) (trace : List ℕ) (t₀ : Tracks) (s₀ s : List ℕ) (t : Tracks) (at : ℕ) (h : Tracking b trace t₀ s₀ s t at) (l : at < length trace)
-    (x s′ : List ℕ) (t′ : Tracks) (xe : x ≡ take recordLength (drop at trace)) (se : s′ ≡ stepEffect s x)
-    (te : t′ ≡ tracksOn b false t (at / recordLength) s x) where
+module _ (b told : Bool) (trace : List ℕ) (t₀ : Tracks) (s₀ s : List ℕ) (t : Tracks) (at : ℕ) (h : Tracking b told trace t₀ s₀ s t at) (l : at < length trace)
+    (x s′ : List ℕ) (t′ : Tracks) (last : Bool) (xe : x ≡ take recordLength (drop at trace))
+    (le : last ≡ isLast told (traceRecords (drop (at + length x) trace))) (se : s′ ≡ stepEffect s x)
+    (te : t′ ≡ tracksOn b last t (at / recordLength) s x) where
   next-count : (at + length x < length trace) → length x ≡ recordLength
   next-count m = omega (arith, ap length xe, length-take recordLength (drop at trace), length-drop at trace)
 
-  next-same : tracksAll b t′ (suc (at / recordLength)) s′ (traceRecords (drop (at + length x) trace)) ≡ tracksAll b t₀ 0 s₀ (traceRecords trace)
+  next-same : tracksAll b told t′ (suc (at / recordLength)) s′ (traceRecords (drop (at + length x) trace)) ≡ tracksAll b told t₀ 0 s₀ (traceRecords trace)
   unfolding tracksAll
-  next-same = rw (te, se, xe) (rw (next-record trace at l) at (h .same))
+  next-same = rw (te, le, se, xe) (rw (next-record trace at l) at (h .same))
 
   -- the number of the next record matters only if there is one
-  renumber : (t : Tracks) (n m : ℕ) (s : List ℕ) (rs : List (List ℕ)) → (0 < length rs → n ≡ m) → tracksAll b t n s rs ≡ tracksAll b t m s rs
+  renumber : (t : Tracks) (n m : ℕ) (s : List ℕ) (rs : List (List ℕ)) → (0 < length rs → n ≡ m) → tracksAll b told t n s rs ≡ tracksAll b told t m s rs
   unfolding tracksAll
   renumber t n m s [] e = refl
   renumber t n m s (r ∷ rs) e = let z : n ≡ m = e (omega arith) in rw z
@@ -228,12 +257,8 @@ module _ (b : Bool) (trace : List ℕ) (t₀ : Tracks) (s₀ s : List ℕ) (t : 
       on (yes z) = z
       on (no z) = absurd (omega (arith, m, ap length (no-record trace (at + length x) (omega arith))))
 
-  next-leaves : runEffect s′ (traceRecords (drop (at + length x) trace)) ≡ runEffect s₀ (traceRecords trace)
-  unfolding runEffect stepOn
-  next-leaves = rw (se, xe) (rw (next-record trace at l) at (h .leaves))
-
   pub tracking-next : length s′ ≡ length s → length (t′ .held) ≡ length (t .held) → length (t′ .links) ≡ length (t .links)
-      → Tracking b trace t₀ s₀ s′ t′ (at + length x)
+      → Tracking b told trace t₀ s₀ s′ t′ (at + length x)
   tracking-next es eh el =
       record {
         inside = record-length trace x at l xe .1;
@@ -245,13 +270,12 @@ module _ (b : Bool) (trace : List ℕ) (t₀ : Tracks) (s₀ s : List ℕ) (t : 
             renumber t′ ((at + length x) / recordLength) (suc (at / recordLength)) s′ (traceRecords (drop (at + length x) trace))
             (λ m. omega (arith, next-count (behind-some m), h .whole l))
             ∙ next-same;
-        leaves = next-leaves;
       }
 
-pub tracking-end : (b : Bool) (trace : List ℕ) (t₀ : Tracks) (s₀ s : List ℕ) (t : Tracks) (at : ℕ) → Tracking b trace t₀ s₀ s t at → length trace ≤ at
-    → (t ≡ tracksAll b t₀ 0 s₀ (traceRecords trace)) × (s ≡ runEffect s₀ (traceRecords trace))
-unfolding tracksAll runEffect
-tracking-end b trace t₀ s₀ s t at h l = (rw (no-record trace at l) at (h .same), rw (no-record trace at l) at (h .leaves))
+pub tracking-end : (b told : Bool) (trace : List ℕ) (t₀ : Tracks) (s₀ s : List ℕ) (t : Tracks) (at : ℕ) → Tracking b told trace t₀ s₀ s t at → length trace ≤ at
+    → t ≡ tracksAll b told t₀ 0 s₀ (traceRecords trace)
+unfolding tracksAll
+tracking-end b told trace t₀ s₀ s t at h l = rw (no-record trace at l) at (h .same)
 
 -- ---- one record
 

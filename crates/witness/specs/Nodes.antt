@@ -19,10 +19,10 @@ use Rattle.chains.specs.Demand.{historyOf}
 use Rattle.records.specs.Records.{stepOf}
 use Rattle.records.specs.Traces.{traceRecords}
 use Rattle.monitor.specs.Steps.{stepAsked, stepAnswer, stepEffect}
-use Rattle.monitor.specs.Runs.{stepOn, runEffect}
+use Rattle.monitor.specs.Runs.{stepOn}
 use Rattle.witness.specs.declared.Found.{Found}
 use Rattle.witness.specs.Witness.{Source, takesUp, endsItem, startsIn, Witness, witness}
-use Rattle.witness.specs.Told.{frontOf, lastOf, toldHistory, chainRecords, foundIn, atEnd}
+use Rattle.witness.specs.Told.{toldHistory, chainRecords, foundIn, atEnd}
 use Rattle.witness.specs.Explains.{ruleNumbers, atomNumbers}
 use Rattle.witness.specs.Links.{firstNode, nodeOf, chainNode, Family, ofAtom, ofRule, mainItem}
 
@@ -104,18 +104,18 @@ tracksOn b told t n s r =
     (tracks (heldAfter b (t .held) n (stepAsked r)) (linksAfter b (t .held) (t .links) n (stepAsked r)))
     t
 
--- after the records from number n on
-unfoldable pub tracksAll : Bool → Tracks → ℕ → List ℕ → List (List ℕ) → Tracks
-tracksAll b t n s [] = t
-tracksAll b t n s (r ∷ rs) = tracksAll b (tracksOn b false t n s r) (suc n) (stepEffect s r) rs
+abbrev pub isNone : List (List ℕ) → Bool
+isNone [] = true
+isNone (r ∷ rs) = false
 
-abbrev pub tracksLast : Tracks → ℕ → List ℕ → List (List ℕ) → Tracks
-tracksLast t n s [] = t
-tracksLast t n s (r ∷ rs) = tracksOn false true t n s r
+-- the record in front of these is the last of an explanation
+unfoldable pub isLast : Bool → List (List ℕ) → Bool
+isLast told rs = cond told (isNone rs) false
 
--- after the records of an explanation
-unfoldable pub tracksTold : Tracks → List ℕ → List (List ℕ) → Tracks
-tracksTold t s rs = tracksLast (tracksAll false t 0 s (frontOf rs)) (length rs - 1) (runEffect s (frontOf rs)) (lastOf rs)
+-- after the records from number n on, those of an explanation if it is told
+unfoldable pub tracksAll : Bool → Bool → Tracks → ℕ → List ℕ → List (List ℕ) → Tracks
+tracksAll b told t n s [] = t
+tracksAll b told t n s (r ∷ rs) = tracksAll b told (tracksOn b (isLast told rs) t n s r) (suc n) (stepEffect s r) rs
 
 -- ---- what a node stands for
 

@@ -14,12 +14,11 @@ ghost use Rattle.chains.specs.Chains.{dataAtom, runRule};
 ghost use Rattle.records.specs.Records.{stepIn, Asked};
 ghost use Rattle.records.specs.Traces.{traceRecords};
 ghost use Rattle.monitor.specs.Steps.{stepEffect};
-ghost use Rattle.monitor.specs.Runs.{runEffect};
 ghost use Rattle.witness.specs.Witness.{startsAs};
 ghost use Rattle.witness.specs.Told.{itemOf};
 ghost use Rattle.witness.specs.Links.{nodeOf, ofAtom, ofRule};
 ghost use Rattle.witness.specs.Nodes.{heldLength, placeOf, mainSource, runningSource, takenNode, nextNode, endsMain, heldAfter, linksAfter};
-ghost use Rattle.witness.specs.Nodes.{isStep, tracks, tracksOn, tracksAll, tracksTold, RuleFollowed, AtomFollowed, startNode, Begun, Backed, ToldBack};
+ghost use Rattle.witness.specs.Nodes.{isStep, tracks, tracksOn, isLast, tracksAll, RuleFollowed, AtomFollowed, startNode, Begun, Backed, ToldBack};
 ghost use Rattle.witness.specs.Explains.{ruleFound, ruleSteps, ruleLinks, atomFound, atomSteps, atomLinks, lentGood, explainAnswer, explainSteps, explainLinks};
 use answers::Answer;
 use image::CONTAINER_LIMIT;
@@ -216,41 +215,39 @@ fn follow_record(
     }
 }
 
-// The records of a trace on the session, one after the other.
-fn follow_trace(session: &mut [u64], trace: &[u8], held: &mut [u64], links: &mut [u64], rule: bool)
+// The record that ends there is the last of an explanation.
+fn is_last(told: bool, trace: &[u8], behind: usize) -> bool
+    requires { ⌜ behind ≤ length (now trace) ⌝ }
+    ensures { λ r. ⌜ r ≡ isLast told (traceRecords (drop behind (now (trace .entry)))) ⌝ }
+{
+    if told {
+        return behind == trace.len();
+    }
+    false
+}
+
+// The records of a trace on the session, one after the other; if it is told, the last counts unless it is refused.
+fn follow_trace(
+    session: &mut [u64],
+    trace: &[u8],
+    held: &mut [u64],
+    links: &mut [u64],
+    rule: bool,
+    told: bool,
+)
     requires { ⌜ (length (now held) ≡ heldLength) × (nodeOf (length (traceRecords (now trace))) ≤ length (now links)) ⌝ }
     ensures { λ _. ⌜
-        (tracks (now (held .exit)) (now (links .exit)) ≡ tracksAll rule (tracks (now (held .entry)) (now (links .entry))) 0 (now (session .entry)) (traceRecords (now (trace .entry))))
-        × (now (session .exit) ≡ runEffect (now (session .entry)) (traceRecords (now (trace .entry)))) ⌝ }
+        tracks (now (held .exit)) (now (links .exit))
+        ≡ tracksAll rule told (tracks (now (held .entry)) (now (links .entry))) 0 (now (session .entry)) (traceRecords (now (trace .entry))) ⌝ }
 {
     let mut at: usize = 0;
     while at < trace.len() {
         let bytes = records::record_at(trace, at);
-        follow_record(session, bytes, held, links, rule, false, at / RECORD_LENGTH);
-        at += bytes.len();
+        let behind = at + bytes.len();
+        let last = is_last(told, trace, behind);
+        follow_record(session, bytes, held, links, rule, last, at / RECORD_LENGTH);
+        at = behind;
     }
-}
-
-// The records of a trace of which the last counts unless it is refused.
-fn follow_told(session: &mut [u64], trace: &[u8], held: &mut [u64], links: &mut [u64])
-    requires { ⌜ (length (now held) ≡ heldLength) × (nodeOf (length (traceRecords (now trace))) ≤ length (now links)) ⌝ }
-    ensures { λ _. ⌜ tracks (now (held .exit)) (now (links .exit)) ≡ tracksTold (tracks (now (held .entry)) (now (links .entry))) (now (session .entry)) (traceRecords (now (trace .entry))) ⌝ }
-{
-    if trace.len() == 0 {
-        return;
-    }
-    let n = (trace.len() - 1) / RECORD_LENGTH;
-    let at = n * RECORD_LENGTH;
-    follow_trace(session, &trace[0..at], held, links, false);
-    follow_record(
-        session,
-        records::record_at(trace, at),
-        held,
-        links,
-        false,
-        true,
-        n,
-    );
 }
 
 // ---- the way back
@@ -418,7 +415,7 @@ fn follow_rule(image: &[u8], trace: &[u8], rule: &[u64], held: &mut [u64], links
         image::section(image, 3),
         rule,
     );
-    follow_trace(&mut session, trace, held, links, true);
+    follow_trace(&mut session, trace, held, links, true, false);
 }
 
 // How the run rule came into container c: the accepted records of the trace on the session that the image starts.
@@ -453,7 +450,7 @@ fn follow_atom(image: &[u8], trace: &[u8], d: usize, held: &mut [u64], links: &m
     let mut session = [0u64; SESSION_LENGTH];
     session::start(image, &mut session);
     begin_atom(held, image::section(image, 0), d);
-    follow_told(&mut session, trace, held, links);
+    follow_trace(&mut session, trace, held, links, false, true);
 }
 
 // Where the node of the atom k in container c stands.

@@ -19,7 +19,7 @@ returns c =
     let b15 = b12 .before .before .before in
     let a = b15 .before .before .before .before .before .before in
     atom-followed _ _ _ _ _ _ _ _ _ (b12 .section .ensures) (b15 .start .ensures .1 ∙ started-effect _ _ (a .pre .0) (search needs)) (b11 .begin-atom .ensures)
-    (b5 .follow-told .ensures) (a .pre .3)
+    (b5 .follow-trace .ensures) (a .pre .3)
 
 pub follow-atom-spec : {M : Type 1} → statement M
 follow-atom-spec =

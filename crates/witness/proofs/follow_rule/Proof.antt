@@ -33,7 +33,7 @@ returns c =
     let b17 = b14 .before .before .before in
     let a = b17 .before .before .before .before .before .before .before in
     rule-followed _ _ _ _ _ _ _ _ _ _ _ (b14 .section .ensures) (b13 .section2 .ensures) (b12 .section3 .ensures)
-    (b17 .start .ensures .1 ∙ started-effect _ _ (a .pre .0) (search needs)) (b11 .begin-rule .ensures) (b5 .follow-trace .ensures .0) (a .pre .2)
+    (b17 .start .ensures .1 ∙ started-effect _ _ (a .pre .0) (search needs)) (b11 .begin-rule .ensures) (b5 .follow-trace .ensures) (a .pre .2)
 
 pub follow-rule-spec : {M : Type 1} → statement M
 follow-rule-spec =
