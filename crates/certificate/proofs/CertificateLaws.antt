@@ -1,7 +1,7 @@
 -- A rule of the origin that does not cover the tag makes a certificate, and where the history forbids there is such a rule.
 use Prim.Native.Nat.{ℕ}
 use mathlib.Core.Path.{_≡_}
-use mathlib.Core.Bool.{true, false}
+use mathlib.Core.Bool.{false}
 use mathlib.Core.List.{List}
 use mathlib.Core.Logic.{_↔_}
 use Rattle.lists.proofs.Bools.{refuted}

@@ -1,14 +1,14 @@
 -- What `why` tells is a certificate.
 use Prim.Native.Nat.{ℕ, zero, suc, _+_, _-_, _≤_, _<_}
 use native.Mathlib.Omega.{arith}
-use mathlib.Core.Path.{_≡_, refl, sym, ap, subst, _∙_}
-use mathlib.Core.Bool.{Bool, true, false, cond, _||_}
+use mathlib.Core.Path.{_≡_, refl, ap, subst, _∙_}
+use mathlib.Core.Bool.{true, false, _||_}
 use mathlib.Core.List.{List, [], _∷_, _++_, map}
 use mathlib.Core.Logic.{_⊎_, inl, inr, _↔_}
 use mathlib.Core.Option.{Option, none, some}
 use lib.Dec.{eqb}
-use lib.ListN.{length, take, drop, getD, length-append, length-take, length-map, List·getD-append}
-use lib.Seq.{drop-at, getD-append-add}
+use lib.ListN.{length, drop, getD, length-map, List·getD-append}
+use lib.Seq.{getD-append-add}
 use borrow.Author.Tests.{eq-eqb}
 use Rattle.lists.specs.Lists.{elem}
 use Rattle.lists.proofs.Bools.{or-cases, decide, clash}
@@ -17,10 +17,9 @@ use Rattle.lists.proofs.Elem.{elem-here, elem-there}
 use Rattle.fields.specs.Bytes.{Bytes}
 use Rattle.fields.specs.Writing.{overwritten}
 use Rattle.answers.specs.declared.Answer.{Answer}
-use Rattle.answers.specs.Answers.{isAlert, isBlocked, isRefused, accepted, receiverOf, tagOf}
+use Rattle.answers.specs.Answers.{isAlert, isBlocked, receiverOf, tagOf}
 use Rattle.answers.proofs.Cases.{alert-accepted}
 use Rattle.rules.specs.Sets.{atom, holds}
-use Rattle.rules.specs.Rules.{covers}
 use Rattle.rules.specs.Answers.{mixtureLimit, padded}
 use Rattle.rules.proofs.BoundedLaws.{padded-length}
 use Rattle.image.specs.Limits.{containerLimit}
@@ -43,17 +42,17 @@ use Rattle.witness.specs.Witness.{Witness, witness}
 use Rattle.witness.specs.Told.{toldHistory, toldNumbers, itemOf, chainFile, foundIn, atEnd}
 use Rattle.witness.specs.Explains.{atomWitness, atomFound}
 use Rattle.witness.specs.Tells.{Right}
-use Rattle.witness.proofs.WitnessLaws.{right}
-use Rattle.certificate.specs.Origins.{origin, From, Certificate, lackedBy}
+use Rattle.witness.proofs.Theorems.{witness-right, told-given}
+use Rattle.certificate.specs.Origins.{origin, Certificate, lackedBy}
 use Rattle.certificate.specs.Whys.{Reason, reasonOf, reasonNumbers, whyNumbers, answered, reasonIn, forbiddenLast, whyLength, whyRefusal, whyEffect, whySteps}
 use Rattle.certificate.specs.Certified.{ComesFrom, Certified}
 use Rattle.certificate.proofs.LackLaws.{Wide, lacked-out, uncovered-held}
+use Rattle.witness.proofs.ExplainFacts.{end-back}
 use Rattle.witness.proofs.LowLaws.{reaches-low, reaches-item}
 use Rattle.certificate.proofs.CertificateLaws.{Uncovered, uncovered, certified}
 use Rattle.certificate.proofs.ReadLaws.{rule-short}
 use Rattle.certificate.proofs.SearchLaws.{chain-file}
 use Rattle.certificate.proofs.ReasonRight.{ReasonRight, reason-right, comes-from}
-use Rattle.certificate.proofs.ToldLaws.{told-history}
 use Rattle.certificate.proofs.WhyCases.{none-refused}
 use Rattle.certificate.proofs.WhyLaws.{Last, last-of}
 
@@ -107,13 +106,15 @@ module _ (i t : List ℕ) (bytes : Bytes i) (ok : checkOf i ≡ 0) (f : forbidde
 
   blocked-told : BlockedTold (policyIn i) (historyOf stepOn stepOf (startOf (policyIn i)) (x .front)) (stepAsked (x .last)) (stepAnswer (runEffect (startOf (policyIn i)) (x .front)) (x .last))
   blocked-told =
-      subst (λ (k : List (List ℕ)). BlockedTold (policyIn i) (historyOf stepOn stepOf (startOf (policyIn i)) k) (stepAsked (x .last)) (stepAnswer (runEffect (startOf (policyIn i)) (x .front)) (x .last)))
+      subst
+      (λ (k : List (List ℕ)). BlockedTold (policyIn i) (historyOf stepOn stepOf (startOf (policyIn i)) k) (stepAsked (x .last))
+      (stepAnswer (runEffect (startOf (policyIn i)) (x .front)) (x .last)))
       (take-before (x .front) (x .last))
       (blocked-exactly i bytes ok (x .front ++ (x .last ∷ [])) (length (x .front)) (stepAsked (x .last)) (stepAnswer (runEffect (startOf (policyIn i)) (x .front)) (x .last)) given-at
       (forbidden-judged (runEffect (startOf (policyIn i)) (x .front)) (x .last) (x .forbids)))
 
   told-is : toldHistory (startOf (policyIn i)) (traceRecords t) ≡ historyOf stepOn stepOf (startOf (policyIn i)) (x .front) ▸ stepAsked (x .last)
-  told-is = ap (toldHistory (startOf (policyIn i))) (x .is) ∙ told-history (startOf (policyIn i)) (x .front) (x .last) (x .given)
+  told-is = ap (toldHistory (startOf (policyIn i))) (x .is) ∙ told-given (startOf (policyIn i)) (x .front) (x .last) (x .given)
 
   receiver-is : receiverOf (answered i t) ≡ receiver (stepAsked (x .last))
   receiver-is = ap receiverOf (x .answer) ∙ blocked-told .at
@@ -180,11 +181,6 @@ module _ (P : Policy) (c t room : ℕ) (w : Reason) where
 put-at : (x out : List ℕ) (k : ℕ) → k < length x → getD (overwritten x 0 out) k 0 ≡ getD x k 0
 unfolding overwritten
 put-at x out k l = List·getD-append x (drop (0 + length x) out) 0 k l
-
-end-at : (xs steps : List ℕ) → drop (length steps - length xs) (atEnd xs steps) ≡ xs
-unfolding atEnd
-end-at xs steps =
-    drop-at (take (length steps - length xs) steps) xs (length steps - length xs) (omega (arith, length-take (length steps - length xs) steps))
 
 -- ---- what is left in the output and the steps
 
@@ -262,7 +258,7 @@ module _ (i t links steps out : List ℕ) (bytes : Bytes i) (z : whyRefusal i t 
       number-at (9 + k) (omega (arith, short, l)) ∙ number-lacked (policyIn i) (receiverOf (answered i t)) (tagOf (answered i t)) (length steps) (reasonIn i t) k l
 
   is-chain : drop (getD (whyEffect i t links steps out) 7 0) (whySteps i t links steps out) ≡ reasonIn i t .chain
-  is-chain = rw (is-first, steps-is) (end-at (reasonIn i t .chain) steps)
+  is-chain = rw (is-first, steps-is) (end-back (reasonIn i t .chain) steps)
 
   counted : (k : ℕ) → k < getD (whyEffect i t links steps out) 8 0 → k < length (ruleAt (policyIn i .rules) (reasonIn i t .rule))
   counted k l = omega (arith, is-count, l)
@@ -289,14 +285,16 @@ module _ (i t links steps out : List ℕ) (bytes : Bytes i) (z : whyRefusal i t 
         mixtures = rw is-rule is-count;
         lacks = λ k l. rw (is-rule, is-lacked k (counted k l)) (last-lacked i t bytes ok forbids k (counted k l) .1);
         holds = λ k l. rw (is-lacked k (counted k l)) (last-lacked i t bytes ok forbids k (counted k l) .0);
-        reaches = λ k l. rw (is-lacked k (counted k l)) (last-told i t bytes ok forbids (lackedBy (tagOf (answered i t)) (getD (ruleAt (policyIn i .rules) (reasonIn i t .rule)) k 0)) .0 (last-lacked i t bytes ok forbids k (counted k l) .0));
+        reaches = λ k l.
+            rw (is-lacked k (counted k l))
+            (last-told i t bytes ok forbids (lackedBy (tagOf (answered i t)) (getD (ruleAt (policyIn i .rules) (reasonIn i t .rule)) k 0)) .0 (last-lacked i t bytes ok forbids k (counted k l) .0));
       }
 
   -- an atom that reaches the receiver has a chain, which begins in a container
   pub explained : (k : ℕ) → k < getD (whyEffect i t links steps out) 8 0 → (buffer : List ℕ)
       → atomFound i t (receiverOf (answered i t)) (getD (whyEffect i t links steps out) (9 + k) 0) buffer .file < containerLimit
   unfolding atomFound foundIn atomWitness
-  explained k l buffer = on (witness (policyIn i) history item c) refl (right (policyIn i) history item c)
+  explained k l buffer = on (witness (policyIn i) history item c) refl (witness-right (policyIn i) history item c)
     where
       history : History
       history = toldHistory (startOf (policyIn i)) (traceRecords t)

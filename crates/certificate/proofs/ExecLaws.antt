@@ -1,13 +1,12 @@
 -- What is told by the mark of a container: of an exec the user's rule or a run rule, on the records before it.
-use Prim.Native.Nat.{ℕ, zero, suc, _+_, _-_, _*_, _/_, _%_, _≤_, _<_}
+use Prim.Native.Nat.{ℕ, _+_, _-_, _*_, _≤_, _<_}
 use native.Mathlib.Omega.{arith}
 use native.Mathlib.Nat.{add-sub-cancel-left}
-use mathlib.Core.Path.{_≡_, refl, sym, ap, ap₂, subst, _∙_}
-use mathlib.Core.Bool.{Bool, true, false, not, cond}
-use mathlib.Core.List.{List, [], _∷_, _++_}
+use mathlib.Core.Path.{_≡_, refl, sym, ap, _∙_}
+use mathlib.Core.Bool.{Bool, true, false, not}
+use mathlib.Core.List.{List, [], _++_}
 use mathlib.Core.Option.{Option, none, some}
-use lib.Dec.{eqb, ltb}
-use lib.ListN.{length, take, drop, getD, getElem?, length-take, take-append-drop}
+use lib.ListN.{length, take, drop, length-take, take-append-drop}
 use lib.Seq.{take-at}
 use borrow.Author.Tests.{eq-eqb, ne-eqb, lt-ltb, le-ltb}
 use Rattle.lists.proofs.Bools.{passes-test, fails-test}
@@ -25,15 +24,15 @@ use Rattle.records.specs.Traces.{traceRecords}
 use Rattle.records.proofs.TraceLaws.{records-append}
 use Rattle.monitor.specs.Runs.{stepOn}
 use Rattle.witness.specs.declared.Found.{Found}
-use Rattle.witness.specs.Witness.{Witness, witness}
-use Rattle.witness.specs.Told.{acceptedNumbers, chainFile, chainRecords, foundIn, atEnd}
+use Rattle.witness.specs.Witness.{Witness}
+use Rattle.witness.specs.Told.{chainFile, chainRecords, foundIn, atEnd}
 use Rattle.witness.specs.Explains.{ruleNumbers}
 use Rattle.witness.proofs.TraceParts.{records-count}
 use Rattle.certificate.specs.declared.Told.{Told}
-use Rattle.certificate.specs.Origins.{Origin, own, made, started, nowhere}
-use Rattle.certificate.specs.Whys.{runOf, userNumber, coversBy, runForbids, runWitness, runChain, Reason, noReason, ownReason, userReason, runReason, execReason, madeOrigin, userOrigin, searchLinks}
-use Rattle.certificate.specs.Marks.{nowhereMark, recordMark, recordOf, requestOrigin, markOrigin, MarkGood, reasonAt, linksAt, searchChain, searchedLinks, Roomy, Searched, toldOf, runTold, execAt, execLinks, markReason, markLinks}
-use Rattle.certificate.proofs.TellLaws.{told-nothing}
+use Rattle.certificate.specs.Origins.{made, started}
+use Rattle.certificate.specs.Whys.{userNumber, coversBy, runForbids, runWitness, Reason, noReason, ownReason, userReason, runReason, execReason, madeOrigin, userOrigin}
+use Rattle.certificate.specs.Marks.{nowhereMark, recordMark, recordOf, requestOrigin, markOrigin, MarkGood}
+use Rattle.certificate.specs.Marks.{searchChain, searchedLinks, Roomy, Searched, toldOf, runTold, execAt, execLinks, markReason, markLinks}
 use Rattle.certificate.proofs.SearchLaws.{chain-file, no-steps}
 use Rattle.certificate.proofs.ReasonRight.{found-from}
 
@@ -93,7 +92,7 @@ module _ (i t : List ℕ) (n o u tag : ℕ) {m : ℕ} {d : Bool} (em : m ≡ use
     exec-run ok links steps {links′} {steps′} {f} {r} g e =
         let c : coversBy (policyIn i) (userNumber (policyIn i) u) tag ≡ true = passes-test told-covers h in (
           rw exec-run-is
-          (e ∙ ap (runTold (policyIn i) n) (g .found) ∙ found-told (policyIn i) (ruleNumbers i t) n steps (searchChain i t tag o) (search-low i t tag o ok)),
+              (e ∙ ap (runTold (policyIn i) n) (g .found) ∙ found-told (policyIn i) (ruleNumbers i t) n steps (searchChain i t tag o) (search-low i t tag o ok)),
           rw exec-run-is (g .inSteps ∙ ap (λ (x : List ℕ). atEnd x steps) (chain-same (policyIn i) (ruleNumbers i t) n (searchChain i t tag o))),
           rw c (g .inLinks),
         )

@@ -1,15 +1,15 @@
 -- The last answer to a trace and the mark of its receiver, on the session that the image starts.
-use Prim.Native.Nat.{ℕ, zero, suc, _<_}
+use Prim.Native.Nat.{ℕ, _<_}
 use native.Mathlib.Omega.{arith}
-use mathlib.Core.Path.{_≡_, refl, sym, ap, ap₂, subst, _∙_}
-use mathlib.Core.Bool.{Bool, true, false, _||_}
+use mathlib.Core.Path.{_≡_, ap, _∙_}
+use mathlib.Core.Bool.{Bool, _||_}
 use mathlib.Core.List.{List, [], _∷_}
 use mathlib.Core.Logic.{_⊎_, inl, inr, _≢_}
 use lib.ListN.{length, getD}
 use Rattle.lists.proofs.Conditions.{zero-or-not}
 use Rattle.answers.specs.declared.Answer.{Answer}
 use Rattle.answers.specs.declared.Received.{Received}
-use Rattle.answers.specs.Answers.{quiet, isAlert, isBlocked, receivedOf, receiverOf, tagOf}
+use Rattle.answers.specs.Answers.{quiet, isAlert, isBlocked, receivedOf, receiverOf}
 use Rattle.image.specs.Limits.{containerLimit}
 use Rattle.image.specs.Image.{checkOf, policyIn}
 use Rattle.session.specs.Limits.{sessionLength}
@@ -24,7 +24,6 @@ use Rattle.monitor.specs.Steps.{stepAsked, stepAnswer, stepEffect, refusalOf}
 use Rattle.monitor.specs.Runs.{stepOn, runAnswers}
 use Rattle.monitor.proofs.StepLaws.{step-receiver, made-answer}
 use Rattle.monitor.proofs.Theorems.{refused-zeros}
-use Rattle.certificate.specs.declared.Judgement.{Judgement}
 use Rattle.certificate.specs.Whys.{lastFrom, lastAnswer, answered, forbiddenLast}
 use Rattle.certificate.specs.Marks.{marksAll, ownMarks, judgementOf}
 

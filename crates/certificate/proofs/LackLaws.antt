@@ -2,13 +2,13 @@
 use Prim.Native.Nat.{ℕ, _≤_, _<_}
 use native.Mathlib.Omega.{arith}
 use native.Mathlib.Decide.{ℕ-discrete}
-use mathlib.Core.Path.{_≡_, sym, _∙_}
+use mathlib.Core.Path.{_≡_}
 use mathlib.Core.Bool.{true, false}
 use mathlib.Core.List.{List}
 use lib.Dec.{eqb}
 use borrow.Author.Tests.{eqb-true, eq-eqb}
 use Rattle.lists.specs.Lists.{elem}
-use Rattle.lists.specs.Counting.{someBelow, leastBelow}
+use Rattle.lists.specs.Counting.{someBelow}
 use Rattle.lists.proofs.Bools.{and-in, and-0, and-1, clash, decide, refuted}
 use Rattle.lists.proofs.Below.{Least, some-at, least-some}
 use Rattle.rules.specs.Sets.{atom, holds}

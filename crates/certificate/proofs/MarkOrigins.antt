@@ -2,17 +2,14 @@
 use Prim.Native.Nat.{ℕ, zero, suc, _+_, _-_, _*_, _≤_, _<_}
 use native.Mathlib.Omega.{arith}
 use native.Mathlib.Decide.{decLt}
-use mathlib.Core.Path.{_≡_, refl, sym, ap, ap₂, subst, _∙_}
-use mathlib.Core.Bool.{Bool, true, false, cond}
+use mathlib.Core.Path.{_≡_, refl, sym, ap, ap₂, _∙_}
 use mathlib.Core.List.{List, [], _∷_}
 use mathlib.Core.Option.{some}
-use lib.Dec.{eqb, ltb}
 use lib.ListN.{length, take, drop, getD, getElem?, length-take, length-drop}
 use borrow.Author.Tests.{eq-eqb, ne-eqb, lt-ltb, le-ltb}
 use Rattle.lists.proofs.Places.{some-inj, none-some}
-use Rattle.answers.specs.Answers.{accepted}
 use Rattle.image.specs.Limits.{containerLimit}
-use Rattle.chains.specs.History.{Step, read, write, append, exec, fork, newFile, newVolatile, end, delete}
+use Rattle.chains.specs.History.{Step, exec, newFile}
 use Rattle.records.specs.declared.Request.{Request}
 use Rattle.records.specs.Codes.{execCode, newFileCode, stepWith}
 use Rattle.records.specs.Records.{recordLength, requestIn, stepIn, Asked}
@@ -20,12 +17,12 @@ use Rattle.records.specs.Traces.{traceRecords}
 use Rattle.records.proofs.CodeLaws.{by-code}
 use Rattle.records.proofs.RecordLaws.{record-long}
 use Rattle.records.proofs.TraceLaws.{records-rest, next-record, no-record}
-use Rattle.monitor.specs.Steps.{stepAsked, stepAnswer}
+use Rattle.monitor.specs.Steps.{stepAsked}
 use Rattle.monitor.specs.Runs.{runEffect}
 use Rattle.monitor.proofs.StepLaws.{step-record, accepted-zero}
 use Rattle.certificate.specs.Origins.{Origin, own, made, started, nowhere}
 use Rattle.certificate.specs.Marks.{nowhereMark, recordMark, recordOf, requestOrigin, markOrigin, MarkGood}
-use Rattle.certificate.proofs.MarkLaws.{accepted-asked, Asks, Marked, AcceptedRecord}
+use Rattle.certificate.proofs.MarkLaws.{accepted-asked, Marked, AcceptedRecord}
 
 -- ---- the record at a place
 

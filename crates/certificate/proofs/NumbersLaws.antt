@@ -1,9 +1,9 @@
 -- The numbers that are told, and how they are put.
-use Prim.Native.Nat.{ℕ, _+_, _-_, _≤_, _<_}
+use Prim.Native.Nat.{ℕ, _+_, _-_, _≤_}
 use native.Mathlib.Omega.{arith}
-use mathlib.Core.Path.{_≡_, refl, sym, ap, ap₂, _∙_}
-use mathlib.Core.List.{List, [], _∷_, _++_, map}
-use lib.ListN.{length, take, drop, getD, replicate, length-map, length-replicate}
+use mathlib.Core.Path.{_≡_, ap, ap₂, _∙_}
+use mathlib.Core.List.{List, _++_}
+use lib.ListN.{length, take, drop, replicate, length-replicate}
 use lib.Seq.{take-all}
 use Rattle.lists.proofs.Copying.{Copied, copied-start}
 use Rattle.fields.specs.Writing.{overwritten}

@@ -1,18 +1,15 @@
 -- The rules of the origin are the rules that govern; a certificate shows that an alert is right, and each alert has one.
-use Prim.Native.Nat.{ℕ, zero, suc, _<_}
+use Prim.Native.Nat.{ℕ, _<_}
 use native.Mathlib.Omega.{arith}
-use native.Mathlib.Decide.{ℕ-discrete}
-use mathlib.Core.Path.{_≡_, refl, sym, subst, _∙_, ap}
+use mathlib.Core.Path.{_≡_, refl, sym, subst, ap}
 use mathlib.Core.Bool.{Bool, true, false, cond}
-use mathlib.Core.List.{List, [], _∷_}
+use mathlib.Core.List.{List}
 use mathlib.Core.Logic.{_⊎_, inl, inr, _↔_, _≢_}
 use lib.Dec.{eqb}
 use borrow.Author.Tests.{eqb-true, eqb-false, eq-eqb, ne-eqb}
-use Rattle.lists.specs.Lists.{elem}
-use Rattle.rules.specs.Sets.{atom}
 use Rattle.image.specs.Policy.{Policy}
 use Rattle.chains.specs.History.{Step, read, write, append, exec, fork, newFile, newVolatile, end, delete, History, start, _▸_, size}
-use Rattle.chains.specs.Chains.{UserRule, runRule, Chain, Own, Governs, Reaches, HoldsAll, Forbidden}
+use Rattle.chains.specs.Chains.{UserRule, runRule, Chain, Governs, Forbidden}
 use Rattle.certificate.specs.Origins.{Origin, own, made, started, nowhere, origin, before, From, Certificate}
 
 -- ---- the history before a step

@@ -2,12 +2,11 @@
 use Prim.Native.Nat.{ℕ, zero, suc, _+_, _-_, _*_, _/_, _≤_, _<_}
 use native.Mathlib.Omega.{arith}
 use native.Mathlib.Decide.{decLt, ℕ-discrete}
-use mathlib.Core.Path.{_≡_, refl, sym, ap, ap₂, _∙_}
-use mathlib.Core.Bool.{Bool, true, false, not, cond, _&&_}
+use mathlib.Core.Path.{_≡_, refl, sym, ap, _∙_}
+use mathlib.Core.Bool.{Bool, true, false, not}
 use mathlib.Core.List.{List, [], _∷_, map}
 use mathlib.Core.Option.{Option, none, some}
-use lib.Dec.{eqb}
-use lib.ListN.{length, take, drop, getD, getElem?, replicate, length-map, length-take, length-drop, List·getD-eq-default}
+use lib.ListN.{length, take, drop, getD, getElem?, replicate, length-map, length-take, List·getD-eq-default}
 use borrow.Author.Tests.{eq-eqb, ne-eqb, le-leb}
 use Rattle.lists.proofs.Bools.{passes-test, fails-test}
 use Rattle.lists.proofs.Copying.{Copied}
@@ -19,11 +18,11 @@ use Rattle.rules.specs.Rules.{covers, unrestricted}
 use Rattle.rules.specs.Answers.{tagWidth, mixtureLimit, padded, boundedOf}
 use Rattle.rules.proofs.BoundedLaws.{padded-take, padded-length, bounded-fits, bounded-some}
 use Rattle.image.specs.Limits.{containerSize, userSize, ruleSize, mixtureSize, size8, size16, kindField, permitField, runField, countField, ownerField, unrestrictedNumber, noOwner, isFile}
-use Rattle.image.specs.Policy.{Container, Policy, unrestrictedRule, ruleAt, ownerAt}
-use Rattle.image.specs.Image.{part, containerIn, containersIn, usersIn, spansIn, rulesIn, ownersIn, mixturesIn, policyIn, checkOf}
+use Rattle.image.specs.Policy.{Container, unrestrictedRule, ruleAt, ownerAt}
+use Rattle.image.specs.Image.{part, containerIn, containersIn, usersIn, rulesIn, ownersIn, mixturesIn, policyIn, checkOf}
 use Rattle.image.proofs.AcceptedImage.{accepted-spans}
-use Rattle.image.proofs.RecordsByPlace.{containers-count, users-count, rules-count, owners-count, mixtures-count, mixture-at, rule-fits, rule-at, owner-at}
-use Rattle.image.proofs.RulesByNumber.{from-length, from-at}
+use Rattle.image.proofs.RecordsByPlace.{containers-count, users-count, rules-count, owners-count, rule-fits, rule-at, owner-at}
+use Rattle.image.proofs.RulesByNumber.{from-length}
 use Rattle.certificate.specs.Whys.{permitOf, runOf, userNumber, coversBy, runForbids}
 use Rattle.certificate.specs.Marks.{forbidsAt}
 use Rattle.certificate.proofs.NumbersLaws.{padded-end}

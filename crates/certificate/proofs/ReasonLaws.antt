@@ -1,17 +1,15 @@
 -- The reason by the records before an exec is that by the history before it.
-use Prim.Native.Nat.{ℕ, zero, suc, _≤_, _<_}
+use Prim.Native.Nat.{ℕ, suc, _<_}
 use native.Mathlib.Omega.{arith}
 use mathlib.Core.Path.{_≡_, refl, sym, ap, ap₂, _∙_}
 use mathlib.Core.Bool.{Bool, true, false, cond}
 use mathlib.Core.List.{List, [], _∷_, _++_, map}
-use mathlib.Core.Logic.{_⊎_, inl, inr}
 use mathlib.Core.Option.{Option, none, some}
 use lib.Dec.{eqb}
 use lib.ListN.{length, take, getD, getElem?}
 use lib.Seq.{getD-take}
-use Rattle.lists.proofs.Bools.{decide}
 use Rattle.image.specs.Policy.{Container, Policy, ruleAt}
-use Rattle.chains.specs.History.{Step, History, start, _▸_, size, receiver}
+use Rattle.chains.specs.History.{History, start, _▸_, size, receiver}
 use Rattle.chains.specs.Chains.{Item, runRule}
 use Rattle.chains.specs.Demand.{historyOf}
 use Rattle.records.specs.Records.{stepOf}
@@ -19,7 +17,7 @@ use Rattle.monitor.specs.Runs.{stepOn}
 use Rattle.witness.specs.Witness.{Source, Witness, rising, takesUp, endsItem, startsIn, stays, further, carriedOn, firstOf, witness}
 use Rattle.witness.specs.Told.{acceptedNumbers, chainRecords}
 use Rattle.certificate.specs.Origins.{Origin, own, made, started, nowhere, before}
-use Rattle.certificate.specs.Whys.{Reason, runForbids, runWitness, runChain, runReason, execReason, coversBy, userNumber, reasonBy, linksBy}
+use Rattle.certificate.specs.Whys.{runForbids, runWitness, runChain, runReason, execReason, reasonBy, linksBy}
 use Rattle.certificate.specs.Marks.{reasonAt, linksAt}
 use Rattle.certificate.proofs.OriginLaws.{Inside, before-size}
 use Rattle.certificate.proofs.NumberLaws.{accepted-size, Placed, placed}

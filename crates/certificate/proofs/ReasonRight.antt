@@ -1,16 +1,16 @@
 -- The rule of the reason governs the receiver by its origin, and does not cover the tag.
-use Prim.Native.Nat.{ℕ, zero, suc, _+_, _-_, _%_, _^_, _<_}
+use Prim.Native.Nat.{ℕ, zero, suc, _-_, _^_, _<_}
 use native.Mathlib.Omega.{arith}
 use native.Mathlib.Nat.{mod-lt}
 use native.Mathlib.Decide.{decLt}
 use mathlib.Core.Path.{_≡_, refl, sym, ap, subst, _∙_}
-use mathlib.Core.Bool.{Bool, true, false, not, cond, _&&_}
-use mathlib.Core.List.{List, [], _∷_, map}
+use mathlib.Core.Bool.{Bool, true, false, cond}
+use mathlib.Core.List.{List, [], _∷_}
 use mathlib.Core.Logic.{_⊎_, inl, inr}
 use mathlib.Core.Option.{Option, none, some}
-use lib.ListN.{length, getD, getElem?}
-use borrow.Author.Tests.{not-true, not-false}
-use Rattle.lists.proofs.Bools.{and-in, and-0, and-1, or-0, decide, clash}
+use lib.ListN.{getD, getElem?}
+use borrow.Author.Tests.{not-true}
+use Rattle.lists.proofs.Bools.{and-in, and-1, or-0, clash}
 use Rattle.lists.proofs.Places.{some-inj, none-some}
 use Rattle.rules.specs.Sets.{atom, holds, dataOf}
 use Rattle.rules.specs.Rules.{covers, unrestricted}
@@ -18,14 +18,14 @@ use Rattle.rules.specs.Answers.{tagWidth}
 use Rattle.rules.proofs.SetLaws.{atom-le, ext, data-atom, data-none, holds-all}
 use Rattle.image.specs.Limits.{isFile, unrestrictedNumber}
 use Rattle.image.specs.Policy.{Container, Policy, unrestrictedRule, ruleAt}
-use Rattle.chains.specs.History.{Step, History, size}
+use Rattle.chains.specs.History.{Step, History}
 use Rattle.chains.specs.Chains.{UserRule, Item, dataAtom, runningAtom, runRule, Starts, Carries, readAtom, readRule, writeAny, appendAny, execAtom, execRule, forkAny, Leads, Chain, Own}
 use Rattle.witness.specs.Witness.{Witness, rising, firstOf, witness}
 use Rattle.witness.specs.Told.{chainRecords}
 use Rattle.witness.specs.Tells.{Right}
-use Rattle.witness.proofs.WitnessLaws.{right}
-use Rattle.certificate.specs.Origins.{Origin, own, made, started, nowhere, origin, before, From}
-use Rattle.certificate.specs.Whys.{permitOf, runOf, userNumber, coversBy, runForbids, runWitness, runChain, Reason, ownReason, userReason, runReason, execReason, reasonBy, userOrigin, runOrigin}
+use Rattle.witness.proofs.Theorems.{witness-right}
+use Rattle.certificate.specs.Origins.{Origin, own, made, started, nowhere, before, From}
+use Rattle.certificate.specs.Whys.{permitOf, runOf, userNumber, coversBy, runForbids, runWitness, runChain, Reason, ownReason, userReason, runReason, execReason, reasonBy, userOrigin}
 use Rattle.certificate.specs.Certified.{ComesFrom}
 use Rattle.certificate.proofs.LackLaws.{Wide}
 
@@ -137,7 +137,7 @@ module _ (P : Policy) (h : History) (t o : ℕ) where
   forbids-out K a = not-true (covers (ruleAt (P .rules) (K .run)) t) (and-1 (isFile (K .kind)) a)
 
   chain-some : (r : List ℕ) → Chain P h (runRule r) o → (w : Witness) × (witness P h (runRule r) o ≡ some w)
-  chain-some r ch = on (witness P h (runRule r) o) refl (right P h (runRule r) o)
+  chain-some r ch = on (witness P h (runRule r) o) refl (witness-right P h (runRule r) o)
     where
       on : (v : Option Witness) → witness P h (runRule r) o ≡ v → Right P h (runRule r) o v → (w : Witness) × (v ≡ some w)
       on none e n = absurd (n ch)
@@ -166,7 +166,7 @@ module _ (P : Policy) (h : History) (t o : ℕ) where
       on : (K : Container) × (runForbids P t K ≡ true) × (runWitness P h o K ≡ some w) → RunRight w
       on (K, b, g) =
           let e : witness P h (runRule (ruleAt (P .rules) (K .run))) o ≡ some w = unfold runWitness in g in
-          by (subst (λ (v : Option Witness). Right P h (runRule (ruleAt (P .rules) (K .run))) o v) e (right P h (runRule (ruleAt (P .rules) (K .run))) o))
+          by (subst (λ (v : Option Witness). Right P h (runRule (ruleAt (P .rules) (K .run))) o v) e (witness-right P h (runRule (ruleAt (P .rules) (K .run))) o))
         where
           named : Starts P (w .file) (runRule (ruleAt (P .rules) (K .run))) → ruleAt (P .rules) (runOf (getElem? (P .containers) (w .file))) ≡ ruleAt (P .rules) (K .run)
           named (L, at, file, e) = ap (λ (x : Option Container). ruleAt (P .rules) (runOf x)) at ∙ e

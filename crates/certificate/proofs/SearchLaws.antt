@@ -3,18 +3,18 @@ use Prim.Native.Nat.{ℕ, zero, suc, _+_, _-_, _/_, _≤_, _<_}
 use native.Mathlib.Omega.{arith}
 use native.Mathlib.Numerals.{add-one}
 use mathlib.Core.Path.{_≡_, refl, sym, ap, subst, _∙_}
-use mathlib.Core.Bool.{Bool, true, false, cond}
-use mathlib.Core.List.{List, [], _∷_, _++_, append-nil}
+use mathlib.Core.Bool.{Bool, true, false}
+use mathlib.Core.List.{List, [], _∷_, append-nil}
 use mathlib.Core.Logic.{_≢_}
 use mathlib.Core.Option.{Option, none, some}
-use lib.ListN.{length, take, drop, getD, getElem?, drop-of-length-le}
+use lib.ListN.{length, take, drop, getElem?, drop-of-length-le}
 use lib.Seq.{take-all}
 use Rattle.lists.proofs.Places.{some-inj, none-some}
 use Rattle.rules.specs.declared.Bounded.{Bounded}
 use Rattle.rules.specs.Answers.{boundedOf}
 use Rattle.image.specs.Limits.{containerLimit, containerSize}
 use Rattle.image.specs.Policy.{Container, Policy, ruleAt}
-use Rattle.image.specs.Image.{part, containersIn, containerIn, policyIn, checkOf}
+use Rattle.image.specs.Image.{part, policyIn, checkOf}
 use Rattle.image.proofs.AcceptedImage.{few-containers}
 use Rattle.image.proofs.RecordsByPlace.{containers-count}
 use Rattle.session.specs.Session.{startOf}
@@ -25,15 +25,16 @@ use Rattle.records.specs.Records.{stepOf}
 use Rattle.records.specs.Traces.{traceRecords}
 use Rattle.monitor.specs.Runs.{stepOn}
 use Rattle.witness.specs.declared.Found.{Found}
-use Rattle.witness.specs.Witness.{Witness, rising, firstOf, witness}
+use Rattle.witness.specs.Witness.{Witness, firstOf, witness}
 use Rattle.witness.specs.Told.{chainFile, chainRecords, foundIn, atEnd}
 use Rattle.witness.specs.Links.{ofRule, linksLeft}
 use Rattle.witness.specs.Explains.{ruleWitness, ruleNumbers, ruleFound, ruleSteps, ruleLinks}
 use Rattle.witness.specs.Tells.{Right}
-use Rattle.witness.proofs.WitnessLaws.{right}
+use Rattle.witness.proofs.HistoryLaws.{rule-links-long}
+use Rattle.witness.proofs.Theorems.{witness-right}
 use Rattle.certificate.specs.Whys.{runOf, runForbids, runWitness, runChain, passLinks, searchLinks}
 use Rattle.certificate.specs.Marks.{forbidsAt, searchChain, searchedLinks, Roomy, FileFound, Searched}
-use Rattle.certificate.proofs.ReadLaws.{element-there, read-rule}
+use Rattle.certificate.proofs.ReadLaws.{read-rule}
 
 -- ---- a chain begins in a container
 
@@ -56,7 +57,7 @@ image-few i ok = omega (arith, containers-count (part i 0), few-containers i ok)
 
 pub chain-file : (i : List ℕ) → checkOf i ≡ 0 → (h : History) (y : Item) (o : ℕ) (w : Witness) → witness (policyIn i) h y o ≡ some w → w .file < containerLimit
 chain-file i ok h y o w e =
-    let r : Right (policyIn i) h y o (some w) = subst (λ (v : Option Witness). Right (policyIn i) h y o v) e (right (policyIn i) h y o) in
+    let r : Right (policyIn i) h y o (some w) = subst (λ (v : Option Witness). Right (policyIn i) h y o v) e (witness-right (policyIn i) h y o) in
     omega (arith, starts-inside (policyIn i) (w .file) (w .item) (r .0), image-few i ok)
 
 -- ---- what is found of a rule of the image
@@ -187,8 +188,8 @@ module _ (i t : List ℕ) (tag o : ℕ) where
 
     module _ (ok : checkOf i ≡ 0) (l : f < length (policyIn i .containers)) {b : Bool} (e : b ≡ forbidsAt policy tag (getElem? (policyIn i .containers) f)) (h : b ≡ true)
         {links′ steps′ : List ℕ} {r : Found} (w : FileFound i t (runOf (getElem? (policyIn i .containers) f)) o links steps r links′ steps′) where
-      pub nothing : r .file ≡ containerLimit → length links′ ≡ length links → Searching i t tag o links₀ steps₀ links′ steps′ (f + 1)
-      nothing z m = on (runWitness policy history o (x .0)) refl
+      pub nothing : r .file ≡ containerLimit → Searching i t tag o links₀ steps₀ links′ steps′ (f + 1)
+      nothing z = on (runWitness policy history o (x .0)) refl
         where
           x : (K : Container) × (getElem? (policyIn i .containers) f ≡ some K)
           x = element (policyIn i .containers) f l
@@ -203,7 +204,7 @@ module _ (i t : List ℕ) (tag o : ℕ) where
               record {
                 same = k;
                 even = ap length k;
-                long = m ∙ g .long;
+                long = ap length (w .inLinks) ∙ rule-links-long i t (ruleAt (policyIn i .rules) (runOf (getElem? (policyIn i .containers) f))) links ∙ g .long;
                 chain = sym (chain-first f (x .0) (x .1) n none q) ∙ g .chain;
                 left =
                     ap (searchLinks policy (startOf policy) (traceRecords t) tag o (rest (f + 1))) (links-here f (x .0) (x .1) w) ∙ sym (links-first f (x .0) (x .1) n none q links) ∙ g .left;

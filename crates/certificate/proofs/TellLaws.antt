@@ -1,16 +1,14 @@
 -- What is told of each kind of reason.
 use Prim.Native.Nat.{ℕ, _-_}
 use native.Mathlib.Omega.{arith}
-use mathlib.Core.Path.{_≡_, refl, sym, ap, _∙_}
-use mathlib.Core.List.{List, []}
-use lib.ListN.{length, getElem?}
+use mathlib.Core.Path.{_≡_, sym, ap, _∙_}
+use lib.ListN.{getElem?}
 use borrow.Author.Tests.{eq-eqb, ne-eqb}
 use Rattle.image.specs.Limits.{containerLimit, unrestrictedNumber}
 use Rattle.image.specs.Policy.{Policy}
-use Rattle.image.specs.Image.{policyIn}
 use Rattle.witness.specs.declared.Found.{Found}
 use Rattle.certificate.specs.declared.Told.{Told}
-use Rattle.certificate.specs.Whys.{permitOf, runOf, userNumber, Reason, noReason, ownReason, userReason, ownOrigin, runOrigin}
+use Rattle.certificate.specs.Whys.{permitOf, runOf, userNumber, noReason, ownReason, userReason, ownOrigin, runOrigin}
 use Rattle.certificate.specs.Marks.{toldOf, runTold}
 
 -- with no chain the place behind the buffer

@@ -3,10 +3,10 @@
 use Prim.Native.Nat.{ℕ, suc, _+_, _<_}
 use native.Mathlib.Omega.{arith}
 use mathlib.Core.Path.{_≡_}
-use mathlib.Core.Bool.{true, false, _||_}
+use mathlib.Core.Bool.{true, false}
 use mathlib.Core.List.{List, [], _∷_}
 use mathlib.Core.Logic.{_↔_, _≢_}
-use lib.ListN.{length, take, getD}
+use lib.ListN.{take, getD}
 use Rattle.lists.specs.Lists.{elem}
 use Rattle.lists.specs.Conditions.{numbersOf, numberAt}
 use Rattle.lists.proofs.Bools.{or-1}

@@ -1,33 +1,31 @@
 -- The history of an explanation whose last record is not refused, and the reason on it.
-use Prim.Native.Nat.{ℕ, zero, suc, _+_, _-_, _<_}
+use Prim.Native.Nat.{ℕ, suc, _+_, _-_, _<_}
 use native.Mathlib.Omega.{arith}
 use native.Mathlib.Nat.{zero-add}
-use mathlib.Core.Path.{_≡_, refl, sym, ap, ap₂, subst, _∙_}
-use mathlib.Core.Bool.{Bool, true, false, not, cond}
+use mathlib.Core.Path.{_≡_, refl, sym, ap, _∙_}
+use mathlib.Core.Bool.{true, false}
 use mathlib.Core.List.{List, [], _∷_, _++_, append-nil}
 use mathlib.Core.Logic.{_⊎_, inl, inr}
-use mathlib.Core.Option.{some}
-use lib.Dec.{eqb}
-use lib.ListN.{length, take, drop, getD, length-append, List·getD-append}
+use lib.ListN.{length, getD, length-append, List·getD-append}
 use lib.Seq.{take-at, drop-at}
 use Rattle.lists.proofs.Bools.{decide, clash}
 use Rattle.answers.specs.declared.Answer.{Answer}
 use Rattle.answers.specs.Answers.{quiet, accepted, isBlocked, isRefused}
 use Rattle.answers.proofs.Cases.{given-cases, blocked-unaccepted}
 use Rattle.image.specs.Policy.{Policy}
-use Rattle.chains.specs.History.{Step, read, write, append, exec, fork, newFile, newVolatile, end, delete, History, start, _▸_, size}
+use Rattle.chains.specs.History.{Step, read, write, append, exec, fork, newFile, newVolatile, end, delete, History, _▸_, size}
 use Rattle.chains.specs.Guards.{writing}
-use Rattle.chains.specs.Demand.{extend, historyFrom, historyOf}
+use Rattle.chains.specs.Demand.{historyFrom, historyOf}
 use Rattle.chains.proofs.Theorems.{history-append}
 use Rattle.records.specs.Records.{stepOf}
 use Rattle.monitor.specs.Steps.{stepAsked, stepAnswer, stepEffect}
 use Rattle.monitor.specs.Runs.{stepOn, runAnswers, runEffect}
-use Rattle.monitor.proofs.Theorems.{given-spelled}
 use Rattle.monitor.proofs.Guarded.{blocked-step}
 use Rattle.monitor.proofs.RunLaws.{runAnswers-append}
-use Rattle.witness.specs.Told.{frontOf, lastOf, withLast, toldHistory, numbersFrom, acceptedNumbers, lastNumber, toldNumbers}
+use Rattle.witness.proofs.Theorems.{told-given}
+use Rattle.witness.specs.Told.{frontOf, lastOf, toldHistory, numbersFrom, acceptedNumbers, toldNumbers}
 use Rattle.certificate.specs.Origins.{Origin, own, made, started, nowhere, origin, before}
-use Rattle.certificate.specs.Whys.{Reason, reasonBy, reasonOf, linksBy, lastFrom, lastAnswer, runChain, userNumber, coversBy, searchLinks}
+use Rattle.certificate.specs.Whys.{reasonBy, reasonOf, linksBy, lastFrom, lastAnswer, runChain}
 use Rattle.certificate.proofs.OriginLaws.{Inside, inside, before-earlier, before-size}
 use Rattle.certificate.proofs.NumberLaws.{history-accepted, history-skipped, numbers-accepted, numbers-skipped, accepted-size}
 use Rattle.certificate.proofs.ReasonLaws.{run-below, exec-same}
@@ -112,7 +110,10 @@ module _ (s : List ℕ) (qs : List (List ℕ)) (r : List ℕ) where
     accepted-history = history-split ∙ history-accepted (runEffect s qs) r a (historyOf stepOn stepOf s qs) []
 
     accepted-numbers : acceptedNumbers s (qs ++ (r ∷ [])) ≡ acceptedNumbers s qs ++ (length qs ∷ [])
-    accepted-numbers = numbers-split ∙ ap (λ (l : List ℕ). acceptedNumbers s qs ++ l) (numbers-accepted (runEffect s qs) r a (length qs) [] ∙ ap (λ (l : List ℕ). length qs ∷ l) (numbers-none (suc (length qs)) (stepEffect (runEffect s qs) r)))
+    accepted-numbers =
+        numbers-split
+        ∙ ap (λ (l : List ℕ). acceptedNumbers s qs ++ l)
+        (numbers-accepted (runEffect s qs) r a (length qs) [] ∙ ap (λ (l : List ℕ). length qs ∷ l) (numbers-none (suc (length qs)) (stepEffect (runEffect s qs) r)))
 
   module _ (a : accepted (stepAnswer (runEffect s qs) r) ≡ false) where
     skipped-history : historyOf stepOn stepOf s (qs ++ (r ∷ [])) ≡ historyOf stepOn stepOf s qs
@@ -120,13 +121,11 @@ module _ (s : List ℕ) (qs : List (List ℕ)) (r : List ℕ) where
 
     skipped-numbers : acceptedNumbers s (qs ++ (r ∷ [])) ≡ acceptedNumbers s qs
     skipped-numbers =
-        numbers-split ∙ ap (λ (l : List ℕ). acceptedNumbers s qs ++ l) (numbers-skipped (runEffect s qs) r a (length qs) [] ∙ numbers-none (suc (length qs)) (stepEffect (runEffect s qs) r)) ∙ append-nil (acceptedNumbers s qs)
+        numbers-split
+        ∙ ap (λ (l : List ℕ). acceptedNumbers s qs ++ l) (numbers-skipped (runEffect s qs) r a (length qs) [] ∙ numbers-none (suc (length qs)) (stepEffect (runEffect s qs) r))
+        ∙ append-nil (acceptedNumbers s qs)
 
   module _ (g : isRefused (stepAnswer (runEffect s qs) r) ≡ false) where
-    pub told-history : toldHistory s (qs ++ (r ∷ [])) ≡ historyOf stepOn stepOf s qs ▸ stepAsked r
-    unfolding toldHistory
-    told-history = rw (front-is, last-is, g, given-spelled (runEffect s qs) r g)
-
     pub told-numbers : toldNumbers s (qs ++ (r ∷ [])) ≡ acceptedNumbers s qs ++ (length qs ∷ [])
     unfolding toldNumbers
     told-numbers = rw (front-is, last-is, g, one-long)
@@ -178,7 +177,7 @@ module _ (P : Policy) (s : List ℕ) (qs : List (List ℕ)) (r : List ℕ) (c t 
 
   pub reason-told : reasonOf P (toldHistory s rs) (toldNumbers s rs) c t ≡ reasonBy P (historyOf stepOn stepOf s rs) (acceptedNumbers s rs) t (origin (historyOf stepOn stepOf s rs) c)
   unfolding reasonOf
-  reason-told = rw (told-history s qs r g, told-numbers s qs r g) (on (given-cases (stepAnswer (runEffect s qs) r) g))
+  reason-told = rw (told-given s qs r g, told-numbers s qs r g) (on (given-cases (stepAnswer (runEffect s qs) r) g))
     where
       on : (accepted (stepAnswer (runEffect s qs) r) ≡ true) ⊎ (isBlocked (stepAnswer (runEffect s qs) r) ≡ true)
           → reasonBy P (h ▸ stepAsked r) (ns ++ (length qs ∷ [])) t (origin (h ▸ stepAsked r) c)
@@ -191,7 +190,7 @@ module _ (P : Policy) (s : List ℕ) (qs : List (List ℕ)) (r : List ℕ) (c t 
 
   pub links-told : (links : List ℕ)
       → linksBy P s rs (toldNumbers s rs) t (origin (toldHistory s rs) c) links ≡ linksBy P s rs (acceptedNumbers s rs) t (origin (historyOf stepOn stepOf s rs) c) links
-  links-told links = rw (told-history s qs r g, told-numbers s qs r g) (on (given-cases (stepAnswer (runEffect s qs) r) g))
+  links-told links = rw (told-given s qs r g, told-numbers s qs r g) (on (given-cases (stepAnswer (runEffect s qs) r) g))
     where
       on : (accepted (stepAnswer (runEffect s qs) r) ≡ true) ⊎ (isBlocked (stepAnswer (runEffect s qs) r) ≡ true)
           → linksBy P s rs (ns ++ (length qs ∷ [])) t (origin (h ▸ stepAsked r) c) links

@@ -2,21 +2,38 @@
 use Prim.Native.Nat.{ℕ, _≤_, _<_}
 use native.Mathlib.Omega.{arith}
 use mathlib.Core.Path.{_≡_, refl, sym, ap, subst, _∙_}
-use mathlib.Core.Bool.{Bool, true, false, not, cond, _&&_, _||_}
+use mathlib.Core.Bool.{Bool, true, false, not}
 use mathlib.Core.List.{List, [], _∷_, _++_}
-use mathlib.Core.Logic.{_⊎_, inl, inr, _≢_, _↔_, ⊎-elim}
-use lib.Dec.{eqb, leb}
-use lib.ListN.{length, getD}
-use borrow.Author.Tests.{eq-eqb, ne-eqb, le-leb, lt-leb, leb-true}
+use mathlib.Core.Logic.{_⊎_, _≢_, _↔_, ⊎-elim}
+use lib.ListN.{length}
+use borrow.Author.Tests.{ne-eqb, le-leb, lt-leb}
 use Rattle.lists.specs.Lists.{elem}
-use Rattle.lists.specs.Conditions.{Condition, _orRefuse_, firstFailed, AllHold, numbersOf, numbersGood}
-use Rattle.lists.proofs.Bools.{and-in, and-0, and-1, decide, clash, passes-test, fails-test}
+use Rattle.lists.specs.Conditions.{Condition, _orRefuse_, firstFailed, numbersOf, numbersGood}
+use Rattle.lists.proofs.Bools.{and-in, decide, clash, passes-test, fails-test}
 use Rattle.lists.proofs.Conditions.{passed, failed, none-left, first-stops, first-passed, zero-or-not, given-among}
 use Rattle.answers.specs.Refusals.{lentLength, explainTrace}
 use Rattle.image.specs.Image.{imageConditions, checkOf}
 use Rattle.image.proofs.ImageRefusals.{refused-by-none}
 use Rattle.witness.specs.Explains.{lentGood}
 use Rattle.certificate.specs.Whys.{whyLength, roomGood, forbiddenLast, whyConditions, whyRefusal, whyEffect, whySteps, whyLinks}
+
+-- ---- the tests of the code
+
+module _ (t links steps out : List ℕ) where
+  pub lent-fails : {b : Bool} → b ≡ lentGood t links steps → not b ≡ true → roomGood t links steps out ≡ false
+  unfolding roomGood
+  lent-fails {b} e h = let z : lentGood t links steps ≡ false = fails-test e h in rw z
+
+  module _ {b : Bool} (e : b ≡ lentGood t links steps) (h : not b ≡ false) where
+    pub out-short : length out < whyLength → roomGood t links steps out ≡ false
+    unfolding roomGood
+    out-short l = let z : lentGood t links steps ≡ true = passes-test e h in rw (z, lt-leb whyLength (length out) l)
+
+    pub out-long : whyLength ≤ length out → roomGood t links steps out ≡ true
+    unfolding roomGood
+    out-long l = and-in (passes-test e h) (le-leb whyLength (length out) l)
+
+-- ---- the refusals
 
 module _ (i t links steps out : List ℕ) where
   abbrev lastTest : Condition
@@ -49,21 +66,6 @@ module _ (i t links steps out : List ℕ) where
 
       pub refusal-none : forbiddenLast i t ≡ true → whyRefusal i t links steps out ≡ 0
       refusal-none h = held ∙ passed lastTest [] h ∙ none-left
-
-  -- ---- the tests of the code
-
-  pub lent-fails : {b : Bool} → b ≡ lentGood t links steps → not b ≡ true → roomGood t links steps out ≡ false
-  unfolding roomGood
-  lent-fails {b} e h = let z : lentGood t links steps ≡ false = fails-test e h in rw z
-
-  module _ {b : Bool} (e : b ≡ lentGood t links steps) (h : not b ≡ false) where
-    pub out-short : length out < whyLength → roomGood t links steps out ≡ false
-    unfolding roomGood
-    out-short l = let z : lentGood t links steps ≡ true = passes-test e h in rw (z, lt-leb whyLength (length out) l)
-
-    pub out-long : whyLength ≤ length out → roomGood t links steps out ≡ true
-    unfolding roomGood
-    out-long l = and-in (passes-test e h) (le-leb whyLength (length out) l)
 
   -- ---- what is answered and left where something is refused
 
@@ -110,12 +112,14 @@ module _ (i t links steps out : List ℕ) where
 
   pub trace-refused : (whyRefusal i t links steps out ≡ explainTrace) ↔ ((roomGood t links steps out ≡ true) × (checkOf i ≡ 0) × (forbiddenLast i t ≡ false))
   trace-refused = (
-    by-tests (λ x. x ≡ explainTrace → (roomGood t links steps out ≡ true) × (checkOf i ≡ 0) × (forbiddenLast i t ≡ false)) (λ h e. absurd (omega (arith, e))) (λ r c e. absurd (never-25 e)) (λ r o h e. (r, o, h)) (λ r o h e. absurd (omega (arith, e))),
+    by-tests (λ x. x ≡ explainTrace → (roomGood t links steps out ≡ true) × (checkOf i ≡ 0) × (forbiddenLast i t ≡ false))
+        (λ h e. absurd (omega (arith, e))) (λ r c e. absurd (never-25 e)) (λ r o h e. (r, o, h)) (λ r o h e. absurd (omega (arith, e))),
     λ h. refusal-25 (h .0) (h .1) (h .2),
   )
 
   pub none-refused : (whyRefusal i t links steps out ≡ 0) ↔ ((roomGood t links steps out ≡ true) × (checkOf i ≡ 0) × (forbiddenLast i t ≡ true))
   none-refused = (
-    by-tests (λ x. x ≡ 0 → (roomGood t links steps out ≡ true) × (checkOf i ≡ 0) × (forbiddenLast i t ≡ true)) (λ h e. absurd (omega (arith, e))) (λ r c e. absurd (c e)) (λ r o h e. absurd (omega (arith, e))) (λ r o h e. (r, o, h)),
+    by-tests (λ x. x ≡ 0 → (roomGood t links steps out ≡ true) × (checkOf i ≡ 0) × (forbiddenLast i t ≡ true))
+        (λ h e. absurd (omega (arith, e))) (λ r c e. absurd (c e)) (λ r o h e. absurd (omega (arith, e))) (λ r o h e. (r, o, h)),
     λ h. refusal-none (h .0) (h .1) (h .2),
   )

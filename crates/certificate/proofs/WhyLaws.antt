@@ -1,20 +1,18 @@
 -- What the mark of the receiver tells is the reason on the history of the explanation.
-use Prim.Native.Nat.{ℕ, zero, _<_}
+use Prim.Native.Nat.{ℕ}
 use native.Mathlib.Omega.{arith}
 use mathlib.Core.Path.{_≡_, refl, sym, ap, subst, _∙_}
-use mathlib.Core.Bool.{Bool, true, false, not, cond, _&&_, _||_}
+use mathlib.Core.Bool.{true, false, not, _||_}
 use mathlib.Core.List.{List, [], _∷_, _++_}
 use mathlib.Core.Logic.{_⊎_, inl, inr}
 use lib.Dec.{eqb}
-use lib.ListN.{length, getD}
+use lib.ListN.{length}
 use borrow.Author.Tests.{eq-eqb}
 use Rattle.lists.proofs.Bools.{and-0, or-cases, clash, passes-test, fails-test}
 use Rattle.fields.specs.Writing.{overwritten}
 use Rattle.answers.specs.declared.Answer.{Answer}
-use Rattle.answers.specs.Answers.{quiet, isAlert, isBlocked, isRefused, receiverOf, tagOf}
+use Rattle.answers.specs.Answers.{isAlert, isBlocked, isRefused, receiverOf, tagOf}
 use Rattle.answers.proofs.Cases.{alert-accepted, accepted-given, blocked-given}
-use Rattle.image.specs.Limits.{containerLimit}
-use Rattle.image.specs.Policy.{Policy}
 use Rattle.image.specs.Image.{policyIn, checkOf}
 use Rattle.session.specs.Session.{startOf}
 use Rattle.chains.specs.Demand.{historyOf}
@@ -28,8 +26,9 @@ use Rattle.witness.proofs.ExplainLaws.{lent-room}
 use Rattle.certificate.specs.declared.Judgement.{Judgement}
 use Rattle.certificate.specs.declared.Told.{Told}
 use Rattle.certificate.specs.Origins.{origin}
-use Rattle.certificate.specs.Whys.{Reason, reasonBy, reasonOf, reasonNumbers, whyNumbers, linksBy, lastFrom, lastAnswer, answered, reasonIn, forbiddenLast, roomGood, whyRefusal, whyEffect, whySteps, whyLinks}
-use Rattle.certificate.specs.Marks.{ownMarks, marksAll, judgementOf, markOrigin, MarkGood, reasonAt, linksAt, Roomy, toldOf, markReason, markLinks, numbersBy}
+use Rattle.certificate.specs.Whys.{Reason, reasonBy, reasonNumbers, whyNumbers, linksBy, lastFrom, lastAnswer, answered}
+use Rattle.certificate.specs.Whys.{reasonIn, forbiddenLast, roomGood, whyRefusal, whyEffect, whySteps, whyLinks}
+use Rattle.certificate.specs.Marks.{judgementOf, markOrigin, MarkGood, Roomy, toldOf, markReason, markLinks, numbersBy}
 use Rattle.certificate.proofs.OriginLaws.{inside}
 use Rattle.certificate.proofs.MarkLaws.{Marked, AcceptedRecord, good-all}
 use Rattle.certificate.proofs.MarkOrigins.{renumbered, mark-origin, mark-good}
@@ -139,7 +138,7 @@ pub roomy : (t links steps out : List ℕ) → roomGood t links steps out ≡ tr
 unfolding roomGood
 roomy t links steps out g = let x = lent-room t links steps (and-0 (lentGood t links steps) _ g) in record { forLinks = x .0; forSteps = x .1 }
 
-module _ (i t links steps out : List ℕ) {j : Judgement} (e : j ≡ judgementOf i t) where
+module _ (i t : List ℕ) {j : Judgement} (e : j ≡ judgementOf i t) where
   pub judged-good : MarkGood t (j .mark)
   judged-good = subst (λ (x : Judgement). MarkGood t (x .mark)) (sym e) (judged-mark i t)
 
@@ -163,25 +162,24 @@ module _ (i t links steps out : List ℕ) {j : Judgement} (e : j ≡ judgementOf
     judged-reason : markReason i t (j .tag) (j .mark) ≡ reasonIn i t
     judged-reason = rw (judged-tag, ap (λ (x : Judgement). x .mark) e) (reason-here i t (judged-forbids h))
 
-    numbers-same : (w : Reason) → numbersBy (policyIn i) (j .receiver) (j .tag) (toldOf (length steps) w) ≡ reasonNumbers (policyIn i) (j .receiver) (j .tag) (length steps) w
-    numbers-same w = unfold numbersBy reasonNumbers in refl
+    numbers-same : (steps : List ℕ) (w : Reason) → numbersBy (policyIn i) (j .receiver) (j .tag) (toldOf (length steps) w) ≡ reasonNumbers (policyIn i) (j .receiver) (j .tag) (length steps) w
+    numbers-same steps w = unfold numbersBy reasonNumbers in refl
 
-    pub left-told : roomGood t links steps out ≡ true → checkOf i ≡ 0 → {r : Told} {out′ steps′ links′ : List ℕ}
+    pub left-told : (links steps out : List ℕ) → roomGood t links steps out ≡ true → checkOf i ≡ 0 → {r : Told} {out′ steps′ links′ : List ℕ}
         → r ≡ toldOf (length steps) (markReason i t (j .tag) (j .mark))
         → steps′ ≡ atEnd (markReason i t (j .tag) (j .mark) .chain) steps
         → links′ ≡ markLinks i t (j .tag) (j .mark) links
         → out′ ≡ overwritten (numbersBy (policyIn i) (j .receiver) (j .tag) r) 0 out
         → Left i t links steps out 0 out′ steps′ links′
     unfolding whyEffect whySteps whyLinks whyNumbers reasonIn
-    left-told g ok {r} {out′} {steps′} {links′} er es el eo =
+    left-told links steps out g ok {r} {out′} {steps′} {links′} er es el eo =
         let z : whyRefusal i t links steps out ≡ 0 = refusal-none i t links steps out g ok (judged-forbids h) in
-        let b : eqb (whyRefusal i t links steps out) 0 ≡ true = eq-eqb (whyRefusal i t links steps out) 0 z in
-        (
+        let b : eqb (whyRefusal i t links steps out) 0 ≡ true = eq-eqb (whyRefusal i t links steps out) 0 z in (
           sym z,
           rw b
-          (eo ∙ ap (λ (x : Told). overwritten (numbersBy (policyIn i) (j .receiver) (j .tag) x) 0 out) (er ∙ ap (toldOf (length steps)) judged-reason)
-          ∙ ap (λ (x : List ℕ). overwritten x 0 out) (numbers-same (reasonIn i t))
-          ∙ (rw (judged-tag, judged-receiver))),
+              (eo ∙ ap (λ (x : Told). overwritten (numbersBy (policyIn i) (j .receiver) (j .tag) x) 0 out) (er ∙ ap (toldOf (length steps)) judged-reason)
+              ∙ ap (λ (x : List ℕ). overwritten x 0 out) (numbers-same steps (reasonIn i t))
+              ∙ (rw (judged-tag, judged-receiver))),
           rw b (es ∙ ap (λ (w : Reason). atEnd (w .chain) steps) judged-reason),
           rw b (el ∙ (rw (judged-tag, ap (λ (x : Judgement). x .mark) e) (links-here i t (judged-forbids h) links))),
         )

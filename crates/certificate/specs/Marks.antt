@@ -28,7 +28,8 @@ use Rattle.witness.specs.Told.{acceptedNumbers, chainRecords, foundIn, atEnd}
 use Rattle.witness.specs.Links.{nodeOf}
 use Rattle.witness.specs.Explains.{ruleNumbers, ruleFound, ruleSteps, ruleLinks}
 use Rattle.certificate.specs.Origins.{Origin, own, made, started, nowhere, lackedBy}
-use Rattle.certificate.specs.Whys.{Reason, ownReason, userReason, noReason, execReason, ownOrigin, madeOrigin, runOrigin, runOf, runForbids, runChain, coversBy, userNumber, searchLinks, answered, forbiddenLast}
+use Rattle.certificate.specs.Whys.{Reason, ownReason, userReason, noReason, execReason, ownOrigin, madeOrigin, runOrigin, runOf}
+use Rattle.certificate.specs.Whys.{runForbids, runChain, coversBy, userNumber, searchLinks, answered, forbiddenLast}
 use Rattle.certificate.specs.declared.Judgement.{Judgement}
 use Rattle.certificate.specs.declared.Told.{Told}
 

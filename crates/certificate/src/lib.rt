@@ -9,20 +9,21 @@ ghost use Rattle.rules.specs.Answers.{tagWidth, mixtureLimit, padded, boundedOf
 ghost use Rattle.image.specs.Limits.{containerLimit, mixtureSize};
 ghost use Rattle.image.specs.Policy.{ruleAt, ownerAt};
 ghost use Rattle.image.specs.Image.{mixturesIn, checkOf, policyIn};
-ghost use Rattle.records.specs.Records.{recordLength, stepIn, Asked};
+ghost use Rattle.records.specs.Records.{stepIn, Asked};
 ghost use Rattle.records.specs.Traces.{traceRecords};
 ghost use Rattle.monitor.specs.Steps.{stepAnswer, stepEffect};
 ghost use Rattle.monitor.specs.Runs.{runAnswers, runEffect};
 ghost use Rattle.witness.specs.Told.{atEnd};
 ghost use Rattle.certificate.specs.Origins.{lacksAt, lackedBy};
 ghost use Rattle.certificate.specs.Whys.{permitOf, runOf, userNumber, coversBy, noReason, ownReason, userReason, whyLength, lastAnswer, whyRefusal, whyEffect, whySteps, whyLinks};
-ghost use Rattle.certificate.specs.Marks.{nextMark, marksOn, marksAll, ownMarks, judgementOf, MarkGood, forbidsAt, Roomy, FileFound, Searched, toldOf, runTold, execAt, execLinks, markReason, markLinks, numbersBy};
+ghost use Rattle.certificate.specs.Marks.{nextMark, marksOn, marksAll, ownMarks, judgementOf, MarkGood};
+ghost use Rattle.certificate.specs.Marks.{forbidsAt, Roomy, FileFound, Searched, toldOf, runTold, execAt, execLinks, markReason, markLinks, numbersBy};
 use answers::Answer;
 use answers::Received;
 use answers::Verdict;
 use image::CONTAINER_LIMIT;
-use records::Request;
 use records::RECORD_LENGTH;
+use records::Request;
 use rules::Bounded;
 use rules::MIXTURE_LIMIT;
 use session::SESSION_LENGTH;
@@ -108,7 +109,10 @@ fn next_mark(marks: &[u64], n: usize, q: Request) -> u64
 // Record number n on the session, and its mark where it is accepted: the answer.
 fn follow_record(session: &mut [u64], bytes: &[u8], marks: &mut [u64], n: usize) -> Answer
     requires { ⌜ (length (now marks) ≡ containerLimit) × (n < 2 ^ 62) ⌝ }
-    ensures { λ r. ⌜ (r ≡ stepAnswer (now (session .entry)) (now (bytes .entry))) × (now (session .exit) ≡ stepEffect (now (session .entry)) (now (bytes .entry))) × (now (marks .exit) ≡ marksOn (now (marks .entry)) n (now (session .entry)) (now (bytes .entry))) ⌝ }
+    ensures { λ r. ⌜
+        (r ≡ stepAnswer (now (session .entry)) (now (bytes .entry)))
+        × (now (session .exit) ≡ stepEffect (now (session .entry)) (now (bytes .entry)))
+        × (now (marks .exit) ≡ marksOn (now (marks .entry)) n (now (session .entry)) (now (bytes .entry))) ⌝ }
 {
     let answer = monitor::step(session, bytes);
     if !answers::is_accepted(answer) {
@@ -124,7 +128,10 @@ fn follow_record(session: &mut [u64], bytes: &[u8], marks: &mut [u64], n: usize)
 // The records of a trace on the session, one after the other: the last answer; quiet, with zeros, if there is none.
 fn follow_trace(session: &mut [u64], trace: &[u8], marks: &mut [u64]) -> Answer
     requires { ⌜ length (now marks) ≡ containerLimit ⌝ }
-    ensures { λ r. ⌜ (r ≡ lastAnswer (runAnswers (now (session .entry)) (traceRecords (now (trace .entry))))) × (now (session .exit) ≡ runEffect (now (session .entry)) (traceRecords (now (trace .entry)))) × (now (marks .exit) ≡ marksAll (now (marks .entry)) 0 (now (session .entry)) (traceRecords (now (trace .entry)))) ⌝ }
+    ensures { λ r. ⌜
+        (r ≡ lastAnswer (runAnswers (now (session .entry)) (traceRecords (now (trace .entry)))))
+        × (now (session .exit) ≡ runEffect (now (session .entry)) (traceRecords (now (trace .entry))))
+        × (now (marks .exit) ≡ marksAll (now (marks .entry)) 0 (now (session .entry)) (traceRecords (now (trace .entry)))) ⌝ }
 {
     let mut answer = Answer::Given(
         Verdict::Quiet,
@@ -292,8 +299,9 @@ fn run_forbids(image: &[u8], c: usize, tag: u64) -> bool
     if containers.len() / image::CONTAINER_SIZE <= c {
         return false;
     }
-    if !image::is_file(fields::read8(containers, c * image::CONTAINER_SIZE + image::KIND_FIELD) as u64)
-    {
+    if !image::is_file(
+        fields::read8(containers, c * image::CONTAINER_SIZE + image::KIND_FIELD) as u64,
+    ) {
         return false;
     }
     !covers_by(image, run_number(image, c), tag)
@@ -311,7 +319,9 @@ fn find_file(
     steps: &mut [u64],
 ) -> Found
     requires { ⌜ (checkOf (now image) ≡ 0) × (o < containerLimit) × Roomy (now trace) (now links) (now steps) ⌝ }
-    ensures { λ r. ⌜ FileFound (now (image .entry)) (now (trace .entry)) (runOf (getElem? (policyIn (now (image .entry)) .containers) f)) o (now (links .entry)) (now (steps .entry)) r (now (links .exit)) (now (steps .exit)) ⌝ }
+    ensures { λ r. ⌜
+        FileFound (now (image .entry)) (now (trace .entry)) (runOf (getElem? (policyIn (now (image .entry)) .containers) f)) o
+        (now (links .entry)) (now (steps .entry)) r (now (links .exit)) (now (steps .exit)) ⌝ }
 {
     let rule = rule_at(image, run_number(image, f));
     let mixtures = rule.mixtures;
@@ -439,7 +449,10 @@ fn tell_exec(
     q: Request,
 ) -> Told
     requires { ⌜ (checkOf (now image) ≡ 0) × (q .o < containerLimit) × Roomy (now trace) (now links) (now steps) ⌝ }
-    ensures { λ r. ⌜ (r ≡ toldOf (length (now (steps .entry))) (execAt (now (image .entry)) (now (trace .entry)) n (q .o) (q .u) tag)) × (now (steps .exit) ≡ atEnd (execAt (now (image .entry)) (now (trace .entry)) n (q .o) (q .u) tag .chain) (now (steps .entry))) × (now (links .exit) ≡ execLinks (now (image .entry)) (now (trace .entry)) (q .o) (q .u) tag (now (links .entry))) ⌝ }
+    ensures { λ r. ⌜
+        (r ≡ toldOf (length (now (steps .entry))) (execAt (now (image .entry)) (now (trace .entry)) n (q .o) (q .u) tag))
+        × (now (steps .exit) ≡ atEnd (execAt (now (image .entry)) (now (trace .entry)) n (q .o) (q .u) tag .chain) (now (steps .entry)))
+        × (now (links .exit) ≡ execLinks (now (image .entry)) (now (trace .entry)) (q .o) (q .u) tag (now (links .entry))) ⌝ }
 {
     let o = q.o;
     let u = q.u;
@@ -460,7 +473,10 @@ fn tell(
     mark: usize,
 ) -> Told
     requires { ⌜ (checkOf (now image) ≡ 0) × MarkGood (now trace) mark × Roomy (now trace) (now links) (now steps) ⌝ }
-    ensures { λ r. ⌜ (r ≡ toldOf (length (now (steps .entry))) (markReason (now (image .entry)) (now (trace .entry)) tag mark)) × (now (steps .exit) ≡ atEnd (markReason (now (image .entry)) (now (trace .entry)) tag mark .chain) (now (steps .entry))) × (now (links .exit) ≡ markLinks (now (image .entry)) (now (trace .entry)) tag mark (now (links .entry))) ⌝ }
+    ensures { λ r. ⌜
+        (r ≡ toldOf (length (now (steps .entry))) (markReason (now (image .entry)) (now (trace .entry)) tag mark))
+        × (now (steps .exit) ≡ atEnd (markReason (now (image .entry)) (now (trace .entry)) tag mark .chain) (now (steps .entry)))
+        × (now (links .exit) ≡ markLinks (now (image .entry)) (now (trace .entry)) tag mark (now (links .entry))) ⌝ }
 {
     if mark < CONTAINER_LIMIT {
         return own_told(image, mark, steps.len());
@@ -529,7 +545,11 @@ fn put_told(image: &[u8], receiver: usize, tag: u64, told: Told, out: &mut [u64]
 // numbers at the front of the output, the records of a run rule's chain at the end of the steps, and what its search left in the links. Else
 // the refusal, and all is as it was.
 pub fn why(image: &[u8], trace: &[u8], links: &mut [u64], steps: &mut [u64], out: &mut [u64]) -> u32
-    ensures { λ r. ⌜ (r ≡ whyRefusal (now (image .entry)) (now (trace .entry)) (now (links .entry)) (now (steps .entry)) (now (out .entry))) × (now (out .exit) ≡ whyEffect (now (image .entry)) (now (trace .entry)) (now (links .entry)) (now (steps .entry)) (now (out .entry))) × (now (steps .exit) ≡ whySteps (now (image .entry)) (now (trace .entry)) (now (links .entry)) (now (steps .entry)) (now (out .entry))) × (now (links .exit) ≡ whyLinks (now (image .entry)) (now (trace .entry)) (now (links .entry)) (now (steps .entry)) (now (out .entry))) ⌝ }
+    ensures { λ r. ⌜
+        (r ≡ whyRefusal (now (image .entry)) (now (trace .entry)) (now (links .entry)) (now (steps .entry)) (now (out .entry)))
+        × (now (out .exit) ≡ whyEffect (now (image .entry)) (now (trace .entry)) (now (links .entry)) (now (steps .entry)) (now (out .entry)))
+        × (now (steps .exit) ≡ whySteps (now (image .entry)) (now (trace .entry)) (now (links .entry)) (now (steps .entry)) (now (out .entry)))
+        × (now (links .exit) ≡ whyLinks (now (image .entry)) (now (trace .entry)) (now (links .entry)) (now (steps .entry)) (now (out .entry))) ⌝ }
 {
     if !witness::lent_good(trace, links, steps) {
         return answers::LENT_LENGTH;

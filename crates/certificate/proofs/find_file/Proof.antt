@@ -7,13 +7,30 @@ use Rattle.certificate.proofs.find_file.Statement.{statement}
 use Rattle.certificate.proofs.find_file.Tie as tie
 
 part-find-rule-end : tie.Need-part-find-rule-end
-part-find-rule-end c = let a = c .before .before .before .before .before .before .before .before in omega (arith, read-count (a .args .image .now) (c .before .before .before .run-number .result) (a .pre .0) (c .before .before .rule-at .ensures), read-places (a .args .image .now) (c .before .before .before .run-number .result) (a .pre .0) (c .before .before .rule-at .ensures))
+part-find-rule-end c =
+    let b2 = c .before .before in
+    let b3 = b2 .before in
+    let a = b3 .before .before .before .before .before in
+    omega (
+      arith,
+      read-count (a .args .image .now) (b3 .run-number .result) (a .pre .0) (b2 .rule-at .ensures),
+      read-places (a .args .image .now) (b3 .run-number .result)
+          (a .pre .0) (b2 .rule-at .ensures),
+    )
 
 find-rule-requires : tie.Need-find-rule-requires
-find-rule-requires c κs = let a = c .before .before .before .before .before .before .before .before .before .before .before in (a .pre .0, a .pre .2 .forLinks, a .pre .2 .forSteps, a .pre .1)
+find-rule-requires c κs =
+    let a = c .before .before .before .before .before .before .before .before .before .before .before in
+    (a .pre .0, a .pre .2 .forLinks, a .pre .2 .forSteps, a .pre .1)
 
 returns : tie.Need-returns
-returns c = let a = c .before .before .before .before .before .before .before .before .before .before .before .before .before .before .before .before in let f = c .before .before .before .before .find-rule .ensures in file-found (a .args .image .now) (a .args .trace .now) (a .args .f) (a .args .o) (a .pre .0) (c .before .before .before .before .before .before .before .before .before .before .before .run-number .ensures) (c .before .before .before .before .before .before .before .before .before .before .rule-at .ensures) (f .0) (f .1) (f .2)
+returns c =
+    let b4 = c .before .before .before .before in
+    let b10 = b4 .before .before .before .before .before .before in
+    let b11 = b10 .before in
+    let a = b11 .before .before .before .before .before in
+    let f = b4 .find-rule .ensures in
+    file-found (a .args .image .now) (a .args .trace .now) (a .args .f) (a .args .o) (a .pre .0) (b11 .run-number .ensures) (b10 .rule-at .ensures) (f .0) (f .1) (f .2)
 
 pub find-file-spec : {M : Type 1} → statement M
 find-file-spec =

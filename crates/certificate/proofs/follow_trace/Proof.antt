@@ -21,13 +21,25 @@ follow-record-requires : tie.Need-follow-record-requires Inv-loop μ-loop
 follow-record-requires c κs = let i = c .before .before .before .before .loop .inv in (i .long, omega (arith, c .before .before .before .loop-test .taken))
 
 add-at : tie.Need-add-at Inv-loop μ-loop
-add-at c = omega (arith, record-length _ _ _ (c .before .before .before .before .before .before .before .before .loop-test .taken) (c .before .before .before .before .before .before .before .record-at .ensures))
+add-at c =
+    let b7 = c .before .before .before .before .before .before .before in
+    let b8 = b7 .before in
+    omega (arith, record-length _ _ _ (b8 .loop-test .taken) (b7 .record-at .ensures))
 
 loop-less : tie.Need-loop-less Inv-loop μ-loop
-loop-less c = omega (arith, record-length _ _ _ (c .before .before .before .before .before .before .before .before .loop-test .taken) (c .before .before .before .before .before .before .before .record-at .ensures))
+loop-less c =
+    let b7 = c .before .before .before .before .before .before .before in
+    let b8 = b7 .before in
+    omega (arith, record-length _ _ _ (b8 .loop-test .taken) (b7 .record-at .ensures))
 
 loop-again : tie.Need-loop-again Inv-loop μ-loop
-loop-again c = let f = c .before .before .before .before .follow-record .ensures in following-next _ _ _ _ _ _ _ (c .before .before .before .before .before .before .before .before .before .loop .inv) (c .before .before .before .before .before .before .before .before .loop-test .taken) _ _ _ _ (c .before .before .before .before .before .before .before .record-at .ensures) (f .0) (f .1) (f .2) (search needs) (search needs)
+loop-again c =
+    let b4 = c .before .before .before .before in
+    let b7 = b4 .before .before .before in
+    let b8 = b7 .before in
+    let b9 = b8 .before in
+    let f = b4 .follow-record .ensures in
+    following-next _ _ _ _ _ _ _ (b9 .loop .inv) (b8 .loop-test .taken) _ _ _ _ (b7 .record-at .ensures) (f .0) (f .1) (f .2) (search needs) (search needs)
 
 returns : tie.Need-returns Inv-loop μ-loop
 returns c = following-end _ _ _ _ _ _ _ (c .before .loop .inv) (c .loop-test .left)

@@ -6,13 +6,40 @@ use Rattle.certificate.proofs.judge.Statement.{statement}
 use Rattle.certificate.proofs.judge.Tie as tie
 
 mul-t19 : tie.Need-mul-t19
-mul-t19 c = omega (arith, judged-low _ _ _ (c .before .before .before .before .before .before .before .before .before .before .before .before .before .before .before .pre) (search needs) (c .before .before .before .before .before .before .before .before .before .before .before .mark-own .ensures) (c .before .before .before .before .before .before .before .before .start .ensures .1) (c .before .before .before .before .follow-trace .ensures .0) (c .before .before .before .before .follow-trace .ensures .2) (c .before .received-of .ensures))
+mul-t19 c =
+    let b1 = c .before in
+    let b4 = b1 .before .before .before in
+    let b8 = b4 .before .before .before .before in
+    let b11 = b8 .before .before .before in
+    let b15 = b11 .before .before .before .before in
+    omega (
+      arith,
+      judged-low _ _ _ (b15 .pre) (search needs) (b11 .mark-own .ensures) (b8 .start .ensures .1) (b4 .follow-trace .ensures .0) (b4 .follow-trace .ensures .2)
+          (b1 .received-of .ensures),
+    )
 
 array-read-t22 : tie.Need-array-read-t22
-array-read-t22 c = omega (arith, judged-low _ _ _ (c .before .before .before .before .before .before .before .before .before .before .before .before .before .before .before .pre) (search needs) (c .before .before .before .before .before .before .before .before .before .before .before .mark-own .ensures) (c .before .before .before .before .before .before .before .before .start .ensures .1) (c .before .before .before .before .follow-trace .ensures .0) (c .before .before .before .before .follow-trace .ensures .2) (c .before .received-of .ensures))
+array-read-t22 c =
+    let b1 = c .before in
+    let b4 = b1 .before .before .before in
+    let b8 = b4 .before .before .before .before in
+    let b11 = b8 .before .before .before in
+    let b15 = b11 .before .before .before .before in
+    omega (
+      arith,
+      judged-low _ _ _ (b15 .pre) (search needs) (b11 .mark-own .ensures) (b8 .start .ensures .1) (b4 .follow-trace .ensures .0) (b4 .follow-trace .ensures .2)
+          (b1 .received-of .ensures),
+    )
 
 returns : tie.Need-returns
-returns c = judged-is _ _ _ (c .before .before .before .before .before .before .before .before .before .before .before .before .before .before .before .pre) (search needs) (c .before .before .before .before .before .before .before .before .before .before .before .mark-own .ensures) (c .before .before .before .before .before .before .before .before .start .ensures .1) (c .before .before .before .before .follow-trace .ensures .0) (c .before .before .before .before .follow-trace .ensures .2) (c .before .received-of .ensures) (c .is-forbidden .ensures)
+returns c =
+    let b1 = c .before in
+    let b4 = b1 .before .before .before in
+    let b8 = b4 .before .before .before .before in
+    let b11 = b8 .before .before .before in
+    let b15 = b11 .before .before .before .before in
+    judged-is _ _ _ (b15 .pre) (search needs) (b11 .mark-own .ensures) (b8 .start .ensures .1) (b4 .follow-trace .ensures .0) (b4 .follow-trace .ensures .2)
+    (b1 .received-of .ensures) (c .is-forbidden .ensures)
 
 pub judge-spec : {M : Type 1} → statement M
 judge-spec =

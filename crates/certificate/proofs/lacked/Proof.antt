@@ -19,16 +19,27 @@ abbrev μ-loop : tie.MeasureT-loop
 μ-loop tag mixtures atoms₀ i₀ atoms i = length mixtures - i
 
 loop-holds : tie.Need-loop-holds Inv-loop μ-loop
-loop-holds c = let a = c .before in padded-start (map (lackedBy (a .args .tag)) (a .args .mixtures .now)) (omega (arith, a .pre, length-map (a .args .mixtures .now) (lackedBy (a .args .tag))))
+loop-holds c =
+    let a = c .before in
+    padded-start (map (lackedBy (a .args .tag)) (a .args .mixtures .now)) (omega (arith, a .pre, length-map (a .args .mixtures .now) (lackedBy (a .args .tag))))
 
 array-write-atoms : tie.Need-array-write-atoms Inv-loop μ-loop
 array-write-atoms c = omega (arith, c .before .before .loop-test .taken, c .before .before .before .before .before .pre)
 
 loop-again : tie.Need-loop-again Inv-loop μ-loop
-loop-again c = let a = c .before .before .before .before .before in copied-next _ _ _ _ _ (c .before .before .before .loop .inv) _ _ (omega arith) (omega (arith, c .before .before .loop-test .taken, length-map (a .args .mixtures .now) (lackedBy (a .args .tag)))) (c .lacked-by .ensures ∙ sym (map-at (lackedBy (a .args .tag)) (a .args .mixtures .now) (c .before .before .before .loop .i) 0 0 (c .before .before .loop-test .taken)))
+loop-again c =
+    let b2 = c .before .before in
+    let b3 = b2 .before in
+    let a = b3 .before .before in
+    copied-next _ _ _ _ _ (b3 .loop .inv) _ _ (omega arith) (omega (arith, b2 .loop-test .taken, length-map (a .args .mixtures .now) (lackedBy (a .args .tag))))
+    (c .lacked-by .ensures ∙ sym (map-at (lackedBy (a .args .tag)) (a .args .mixtures .now) (b3 .loop .i) 0 0 (b2 .loop-test .taken)))
 
 returns : tie.Need-returns Inv-loop μ-loop
-returns c = let a = c .before .before .before in padded-end (map (lackedBy (a .args .tag)) (a .args .mixtures .now)) _ _ (c .before .loop .inv) (omega (arith, c .loop-test .left, length-map (a .args .mixtures .now) (lackedBy (a .args .tag))))
+returns c =
+    let b1 = c .before in
+    let a = b1 .before .before in
+    padded-end (map (lackedBy (a .args .tag)) (a .args .mixtures .now)) _ _ (b1 .loop .inv)
+    (omega (arith, c .loop-test .left, length-map (a .args .mixtures .now) (lackedBy (a .args .tag))))
 
 pub lacked-spec : {M : Type 1} → statement M
 lacked-spec =

@@ -1,6 +1,5 @@
 -- The atoms before k are not lacked.
 use Prim.Native.Nat.{_-_}
-use native.Mathlib.Omega.{arith}
 use mathlib.Core.Path.{sym, _∙_}
 use Rattle.lists.proofs.Below.{Failing, failing-start, failing-next}
 use Rattle.rules.specs.Answers.{tagWidth}

@@ -24,10 +24,16 @@ slice-write-marks : tie.Need-slice-write-marks Inv-loop μ-loop
 slice-write-marks c = omega (arith, c .before .before .pre, c .before .loop .inv .long, c .loop-test .taken)
 
 loop-again : tie.Need-loop-again Inv-loop μ-loop
-loop-again c = copied-next _ _ _ _ _ (c .before .loop .inv) _ _ (omega arith) (omega (arith, c .loop-test .taken, count-length 0 containerLimit)) (sym (count-at 0 containerLimit _ (c .loop-test .taken) ∙ zero-add _))
+loop-again c =
+    let b1 = c .before in
+    copied-next _ _ _ _ _ (b1 .loop .inv) _ _ (omega arith) (omega (arith, c .loop-test .taken, count-length 0 containerLimit))
+    (sym (count-at 0 containerLimit _ (c .loop-test .taken) ∙ zero-add _))
 
 returns : tie.Need-returns Inv-loop μ-loop
-returns c = copied-all _ _ _ _ (c .before .loop .inv) (count-length 0 containerLimit ∙ sym (c .before .before .pre)) (omega (arith, c .loop-test .left, c .before .loop .inv .long, c .before .before .pre))
+returns c =
+    let b1 = c .before in
+    let b2 = b1 .before in
+    copied-all _ _ _ _ (b1 .loop .inv) (count-length 0 containerLimit ∙ sym (b2 .pre)) (omega (arith, c .loop-test .left, b1 .loop .inv .long, b2 .pre))
 
 pub mark-own-spec : {M : Type 1} → statement M
 mark-own-spec =

@@ -13,10 +13,19 @@ returns : tie.Need-returns
 returns c = let a = c .before .before .before in owner-nobody (a .args .image .now) (a .args .n) (c .if1 .taken)
 
 returns-2 : tie.Need-returns-2
-returns-2 c = let a = c .before .before .before .before in owner-missed (a .args .image .now) (a .args .n) (c .before .if1 .left) (c .before .before .section .ensures) (c .if2 .taken)
+returns-2 c =
+    let b1 = c .before in
+    let b2 = b1 .before in
+    let a = b2 .before .before in
+    owner-missed (a .args .image .now) (a .args .n) (b1 .if1 .left) (b2 .section .ensures) (c .if2 .taken)
 
 returns-3 : tie.Need-returns-3
-returns-3 c = let a = c .before .before .before .before .before in owner-there (a .args .image .now) (a .args .n) (c .before .before .if1 .left) (c .before .before .before .section .ensures) (c .before .if2 .left) (c .read16 .ensures .0)
+returns-3 c =
+    let b1 = c .before in
+    let b2 = b1 .before in
+    let b3 = b2 .before in
+    let a = b3 .before .before in
+    owner-there (a .args .image .now) (a .args .n) (b2 .if1 .left) (b3 .section .ensures) (b1 .if2 .left) (c .read16 .ensures .0)
 
 pub owner-at-spec : {M : Type 1} → statement M
 owner-at-spec =

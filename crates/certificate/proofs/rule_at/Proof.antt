@@ -16,13 +16,36 @@ section-requires-2 : tie.Need-section-requires-2
 section-requires-2 c κs = accepted-section _ (c .before .before .before .pre) 3 (omega arith)
 
 returns-2 : tie.Need-returns-2
-returns-2 c = let a = c .before .before .before .before .before .before in told-none (a .args .image .now) (a .args .n) (a .pre) (c .before .before .before .before .if1 .left) (c .before .before .before .section .ensures) (c .before .before .section2 .ensures) (c .before .if2 .taken) (c .span-rule .ensures)
+returns-2 c =
+    let b1 = c .before in
+    let b2 = b1 .before in
+    let b3 = b2 .before in
+    let b4 = b3 .before in
+    let a = b4 .before .before in
+    told-none (a .args .image .now) (a .args .n) (a .pre) (b4 .if1 .left) (b3 .section .ensures) (b2 .section2 .ensures) (b1 .if2 .taken) (c .span-rule .ensures)
 
 span-rule-requires-2 : tie.Need-span-rule-requires-2
-span-rule-requires-2 c κs = let a = c .before .before .before .before .before .before .before in told-room (a .args .image .now) (a .args .n) (a .pre) (c .before .before .before .before .before .if1 .left) (c .before .before .before .before .section .ensures) (c .before .before .before .section2 .ensures) (c .before .before .if2 .left) (c .before .read16 .ensures .0) (c .read162 .ensures .0)
+span-rule-requires-2 c κs =
+    let b1 = c .before in
+    let b2 = b1 .before in
+    let b3 = b2 .before in
+    let b4 = b3 .before in
+    let b5 = b4 .before in
+    let a = b5 .before .before in
+    told-room (a .args .image .now) (a .args .n) (a .pre) (b5 .if1 .left) (b4 .section .ensures) (b3 .section2 .ensures) (b2 .if2 .left) (b1 .read16 .ensures .0)
+    (c .read162 .ensures .0)
 
 returns-3 : tie.Need-returns-3
-returns-3 c = let a = c .before .before .before .before .before .before .before .before in told-some (a .args .image .now) (a .args .n) (a .pre) (c .before .before .before .before .before .before .if1 .left) (c .before .before .before .before .before .section .ensures) (c .before .before .before .before .section2 .ensures) (c .before .before .before .if2 .left) (c .before .before .read16 .ensures .0) (c .before .read162 .ensures .0) (c .span-rule2 .ensures)
+returns-3 c =
+    let b1 = c .before in
+    let b2 = b1 .before in
+    let b3 = b2 .before in
+    let b4 = b3 .before in
+    let b5 = b4 .before in
+    let b6 = b5 .before in
+    let a = b6 .before .before in
+    told-some (a .args .image .now) (a .args .n) (a .pre) (b6 .if1 .left) (b5 .section .ensures) (b4 .section2 .ensures) (b3 .if2 .left) (b2 .read16 .ensures .0)
+    (b1 .read162 .ensures .0) (c .span-rule2 .ensures)
 
 pub rule-at-spec : {M : Type 1} → statement M
 rule-at-spec =

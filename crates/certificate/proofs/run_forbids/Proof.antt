@@ -13,10 +13,26 @@ returns : tie.Need-returns
 returns c = let a = c .before .before .before in forbids-missed (a .args .image .now) (a .args .c) (c .before .section .ensures) (a .args .tag) (c .if1 .taken)
 
 returns-2 : tie.Need-returns-2
-returns-2 c = let a = c .before .before .before .before .before .before in forbids-no-file (a .args .image .now) (a .args .c) (c .before .before .before .before .section .ensures) (a .args .tag) (c .before .before .before .if1 .left) (c .before .before .read8 .ensures .0) (c .before .is-file .ensures) (c .if2 .taken)
+returns-2 c =
+    let b1 = c .before in
+    let b2 = b1 .before in
+    let b3 = b2 .before in
+    let b4 = b3 .before in
+    let a = b4 .before .before in
+    forbids-no-file (a .args .image .now) (a .args .c) (b4 .section .ensures) (a .args .tag) (b3 .if1 .left) (b2 .read8 .ensures .0) (b1 .is-file .ensures)
+    (c .if2 .taken)
 
 returns-3 : tie.Need-returns-3
-returns-3 c = let a = c .before .before .before .before .before .before .before .before in forbids-file (a .args .image .now) (a .args .c) (c .before .before .before .before .before .before .section .ensures) (a .args .tag) (c .before .before .before .before .before .if1 .left) (c .before .before .before .before .read8 .ensures .0) (c .before .before .before .is-file .ensures) (c .before .before .if2 .left) (c .before .run-number .ensures) (c .covers-by .ensures)
+returns-3 c =
+    let b1 = c .before in
+    let b2 = b1 .before in
+    let b3 = b2 .before in
+    let b4 = b3 .before in
+    let b5 = b4 .before in
+    let b6 = b5 .before in
+    let a = b6 .before .before in
+    forbids-file (a .args .image .now) (a .args .c) (b6 .section .ensures) (a .args .tag) (b5 .if1 .left) (b4 .read8 .ensures .0) (b3 .is-file .ensures) (b2 .if2 .left)
+    (b1 .run-number .ensures) (c .covers-by .ensures)
 
 pub run-forbids-spec : {M : Type 1} → statement M
 run-forbids-spec =

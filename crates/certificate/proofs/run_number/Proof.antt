@@ -13,7 +13,11 @@ returns : tie.Need-returns
 returns c = let a = c .before .before .before in run-missed (a .args .image .now) (a .args .c) (c .before .section .ensures) (c .if1 .taken)
 
 returns-2 : tie.Need-returns-2
-returns-2 c = let a = c .before .before .before .before in run-there (a .args .image .now) (a .args .c) (c .before .before .section .ensures) (c .before .if1 .left) (c .read16 .ensures .0)
+returns-2 c =
+    let b1 = c .before in
+    let b2 = b1 .before in
+    let a = b2 .before .before in
+    run-there (a .args .image .now) (a .args .c) (b2 .section .ensures) (b1 .if1 .left) (c .read16 .ensures .0)
 
 pub run-number-spec : {M : Type 1} → statement M
 run-number-spec =

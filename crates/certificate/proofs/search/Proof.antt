@@ -23,19 +23,53 @@ run-forbids-requires : tie.Need-run-forbids-requires Inv-loop μ-loop
 run-forbids-requires c κs = c .before .before .before .before .before .before .before .pre .0
 
 find-file-requires : tie.Need-find-file-requires Inv-loop μ-loop
-find-file-requires c κs = let a = c .before .before .before .before .before .before .before .before .before .before .before in (a .pre .0, a .pre .1, searching-roomy (c .before .before .before .before .before .loop .inv) (a .pre .2))
+find-file-requires c κs =
+    let b5 = c .before .before .before .before .before in
+    let a = b5 .before .before .before .before .before .before in
+    (a .pre .0, a .pre .1, searching-roomy (b5 .loop .inv) (a .pre .2))
 
 returns : tie.Need-returns Inv-loop μ-loop
-returns c = let a = c .before .before .before .before .before .before .before .before .before .before .before .before .before .before .before .before .before .before in found (a .args .image .now) (a .args .trace .now) (a .args .tag) (a .args .o) (c .before .before .before .before .before .before .before .before .before .before .before .before .loop .inv) (a .pre .0) (searching-count (a .args .image .now) (c .before .before .before .before .before .before .before .before .before .before .before .before .before .section .ensures) (c .before .before .before .before .before .before .before .before .before .before .before .loop-test .taken)) (c .before .before .before .before .before .before .before .before .before .before .run-forbids .ensures) (c .before .before .before .before .before .before .before .before .before .if1 .taken) (c .before .before .before .before .before .before .find-file .ensures) (c .if2 .taken)
+returns c =
+    let b6 = c .before .before .before .before .before .before in
+    let b9 = b6 .before .before .before in
+    let b10 = b9 .before in
+    let b11 = b10 .before in
+    let b12 = b11 .before in
+    let b13 = b12 .before in
+    let a = b13 .before .before .before .before .before in
+    found (a .args .image .now) (a .args .trace .now) (a .args .tag) (a .args .o) (b12 .loop .inv) (a .pre .0)
+    (searching-count (a .args .image .now) (b13 .section .ensures) (b11 .loop-test .taken)) (b10 .run-forbids .ensures) (b9 .if1 .taken) (b6 .find-file .ensures)
+    (c .if2 .taken)
 
 loop-again : tie.Need-loop-again Inv-loop μ-loop
-loop-again c = let a = c .before .before .before .before .before .before .before .before .before .before .before .before .before .before .before .before .before .before in nothing (a .args .image .now) (a .args .trace .now) (a .args .tag) (a .args .o) (c .before .before .before .before .before .before .before .before .before .before .before .before .loop .inv) (a .pre .0) (searching-count (a .args .image .now) (c .before .before .before .before .before .before .before .before .before .before .before .before .before .section .ensures) (c .before .before .before .before .before .before .before .before .before .before .before .loop-test .taken)) (c .before .before .before .before .before .before .before .before .before .before .run-forbids .ensures) (c .before .before .before .before .before .before .before .before .before .if1 .taken) (c .before .before .before .before .before .before .find-file .ensures) (c .if2 .left) (search needs)
+loop-again c =
+    let b6 = c .before .before .before .before .before .before in
+    let b9 = b6 .before .before .before in
+    let b10 = b9 .before in
+    let b11 = b10 .before in
+    let b12 = b11 .before in
+    let b13 = b12 .before in
+    let a = b13 .before .before .before .before .before in
+    nothing (a .args .image .now) (a .args .trace .now) (a .args .tag) (a .args .o) (b12 .loop .inv) (a .pre .0)
+    (searching-count (a .args .image .now) (b13 .section .ensures) (b11 .loop-test .taken)) (b10 .run-forbids .ensures) (b9 .if1 .taken) (b6 .find-file .ensures)
+    (c .if2 .left)
 
 loop-again-2 : tie.Need-loop-again-2 Inv-loop μ-loop
-loop-again-2 c = let a = c .before .before .before .before .before .before .before .before .before in skip (a .args .image .now) (a .args .trace .now) (a .args .tag) (a .args .o) (c .before .before .before .loop .inv) (searching-count (a .args .image .now) (c .before .before .before .before .section .ensures) (c .before .before .loop-test .taken)) (c .before .run-forbids .ensures) (c .if1 .left)
+loop-again-2 c =
+    let b1 = c .before in
+    let b2 = b1 .before in
+    let b3 = b2 .before in
+    let b4 = b3 .before in
+    let a = b4 .before .before .before .before .before in
+    skip (a .args .image .now) (a .args .trace .now) (a .args .tag) (a .args .o) (b3 .loop .inv)
+    (searching-count (a .args .image .now) (b4 .section .ensures) (b2 .loop-test .taken)) (b1 .run-forbids .ensures) (c .if1 .left)
 
 returns-2 : tie.Need-returns-2 Inv-loop μ-loop
-returns-2 c = let a = c .before .before .before .before .before .before .before in ended (a .args .image .now) (a .args .trace .now) (a .args .tag) (a .args .o) (c .before .loop .inv) (c .before .before .section .ensures) (c .loop-test .left)
+returns-2 c =
+    let b1 = c .before in
+    let b2 = b1 .before in
+    let a = b2 .before .before .before .before .before in
+    ended (a .args .image .now) (a .args .trace .now) (a .args .tag) (a .args .o) (b1 .loop .inv) (b2 .section .ensures) (c .loop-test .left)
 
 pub search-spec : {M : Type 1} → statement M
 search-spec =

@@ -20,7 +20,10 @@ abbrev μ-loop : tie.MeasureT-loop
 μ-loop m first count mixtures₀ j₀ mixtures j = count - j
 
 loop-holds : tie.Need-loop-holds Inv-loop μ-loop
-loop-holds c = let a = c .before in padded-start (take (a .args .count) (drop (a .args .first) (mixturesIn (a .args .m .now)))) (omega (arith, a .pre, from-length (a .args .m .now) (a .args .first) (a .args .count) (a .pre .1)))
+loop-holds c =
+    let a = c .before in
+    padded-start (take (a .args .count) (drop (a .args .first) (mixturesIn (a .args .m .now))))
+    (omega (arith, a .pre, from-length (a .args .m .now) (a .args .first) (a .args .count) (a .pre .1)))
 
 add-read64 : tie.Need-add-read64 Inv-loop μ-loop
 add-read64 c = omega (arith, c .loop-test .taken, c .before .before .before .pre)
@@ -35,10 +38,20 @@ array-write-mixtures : tie.Need-array-write-mixtures Inv-loop μ-loop
 array-write-mixtures c = omega (arith, c .before .loop-test .taken, c .before .before .before .before .pre)
 
 loop-again : tie.Need-loop-again Inv-loop μ-loop
-loop-again c = let a = c .before .before .before .before in copied-next _ _ _ _ _ (c .before .before .loop .inv) _ _ (omega arith) (omega (arith, c .before .loop-test .taken, from-length (a .args .m .now) (a .args .first) (a .args .count) (a .pre .1))) (c .read64 .ensures ∙ mixture-at (a .args .m .now) (a .args .first + c .before .before .loop .j) (omega (arith, c .before .loop-test .taken, a .pre)) ∙ from-at (a .args .m .now) (a .args .first) (a .args .count) (a .pre .1) (c .before .before .loop .j) (c .before .loop-test .taken))
+loop-again c =
+    let b1 = c .before in
+    let b2 = b1 .before in
+    let a = b2 .before .before in
+    copied-next _ _ _ _ _ (b2 .loop .inv) _ _ (omega arith)
+    (omega (arith, b1 .loop-test .taken, from-length (a .args .m .now) (a .args .first) (a .args .count) (a .pre .1)))
+    (c .read64 .ensures ∙ mixture-at (a .args .m .now) (a .args .first + b2 .loop .j) (omega (arith, b1 .loop-test .taken, a .pre)) ∙ from-at (a .args .m .now)
+    (a .args .first) (a .args .count) (a .pre .1) (b2 .loop .j) (b1 .loop-test .taken))
 
 returns : tie.Need-returns Inv-loop μ-loop
-returns c = let a = c .before .before .before in span-end (a .args .m .now) (a .args .first) (a .args .count) _ _ (a .pre .0) (a .pre .1) (c .before .loop .inv) (c .loop-test .left)
+returns c =
+    let b1 = c .before in
+    let a = b1 .before .before in
+    span-end (a .args .m .now) (a .args .first) (a .args .count) _ _ (a .pre .0) (a .pre .1) (b1 .loop .inv) (c .loop-test .left)
 
 pub span-rule-spec : {M : Type 1} → statement M
 span-rule-spec =

@@ -8,28 +8,94 @@ use Rattle.certificate.proofs.why.Statement.{statement}
 use Rattle.certificate.proofs.why.Tie as tie
 
 returns : tie.Need-returns
-returns c = let a = c .before .before .before .before .before .before .before .before .before in left-refused (a .args .image .now) (a .args .trace .now) (a .args .links .now) (a .args .steps .now) (a .args .out .now) _ (refusal-9 (a .args .image .now) (a .args .trace .now) (a .args .links .now) (a .args .steps .now) (a .args .out .now) (lent-fails (a .args .image .now) (a .args .trace .now) (a .args .links .now) (a .args .steps .now) (a .args .out .now) (c .before .lent-good .ensures) (c .if1 .taken))) (λ z. omega (arith, z))
+returns c =
+    let b1 = c .before in
+    left-refused _ _ _ _ _ _
+    (refusal-9 _ _ _ _ _
+    (lent-fails _ _ _ _ (b1 .lent-good .ensures) (c .if1 .taken)))
+    (λ z. omega (arith, z))
 
 returns-2 : tie.Need-returns-2
-returns-2 c = let a = c .before .before .before .before .before .before .before .before .before .before in left-refused (a .args .image .now) (a .args .trace .now) (a .args .links .now) (a .args .steps .now) (a .args .out .now) _ (refusal-9 (a .args .image .now) (a .args .trace .now) (a .args .links .now) (a .args .steps .now) (a .args .out .now) (out-short (a .args .image .now) (a .args .trace .now) (a .args .links .now) (a .args .steps .now) (a .args .out .now) (c .before .before .lent-good .ensures) (c .before .if1 .left) (c .if2 .taken))) (λ z. omega (arith, z))
+returns-2 c =
+    let b1 = c .before in
+    let b2 = b1 .before in
+    left-refused _ _ _ _ _ _
+    (refusal-9 _ _ _ _ _
+    (out-short _ _ _ _ (b2 .lent-good .ensures) (b1 .if1 .left)
+    (c .if2 .taken)))
+    (λ z. omega (arith, z))
 
 returns-3 : tie.Need-returns-3
-returns-3 c = let a = c .before .before .before .before .before .before .before .before .before .before .before .before in left-refused (a .args .image .now) (a .args .trace .now) (a .args .links .now) (a .args .steps .now) (a .args .out .now) _ (refusal-image (a .args .image .now) (a .args .trace .now) (a .args .links .now) (a .args .steps .now) (a .args .out .now) (out-long (a .args .image .now) (a .args .trace .now) (a .args .links .now) (a .args .steps .now) (a .args .out .now) (c .before .before .before .before .lent-good .ensures) (c .before .before .before .if1 .left) (c .before .before .if2 .left)) (c .before .check .ensures) (c .if3 .taken)) (c .if3 .taken)
+returns-3 c =
+    let b1 = c .before in
+    let b2 = b1 .before in
+    let b3 = b2 .before in
+    let b4 = b3 .before in
+    left-refused _ _ _ _ _ _
+    (refusal-image _ _ _ _ _
+    (out-long _ _ _ _ (b4 .lent-good .ensures) (b3 .if1 .left)
+    (b2 .if2 .left))
+    (b1 .check .ensures) (c .if3 .taken))
+    (c .if3 .taken)
 
 returns-4 : tie.Need-returns-4
-returns-4 c = let a = c .before .before .before .before .before .before .before .before .before .before .before .before .before .before .before in left-refused (a .args .image .now) (a .args .trace .now) (a .args .links .now) (a .args .steps .now) (a .args .out .now) _ (refusal-25 (a .args .image .now) (a .args .trace .now) (a .args .links .now) (a .args .steps .now) (a .args .out .now) (out-long (a .args .image .now) (a .args .trace .now) (a .args .links .now) (a .args .steps .now) (a .args .out .now) (c .before .before .before .before .before .before .before .lent-good .ensures) (c .before .before .before .before .before .before .if1 .left) (c .before .before .before .before .before .if2 .left)) (sym (c .before .before .before .before .check .ensures) ∙ c .before .before .before .if3 .left) (judged-quiet (a .args .image .now) (a .args .trace .now) (a .args .links .now) (a .args .steps .now) (a .args .out .now) (c .before .before .judge .ensures) (c .if4 .taken))) (λ z. omega (arith, z))
+returns-4 c =
+    let b2 = c .before .before in
+    let b3 = b2 .before in
+    let b4 = b3 .before in
+    let b5 = b4 .before in
+    let b6 = b5 .before in
+    let b7 = b6 .before in
+    left-refused _ _ _ _ _ _
+    (refusal-25 _ _ _ _ _
+    (out-long _ _ _ _ (b7 .lent-good .ensures) (b6 .if1 .left)
+    (b5 .if2 .left))
+    (sym (b4 .check .ensures) ∙ b3 .if3 .left)
+    (judged-quiet _ _ (b2 .judge .ensures) (c .if4 .taken)))
+    (λ z. omega (arith, z))
 
 judge-requires : tie.Need-judge-requires
 judge-requires c κs = sym (c .before .check .ensures) ∙ c .if3 .left
 
 tell-requires : tie.Need-tell-requires
-tell-requires c κs = let a = c .before .before .before .before .before .before .before .before .before .before .before .before .before .before .before .before .before in (sym (c .before .before .before .before .before .before .check .ensures) ∙ c .before .before .before .before .before .if3 .left, judged-good (a .args .image .now) (a .args .trace .now) (a .args .links .now) (a .args .steps .now) (a .args .out .now) (c .before .before .before .before .judge .ensures), roomy (a .args .trace .now) (a .args .links .now) (a .args .steps .now) (a .args .out .now) (out-long (a .args .image .now) (a .args .trace .now) (a .args .links .now) (a .args .steps .now) (a .args .out .now) (c .before .before .before .before .before .before .before .before .before .lent-good .ensures) (c .before .before .before .before .before .before .before .before .if1 .left) (c .before .before .before .before .before .before .before .if2 .left)))
+tell-requires c κs =
+    let b4 = c .before .before .before .before in
+    let b5 = b4 .before in
+    let b6 = b5 .before in
+    let b7 = b6 .before in
+    let b8 = b7 .before in
+    let b9 = b8 .before in
+    let a = b9 .before .before .before .before .before .before .before .before in (
+      sym (b6 .check .ensures) ∙ b5 .if3 .left,
+      judged-good _ _ (b4 .judge .ensures),
+      roomy _ _ _ (a .args .out .now)
+          (out-long _ _ _ _ (b9 .lent-good .ensures) (b8 .if1 .left)
+          (b7 .if2 .left)),
+    )
 
 put-told-requires : tie.Need-put-told-requires
-put-told-requires c κs = (sym (c .before .before .before .before .before .before .before .before .before .before .before .before .check .ensures) ∙ c .before .before .before .before .before .before .before .before .before .before .before .if3 .left, c .before .before .before .before .before .before .before .before .before .before .before .before .before .if2 .left)
+put-told-requires c κs =
+    let b11 = c .before .before .before .before .before .before .before .before .before .before .before in
+    let b12 = b11 .before in
+    let b13 = b12 .before in
+    (sym (b12 .check .ensures) ∙ b11 .if3 .left, b13 .if2 .left)
 
 returns-5 : tie.Need-returns-5
-returns-5 c = let a = c .before .before .before .before .before .before .before .before .before .before .before .before .before .before .before .before .before .before .before .before .before .before .before .before .before .before in let w = c .before .before .before .before .before .before .before .before .tell .ensures in left-told (a .args .image .now) (a .args .trace .now) (a .args .links .now) (a .args .steps .now) (a .args .out .now) (c .before .before .before .before .before .before .before .before .before .before .before .before .before .judge .ensures) (c .before .before .before .before .before .before .before .before .before .before .before .if4 .left) (out-long (a .args .image .now) (a .args .trace .now) (a .args .links .now) (a .args .steps .now) (a .args .out .now) (c .before .before .before .before .before .before .before .before .before .before .before .before .before .before .before .before .before .before .lent-good .ensures) (c .before .before .before .before .before .before .before .before .before .before .before .before .before .before .before .before .before .if1 .left) (c .before .before .before .before .before .before .before .before .before .before .before .before .before .before .before .before .if2 .left)) (sym (c .before .before .before .before .before .before .before .before .before .before .before .before .before .before .before .check .ensures) ∙ c .before .before .before .before .before .before .before .before .before .before .before .before .before .before .if3 .left) (w .0) (w .1) (w .2) (c .before .before .put-told .ensures)
+returns-5 c =
+    let b2 = c .before .before in
+    let b8 = b2 .before .before .before .before .before .before in
+    let b11 = b8 .before .before .before in
+    let b13 = b11 .before .before in
+    let b14 = b13 .before in
+    let b15 = b14 .before in
+    let b16 = b15 .before in
+    let b17 = b16 .before in
+    let b18 = b17 .before in
+    let w = b8 .tell .ensures in
+    left-told _ _ (b13 .judge .ensures) (b11 .if4 .left) _ _ _
+    (out-long _ _ _ _ (b18 .lent-good .ensures) (b17 .if1 .left)
+    (b16 .if2 .left))
+    (sym (b15 .check .ensures) ∙ b14 .if3 .left) (w .0) (w .1) (w .2) (b2 .put-told .ensures)
 
 pub why-spec : {M : Type 1} → statement M
 why-spec =
