@@ -329,8 +329,8 @@
 #define YASLAUREL_STEP_STACK 1536u
 #define YASLAUREL_RUN_STACK 1536u
 #define YASLAUREL_TRACE_TRIM_STACK 92160u
-#define YASLAUREL_EXPLAIN_STACK 53248u /* estimate, to be measured */
-#define YASLAUREL_WHY_STACK 106496u /* estimate, to be measured */
+#define YASLAUREL_EXPLAIN_STACK 53248u
+#define YASLAUREL_WHY_STACK 53248u
 #define YASLAUREL_MATRIX_VERDICT_STACK 256u
 #define YASLAUREL_MATRIX_SILENT_STACK 256u
 #define YASLAUREL_MATRIX_GAME_STACK 512u
@@ -459,7 +459,7 @@ uint32_t yaslaurel_explain(const uint8_t *image, size_t image_len, const uint8_t
  * user's if it does not cover the tag, else a run rule. A run rule comes from a file of the image along a chain of its
  * own into the executed file, just before the exec: of the files in rising number whose run rule does not cover the
  * tag, the first with such a chain gives the rule, and the file where its chain begins its number and owner. The call
- * needs about 100 KiB of stack: see YASLAUREL_WHY_STACK.
+ * needs about 50 KiB of stack: see YASLAUREL_WHY_STACK.
  *
  * Returns 0: the front of `why` has YASLAUREL_WHY_LENGTH numbers (the places above), and the end of `steps` the record
  * numbers of the run rule's chain, as from yaslaurel_explain; its place is `steps_len` for the other origins. Else 9,

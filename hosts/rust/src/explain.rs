@@ -283,7 +283,7 @@ pub fn explain_in(
 }
 
 /// Tells why the last record of a trace is answered alert or blocked. The trace up to its record n is `&trace[..8 * (n + 1)]`. The call needs
-/// about 100 KiB of stack.
+/// about 50 KiB of stack.
 ///
 /// ```
 /// use yaslaurel::{matrix_policy, why, Operation, Origin, Refusal};
