@@ -15,27 +15,14 @@ use Rattle.fields.specs.Writing.{Wrote}
 use Rattle.fields.proofs.WritingLaws.{wrote-none, wrote-join, wrote-length, wrote-as}
 use Rattle.image.specs.Limits.{containerLimit}
 use Rattle.listing.specs.Text.{digits, decimal}
-use Rattle.listing.specs.Lines.{space, newline, line}
-use Rattle.listing.proofs.Theorems.{digit-code, decimal-fits}
-use Rattle.listing.specs.Buffer.{ListedText}
+use Rattle.listing.specs.Lines.{newline, line, leading}
+use Rattle.listing.specs.Buffer.{fieldLimit, ListedText}
+use Rattle.listing.proofs.Theorems.{digit-code}
+use Rattle.listing.proofs.LineLaws.{leading-append, line-leading, field-length}
 use Rattle.figures.specs.Figures.{Figures, countLimit, acceptedIn, alertsIn, tooMany}
 use Rattle.figures.specs.Lines.{nameOf, rateFields, containerFields, fieldsFrom, countFields, alertFields, figureFields, figuresLine, traceLine, totalLine}
 use Rattle.figures.specs.Counters.{Counters, figuresIn}
-use Rattle.figures.specs.Buffer.{leading, countsText, placesText, figuresText, fieldLimit, countsLimit, placesLimit, figuresLimit}
-
--- ---- fields with the space in front of each
-
-pub leading-append : (fs gs : List (List ℕ)) → leading (fs ++ gs) ≡ leading fs ++ leading gs
-unfolding leading
-leading-append [] gs = refl
-leading-append (f ∷ fs) gs =
-    ap (λ (l : List ℕ). space ∷ (f ++ l)) (leading-append fs gs) ∙ ap (λ (l : List ℕ). space ∷ l) (sym (append-assoc f (leading fs) (leading gs)))
-
--- a line is its first field, the others with the space in front of each, and byte 10
-pub line-leading : (f : List ℕ) (gs : List (List ℕ)) → f ++ (leading gs ++ (newline ∷ [])) ≡ line f gs
-unfolding leading line
-line-leading f [] = refl
-line-leading f (g ∷ gs) = ap (λ (l : List ℕ). f ++ (space ∷ l)) (append-assoc g (leading gs) (newline ∷ []) ∙ line-leading g gs)
+use Rattle.figures.specs.Buffer.{countsText, placesText, figuresText, countsLimit, placesLimit, figuresLimit}
 
 pub figures-line : (name : List ℕ) (f : Figures) → name ++ figuresText f ≡ figuresLine name f
 unfolding figuresText figuresLine
@@ -50,10 +37,6 @@ name-text n =
     let h : n / 10 % 10 < 10 = omega arith in
     let l : n % 10 < 10 = omega arith in
     rw (digit-code (n / 10 % 10) h, digit-code (n % 10) l)
-
-pub field-text : (n : ℕ) → (space ∷ []) ++ decimal n ≡ leading (decimal n ∷ [])
-unfolding leading
-field-text n = ap (λ (l : List ℕ). space ∷ l) (sym (append-nil (decimal n)))
 
 pair-wrote : (m n : ℕ) {b w a : List ℕ} {at next end : ℕ} → at ≤ length b → Wrote (leading (decimal m ∷ [])) b w at next → Wrote (leading (decimal n ∷ [])) w a next end
     → Wrote (leading (decimal m ∷ decimal n ∷ [])) b a at end
@@ -80,10 +63,6 @@ unfolding rateFields
 rate-some x n h e p q = rw (ne-eqb n 0 e) (pair-wrote (1000 * x / n) (1000 * x % n) h p q)
 
 -- ---- lengths
-
-pub field-length : (n : ℕ) → length (leading (decimal n ∷ [])) ≤ fieldLimit
-unfolding leading
-field-length n = simp (append-nil {A = ℕ}) (omega (arith, decimal-fits n))
 
 pub pair-length : (m n : ℕ) → length (leading (decimal m ∷ decimal n ∷ [])) ≤ 2 * fieldLimit
 pair-length m n =

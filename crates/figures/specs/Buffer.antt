@@ -3,15 +3,10 @@ use Prim.Native.Nat.{ℕ, _+_, _*_}
 use mathlib.Core.List.{List, [], _∷_, _++_}
 use lib.ListN.{getD}
 use Rattle.image.specs.Limits.{containerLimit}
-use Rattle.listing.specs.Text.{decimalLimit}
-use Rattle.listing.specs.Lines.{space, newline}
+use Rattle.listing.specs.Lines.{newline, leading}
+use Rattle.listing.specs.Buffer.{fieldLimit}
 use Rattle.figures.specs.Figures.{Figures, countLimit}
 use Rattle.figures.specs.Lines.{countFields, alertFields, figureFields}
-
--- fields with the space in front of each
-unfoldable pub leading : List (List ℕ) → List ℕ
-leading [] = []
-leading (f ∷ fs) = space ∷ (f ++ leading fs)
 
 -- the fields of the counts
 unfoldable pub countsText : List ℕ → List ℕ
@@ -24,10 +19,6 @@ placesText places = leading (alertFields (λ c. getD places c 0))
 -- all that stands behind the name
 unfoldable pub figuresText : Figures → List ℕ
 figuresText f = leading (figureFields f) ++ (newline ∷ [])
-
--- the most bytes of a number with the space in front
-abbrev pub fieldLimit : ℕ
-fieldLimit = decimalLimit + 1
 
 -- of the counts
 abbrev pub countsLimit : ℕ

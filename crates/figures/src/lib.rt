@@ -6,19 +6,19 @@ ghost use Prim.Native.Nat.{ℕ, _+_, _*_, _%_, _^_, _≤_};
 ghost use lib.ListN.{length, getD};
 ghost use Rattle.answers.specs.Refusals.{traceLength};
 ghost use Rattle.listing.specs.Text.{decimal};
-ghost use Rattle.listing.specs.Lines.{newline};
+ghost use Rattle.listing.specs.Lines.{newline, leading};
+ghost use Rattle.listing.specs.Buffer.{fieldLimit};
 ghost use Rattle.fields.specs.Writing.{Wrote};
 ghost use Rattle.monitor.specs.Parts.{partSession};
 ghost use Rattle.listing.specs.Buffer.{ListedText};
 ghost use Rattle.figures.specs.Figures.{countLimit, testAt, tooMany};
 ghost use Rattle.figures.specs.Lines.{nameOf, rateFields, containerFields, traceLine, totalLine};
 ghost use Rattle.figures.specs.Counters.{counters, valuesBelow, oneAdded, countsWith, placesWith, counted, figuresIn, totalWith, partCounters};
-ghost use Rattle.figures.specs.Buffer.{leading, countsText, placesText, figuresText, fieldLimit, countsLimit, placesLimit, figuresLimit};
+ghost use Rattle.figures.specs.Buffer.{countsText, placesText, figuresText, countsLimit, placesLimit, figuresLimit};
 use answers::Answer;
 use image::CONTAINER_LIMIT;
 use listing::BUFFER_SIZE;
 use listing::NEWLINE;
-use listing::SPACE;
 use std::num::wrapping_add_u32;
 use std::num::wrapping_add_u64;
 
@@ -184,21 +184,12 @@ pub fn trace_name(n: usize) -> [u8; NAME_LENGTH]
     [tens, ones, b'.', b'b', b'i', b'n']
 }
 
-// A number behind another field.
-fn put_field(out: &mut [u8], at: usize, n: u64) -> usize
-    requires { ⌜ at + fieldLimit ≤ length (now out) ⌝ }
-    ensures { λ r. ⌜ Wrote (leading (decimal n ∷ [])) (now (out .entry)) (now (out .exit)) at r ⌝ }
-{
-    out[at] = SPACE;
-    listing::put_long(out, at + 1, n)
-}
-
 // A count behind another field.
 fn put_count(out: &mut [u8], at: usize, n: u32) -> usize
     requires { ⌜ at + fieldLimit ≤ length (now out) ⌝ }
     ensures { λ r. ⌜ Wrote (leading (decimal n ∷ [])) (now (out .entry)) (now (out .exit)) at r ⌝ }
 {
-    put_field(out, at, n as u64)
+    listing::put_field(out, at, n as u64)
 }
 
 // The counts, in their order.
@@ -225,8 +216,8 @@ fn put_rate(out: &mut [u8], at: usize, alerts: u32, accepted: u32) -> usize
     }
     let thousandfold = 1000 * (alerts as u64);
     let steps = accepted as u64;
-    let next = put_field(out, at, thousandfold / steps);
-    put_field(out, next, thousandfold % steps)
+    let next = listing::put_field(out, at, thousandfold / steps);
+    listing::put_field(out, next, thousandfold % steps)
 }
 
 // Number and alerts of a container that alerted.
@@ -237,7 +228,7 @@ fn put_container(out: &mut [u8], at: usize, c: usize, alerts: u32) -> usize
     if alerts == 0 {
         return at;
     }
-    let next = put_field(out, at, c as u64);
+    let next = listing::put_field(out, at, c as u64);
     put_count(out, next, alerts)
 }
 
@@ -277,7 +268,7 @@ fn put_too_long(out: &mut [u8], at: usize) -> usize
     requires { ⌜ at + figuresLimit ≤ length (now out) ⌝ }
     ensures { λ r. ⌜ Wrote (leading (decimal traceLength ∷ []) ++ (newline ∷ [])) (now (out .entry)) (now (out .exit)) at r ⌝ }
 {
-    let end = put_field(out, at, answers::TRACE_LENGTH as u64);
+    let end = listing::put_field(out, at, answers::TRACE_LENGTH as u64);
     out[end] = NEWLINE;
     end + 1
 }

@@ -1,9 +1,9 @@
 -- The lines as their parts one behind the other, and their lengths. Theorems restates what the lines' lengths are at most.
 use Prim.Native.Nat.{ℕ, _+_, _≤_, _<_}
 use native.Mathlib.Omega.{arith}
-use mathlib.Core.Path.{_≡_}
+use mathlib.Core.Path.{_≡_, refl, sym, ap, _∙_}
 use mathlib.Core.Bool.{Bool, true, false, cond}
-use mathlib.Core.List.{List, [], _∷_, _++_, append-assoc}
+use mathlib.Core.List.{List, [], _∷_, _++_, append-assoc, append-nil}
 use lib.Dec.{eqb}
 use lib.ListN.{length, length-append}
 use borrow.Author.Tests.{ne-eqb}
@@ -14,8 +14,8 @@ use Rattle.answers.specs.declared.Answer.{Answer}
 use Rattle.answers.specs.declared.Answer.the-variants.{Given, Refused}
 use Rattle.answers.specs.Answers.{positionOf}
 use Rattle.listing.specs.Text.{decimalLimit, decimal, tagDigits, hexadecimal}
-use Rattle.listing.specs.Lines.{space, newline, line, spaced, operationWord, verdictWord, answerWord, answerFields, heading, stepLine, shortLine, totalLine, policyLine}
-use Rattle.listing.specs.Buffer.{wordLeast, operationLimit, verdictLimit, accessLimit, positionLimit, answerLimit, lineLimit}
+use Rattle.listing.specs.Lines.{space, newline, line, spaced, leading, operationWord, verdictWord, answerWord, answerFields, heading, stepLine, shortLine, totalLine, policyLine}
+use Rattle.listing.specs.Buffer.{wordLeast, fieldLimit, operationLimit, verdictLimit, accessLimit, positionLimit, answerLimit, lineLimit}
 use Rattle.listing.proofs.TextLaws.{decimal-length, decimal-few, decimal-some, hexadecimal-length}
 
 -- ---- texts
@@ -52,7 +52,29 @@ pub total-text : (records alerts refused : ℕ)
 unfolding totalLine line ascii
 total-text records alerts refused = simp append-assoc
 
+-- ---- fields with the space in front of each
+
+pub leading-append : (fs gs : List (List ℕ)) → leading (fs ++ gs) ≡ leading fs ++ leading gs
+unfolding leading
+leading-append [] gs = refl
+leading-append (f ∷ fs) gs =
+    ap (λ (l : List ℕ). space ∷ (f ++ l)) (leading-append fs gs) ∙ ap (λ (l : List ℕ). space ∷ l) (sym (append-assoc f (leading fs) (leading gs)))
+
+-- a line is its first field, the others with the space in front of each, and byte 10
+pub line-leading : (f : List ℕ) (gs : List (List ℕ)) → f ++ (leading gs ++ (newline ∷ [])) ≡ line f gs
+unfolding leading line
+line-leading f [] = refl
+line-leading f (g ∷ gs) = ap (λ (l : List ℕ). f ++ (space ∷ l)) (append-assoc g (leading gs) (newline ∷ []) ∙ line-leading g gs)
+
+pub field-text : (n : ℕ) → (space ∷ []) ++ decimal n ≡ leading (decimal n ∷ [])
+unfolding leading
+field-text n = ap (λ (l : List ℕ). space ∷ l) (sym (append-nil (decimal n)))
+
 -- ---- lengths
+
+pub field-length : (n : ℕ) → length (leading (decimal n ∷ [])) ≤ fieldLimit
+unfolding leading
+field-length n = simp (append-nil {A = ℕ}) (omega (arith, decimal-length n))
 
 pub number-length : (n e : ℕ) → length (decimal n ++ (e ∷ [])) ≤ decimalLimit + 1
 number-length n e = simp length-append (omega (arith, decimal-length n))

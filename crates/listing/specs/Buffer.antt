@@ -39,6 +39,10 @@ pub record Spells (text : List ℕ) (word : Word) : Type 0 where
 
 -- ---- room
 
+-- the most bytes of a number with the space in front
+abbrev pub fieldLimit : ℕ
+fieldLimit = decimalLimit + 1
+
 -- the most bytes of an operation's word
 abbrev pub operationLimit : ℕ
 operationLimit = 8

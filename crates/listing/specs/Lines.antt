@@ -29,6 +29,11 @@ unfoldable pub spaced : List (List ℕ) → List ℕ
 spaced [] = []
 spaced (f ∷ fs) = f ++ (space ∷ spaced fs)
 
+-- fields with the space in front of each: the part of a line behind its first fields
+unfoldable pub leading : List (List ℕ) → List ℕ
+leading [] = []
+leading (f ∷ fs) = space ∷ (f ++ leading fs)
+
 -- "Words: read, write, append, exec, fork, file, volatile, other (unknown code)"; of codes 8 and 9 "`end` and `delete`" (change
 -- request No. 4)
 unfoldable pub operationWord : ℕ → List ℕ

@@ -9,8 +9,8 @@ ghost use Rattle.fields.specs.Bytes.{bytesOf};
 ghost use Rattle.fields.specs.Writing.{Wrote};
 ghost use Rattle.answers.specs.declared.Answer.the-variants.{Given};
 ghost use Rattle.listing.specs.Text.{digit, digits, decimalLimit, decimal, tagDigits, hexadecimal};
-ghost use Rattle.listing.specs.Lines.{space, newline, line, spaced, operationWord, verdictWord, answerWord, answerFields, heading, stepLine, shortLine, totalLine, policyLine};
-ghost use Rattle.listing.specs.Buffer.{WroteWithSpare, wordLeast, wordLimit, wordOf, lettersOf, Spells, operationLimit, accessLimit, positionLimit, answerLimit, lineLimit};
+ghost use Rattle.listing.specs.Lines.{space, newline, line, spaced, leading, operationWord, verdictWord, answerWord, answerFields, heading, stepLine, shortLine, totalLine, policyLine};
+ghost use Rattle.listing.specs.Buffer.{WroteWithSpare, wordLeast, wordLimit, wordOf, lettersOf, Spells, fieldLimit, operationLimit, accessLimit, positionLimit, answerLimit, lineLimit};
 use answers::Answer;
 use answers::Received;
 use answers::Verdict;
@@ -160,8 +160,8 @@ fn eight_digits(x: u64) -> u64
     eight + 0x3030303030303030 + letters * LETTERS
 }
 
-// A tag.
-fn put_hexadecimal(out: &mut [u8], at: usize, tag: u64) -> usize
+// A tag or a mixture.
+pub fn put_hexadecimal(out: &mut [u8], at: usize, tag: u64) -> usize
     requires { ⌜ at + tagDigits ≤ length (now out) ⌝ }
     ensures { λ r. ⌜ Wrote (hexadecimal tag) (now (out .entry)) (now (out .exit)) at r ⌝ }
 {
@@ -177,6 +177,15 @@ fn put_number(out: &mut [u8], at: usize, n: u64, end: u8) -> usize
     let next = put_long(out, at, n);
     out[next] = end;
     next + 1
+}
+
+// A number behind another field.
+pub fn put_field(out: &mut [u8], at: usize, n: u64) -> usize
+    requires { ⌜ at + fieldLimit ≤ length (now out) ⌝ }
+    ensures { λ r. ⌜ Wrote (leading (decimal n ∷ [])) (now (out .entry)) (now (out .exit)) at r ⌝ }
+{
+    out[at] = SPACE;
+    put_long(out, at + 1, n)
 }
 
 // A tag and the space behind it.
@@ -217,7 +226,7 @@ fn put_position(out: &mut [u8], at: usize, n: u8) -> usize
 }
 
 // A text, a number and the byte behind it.
-fn put_named(out: &mut [u8], at: usize, name: &[u8], n: u64, end: u8) -> usize
+pub fn put_named(out: &mut [u8], at: usize, name: &[u8], n: u64, end: u8) -> usize
     requires { ⌜ at + length (now name) + decimalLimit < length (now out) ⌝ }
     ensures { λ r. ⌜ Wrote (now (name .entry) ++ (decimal n ++ (end ∷ []))) (now (out .entry)) (now (out .exit)) at r ⌝ }
 {

@@ -2,7 +2,8 @@
 use Prim.Native.Nat.{_≤_}
 use native.Mathlib.Omega.{arith}
 use lib.ListN.{length}
-use Rattle.figures.proofs.LineLaws.{field-length, container-none, container-some}
+use Rattle.listing.proofs.LineLaws.{field-length}
+use Rattle.figures.proofs.LineLaws.{container-none, container-some}
 use borrow.Author.Needs.{needs}
 use Rattle.figures.proofs.put_container.Statement.{statement}
 use Rattle.figures.proofs.put_container.Tie as tie

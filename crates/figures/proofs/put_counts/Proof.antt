@@ -5,8 +5,10 @@ use lib.ListN.{getD}
 use Rattle.listing.specs.Text.{decimal}
 use Rattle.figures.specs.Figures.{countLimit}
 use Rattle.figures.specs.Lines.{countFields}
-use Rattle.figures.specs.Buffer.{countsText, fieldLimit}
-use Rattle.figures.proofs.LineLaws.{field-length, Placing, placing-start, fields-room, placing-next, placing-end}
+use Rattle.listing.specs.Buffer.{fieldLimit}
+use Rattle.listing.proofs.LineLaws.{field-length}
+use Rattle.figures.specs.Buffer.{countsText}
+use Rattle.figures.proofs.LineLaws.{Placing, placing-start, fields-room, placing-next, placing-end}
 use borrow.Author.Needs.{needs}
 use Rattle.figures.proofs.put_counts.Statement.{statement}
 use Rattle.figures.proofs.put_counts.Tie as tie

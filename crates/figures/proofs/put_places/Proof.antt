@@ -3,7 +3,8 @@ use Prim.Native.Nat.{_-_, _*_}
 use lib.ListN.{getD}
 use Rattle.image.specs.Limits.{containerLimit}
 use Rattle.figures.specs.Lines.{containerFields, alertFields}
-use Rattle.figures.specs.Buffer.{placesText, fieldLimit}
+use Rattle.listing.specs.Buffer.{fieldLimit}
+use Rattle.figures.specs.Buffer.{placesText}
 use Rattle.figures.proofs.LineLaws.{container-length, Placing, placing-start, fields-room, placing-next, placing-end}
 use borrow.Author.Needs.{needs}
 use Rattle.figures.proofs.put_places.Statement.{statement}

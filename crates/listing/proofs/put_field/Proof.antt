@@ -1,13 +1,13 @@
--- `figures::put_field`. A space and a number, one behind the other.
+-- A space and a number, one behind the other.
 use Prim.Native.Nat.{_≤_, _<_}
 use native.Mathlib.Omega.{arith}
 use lib.ListN.{length, length-set}
 use Rattle.listing.specs.Lines.{space}
 use Rattle.fields.proofs.WritingLaws.{wrote-join, wrote-byte, wrote-as}
-use Rattle.figures.proofs.LineLaws.{field-text}
+use Rattle.listing.proofs.LineLaws.{field-text}
 use borrow.Author.Needs.{needs}
-use Rattle.figures.proofs.put_field.Statement.{statement}
-use Rattle.figures.proofs.put_field.Tie as tie
+use Rattle.listing.proofs.put_field.Statement.{statement}
+use Rattle.listing.proofs.put_field.Tie as tie
 
 put-long-requires : tie.Need-put-long-requires
 put-long-requires c κs = simp length-set (omega arith)
