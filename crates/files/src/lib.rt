@@ -21,7 +21,7 @@ pub enum Move {
 // ---- standard error
 
 // A text on standard error.
-fn tell(text: &[u8])
+pub fn tell(text: &[u8])
     ensures { λ _. ⌜ Told ⌝ }
 {
     io::write_all(STDERR_FILENO, text);

@@ -160,8 +160,8 @@ fn eight_digits(x: u64) -> u64
     eight + 0x3030303030303030 + letters * LETTERS
 }
 
-// A tag or a mixture.
-pub fn put_hexadecimal(out: &mut [u8], at: usize, tag: u64) -> usize
+// A tag.
+fn put_hexadecimal(out: &mut [u8], at: usize, tag: u64) -> usize
     requires { ⌜ at + tagDigits ≤ length (now out) ⌝ }
     ensures { λ r. ⌜ Wrote (hexadecimal tag) (now (out .entry)) (now (out .exit)) at r ⌝ }
 {
@@ -170,7 +170,7 @@ pub fn put_hexadecimal(out: &mut [u8], at: usize, tag: u64) -> usize
 }
 
 // A number and the byte behind it.
-fn put_number(out: &mut [u8], at: usize, n: u64, end: u8) -> usize
+pub fn put_number(out: &mut [u8], at: usize, n: u64, end: u8) -> usize
     requires { ⌜ at + decimalLimit < length (now out) ⌝ }
     ensures { λ r. ⌜ Wrote (decimal n ++ (end ∷ [])) (now (out .entry)) (now (out .exit)) at r ⌝ }
 {
@@ -188,8 +188,8 @@ pub fn put_field(out: &mut [u8], at: usize, n: u64) -> usize
     put_long(out, at + 1, n)
 }
 
-// A tag and the space behind it.
-fn put_tag(out: &mut [u8], at: usize, tag: u64) -> usize
+// A tag or a mixture, and the space behind it.
+pub fn put_tag(out: &mut [u8], at: usize, tag: u64) -> usize
     requires { ⌜ at + tagDigits < length (now out) ⌝ }
     ensures { λ r. ⌜ Wrote (hexadecimal tag ++ (space ∷ [])) (now (out .entry)) (now (out .exit)) at r ⌝ }
 {

@@ -1,0 +1,2 @@
+-- What proves the lines, in parts and whole.
+pub mod LineLaws
