@@ -7,9 +7,10 @@ use mathlib.Core.Path.{_≡_, refl, sym, ap, ap₂, _∙_}
 use mathlib.Core.Bool.{Bool, true, false, cond}
 use mathlib.Core.List.{List, [], _∷_, _++_, append-assoc, append-nil}
 use lib.Dec.{eqb}
-use lib.ListN.{length, take, drop, getD, length-append, length-take, length-drop}
-use lib.Seq.{take-all, take-suc, take-at}
+use lib.ListN.{length, take, drop, getD, length-append, length-drop, drop-of-length-le}
+use lib.Seq.{take-all, take-suc, take-at, drop-cons}
 use borrow.Author.Tests.{eq-eqb, ne-eqb}
+use Rattle.lists.specs.Lists.{elem}
 use Rattle.fields.specs.Ascii.{ascii}
 use Rattle.fields.specs.Writing.{Wrote}
 use Rattle.fields.proofs.WritingLaws.{wrote-none, wrote-join, wrote-length, wrote-as}
@@ -226,3 +227,18 @@ unfolding Rattle.fields.specs.Writing.overwritten
 wrote-front {text} {before} {after} {end} h =
     let e : length text ≡ end = omega (arith, h .ends) in
     ap (λ (l : List ℕ). take end l) (h .buffer) ∙ take-at text (drop (0 + length text) before) end e
+
+-- ---- a number among others
+
+pub among-here : (n : ℕ) (x : List ℕ) (i : ℕ) → i < length x → elem n (drop i x) ≡ elem n x → getD x i 0 ≡ n → true ≡ elem n x
+unfolding elem
+among-here n x i l h e = rw (drop-cons x i 0 l, e, eq-eqb n n refl) at h
+
+pub among-next : (n : ℕ) (x : List ℕ) (i : ℕ) → i < length x → elem n (drop i x) ≡ elem n x → (getD x i 0 ≡ n → ⊥) → elem n (drop (i + 1) x) ≡ elem n x
+unfolding elem
+among-next n x i l h d =
+    ap (λ (k : ℕ). elem n (drop k x)) (add-one i) ∙ (rw (drop-cons x i 0 l, ne-eqb n (getD x i 0) (λ e. d (sym e))) at h)
+
+pub among-end : (n : ℕ) (x : List ℕ) (i : ℕ) → length x ≤ i → elem n (drop i x) ≡ elem n x → false ≡ elem n x
+unfolding elem
+among-end n x i l h = rw (drop-of-length-le x {i = i} l) at h

@@ -1,8 +1,7 @@
 -- A line whose last fields are the steps of a chain is written in parts: what stands before them, then so many steps at a time.
-use Prim.Native.Nat.{ℕ, _*_}
+use Prim.Native.Nat.{ℕ}
 use mathlib.Core.List.{List, _++_}
 use Rattle.listing.specs.Lines.{leading}
-use Rattle.listing.specs.Buffer.{fieldLimit}
 
 -- the part of a line from its first field on that more fields follow
 unfoldable pub opened : List ℕ → List (List ℕ) → List ℕ
@@ -11,7 +10,3 @@ opened f fs = f ++ leading fs
 -- the most steps of a part
 abbrev pub partLimit : ℕ
 partLimit = 2048
-
--- the most bytes of a part
-abbrev pub partRoom : ℕ
-partRoom = fieldLimit * partLimit

@@ -4,6 +4,7 @@ ghost use mathlib.Core.List.{[], _∷_};
 ghost use Prim.Native.Nat.{_+_, _*_, _≤_};
 ghost use mathlib.Core.Path.{_≡_};
 ghost use lib.ListN.{length, take, drop};
+ghost use Rattle.lists.specs.Lists.{elem};
 ghost use Rattle.fields.specs.Ascii.{ascii};
 ghost use Rattle.fields.specs.Writing.{Wrote};
 ghost use Rattle.listing.specs.Text.{decimal};
@@ -13,6 +14,9 @@ ghost use Rattle.explanations.specs.Lines.{stepField, stepFields, foundL
 ghost use Rattle.explanations.specs.Buffer.{opened, partLimit};
 use listing::NEWLINE;
 use listing::SPACE;
+
+// The bytes of a buffer: a part of 2,048 steps of at most 21 bytes fits, and so does any other line.
+pub const BUFFER_SIZE: usize = 65536;
 
 // The most steps of a part.
 const PART_LIMIT: usize = 2048;
@@ -136,6 +140,20 @@ pub fn put_steps(out: &mut [u8], at: usize, numbers: &[u64]) -> usize
         i += 1;
     }
     next
+}
+
+// The number is one of these.
+pub fn is_among(numbers: &[u64], n: u64) -> bool
+    ensures { λ r. ⌜ r ≡ elem n (now (numbers .entry)) ⌝ }
+{
+    let mut i: usize = 0;
+    while i < numbers.len() {
+        if numbers[i] == n {
+            return true;
+        }
+        i += 1;
+    }
+    false
 }
 
 // The last line.
