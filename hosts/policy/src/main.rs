@@ -36,21 +36,19 @@ policy help, policy --version
 A file called - is standard input.
 
 Exit status: 0 done; 4 the image, the text or the story is refused, or the step is none to trim or explain; 5 a failure: wrong
-arguments (2 for policy explain), a file that cannot be read, an output that cannot be written. What is refused or fails is told on
+arguments, a file that cannot be read, an output that cannot be written. What is refused or fails is told on
 standard error.
 ";
 
 /// Why the program does not end with status 0.
 enum Failure {
-    /// Status 2, of `policy explain` alone.
-    Usage(String),
     /// Status 4.
     Refused(String),
     /// Status 5.
     Failed(String),
 }
 
-use Failure::{Failed, Refused, Usage};
+use Failure::{Failed, Refused};
 
 /// The arguments behind the word.
 struct Arguments {
@@ -291,7 +289,7 @@ struct Explained {
 
 impl Explained {
     fn read(arguments: &[OsString]) -> Result<Explained, Failure> {
-        let wrong = |what: String| Usage(format!("policy explain: {what}; see policy help"));
+        let wrong = |what: String| Failed(format!("policy explain: {what}; see policy help"));
         let (mut folder, mut step, mut all, mut form) = (None, None, false, Form::Text);
         let mut rest = arguments.iter();
         while let Some(argument) = rest.next() {
@@ -379,7 +377,6 @@ fn main() -> ExitCode {
     let arguments: Vec<OsString> = env::args_os().skip(1).collect();
     let (message, status) = match run(&arguments) {
         Ok(()) => return ExitCode::SUCCESS,
-        Err(Usage(message)) => (message, 2),
         Err(Refused(message)) => (message, 4),
         Err(Failed(message)) => (message, 5),
     };
