@@ -262,7 +262,7 @@ fn span_rule(m: &[u8], first: usize, count: usize) -> Bounded
 }
 
 // The rule with the number n, in the image's own order; without mixtures if there is no such rule.
-fn rule_at(image: &[u8], n: usize) -> Bounded
+pub fn rule_at(image: &[u8], n: usize) -> Bounded
     requires { ⌜ checkOf (now image) ≡ 0 ⌝ }
     ensures { λ r. ⌜ r ≡ boundedOf (ruleAt (policyIn (now (image .entry)) .rules) n) ⌝ }
 {

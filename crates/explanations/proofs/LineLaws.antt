@@ -35,7 +35,7 @@ use Rattle.explanations.specs.Lines.{
   wayLine,
   totalLine,
 }
-use Rattle.explanations.specs.Buffer.{opened, partLimit}
+use Rattle.explanations.specs.Buffer.{opened, ended, partLimit}
 
 -- ---- a line in parts
 
@@ -52,13 +52,13 @@ opened-line f fs gs =
     ∙ line-leading f (fs ++ gs)
 
 pub rule-text : (origin rule owner n holder : ℕ) (chain : List ℕ)
-    → opened (ascii "rule") (ruleFields origin rule owner n holder) ++ (leading (stepFields chain) ++ (newline ∷ [])) ≡ ruleLine origin rule owner n holder chain
-unfolding ruleLine
+    → ended (opened (ascii "rule") (ruleFields origin rule owner n holder)) chain ≡ ruleLine origin rule owner n holder chain
+unfolding ended ruleLine
 rule-text origin rule owner n holder chain = opened-line (ascii "rule") (ruleFields origin rule owner n holder) (stepFields chain)
 
 pub way-text : (atom file : ℕ) (chain : List ℕ)
-    → opened (ascii "way") (wayFields atom file) ++ (leading (stepFields chain) ++ (newline ∷ [])) ≡ wayLine atom file chain
-unfolding wayLine
+    → ended (opened (ascii "way") (wayFields atom file)) chain ≡ wayLine atom file chain
+unfolding ended wayLine
 way-text atom file chain = opened-line (ascii "way") (wayFields atom file) (stepFields chain)
 
 -- ---- numbers behind other fields

@@ -20,12 +20,16 @@ put-number-requires c κs = omega (arith, number-length (c .before .before .befo
 returns : tie.Need-returns
 unfolding ascii
 returns c =
-    let a = c .before .before .before .before .before .before .before .before .before .before .before .before .args in
+    let back6 = c .before .before .before .before .before .before in
+    let back9 = back6 .before .before .before in
+    let back10 = back9 .before in
+    let back12 = back10 .before .before in
+    let a = back12 .args in
     let h : a .at ≤ length (a .out .now) = omega arith in
-    let t = c .before .before .before .before .before .before .before .before .before .if1 .taken in
+    let t = back9 .if1 .taken in
     rw t
     (wrote-as (blocked-text (a .n) (a .c))
-    (wrote-join h (wrote-as (ap (λ (n : ℕ). ascii "blocked " ++ (decimal n ++ (space ∷ []))) (c .before .before .before .before .before .before .before .before .before .before .more .ensures)) (c .before .before .before .before .before .before .put-named .ensures)) (c .before .before .put-number .ensures)))
+    (wrote-join h (wrote-as (ap (λ (n : ℕ). ascii "blocked " ++ (decimal n ++ (space ∷ []))) (back10 .more .ensures)) (back6 .put-named .ensures)) (c .before .before .put-number .ensures)))
 
 put-number-requires-2 : tie.Need-put-number-requires-2
 put-number-requires-2 c κs = omega (arith, number-length (c .before .before .before .before .before .before .before .more .result) space)
@@ -33,12 +37,16 @@ put-number-requires-2 c κs = omega (arith, number-length (c .before .before .be
 returns-2 : tie.Need-returns-2
 unfolding ascii
 returns-2 c =
-    let a = c .before .before .before .before .before .before .before .before .before .before .before .before .args in
+    let back6 = c .before .before .before .before .before .before in
+    let back9 = back6 .before .before .before in
+    let back10 = back9 .before in
+    let back12 = back10 .before .before in
+    let a = back12 .args in
     let h : a .at ≤ length (a .out .now) = omega arith in
-    let t = c .before .before .before .before .before .before .before .before .before .if1 .left in
+    let t = back9 .if1 .left in
     rw t
     (wrote-as (alert-text (a .n) (a .c))
-    (wrote-join h (wrote-as (ap (λ (n : ℕ). ascii "alert " ++ (decimal n ++ (space ∷ []))) (c .before .before .before .before .before .before .before .before .before .before .more .ensures)) (c .before .before .before .before .before .before .put-named2 .ensures)) (c .before .before .put-number2 .ensures)))
+    (wrote-join h (wrote-as (ap (λ (n : ℕ). ascii "alert " ++ (decimal n ++ (space ∷ []))) (back10 .more .ensures)) (back6 .put-named2 .ensures)) (c .before .before .put-number2 .ensures)))
 
 pub put-found-spec : {M : Type 1} → statement M
 put-found-spec =

@@ -17,9 +17,12 @@ put-number-requires c κs = omega (arith, tag-length (c .before .before .before 
 returns : tie.Need-returns
 unfolding ascii
 returns c =
-    let a = c .before .before .before .before .before .before .before .before .before .before .before .before .before .before .args in
+    let back6 = c .before .before .before .before .before .before in
+    let back10 = back6 .before .before .before .before in
+    let back14 = back10 .before .before .before .before in
+    let a = back14 .args in
     let h : a .at ≤ length (a .out .now) = omega arith in
-    wrote-as (lacks-text (a .mixture) (a .atom)) (wrote-join h (wrote-join h (c .before .before .before .before .before .before .before .before .before .before .put-text .ensures) (c .before .before .before .before .before .before .put-tag .ensures)) (c .before .before .put-number .ensures))
+    wrote-as (lacks-text (a .mixture) (a .atom)) (wrote-join h (wrote-join h (back10 .put-text .ensures) (back6 .put-tag .ensures)) (c .before .before .put-number .ensures))
 
 pub put-lacks-spec : {M : Type 1} → statement M
 put-lacks-spec =

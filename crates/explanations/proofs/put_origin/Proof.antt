@@ -13,15 +13,23 @@ returns c = wrote-as (sym (own-word _ (c .before .before .before .before .before
 
 returns-2 : tie.Need-returns-2
 unfolding ascii
-returns-2 c = wrote-as (sym (made-word _ (c .before .before .before .before .before .before .if1 .left) (c .before .before .before .before .before .if2 .taken))) (c .before .before .put-text2 .ensures)
+returns-2 c =
+    let back6 = c .before .before .before .before .before .before in
+    wrote-as (sym (made-word _ (back6 .if1 .left) (c .before .before .before .before .before .if2 .taken))) (c .before .before .put-text2 .ensures)
 
 returns-3 : tie.Need-returns-3
 unfolding ascii
-returns-3 c = wrote-as (sym (user-word _ (c .before .before .before .before .before .before .before .if1 .left) (c .before .before .before .before .before .before .if2 .left) (c .before .before .before .before .before .if3 .taken))) (c .before .before .put-text3 .ensures)
+returns-3 c =
+    let back6 = c .before .before .before .before .before .before in
+    let back7 = back6 .before in
+    wrote-as (sym (user-word _ (back7 .if1 .left) (back6 .if2 .left) (c .before .before .before .before .before .if3 .taken))) (c .before .before .put-text3 .ensures)
 
 returns-4 : tie.Need-returns-4
 unfolding ascii
-returns-4 c = wrote-as (sym (run-word _ (c .before .before .before .before .before .before .before .if1 .left) (c .before .before .before .before .before .before .if2 .left) (c .before .before .before .before .before .if3 .left))) (c .before .before .put-text4 .ensures)
+returns-4 c =
+    let back6 = c .before .before .before .before .before .before in
+    let back7 = back6 .before in
+    wrote-as (sym (run-word _ (back7 .if1 .left) (back6 .if2 .left) (c .before .before .before .before .before .if3 .left))) (c .before .before .put-text4 .ensures)
 
 pub put-origin-spec : {M : Type 1} → statement M
 put-origin-spec =

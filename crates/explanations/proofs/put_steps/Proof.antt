@@ -20,7 +20,9 @@ put-step-requires : tie.Need-put-step-requires Inv-loop μ-loop
 put-step-requires c κs = step-room _ _ _ _ _ _ (c .before .before .before .loop .inv) (c .before .before .loop-test .taken)
 
 loop-again : tie.Need-loop-again Inv-loop μ-loop
-loop-again c = stepping-next _ _ _ _ _ _ (c .before .before .before .before .before .before .loop .inv) (c .before .before .before .before .before .loop-test .taken) _ _ (c .before .before .put-step .ensures)
+loop-again c =
+    let back6 = c .before .before .before .before .before .before in
+    stepping-next _ _ _ _ _ _ (back6 .loop .inv) (c .before .before .before .before .before .loop-test .taken) _ _ (c .before .before .put-step .ensures)
 
 same-length : tie.Need-same-length Inv-loop μ-loop
 same-length c = c .before .loop .inv .long
