@@ -3,31 +3,21 @@ use Prim.Native.Nat.{ℕ, _+_, _-_, _/_, _≤_, _<_}
 use native.Mathlib.Omega.{arith}
 use mathlib.Core.Path.{_≡_, refl, sym, ap, ap₂, _∙_}
 use mathlib.Core.Bool.{Bool, true}
-use mathlib.Core.Logic.{⊎-elim}
-use mathlib.Core.List.{List, [], _∷_, _++_, map, append-assoc}
-use lib.ListN.{length, take, drop, getD, length-append, length-take, length-map}
-use lib.Seq.{take-at, drop-at}
-use borrow.Author.Tests.{eq-eqb, lt-ltb, le-leb}
-use Rattle.lists.specs.Conditions.{_orRefuse_, AllHold, numbersOf, numbersGood}
+use mathlib.Core.List.{List, _++_, map, append-assoc}
+use lib.ListN.{length, take, drop, getD, length-map}
+use lib.Seq.{take-at}
+use borrow.Author.Tests.{eq-eqb, le-leb}
 use Rattle.lists.proofs.Bools.{and-in}
-use Rattle.lists.proofs.Conditions.{passed, first-passed, none-left, given-none, zero-or-not}
 use Rattle.fields.specs.Ascii.{ascii}
 use Rattle.fields.specs.Bytes.{Bytes}
 use Rattle.fields.specs.Writing.{overwritten}
 use Rattle.fields.proofs.RecordLaws.{cut-count}
-use Rattle.answers.specs.Refusals.{lentLength, explainBounds, explainTrace}
-use Rattle.answers.specs.Answers.{quiet, isBlocked, receiverOf, tagOf}
-use Rattle.answers.specs.declared.Answer.{Answer}
+use Rattle.answers.specs.Answers.{isBlocked, receiverOf, tagOf}
 use Rattle.rules.specs.Answers.{tagWidth, padded}
 use Rattle.image.specs.Limits.{containerLimit}
-use Rattle.image.specs.Image.{checkOf, imageConditions, policyIn}
-use Rattle.session.specs.Session.{startOf}
-use Rattle.chains.proofs.VerdictLaws.{verdict-receiver}
+use Rattle.image.specs.Image.{checkOf, policyIn}
 use Rattle.records.specs.Records.{recordLength}
 use Rattle.records.specs.Traces.{traceRecords}
-use Rattle.monitor.specs.Steps.{refusalOf, stepAnswer, stepEffect}
-use Rattle.monitor.specs.Runs.{stepOn, runAnswers}
-use Rattle.monitor.proofs.StepLaws.{refused-answer, made-answer, step-receiver}
 use Rattle.image.proofs.Decode.{accepted-sound}
 use Rattle.witness.proofs.LowLaws.{reaches-low}
 use Rattle.witness.proofs.ExplainLaws.{both-there}
@@ -39,22 +29,8 @@ use Rattle.certificate.proofs.Theorems.{why-certifies}
 use Rattle.witness.specs.declared.Explained.{Explained}
 use Rattle.witness.specs.Links.{nodeOf}
 use Rattle.witness.specs.Told.{chainFile, chainRecords, foundIn, atEnd}
-use Rattle.witness.specs.Explains.{atomWitness, atomNumbers, atomFound, atomSteps, lentGood, askedGood, explainConditions, explainRefusal, explainAnswer, explainSteps}
-use Rattle.certificate.specs.Whys.{
-  answered,
-  lastFrom,
-  lastAnswer,
-  reasonIn,
-  reasonNumbers,
-  whyNumbers,
-  roomGood,
-  forbiddenLast,
-  whyLength,
-  whyConditions,
-  whyRefusal,
-  whyEffect,
-  whySteps,
-}
+use Rattle.witness.specs.Explains.{atomWitness, atomNumbers, atomFound, atomSteps, lentGood, explainRefusal, explainAnswer, explainSteps}
+use Rattle.certificate.specs.Whys.{answered, reasonIn, reasonNumbers, whyNumbers, roomGood, whyLength, whyRefusal, whyEffect, whySteps}
 use Rattle.explanations.specs.Lines.{foundLine, ruleFields, wayFields}
 use Rattle.explanations.specs.Buffer.{opened, ended}
 use Rattle.explanations.proofs.LineLaws.{rule-text, way-text}

@@ -23,8 +23,8 @@ file-whole : {name bytes : List ℕ} {room : ℕ} → FileLoaded name bytes room
 file-whole (inl f) l = f
 file-whole (inr f) l = absurd (omega (arith, f .1))
 
-pub trace-shown : {name : List ℕ} {room : ℕ} (i trace : List ℕ) (a b : ℕ) → name ≡ ascii "trace.bin" → room ≡ traceLimit + 1 → FileLoaded name trace room → length trace ≤ traceLimit
-    → Handed (traceText i trace) a b → TraceShown i a b
+pub trace-shown : {name : List ℕ} {room : ℕ} (i trace : List ℕ) (a b : ℕ) → name ≡ ascii "trace.bin" → room ≡ traceLimit + 1
+    → FileLoaded name trace room → length trace ≤ traceLimit → Handed (traceText i trace) a b → TraceShown i a b
 trace-shown i trace a b n k f l h =
     record {
       trace = trace;

@@ -15,7 +15,7 @@ use Rattle.fields.specs.Writing.{Wrote}
 use Rattle.fields.proofs.WritingLaws.{wrote-none, wrote-join, wrote-length, wrote-as}
 use Rattle.image.specs.Limits.{containerLimit}
 use Rattle.listing.specs.Text.{digits, decimal}
-use Rattle.listing.specs.Lines.{newline, line, leading}
+use Rattle.listing.specs.Lines.{newline, leading}
 use Rattle.listing.specs.Buffer.{fieldLimit, ListedText}
 use Rattle.listing.proofs.Theorems.{digit-code}
 use Rattle.listing.proofs.LineLaws.{leading-append, line-leading, field-length}

@@ -5,9 +5,9 @@ use mathlib.Core.Bool.{true, false}
 use mathlib.Core.List.{List, []}
 use lib.ListN.{length}
 use Rattle.lists.specs.Lists.{every}
-use Rattle.image.specs.Limits.{ruleSize, mixtureSize}
+use Rattle.image.specs.Limits.{ruleSize}
 use Rattle.image.specs.Policy.{containerGood}
-use Rattle.image.specs.Image.{part, containersIn, spansIn, rulesIn, ruleRecordsGood, checkOf, policyIn}
+use Rattle.image.specs.Image.{part, containersIn, rulesIn, ruleRecordsGood, checkOf, policyIn}
 use Rattle.image.proofs.AcceptedImage.{accepted-spans, accepted-containers}
 use Rattle.session.specs.Session.{startOf}
 use Rattle.chains.specs.Demand.{historyOf}

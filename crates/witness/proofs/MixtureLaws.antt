@@ -12,7 +12,7 @@ use Rattle.fields.specs.Bytes.{field}
 use Rattle.rules.specs.Rules.{unrestricted}
 use Rattle.image.specs.Limits.{ruleSize, mixtureSize, countField, size16, unrestrictedNumber}
 use Rattle.image.specs.Policy.{unrestrictedRule, ruleAt}
-use Rattle.image.specs.Image.{spansIn, mixturesIn, rulesIn, ruleRecordsGood}
+use Rattle.image.specs.Image.{mixturesIn, rulesIn, ruleRecordsGood}
 use Rattle.image.proofs.RecordsByPlace.{mixture-at, rule-at, rule-fits}
 use Rattle.image.proofs.RulesByNumber.{from-length, from-at}
 

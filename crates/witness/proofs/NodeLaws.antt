@@ -213,12 +213,6 @@ module _ (P : Policy) (F : Family) (ns : List ℕ) where
 
   module _ (h : History) (n : ℕ) (held links : List ℕ) (T : Tracked P F ns h n held links) (s : Step) (W : Within s) (en : n ≡ getD ns (size h) 0)
       (room : nodeOf n + 2 ≤ length links) where
-    abbrev more : List ℕ
-    more = linksAfter (isRule F) held links n s
-
-    abbrev after : List ℕ
-    after = heldAfter (isRule F) held n s
-
     same : (v : ℕ) → v < nodeOf n → getD (linksAfter (isRule F) held links n s) v 0 ≡ getD links v 0
     unfolding linksAfter
     same v l =

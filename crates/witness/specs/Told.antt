@@ -37,7 +37,7 @@ withLast h s (r ∷ rs) = extend h (stepOf r) (not (isRefused (stepAnswer s r)))
 unfoldable pub toldHistory : List ℕ → List (List ℕ) → History
 toldHistory s rs = withLast (historyOf stepOn stepOf s (frontOf rs)) (runEffect s (frontOf rs)) (lastOf rs)
 
--- ---- which records are its steps: "A record number counts all records of the trace from 0"
+-- ---- which records are its steps: a record's number counts all records of the trace from 0, those that are refused too
 
 -- the numbers of the accepted records, counted from n
 unfoldable pub numbersFrom : ℕ → List ℕ → List (List ℕ) → List ℕ

@@ -8,7 +8,7 @@ ghost use Rattle.lists.specs.Lists.{sameList, every};
 ghost use Rattle.rules.specs.Answers.{dataWidth, tagWidth};
 ghost use Rattle.image.specs.Limits.{containerLimit, containerSize, ruleSize, mixtureSize};
 ghost use Rattle.image.specs.Policy.{named, ruleAt, containerGood};
-ghost use Rattle.image.specs.Image.{containerIn, containersIn, spansIn, mixturesIn, rulesIn, ruleRecordsGood, checkOf};
+ghost use Rattle.image.specs.Image.{containerIn, containersIn, mixturesIn, rulesIn, ruleRecordsGood, checkOf};
 ghost use Rattle.chains.specs.History.{receiver};
 ghost use Rattle.chains.specs.Chains.{dataAtom, runRule};
 ghost use Rattle.records.specs.Records.{stepIn, Asked};
@@ -35,6 +35,7 @@ pub const FIRST_NODE: usize = 258;
 // All atoms, data and running.
 const TAG_WIDTH: usize = 64;
 
+// The codes from here on end what their receiver held.
 const END_CODE: usize = 8;
 
 // Where the count stands in a rule record.

@@ -13,7 +13,9 @@ use Rattle.explain.proofs.show_files.Statement.{statement}
 use Rattle.explain.proofs.show_files.Tie as tie
 
 -- what is lent has its length
-long : (c : tie.After-show-file-arg4) → length (c .before .before .before .before .before .before .before .before .before .before .before .before .before .before .before .before .before .before .args .trace .now) ≡ traceLimit + 1
+long : (c : tie.After-show-file-arg4)
+    → length (c .before .before .before .before .before .before .before .before .before .before .before .before .before .before .before .before .before .before .args .trace .now)
+    ≡ traceLimit + 1
 long c = search needs
 
 returns : tie.Need-returns

@@ -11,7 +11,8 @@ use Rattle.explain.proofs.show_records.Statement.{statement}
 use Rattle.explain.proofs.show_records.Tie as tie
 
 abbrev Inv-loop : tie.InvT-loop
-Inv-loop image trace session₀ links₀ steps₀ out₀ sent₀ at₀ records₀ explained₀ session links steps out sent at records explained = Explaining image trace sent₀ session sent at records explained
+Inv-loop image trace session₀ links₀ steps₀ out₀ sent₀ at₀ records₀ explained₀ session links steps out sent at records explained =
+    Explaining image trace sent₀ session sent at records explained
 
 abbrev μ-loop : tie.MeasureT-loop
 μ-loop image trace session₀ links₀ steps₀ out₀ sent₀ at₀ records₀ explained₀ session links steps out sent at records explained = length trace - at

@@ -1,6 +1,6 @@
 -- `explanations::put_step`. The number behind that of the record.
 use mathlib.Core.Path.{ap}
-use mathlib.Core.List.{List, [], _∷_}
+use mathlib.Core.List.{[], _∷_}
 use Prim.Native.Nat.{ℕ}
 use Rattle.fields.proofs.WritingLaws.{wrote-as}
 use Rattle.listing.specs.Text.{decimal}

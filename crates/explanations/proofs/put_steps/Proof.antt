@@ -1,6 +1,5 @@
 -- `explanations::put_steps`. Invariant: the steps of the first i numbers are written (`Stepping`).
 use Prim.Native.Nat.{_-_}
-use native.Mathlib.Omega.{arith}
 use lib.ListN.{length}
 use Rattle.explanations.proofs.LineLaws.{Stepping, stepping-start, step-room, stepping-next, stepping-end}
 use borrow.Author.Needs.{needs}
