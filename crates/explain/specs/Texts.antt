@@ -32,7 +32,7 @@ ruleText i t =
     ruleLine (reasonIn i t .kind) (reasonIn i t .rule) (ownerAt (policyIn i .owners) (reasonIn i t .rule)) (reasonIn i t .at) (reasonIn i t .holder)
     (reasonIn i t .chain)
 
--- its mixtures in the order of the image
+-- its mixtures, as they stand in the image
 unfoldable pub mixturesOf : List ℕ → List ℕ → List ℕ
 mixturesOf i t = ruleAt (policyIn i .rules) (reasonIn i t .rule)
 
