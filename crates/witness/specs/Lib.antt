@@ -5,5 +5,5 @@ pub mod Told
 pub mod Links
 pub mod Explains
 pub mod Tells
--- How it is worked out.
+-- Private contracts, which nothing public cites: the nodes and links by which chains are followed.
 pub mod Nodes
