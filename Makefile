@@ -5,7 +5,7 @@
 #   make policy            builds the program `policy`, which makes, checks and shows policies and explains alerts, and prints
 #                          where it is
 #   make record            builds the program `record`, which watches real programs, and prints where it is
-#   make night             watches eight commands of a shell script under strace, and explains the alert
+#   make night             watches eight commands of a shell script, and explains the alert
 #   make profiles-demo     turns the profiles in demo/profiles into a policy, and explains the alerts of a session from it
 #   make vendor-demo       composes a vendor's policy with a house's, one source consenting
 #
@@ -19,6 +19,7 @@
 # Change it (contributors)
 #   make setup             installs what is missing by apt, as root: tools/needed.txt lists it
 #   make test              everything that can fail, as the gate runs it; as root it begins with make setup
+#   make soak              live runs of `record` that take long: races many times, the watched programs as another user too
 #   make bench             ratios against Rust, in one run
 #   make covering          the cover test alone, which the bench and a host test measure
 #   make mutants CRATE=..  small changes of a crate, one at a time: which are still proved? SPECS=1 changes definitions, ABOVE=1 asks the
@@ -26,7 +27,7 @@
 #   make generated         the tables and pictures that documents have from the sources
 
 .DEFAULT_GOAL = help
-.PHONY: help try demo month policy record night profiles-demo vendor-demo lib install install-programs uninstall setup test bench covering mutants generated
+.PHONY: help try demo month policy record night profiles-demo vendor-demo lib install install-programs uninstall setup test soak bench covering mutants generated
 
 PREFIX = /usr/local
 BINDIR = $(PREFIX)/bin
@@ -120,6 +121,9 @@ test:
 
 covering:
 	@tools/prove --archive covering
+
+soak: lib
+	@tests/host/record/soak
 
 bench: lib covering
 	bench/run

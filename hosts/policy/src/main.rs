@@ -2,7 +2,7 @@
 
 use std::env;
 use std::ffi::OsString;
-use std::fs;
+use std::fs::{self, File};
 use std::io::{self, IsTerminal, Read, Write};
 use std::path::{Path, PathBuf};
 use std::process::ExitCode;
@@ -49,6 +49,10 @@ enum Failure {
 }
 
 use Failure::{Failed, Refused};
+
+/// How long an image or a text may be that is read, and how long a trace.
+const LENGTH_LIMIT: u64 = 1 << 20;
+const TRACE_LIMIT: u64 = 1 << 28;
 
 /// The arguments behind the word.
 struct Arguments {
@@ -104,12 +108,23 @@ impl Arguments {
     }
 
     fn load(&self) -> Result<Vec<u8>, Failure> {
+        self.load_up_to(LENGTH_LIMIT)
+    }
+
+    /// What a file has, which may be one without an end.
+    fn load_up_to(&self, limit: u64) -> Result<Vec<u8>, Failure> {
         let mut bytes = Vec::new();
         let read = match self.file.to_str() {
-            Some("-") => io::stdin().read_to_end(&mut bytes).map(|_| bytes),
-            _ => fs::read(&self.file),
+            Some("-") => io::stdin().take(limit + 1).read_to_end(&mut bytes),
+            _ => File::open(&self.file).and_then(|file| file.take(limit + 1).read_to_end(&mut bytes)),
         };
-        read.map_err(|error| Failed(self.said(error)))
+        match read {
+            Ok(length) if length as u64 > limit => {
+                Err(Refused(self.said(format!("over {limit} bytes, expected fewer"))))
+            }
+            Ok(_) => Ok(bytes),
+            Err(error) => Err(Failed(self.said(error))),
+        }
     }
 
     fn refused(&self, refusal: Refusal) -> Failure {
@@ -256,10 +271,11 @@ fn trim(arguments: &[OsString]) -> Result<(), Failure> {
         let read = read_names(folder, &mut policy).and_then(|()| read_holders(folder));
         holders = read.map_err(|error| Failed(error.to_string()))?;
     }
-    let cut = trim_trace(&policy, &bytes, &holders, &trace.load()?, at).map_err(|error| match error {
-        TrimError::Policy(refusal) => image.refused(refusal),
-        error => Refused(trace.said(error)),
-    })?;
+    let cut =
+        trim_trace(&policy, &bytes, &holders, &trace.load_up_to(TRACE_LIMIT)?, at).map_err(|error| match error {
+            TrimError::Policy(refusal) => image.refused(refusal),
+            error => Refused(trace.said(error)),
+        })?;
     let mut text: String = cut.steps.iter().map(|(step, words)| format!("step {step}: {words}\n")).collect();
     if cut.refused + cut.blocked > 0 {
         let left = [count(cut.refused, "refused record"), count(cut.blocked, "blocked record")].join(" and ");
@@ -322,7 +338,7 @@ fn nothing(records: usize) -> String {
 fn explain(arguments: &[OsString]) -> Result<(), Failure> {
     let Explained { folder, step, all, form } = Explained::read(arguments)?;
     let [image, trace] = ["policy.bin", "trace.bin"].map(|name| Arguments { file: folder.join(name), option: None });
-    let (image_bytes, bytes) = (image.load()?, trace.load()?);
+    let (image_bytes, bytes) = (image.load()?, trace.load_up_to(TRACE_LIMIT)?);
     let policy = named_policy(&image, &image_bytes, Some(&folder))?;
     let holders = read_holders(&folder).map_err(|error| Failed(error.to_string()))?;
     let refused = |error: ExplainError| match error {

@@ -21,7 +21,7 @@ pub fn begun(recorder: &mut Recorder, process: ProcessId, call: &Call) -> Option
             let to = run.file(place)?;
             run.recorder.begin(call.thread, process, None, to);
         }
-        Meaning::Sends => {
+        Meaning::Sends | Meaning::SendsMessages => {
             let to = run.addressed()?;
             run.recorder.begin(call.thread, process, None, to);
         }
@@ -48,9 +48,24 @@ pub fn ended(recorder: &mut Recorder, process: ProcessId, call: &Call, value: i6
     };
     let mut run = Run { recorder, process, arguments };
     match meaning {
-        Meaning::Nothing | Meaning::Clones => {}
-        Meaning::Reads(_) | Meaning::Writes(_) | Meaning::Sends | Meaning::Moves { .. } => run.data(meaning, value),
-        Meaning::ReadsAttribute | Meaning::WritesAttribute => run.attribute(meaning),
+        Meaning::Nothing | Meaning::Clones | Meaning::Changes(_) | Meaning::MakesLink(_) | Meaning::ReadsLink(_) => {}
+        Meaning::Signals(_) | Meaning::Filters | Meaning::ReadsLog | Meaning::Semaphores => {}
+        Meaning::Reads(_) | Meaning::Writes(_) | Meaning::Sends | Meaning::SendsMessages | Meaning::Moves { .. } => {
+            run.data(meaning, value);
+        }
+        Meaning::ReadsAttribute(_) | Meaning::WritesAttribute(_) => run.attribute(meaning),
+        Meaning::ReadsOption | Meaning::WritesOption => {}
+        Meaning::Splices => run.splice(value),
+        Meaning::ReadsQueue
+        | Meaning::WritesQueue
+        | Meaning::Attaches
+        | Meaning::ReadsMemory
+        | Meaning::WritesMemory => {
+            run.recorder.gap(&format!("the call {} is followed in a live run alone", call.name));
+        }
+        Meaning::Mounts => {
+            run.recorder.gap(&format!("the call {} moves names, which is followed in a live run alone", call.name))
+        }
         Meaning::Maps | Meaning::Unmaps | Meaning::Remaps | Meaning::Protects => run.memory(meaning, value as u64),
         Meaning::Executes(at) => run.execute(at, call.thread),
         Meaning::Renames(at) => run.rename(at),
@@ -193,11 +208,19 @@ impl<'a> Run<'a> {
         }
     }
 
+    /// Pages go into a pipe or come out of it: the log does not say which.
+    fn splice(&mut self, bytes: i64) {
+        if let Some(file) = self.file(0).filter(|_| bytes > 0) {
+            self.recorder.write(self.process, file);
+            self.recorder.read(self.process, file);
+        }
+    }
+
     fn write(&mut self, from: Option<FileId>, to: usize) {
         match (self.file(to), from) {
             (Some(to), from) => self.recorder.transfer(self.process, from, to),
             // To what is no container, such as the null device: the process itself holds what it moved.
-            (None, Some(from)) => self.recorder.read(self.process, from),
+            (None, Some(from)) => drop(self.recorder.read(self.process, from)),
             (None, None) => {}
         }
     }
@@ -216,8 +239,8 @@ impl<'a> Run<'a> {
             false => self.file(0),
         };
         match (file, meaning) {
-            (Some(file), Meaning::ReadsAttribute) => self.recorder.read(self.process, file),
-            (Some(file), _) => self.recorder.append(self.process, file),
+            (Some(file), Meaning::ReadsAttribute(_)) => drop(self.recorder.read(self.process, file)),
+            (Some(file), _) => drop(self.recorder.append(self.process, file)),
             (None, _) => {}
         }
     }
@@ -231,7 +254,12 @@ impl<'a> Run<'a> {
 
     /// The absolute path that an argument names, in the folder that another one names or in that of the process.
     fn path(&mut self, folder: Option<usize>, at: usize) -> Option<Vec<u8>> {
-        let name = line::string(self.argument(at))?;
+        let Some(name) = line::string(self.argument(at)) else {
+            if self.argument(at) != "NULL" {
+                self.recorder.gap("a path that the log has not written out");
+            }
+            return None;
+        };
         let found = folder.and_then(|folder| line::descriptor(self.argument(folder)));
         let place = found.as_ref().and_then(|found| found.place.clone()).map(|place| place.path);
         let process = self.recorder.processes.get_mut(self.process);
@@ -454,7 +482,7 @@ impl<'a> Run<'a> {
                 self.open(value, file, self.says(3, "SOCK_CLOEXEC"));
                 self.merge(file, listening);
             }
-            Meaning::Addresses => {
+            Meaning::Addresses { .. } | Meaning::NamesAddress => {
                 let file = self.file(0);
                 let name = address(self.argument(1));
                 let other = name.map(|name| self.recorder.files.passing(&name));
@@ -484,6 +512,11 @@ impl<'a> Run<'a> {
         }
         // A creat has a mode in the place of the flags.
         let flags = self.argument(at + 1);
+        let there =
+            place.filter(|place| !place.deleted).is_some_and(|place| self.recorder.files.comes_back(&place.path));
+        if there && !flags.contains("O_CREAT") && flags.contains("O_") && !self.recorder.names_move() {
+            self.recorder.gap("a file is there again under a name that was taken away, and the log has not shown how");
+        }
         let truncates = flags.contains("O_TRUNC") || !flags.contains("O_");
         self.open(number, file, flags.contains("O_CLOEXEC"));
         if let (Some(file), true) = (file, truncates) {

@@ -1,6 +1,6 @@
 //! Files by identity: which names lead to which file, while names come, go and move.
 
-use std::collections::HashMap;
+use std::collections::{BTreeSet, HashMap, HashSet};
 
 use crate::path;
 use crate::plan::{RuleUser, StoryFile};
@@ -22,7 +22,7 @@ pub enum Sort {
 pub struct File {
     pub sort: Sort,
     pub label: String,
-    pub names: Vec<Vec<u8>>,
+    pub names: BTreeSet<Vec<u8>>,
     /// How many descriptors and shared mappings there are.
     pub open: usize,
     /// Whether it was open before the log shows who opened it, so that others may have it open too.
@@ -35,13 +35,15 @@ pub struct File {
     pub rule: Option<RuleUser>,
     /// Whether its container is one of the image.
     pub of_image: bool,
+    /// Whether it is a source of the story.
+    pub source: bool,
     /// When it was last used.
     pub used: u64,
     merged: Option<FileId>,
 }
 
 impl File {
-    fn new(sort: Sort, label: String, names: Vec<Vec<u8>>) -> File {
+    fn new(sort: Sort, label: String, names: BTreeSet<Vec<u8>>) -> File {
         File {
             sort,
             label,
@@ -52,6 +54,7 @@ impl File {
             number: None,
             rule: None,
             of_image: false,
+            source: false,
             used: 0,
             merged: None,
         }
@@ -74,17 +77,20 @@ pub struct Files {
     folders: HashMap<Vec<u8>, Vec<u8>>,
     /// The links in the root folder, such as `/bin`, and where they lead.
     root_links: Vec<(Vec<u8>, Vec<u8>)>,
+    /// Paths at which nothing is any more.
+    gone: HashSet<Vec<u8>>,
 }
 
 impl Files {
     pub fn new(story: &[StoryFile], root_links: Vec<(Vec<u8>, Vec<u8>)>) -> Files {
         let rules = story.iter().map(|file| (file.path.clone(), (file.name.clone(), file.rule))).collect();
-        let (names, links, folders) = Default::default();
-        let mut files = Files { all: Vec::new(), names, story: rules, links, folders, root_links };
+        let (names, links, folders, gone) = Default::default();
+        let mut files = Files { all: Vec::new(), names, story: rules, links, folders, root_links, gone };
         for file in story {
             let id = files.named(&file.path);
             files.all[id].number = Some(file.number);
             files.all[id].of_image = true;
+            files.all[id].source = file.source;
             files.learn(&file.written, &file.path);
         }
         files
@@ -123,7 +129,7 @@ impl Files {
                 Some((name, rule)) => (name.clone(), *rule),
                 None => (path::shown(path), None),
             };
-            let mut file = File::new(Sort::File, label, vec![path.to_vec()]);
+            let mut file = File::new(Sort::File, label, [path.to_vec()].into());
             file.rule = rule;
             self.add(file)
         })
@@ -131,13 +137,13 @@ impl Files {
 
     /// The passing volatile of a name; at first sight it is a new one.
     pub fn passing(&mut self, name: &[u8]) -> FileId {
-        let new = || File::new(Sort::Passing, path::shown(name), vec![name.to_vec()]);
+        let new = || File::new(Sort::Passing, path::shown(name), [name.to_vec()].into());
         self.find(name).unwrap_or_else(|| self.add(new()))
     }
 
     /// A new volatile or file that no name leads to.
     pub fn nameless(&mut self, sort: Sort, label: String) -> FileId {
-        self.add(File::new(sort, label, Vec::new()))
+        self.add(File::new(sort, label, BTreeSet::new()))
     }
 
     fn add(&mut self, file: File) -> FileId {
@@ -150,19 +156,28 @@ impl Files {
     /// Lets a name lead to a file; the file that it led to loses it.
     pub fn link(&mut self, id: FileId, name: &[u8]) -> Option<FileId> {
         let lost = self.unlink(name);
+        self.gone.remove(name);
         let id = self.root(id);
         self.names.insert(name.to_vec(), id);
-        self.all[id].names.push(name.to_vec());
+        self.all[id].names.insert(name.to_vec());
         lost
     }
 
     /// Takes a name away, and gives the file that it led to.
     pub fn unlink(&mut self, name: &[u8]) -> Option<FileId> {
         self.links.remove(name);
+        if name.starts_with(b"/") {
+            self.gone.insert(name.to_vec());
+        }
         let id = self.names.remove(name)?;
         let id = self.root(id);
-        self.all[id].names.retain(|other| other != name);
+        self.all[id].names.remove(name);
         Some(id)
+    }
+
+    /// Whether a path at which nothing was any more has come back; it is there again from here on.
+    pub fn comes_back(&mut self, path: &[u8]) -> bool {
+        self.gone.remove(path)
     }
 
     /// Takes all names of a passing volatile away.

@@ -1,16 +1,18 @@
-//! Follows a log from its first line to its last, whether it is a file or comes from a running strace.
+//! Follows a log of strace, or an event list, from its first line to its last.
 
 use std::fs;
-use std::io::{self, BufRead};
+use std::io::{self, Read};
 use std::os::unix::ffi::OsStrExt;
 use std::path::Path;
 
-use policy_text::{write_folder, Story};
-use yaslaurel::{Operation, Refusal};
+use policy_text::Story;
+use yaslaurel::Refusal;
 
-use crate::line::{self, Says};
+use crate::event_list;
+use crate::ledger::Ledger;
+use crate::lines::{Found, Lines};
 use crate::order::Order;
-use crate::plan::{Plan, PlanError};
+use crate::plan::{How, Plan, PlanError};
 use crate::recorder::{Recorder, Start};
 use crate::report::Report;
 use crate::Failure;
@@ -18,7 +20,7 @@ use crate::Failure;
 /// A log that is followed.
 pub struct Follower {
     order: Order,
-    recorder: Recorder,
+    pub recorder: Recorder,
     line: usize,
     strict: bool,
 }
@@ -35,9 +37,17 @@ impl Follower {
         for event in self.order.line(self.line, &String::from_utf8_lossy(text)) {
             self.recorder.event(event);
         }
-        let (records, processes) = (self.recorder.monitor.steps(), self.recorder.processes.count());
-        self.recorder.report.progress(records, processes);
+        self.recorder.progress();
         !(self.strict && self.recorder.report.incomplete())
+    }
+
+    /// A line is too long to be taken up. Whether to go on.
+    pub fn too_long(&mut self, ended: bool) -> bool {
+        self.line += 1;
+        self.recorder.line = self.line;
+        let rest = if ended { "" } else { ", without an end: the rest of the log is left out" };
+        self.recorder.gap(&format!("a line of over 1 MiB{rest}"));
+        ended && !self.strict
     }
 
     /// The log has ended.
@@ -46,84 +56,71 @@ impl Follower {
             self.recorder.event(event);
         }
         self.recorder.end();
-    }
-
-    /// Whether no line has come.
-    pub fn is_empty(&self) -> bool {
-        self.line == 0
-    }
-
-    /// The numbers of the processes that are there.
-    pub fn pids(&self) -> Vec<u32> {
-        self.recorder.processes.pids()
-    }
-
-    pub fn report(&mut self) -> &mut Report {
-        &mut self.recorder.report
-    }
-
-    pub fn summary(&mut self) {
-        let (records, containers) = (self.recorder.monitor.steps(), self.recorder.monitor.holders());
-        self.recorder.report.summary(records, containers);
-    }
-
-    /// Writes policy, trace and names into a folder, which is made if it is not there; the run must have been kept.
-    pub fn write(&self, folder: &Path) -> io::Result<()> {
-        let Some(kept) = self.recorder.monitor.kept() else { return Ok(()) };
-        let said = |path: &Path, error: io::Error| io::Error::new(error.kind(), format!("{}: {error}", path.display()));
-        fs::create_dir_all(folder).map_err(|error| said(folder, error))?;
-        let trace: Vec<u8> = kept.operations.iter().flat_map(|(_, operation)| operation.record()).collect();
-        write_folder(folder, &self.recorder.plan.policy, &trace, &kept.holders)?;
-        let path = folder.join("records.txt");
-        let text: String =
-            kept.operations.iter().map(|(line, operation)| format!("{line}: {}\n", shown(*operation))).collect();
-        fs::write(&path, text).map_err(|error| said(&path, error))
+        self.recorder.tell_endless();
     }
 }
 
-fn shown(operation: Operation) -> String {
-    match operation {
-        Operation::Read { process, object } => format!("read {process} {object}"),
-        Operation::Write { process, object } => format!("write {process} {object}"),
-        Operation::Append { process, object } => format!("append {process} {object}"),
-        Operation::Exec { process, file, user } => format!("exec {process} {file} as {user}"),
-        Operation::Fork { process, child } => format!("fork {process} {child}"),
-        Operation::NewFile { process, file, user } => format!("file {process} {file} as {user}"),
-        Operation::NewVolatile { process, volatile } => format!("volatile {process} {volatile}"),
-        Operation::End { process } => format!("end {process}"),
-        Operation::Delete { process, object } => format!("delete {process} {object}"),
-        _ => format!("{operation:?}"),
+/// How many lines are read ahead for the folder in which the first process starts.
+pub const FOLDER_LINES: usize = 10_000;
+
+/// Follows a log of strace to its end.
+pub fn log(lines: &mut Lines, follower: &mut Follower) -> io::Result<()> {
+    let mut going = true;
+    let mut empty = true;
+    while let Some(found) = lines.next()?.filter(|_| going) {
+        empty = false;
+        going = match found {
+            Found::Line(line) => follower.line(&line),
+            Found::TooLong { ended } => follower.too_long(ended),
+        };
+    }
+    if empty {
+        follower.recorder.gap("there is no line in the log");
+    }
+    Ok(())
+}
+
+/// Follows an event list to its end.
+pub fn events(lines: &mut Lines, ledger: &mut Ledger, strict: bool) -> io::Result<()> {
+    lines.next()?;
+    while let Some(found) = lines.next()? {
+        let event = match &found {
+            Found::Line(line) => std::str::from_utf8(line).ok().and_then(event_list::read),
+            Found::TooLong { .. } => None,
+        };
+        match event {
+            Some(event) => drop(ledger.event(&event)),
+            None => ledger.not_read(),
+        }
+        if strict && ledger.recorder.report.incomplete() {
+            break;
+        }
+    }
+    Ok(())
+}
+
+/// How long a story may be.
+const STORY_LIMIT: u64 = 1 << 20;
+
+fn story_text(path: &Path) -> io::Result<Vec<u8>> {
+    let mut text = Vec::new();
+    fs::File::open(path)?.take(STORY_LIMIT + 1).read_to_end(&mut text)?;
+    match text.len() as u64 > STORY_LIMIT {
+        true => Err(io::Error::new(io::ErrorKind::InvalidData, "over 1 MiB, which no story has")),
+        false => Ok(text),
     }
 }
 
 /// The plan of a story whose relative names are in a folder.
-pub fn plan(path: &Path, folder: Option<&Path>) -> Result<Plan, Failure> {
+pub fn plan(path: &Path, folder: Option<&Path>, how: How) -> Result<Plan, Failure> {
     let said = |what: &dyn std::fmt::Display| format!("{}:{what}", path.display());
-    let text = fs::read(path).map_err(|error| Failure::failed(said(&format!(" {error}"))))?;
+    let text = story_text(path).map_err(|error| Failure::failed(said(&format!(" {error}"))))?;
     let story = Story::read(&text).map_err(|error| Failure::story(said(&error)))?;
     let folder = folder.map(|folder| folder.as_os_str().as_bytes());
-    Plan::new(&story, folder).map_err(|error| match error {
+    Plan::new(&story, folder, how).map_err(|error| match error {
         PlanError::Step { .. } => Failure::story(said(&error)),
         error => Failure::story(said(&format!(" {error}"))),
     })
-}
-
-/// The folder in which the first process of a log starts: the first one that it names.
-pub fn first_folder(log: &mut dyn BufRead) -> io::Result<Option<Vec<u8>>> {
-    let mut first = None;
-    for text in log.split(b'\n') {
-        let Some(found) = line::read(&String::from_utf8_lossy(&text?)) else { continue };
-        if *first.get_or_insert(found.thread) != found.thread {
-            continue;
-        }
-        let (Says::Whole { arguments, .. } | Says::Begun { arguments, .. }) = found.says else { continue };
-        let folders = line::arguments(&arguments).into_iter().filter(|argument| argument.starts_with("AT_FDCWD<"));
-        let mut places = folders.filter_map(|argument| line::descriptor(argument)?.place);
-        if let Some(place) = places.next() {
-            return Ok(Some(place.path));
-        }
-    }
-    Ok(None)
 }
 
 #[cfg(test)]
@@ -162,12 +159,14 @@ mod tests {
     /// Follows a log and gives the refusals that were told.
     fn refusals(story: &Path, log: &[u8]) -> Vec<String> {
         let said = Said::default();
-        let plan = plan(story, Some(Path::new("/srv/x"))).map_err(|failure| failure.message).unwrap();
-        let report = Report::new(Box::new(said.clone()), false);
+        let plan = plan(story, Some(Path::new("/srv/x")), How { follow: true, guard: false })
+            .map_err(|failure| failure.message)
+            .unwrap();
+        let report = Report::new(Box::new(said.clone()), false, false);
         let mut follower = Follower::start(plan, report, Start::default(), false).unwrap();
         log.split(|byte| *byte == b'\n').for_each(|line| assert!(follower.line(line)));
         follower.end();
-        follower.summary();
+        follower.recorder.summary();
         let text = String::from_utf8(said.0.borrow().clone()).unwrap();
         assert!(text.ends_with(" not followed\n"));
         text.lines().filter(|line| line.starts_with("refused ")).map(String::from).collect()
@@ -216,6 +215,47 @@ mod tests {
             }
         }
         lines.join(&b'\n')
+    }
+
+    /// Follows an event list and gives the refusals that were told.
+    fn refusals_of_events(text: &[u8], guard: bool) -> Vec<String> {
+        let said = Said::default();
+        let folder = Path::new(env!("CARGO_MANIFEST_DIR")).join("../../tests/host/record/event-list");
+        let plan = plan(&folder.join("story"), Some(Path::new("/srv/x")), How { guard, follow: false })
+            .map_err(|failure| failure.message)
+            .unwrap();
+        let report = Report::new(Box::new(said.clone()), false, false);
+        let mut ledger = Ledger::start(plan, report, Start { guard, ..Start::default() }).unwrap();
+        let mut lines = Lines::new(io::Cursor::new(text.to_vec()));
+        events(&mut lines, &mut ledger, false).unwrap();
+        ledger.end();
+        ledger.recorder.summary();
+        let text = String::from_utf8(said.0.borrow().clone()).unwrap();
+        assert!(text.ends_with(" not followed\n"));
+        text.lines().filter(|line| line.starts_with("refused ")).map(String::from).collect()
+    }
+
+    #[test]
+    fn damaged_event_lists_give_no_other_refusal() {
+        let folder = Path::new(env!("CARGO_MANIFEST_DIR")).join("../../tests/host/record/event-list");
+        let list = fs::read(folder.join("events")).unwrap();
+        assert!(refusals_of_events(&list, false).is_empty() && refusals_of_events(&list, true).is_empty());
+        let mut random = Random(0x9e37_79b9_7f4a_7c15);
+        for round in 0..3_000 {
+            let told = refusals_of_events(&damaged(&list, &mut random), round % 2 == 0);
+            assert!(told.iter().all(|line| line.starts_with("refused with 12,")), "{round}: {told:?}");
+        }
+    }
+
+    #[test]
+    fn event_lists_are_written_as_they_are_read() {
+        let folder = Path::new(env!("CARGO_MANIFEST_DIR")).join("../../tests/host/record/event-list");
+        let list = fs::read_to_string(folder.join("events")).unwrap();
+        for line in list.lines().skip(1) {
+            let mut written = Vec::new();
+            event_list::write(&mut written, &event_list::read(line).expect(line)).unwrap();
+            assert_eq!(String::from_utf8(written).unwrap().trim_end_matches('\n'), line);
+        }
     }
 
     /// A program in memory is a volatile, which is not executed (12); nothing else that a recorder reports is refused.

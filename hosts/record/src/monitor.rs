@@ -2,7 +2,7 @@
 
 use policy_text::{held_before, Access, Holder};
 use yaslaurel::layout::{image, session};
-use yaslaurel::{Answer, Operation, Policy, Refusal, Session};
+use yaslaurel::{Answer, Kind, Operation, Policy, Refusal, Session};
 
 use crate::explain::{Explainer, Reason};
 
@@ -17,6 +17,9 @@ pub struct Kept {
     /// All holders of numbers, in the order in which they came.
     pub holders: Vec<Holder>,
 }
+
+/// What the session has of a container.
+pub type Row = [u64; session::CONTAINER_ROW];
 
 /// Who has a number.
 struct Present {
@@ -133,6 +136,28 @@ impl Monitor {
     /// A mixture of a container's permit rule.
     pub fn permitted(&self, number: u8, place: u8) -> u64 {
         self.session.words()[session::container(number.into())][session::PERMIT + 1 + usize::from(place)]
+    }
+
+    pub fn row(&self, number: u8) -> Row {
+        let words = &self.session.words()[session::container(number.into())];
+        std::array::from_fn(|place| words[place])
+    }
+
+    pub fn tag(&self, number: u8) -> u64 {
+        self.session.words()[session::container(number.into())][session::TAG]
+    }
+
+    /// Whether an append of a process would leave a container as it is.
+    pub fn would_keep(&self, object: u8, process: u8) -> bool {
+        let (object, process) = (self.row(object), self.row(process));
+        let rule = session::RUN..session::RUN + session::RULE;
+        let unrestricted = process[session::RUN] == 1 && process[session::RUN + 1] == u64::MAX;
+        let same_rule = unrestricted || object[rule.clone()] == process[rule];
+        same_rule && object[session::TAG] | process[session::TAG] == object[session::TAG]
+    }
+
+    pub fn is_guarded(&self, number: u8) -> bool {
+        self.session.words()[session::container(number.into())][session::KIND] == u64::from(Kind::Guarded as u8)
     }
 
     /// Whether a file with an unrestricted permit rule equals a new one: it holds nothing and is unrestricted to run.

@@ -1,7 +1,7 @@
 //! Puts the lines of a log in order: joins `<unfinished ...>` with `resumed`, and holds lines back while a process speaks
 //! whose start is not there yet, because its parent's clone returns further down.
 
-use std::collections::{HashMap, HashSet, VecDeque};
+use std::collections::{BTreeMap, HashMap, HashSet, VecDeque};
 
 use crate::line::{self, Line, Outcome, Says};
 
@@ -58,8 +58,9 @@ pub struct Order {
     births: HashMap<u32, Birth>,
     /// Children that have been told before their parent's clone returned.
     told: HashSet<u32>,
-    /// The threads whose clone under way has its child.
-    parents: HashSet<u32>,
+    /// The clones under way that have no child yet, by their lines, and the line of each thread's.
+    cloning: BTreeMap<usize, u32>,
+    cloning_at: HashMap<u32, usize>,
 }
 
 impl Order {
@@ -111,9 +112,7 @@ impl Order {
         let parent = match self.births.get(&thread) {
             Some(birth) => Some(birth.parent),
             None => {
-                let cloning = self.unfinished.values().filter(|call| CLONES.contains(&call.name.as_str()));
-                let childless = cloning.filter(|call| !self.parents.contains(&call.thread));
-                let oldest = childless.min_by_key(|call| call.line).map(|call| call.thread);
+                let oldest = self.cloning.values().next().copied();
                 if oldest.is_some() && !ended && self.held.len() < HELD_LIMIT {
                     return None;
                 }
@@ -124,9 +123,16 @@ impl Order {
         let whole = self.births.get(&thread).and_then(|birth| birth.arguments.clone());
         let begun = self.unfinished.get(&parent).map(|call| call.arguments.clone());
         self.told.insert(thread);
-        self.parents.insert(parent);
+        self.has_child(parent);
         let arguments = whole.or(begun).unwrap_or_default();
         Some(Event::Forked { line: number, parent, child: thread, arguments })
+    }
+
+    /// A thread has no clone under way that waits for its child.
+    fn has_child(&mut self, thread: u32) {
+        if let Some(line) = self.cloning_at.remove(&thread) {
+            self.cloning.remove(&line);
+        }
     }
 
     fn take(&mut self, number: usize, line: Line, events: &mut Vec<Event>) {
@@ -141,6 +147,11 @@ impl Order {
             }
             Says::Begun { name, arguments } => {
                 let call = Call { line: number, thread, name, arguments, outcome: None };
+                self.has_child(thread);
+                if CLONES.contains(&call.name.as_str()) {
+                    self.cloning.insert(number, thread);
+                    self.cloning_at.insert(thread, number);
+                }
                 if self.unfinished.insert(thread, call.clone()).is_some() {
                     events.push(Event::NotRead { line: number });
                 }
@@ -150,11 +161,12 @@ impl Order {
             Says::Gone => {
                 self.known.remove(&thread);
                 self.unfinished.remove(&thread);
-                self.parents.remove(&thread);
+                self.has_child(thread);
                 events.push(Event::Gone { line: number, thread });
             }
             Says::Superseded { by } => {
                 self.known.remove(&by);
+                self.has_child(by);
                 if let Some(call) = self.unfinished.remove(&by) {
                     self.unfinished.insert(thread, Call { thread, ..call });
                 }
@@ -176,7 +188,7 @@ impl Order {
     }
 
     fn ended(&mut self, call: Call, events: &mut Vec<Event>) {
-        self.parents.remove(&call.thread);
+        self.has_child(call.thread);
         if let Some(child) = child(&call.name, call.outcome.as_ref()) {
             self.births.remove(&child);
             if !self.told.remove(&child) {

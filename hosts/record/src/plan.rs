@@ -16,9 +16,15 @@ pub struct StoryFile {
     pub name: String,
     /// Its absolute path as the story has it.
     pub written: Vec<u8>,
-    /// That path with links followed, as the log has it.
+    /// That path with links followed, as a log of strace has it; as it is written where files are known by their identity.
     pub path: Vec<u8>,
     pub number: u8,
+    /// Whether it is a source.
+    pub source: bool,
+    /// Whether the name ends with a slash: it stands for all files below a folder.
+    pub folder: bool,
+    /// Whether it is guarded.
+    pub guarded: bool,
     /// Whether it has a permit rule, and the user that has the same rule, for whom a new file of this name is made.
     pub rule: Option<RuleUser>,
 }
@@ -32,7 +38,7 @@ pub struct RuleUser(pub Option<u8>);
 pub struct Plan {
     pub policy: Policy,
     pub files: Vec<StoryFile>,
-    /// The names of the files that the story guards, which are plain ones here.
+    /// The names of the files that the story guards.
     pub guarded: Vec<String>,
     /// The recorder's own process: it executes nothing, so it may make files for every user.
     pub recorder: u8,
@@ -40,6 +46,15 @@ pub struct Plan {
     pub first: u8,
     pub unrestricted: u8,
     uids: Vec<(u32, u8)>,
+}
+
+/// How a story is taken.
+#[derive(Clone, Copy, Debug, Default)]
+pub struct How {
+    /// Whether guarded files are guarded.
+    pub guard: bool,
+    /// Whether links in names are followed, on this machine.
+    pub follow: bool,
 }
 
 /// Why a story is none for a recorder.
@@ -81,13 +96,19 @@ impl From<PolicyError> for PlanError {
 impl Plan {
     /// The plan of a story whose relative names stand in a folder. The names of the recorder's own processes and users have
     /// a space, which paths in a story rarely have.
-    pub fn new(story: &Story, folder: Option<&[u8]>) -> Result<Plan, PlanError> {
+    pub fn new(story: &Story, folder: Option<&[u8]>, how: How) -> Result<Plan, PlanError> {
         if let Some(step) = story.steps().first() {
             return Err(PlanError::Step { line: step.line });
         }
         let mut policy = story.policy().clone();
-        let guarded = unguarded(&mut policy)?;
-        let mut files = story_files(&policy, folder)?;
+        let guarded = guarded(&policy);
+        if !how.guard {
+            for (number, _) in &guarded {
+                policy.set_guarded(*number, false)?;
+            }
+        }
+        let guarded = guarded.into_iter().map(|(_, name)| name).collect();
+        let mut files = story_files(&policy, folder, how.follow)?;
         let recorder = policy.process("the recorder")?;
         let first = policy.process("the first process")?;
         let unrestricted = policy.user("unrestricted user", Rule::unrestricted())?;
@@ -107,34 +128,32 @@ impl Plan {
     }
 }
 
-/// Makes the guarded files plain ones, and gives their names: an access that is watched has been made, so the monitor must take it
-/// as made.
-fn unguarded(policy: &mut Policy) -> Result<Vec<String>, PolicyError> {
+/// The guarded files of a story. Where nothing is stopped they are plain ones: an access that is watched has been made, so the
+/// monitor must take it as made.
+fn guarded(policy: &Policy) -> Vec<(u8, String)> {
     let all = policy.containers().enumerate();
     let guarded = all.filter(|(_, (_, container))| container.kind == Kind::Guarded);
-    let guarded: Vec<(u8, String)> = guarded.map(|(number, (name, _))| (number as u8, name.to_string())).collect();
-    for (number, _) in &guarded {
-        policy.set_guarded(*number, false)?;
-    }
-    Ok(guarded.into_iter().map(|(_, name)| name).collect())
+    guarded.map(|(number, (name, _))| (number as u8, name.to_string())).collect()
 }
 
-fn story_files(policy: &Policy, folder: Option<&[u8]>) -> Result<Vec<StoryFile>, PlanError> {
+fn story_files(policy: &Policy, folder: Option<&[u8]>, follow: bool) -> Result<Vec<StoryFile>, PlanError> {
     let mut files: Vec<StoryFile> = Vec::new();
     for (number, (name, container)) in policy.containers().enumerate() {
         let name = name.to_string();
-        if container.kind != Kind::File {
+        if container.kind != Kind::File && container.kind != Kind::Guarded {
             return Err(PlanError::NotAFile { name });
         }
         let Some(written) = path::absolute(folder, name.as_bytes()) else {
             return Err(PlanError::RelativeName { name });
         };
-        let path = followed(&written);
+        let path = if follow { followed(&written) } else { written.clone() };
         if let Some(other) = files.iter().find(|file| file.path == path) {
             return Err(PlanError::TwoNames { name, other: other.name.clone() });
         }
         let rule = container.permit.map(|_| RuleUser(None));
-        files.push(StoryFile { name, written, path, number: number as u8, rule });
+        let (source, folder) = (container.source.is_some(), name.ends_with('/'));
+        let guarded = container.kind == Kind::Guarded;
+        files.push(StoryFile { name, written, path, number: number as u8, source, folder, guarded, rule });
     }
     Ok(files)
 }

@@ -96,6 +96,25 @@ impl Processes {
         opened
     }
 
+    /// A thread becomes a process of its own.
+    pub fn split(&mut self, thread: u32, number: Option<u8>) {
+        if let Some(id) = self.threads.get(&thread).copied() {
+            self.get_mut(id).threads -= 1;
+            self.fork(id, thread, number, Shares { process: false, descriptors: false });
+        }
+    }
+
+    /// A thread goes on under another number.
+    pub fn renumber(&mut self, from: u32, to: u32) {
+        if let Some(id) = self.threads.remove(&from) {
+            self.threads.insert(to, id);
+        }
+    }
+
+    pub fn is_there(&self, id: ProcessId) -> bool {
+        self.all.contains_key(&id)
+    }
+
     pub fn of(&self, thread: u32) -> Option<ProcessId> {
         self.threads.get(&thread).copied()
     }
@@ -118,9 +137,11 @@ impl Processes {
         found
     }
 
-    /// The system's numbers of all threads.
+    /// The system's numbers of the processes that are there.
     pub fn pids(&self) -> Vec<u32> {
-        self.threads.keys().copied().collect()
+        let mut pids: Vec<u32> = self.all.values().map(|process| process.pid).collect();
+        pids.sort_unstable();
+        pids
     }
 
     pub fn count(&self) -> usize {
@@ -137,7 +158,9 @@ impl Processes {
 
     /// All other threads of the process are gone.
     pub fn alone(&mut self, thread: u32, id: ProcessId) {
-        self.threads.retain(|other, process| *process != id || *other == thread);
+        if self.get(id).threads > 1 {
+            self.threads.retain(|other, process| *process != id || *other == thread);
+        }
         self.threads.insert(thread, id);
         self.get_mut(id).threads = 1;
     }

@@ -1,6 +1,6 @@
 //! The recorder: takes up what happens, keeps processes and files, and reports operations to the monitor.
 
-use std::collections::HashMap;
+use std::collections::{BTreeSet, HashMap, HashSet};
 
 use policy_text::what;
 use yaslaurel::{Answer, Operation, Refusal, Verdict};
@@ -8,9 +8,9 @@ use yaslaurel::{Answer, Operation, Refusal, Verdict};
 use crate::calls;
 use crate::files::{FileId, Files, Sort};
 use crate::line::Outcome;
-use crate::monitor::{Monitor, NUMBERS};
+use crate::monitor::{Monitor, Row, NUMBERS};
 use crate::order::{Call, Event};
-use crate::plan::{self, Plan, RuleUser};
+use crate::plan::{self, Plan};
 use crate::process::{ProcessId, Processes, Shares};
 use crate::report::Report;
 use crate::table::Meaning;
@@ -36,10 +36,18 @@ pub struct Recorder {
     pending: Vec<Pending>,
     /// Closes and renames that have begun and not ended, by thread.
     begun: HashMap<u32, Meaning>,
-    /// The file that has each number.
-    held: Vec<Option<FileId>>,
-    uses: u64,
-    run: Start,
+    /// The files that have each number: several where their rows are equal and numbers are few.
+    pub held: Vec<Vec<FileId>>,
+    pub uses: u64,
+    pub run: Start,
+    /// The container of the image for each name of the story.
+    pub own: HashMap<Vec<u8>, FileId>,
+    /// The names of the story that a file was seen at.
+    pub seen: HashSet<Vec<u8>>,
+    /// The sources that were written, or whose name leads to another file.
+    pub changed: BTreeSet<String>,
+    /// The sources that were read.
+    pub read: BTreeSet<String>,
 }
 
 /// What is known at the start of a run.
@@ -55,6 +63,14 @@ pub struct Start {
     pub why: bool,
     /// Whether alerts are explained.
     pub explain: bool,
+    /// Whether what is blocked is not made.
+    pub guard: bool,
+    /// Whether what files held before the run is known.
+    pub state: bool,
+    /// Names of the story at which nothing need be.
+    pub allowed: BTreeSet<String>,
+    /// The names of the story at which something was when the run began.
+    pub at_start: HashSet<Vec<u8>>,
 }
 
 impl Recorder {
@@ -62,14 +78,31 @@ impl Recorder {
     pub fn start(plan: Plan, report: Report, run: Start) -> Result<Recorder, Refusal> {
         let monitor = Monitor::start(&plan.policy, run.keep, run.explain)?;
         let files = Files::new(&plan.files, plan::root_links());
-        let mut held = vec![None; NUMBERS];
+        let mut held = vec![Vec::new(); NUMBERS];
         for id in files.ids() {
             if let Some(number) = files.get(id).number {
-                held[usize::from(number)] = Some(id);
+                held[usize::from(number)].push(id);
             }
         }
-        let (processes, pending, begun) = Default::default();
-        Ok(Recorder { plan, files, processes, monitor, report, line: 0, pending, begun, held, uses: 0, run })
+        let own = plan.files.iter().filter_map(|file| Some((file.written.clone(), files.find(&file.path)?))).collect();
+        let (processes, pending, begun, seen, changed, read) = Default::default();
+        Ok(Recorder {
+            plan,
+            files,
+            processes,
+            monitor,
+            report,
+            line: 0,
+            pending,
+            begun,
+            held,
+            uses: 0,
+            run,
+            own,
+            seen,
+            changed,
+            read,
+        })
     }
 
     /// Takes up what happens.
@@ -102,6 +135,11 @@ impl Recorder {
         }
     }
 
+    /// Shows how far the run is.
+    pub fn progress(&mut self) {
+        self.report.progress(self.monitor.steps(), self.processes.count());
+    }
+
     /// The log has ended: writes that have begun count as made.
     pub fn end(&mut self) {
         while !self.pending.is_empty() {
@@ -110,13 +148,18 @@ impl Recorder {
         }
     }
 
+    /// Tells that processes have no end in a log: it may have been cut.
+    pub fn tell_endless(&mut self) {
+        let pids = self.processes.pids();
+        if let Some(first) = pids.first() {
+            let (count, first) = (pids.len(), *first);
+            self.gap(&format!("{count} processes without an end in the log, the first of them {first}"));
+        }
+    }
+
     /// Tells something that is not followed.
     pub fn gap(&mut self, words: &str) {
         self.report.gap(self.line, words);
-    }
-
-    fn no_number(&mut self, what: &str) {
-        self.gap(&format!("{what}: no number is free, {NUMBERS} containers are in use"));
     }
 
     fn begun(&mut self, call: &Call) {
@@ -174,7 +217,7 @@ impl Recorder {
 
     /// Reports the writes that have begun and on which a read depends: those to the file that is read, and those of
     /// other threads of the process, which shall not have what is read now.
-    fn settle(&mut self, process: ProcessId, file: FileId) {
+    pub fn settle(&mut self, process: ProcessId, file: FileId) {
         let file = self.files.root(file);
         for place in 0..self.pending.len() {
             let pending = &self.pending[place];
@@ -203,34 +246,54 @@ impl Recorder {
     }
 
     /// A read. Of what has no number, if none is free, nothing is read: it holds nothing.
-    pub fn read(&mut self, process: ProcessId, file: FileId) {
+    pub fn read(&mut self, process: ProcessId, file: FileId) -> Option<Verdict> {
         self.settle(process, file);
-        let numbered = self.files.get(file).number.is_some() || self.monitor.free().is_some() || self.spare().is_some();
-        if !numbered && self.processes.get(process).number.is_some() {
-            return;
+        if self.files.get(file).number.is_none() && self.processes.get(process).number.is_some() {
+            // Without a number it holds nothing.
+            if self.monitor.free().is_none() && self.spare().is_none() {
+                return None;
+            }
         }
-        if let Some((process, object)) = self.both(process, file) {
-            self.perform(Operation::Read { process, object });
+        let (process, object) = self.both(process, file)?;
+        let found = self.files.get(file);
+        if found.source && !self.read.contains(&found.label) {
+            self.read.insert(found.label.clone());
         }
+        self.perform(Operation::Read { process, object })
     }
 
     /// A write: code 2 if it is the first behind a truncation, else code 3.
-    pub fn write(&mut self, id: ProcessId, file: FileId) {
-        if let Some((process, object)) = self.both(id, file) {
-            let truncated = std::mem::take(&mut self.files.get_mut(file).truncated);
-            self.perform(match truncated {
-                true => Operation::Write { process, object },
-                false => Operation::Append { process, object },
-            });
-            self.read_by_others(id, file);
+    pub fn write(&mut self, id: ProcessId, file: FileId) -> Option<Verdict> {
+        self.own_number(id, file);
+        let (process, object) = self.both(id, file)?;
+        let truncated = self.files.get(file).truncated;
+        let verdict = self.perform(match truncated {
+            true => Operation::Write { process, object },
+            false => Operation::Append { process, object },
+        });
+        if verdict != Some(Verdict::Blocked) {
+            self.written(id, file);
+            self.files.get_mut(file).truncated = false;
         }
+        verdict
     }
 
     /// A write that leaves what the file holds, truncated or not.
-    pub fn append(&mut self, id: ProcessId, file: FileId) {
-        if let Some((process, object)) = self.both(id, file) {
-            self.perform(Operation::Append { process, object });
-            self.read_by_others(id, file);
+    pub fn append(&mut self, id: ProcessId, file: FileId) -> Option<Verdict> {
+        self.own_number(id, file);
+        let (process, object) = self.both(id, file)?;
+        let verdict = self.perform(Operation::Append { process, object });
+        if verdict != Some(Verdict::Blocked) {
+            self.written(id, file);
+        }
+        verdict
+    }
+
+    fn written(&mut self, id: ProcessId, file: FileId) {
+        self.read_by_others(id, file);
+        let found = self.files.get(file);
+        if found.source {
+            self.changed.insert(found.label.clone());
         }
     }
 
@@ -269,19 +332,20 @@ impl Recorder {
         Some((number, self.number(file)?))
     }
 
-    /// Reports an operation and tells what is not quiet.
-    fn perform(&mut self, operation: Operation) {
+    /// Reports an operation and tells what is not quiet. The verdict; nothing if it was refused.
+    pub fn perform(&mut self, operation: Operation) -> Option<Verdict> {
         let answered = self.monitor.perform(self.line, operation);
         let step = self.monitor.steps();
         let (answer, access) = match answered {
             Ok(answered) => answered,
             Err(refusal) => {
                 let words = what(operation, |number| self.monitor.name(number));
-                return self.report.refusal(step, refusal.number(), &words);
+                self.report.refusal(step, refusal.number(), &words);
+                return None;
             }
         };
         if answer.verdict == Verdict::Quiet && !self.run.why {
-            return;
+            return Some(Verdict::Quiet);
         }
         let words = access.words(&self.plan.policy, |number| self.monitor.name(number));
         match answer.verdict {
@@ -290,8 +354,13 @@ impl Recorder {
                 self.report.line(&format!("quiet, step {step}: {words}{why}"));
             }
             Verdict::Alert => self.report.alert(step, &words, || self.monitor.reason(&self.plan.policy, access)),
+            Verdict::Blocked if self.run.guard => {
+                let reason = self.monitor.reason(&self.plan.policy, access);
+                self.report.blocked(step, &words, reason);
+            }
             unknown => self.report.unknown(step, &format!("{unknown:?}"), &words),
         }
+        Some(answer.verdict)
     }
 
     /// Which mixture of the receiver's permit rule holds what it has, in words.
@@ -302,76 +371,6 @@ impl Recorder {
             mixture => self.plan.policy.sources_in(mixture).to_string(),
         };
         Some(format!(", let through by mixture {place}: {mixture}"))
-    }
-
-    /// The number of a file, which takes one if it has none.
-    fn number(&mut self, id: FileId) -> Option<u8> {
-        let id = self.files.root(id);
-        self.uses += 1;
-        self.files.get_mut(id).used = self.uses;
-        if let Some(number) = self.files.get(id).number {
-            return Some(number);
-        }
-        let Some(number) = self.take_number() else {
-            let label = self.files.get(id).label.clone();
-            self.no_number(&label);
-            return None;
-        };
-        let process = self.plan.recorder;
-        let operation = match self.files.get(id).sort {
-            Sort::File => Operation::NewFile { process, file: number, user: self.user_for(id) },
-            Sort::NamedPipe | Sort::Passing => Operation::NewVolatile { process, volatile: number },
-        };
-        self.give(id, number);
-        self.perform(operation);
-        Some(number)
-    }
-
-    fn give(&mut self, id: FileId, number: u8) {
-        let id = self.files.root(id);
-        self.files.get_mut(id).number = Some(number);
-        self.held[usize::from(number)] = Some(id);
-        self.monitor.hold(number, &self.files.get(id).label.clone());
-    }
-
-    /// The user for whom a new file is made: the one with the story's rule, if its name is one of the story.
-    fn user_for(&mut self, id: FileId) -> u8 {
-        match self.files.get(id).rule {
-            None => self.plan.unrestricted,
-            Some(RuleUser(Some(user))) => user,
-            Some(RuleUser(None)) => {
-                let label = self.files.get(id).label.clone();
-                self.gap(&format!("{label} is a new file of that name, and no user is left that has the story's rule"));
-                self.plan.unrestricted
-            }
-        }
-    }
-
-    /// A free number, if need be that of a file that equals a new one (code 9).
-    fn take_number(&mut self) -> Option<u8> {
-        self.monitor.free().or_else(|| {
-            let (number, id) = self.spare()?;
-            self.files.get_mut(id).number = None;
-            self.delete(self.plan.recorder, number);
-            Some(number)
-        })
-    }
-
-    /// The file outside the story that holds nothing and can give its number back: one that nobody has open if there is
-    /// one, and of those the one that was not used for the longest time.
-    fn spare(&self) -> Option<(u8, FileId)> {
-        let holders = self.held.iter().enumerate().filter_map(|(number, id)| Some((number as u8, (*id)?)));
-        let unused = holders.filter(|(number, id)| {
-            let file = self.files.get(*id);
-            !file.of_image && file.rule.is_none() && self.monitor.equals_new(*number)
-        });
-        unused.min_by_key(|(_, id)| (self.files.get(*id).open > 0, self.files.get(*id).used))
-    }
-
-    fn delete(&mut self, process: u8, object: u8) {
-        self.perform(Operation::Delete { process, object });
-        self.held[usize::from(object)] = None;
-        self.monitor.leave(object);
     }
 
     /// More descriptors or mappings stand for these files.
@@ -398,60 +397,37 @@ impl Recorder {
         }
     }
 
-    /// Deletes the container of a file, if it has one.
-    pub fn delete_container(&mut self, by: u8, file: FileId) {
-        if let Some(object) = self.files.get_mut(file).number.take() {
-            self.delete(by, object);
-        }
-    }
-
     /// The number under which a process closes and deletes: the recorder's if it has none.
     pub fn acting(&self, process: ProcessId) -> u8 {
         self.processes.get(process).number.unwrap_or(self.plan.recorder)
     }
 
-    /// A file has got a name of the story: the story's rule holds for it from here on. A file that has a container of its own
-    /// gets another one, into which a process that holds nothing copies it.
-    pub fn govern(&mut self, process: ProcessId, file: FileId, path: &[u8], how: &str) {
-        let Some(rule) = self.files.story_rule(path) else { return };
-        let name = self.files.story_name(path).unwrap_or_default().to_string();
-        let RuleUser(Some(user)) = rule else {
-            self.gap(&format!("{name} is another file now, and no user is left that has the story's rule"));
-            return;
-        };
-        let before = self.files.get_mut(file).rule.replace(rule);
-        if before == Some(rule) {
-            return;
-        }
-        if self.files.get(file).names.iter().any(|other| other != path && self.files.story_rule(other).is_some()) {
-            self.gap(&format!("{name} has another name of the story too, of which the rule does not hold any more"));
-        }
-        if let Some(number) = self.files.get(file).number {
-            self.settle(ProcessId::MAX, file);
-            let by = self.monitor.name(self.acting(process));
-            self.copy(file, number, user, &format!("{how} by {by}"));
-        }
+    /// What a process holds; nothing if it has no number.
+    pub fn held_by(&self, process: ProcessId) -> Option<u64> {
+        self.processes.get(process).number.map(|number| self.monitor.tag(number))
     }
 
-    fn copy(&mut self, file: FileId, old: u8, user: u8, by: &str) {
-        let process = self.plan.recorder;
-        let numbers = self.take_number().and_then(|number| {
-            self.give(file, number);
-            Some((number, self.take_number()?))
-        });
-        let Some((new, helper)) = numbers else {
-            let label = self.files.get(file).label.clone();
-            self.no_number(&label);
-            return;
-        };
-        self.perform(Operation::NewFile { process, file: new, user });
-        self.monitor.hold(helper, by);
-        self.perform(Operation::Fork { process, child: helper });
-        self.perform(Operation::Read { process: helper, object: old });
-        self.perform(Operation::Write { process: helper, object: new });
-        self.perform(Operation::End { process: helper });
-        self.monitor.leave(helper);
-        self.delete(process, old);
+    /// What a file holds; nothing if it has no number, since it holds nothing then.
+    pub fn held_in(&self, file: FileId) -> Option<u64> {
+        self.files.get(file).number.map(|number| self.monitor.tag(number))
+    }
+
+    pub fn row_of_process(&self, process: ProcessId) -> Option<Row> {
+        self.processes.get(process).number.map(|number| self.monitor.row(number))
+    }
+
+    pub fn row_of_file(&self, file: FileId) -> Option<Row> {
+        self.files.get(file).number.map(|number| self.monitor.row(number))
+    }
+
+    pub fn is_guarded(&self, file: FileId) -> bool {
+        self.files.get(file).number.is_some_and(|number| self.monitor.is_guarded(number))
+    }
+
+    /// A file has no bytes any more; whether its next write ends what it held.
+    pub fn truncated(&mut self, file: FileId, ends: bool) {
+        let found = self.files.get_mut(file);
+        found.truncated = ends && found.sort == Sort::File;
     }
 
     /// Another name for a file, for people.
@@ -468,20 +444,41 @@ impl Recorder {
     pub fn merge(&mut self, process: ProcessId, first: FileId, second: FileId) {
         self.settle(ProcessId::MAX, first);
         if self.files.get(second).number.is_none() {
-            self.files.get_mut(second).number = self.files.get_mut(first).number.take();
+            let (from, to) = (self.files.root(first), self.files.root(second));
+            if let Some(number) = self.files.get_mut(from).number.take() {
+                self.files.get_mut(to).number = Some(number);
+                let held = &mut self.held[usize::from(number)];
+                held.iter_mut().filter(|id| **id == from).for_each(|id| *id = to);
+            }
         }
         self.delete_container(self.acting(process), first);
         self.files.merge(first, second);
     }
 
     fn forked(&mut self, parent: u32, child: u32, arguments: &str) {
+        let shares =
+            Shares { process: arguments.contains("CLONE_THREAD"), descriptors: arguments.contains("CLONE_FILES") };
+        self.start_child(parent, child, shares);
+    }
+
+    /// The first process of a live run.
+    pub fn first(&mut self, task: u32, user: u32, folder: &[u8]) {
+        let number = Some(self.plan.first);
+        let id = self.processes.add(task, number, Some(folder.to_vec()), Some(user));
+        self.name_process(id);
+    }
+
+    /// A task is born: one more of the same memory, or another process.
+    pub fn born(&mut self, parent: u32, child: u32, one_memory: bool) {
+        self.start_child(parent, child, Shares { process: one_memory, descriptors: false });
+    }
+
+    fn start_child(&mut self, parent: u32, child: u32, shares: Shares) {
         if self.processes.of(child).is_some() {
             self.gap(&format!("process {child} starts once more, and its end is not in the log"));
             self.gone(child);
         }
         let Some(id) = self.processes.of(parent) else { return };
-        let shares =
-            Shares { process: arguments.contains("CLONE_THREAD"), descriptors: arguments.contains("CLONE_FILES") };
         if shares.process {
             self.processes.thread(child, id);
             return;
@@ -489,11 +486,26 @@ impl Recorder {
         let number = self.fork_number(id, child);
         let opened = self.processes.fork(id, child, number, shares);
         self.opened(opened);
-        if let (Some(process), Some(number)) = (self.processes.get(id).number, number) {
-            let forked = self.processes.of(child).expect("the child is there");
+        self.report_fork(id, child);
+    }
+
+    fn report_fork(&mut self, parent: ProcessId, child: u32) {
+        let Some(forked) = self.processes.of(child) else { return };
+        let numbers = (self.processes.get(parent).number, self.processes.get(forked).number);
+        if let (Some(process), Some(number)) = numbers {
             self.monitor.hold(number, "");
             self.name_process(forked);
             self.perform(Operation::Fork { process, child: number });
+        }
+    }
+
+    /// A task that has its memory together with others gets one of its own.
+    pub fn split(&mut self, task: u32) {
+        let Some(id) = self.processes.of(task) else { return };
+        if self.processes.get(id).threads > 1 {
+            let number = self.fork_number(id, task);
+            self.processes.split(task, number);
+            self.report_fork(id, task);
         }
     }
 
@@ -527,7 +539,7 @@ impl Recorder {
         }
     }
 
-    fn gone(&mut self, thread: u32) {
+    pub fn gone(&mut self, thread: u32) {
         self.cut_off(thread);
         let Some((id, last)) = self.processes.leave(thread) else { return };
         if last {

@@ -20,8 +20,10 @@ const PROGRESS: Duration = Duration::from_millis(200);
 
 pub struct Report {
     out: Box<dyn Write>,
+    json: bool,
     failure: Option<io::Error>,
     alerts: u64,
+    blocked: u64,
     repeated: u64,
     refusals: u64,
     unknown: u64,
@@ -33,18 +35,37 @@ pub struct Report {
 
 impl Report {
     /// A report to an output, with progress on standard error if that is a terminal.
-    pub fn new(out: Box<dyn Write>, progress: bool) -> Report {
+    pub fn new(out: Box<dyn Write>, progress: bool, json: bool) -> Report {
         let shown = (progress && io::stderr().is_terminal()).then(Instant::now);
         let told = HashSet::new();
-        Report { out, failure: None, alerts: 0, repeated: 0, refusals: 0, unknown: 0, gaps: 0, told, shown }
+        Report {
+            out,
+            json,
+            failure: None,
+            alerts: 0,
+            blocked: 0,
+            repeated: 0,
+            refusals: 0,
+            unknown: 0,
+            gaps: 0,
+            told,
+            shown,
+        }
     }
 
     /// Prints a line. The first failure is kept for the end.
     pub fn line(&mut self, text: &str) {
+        match self.json {
+            true => self.write(&as_json(text)),
+            false => self.write(text),
+        }
+    }
+
+    fn write(&mut self, line: &str) {
         if self.shown.is_some() {
             eprint!("\r\x1b[K");
         }
-        let written = writeln!(self.out, "{text}").and_then(|()| self.out.flush());
+        let written = writeln!(self.out, "{line}").and_then(|()| self.out.flush());
         if let Err(error) = written {
             self.failure.get_or_insert(error);
         }
@@ -57,13 +78,30 @@ impl Report {
             self.repeated += 1;
             return;
         }
-        let (remark, lines) = match reason() {
+        self.explained("alert", step, words, reason());
+    }
+
+    /// An access that is not made, and the reason. It is told each time: each is another access.
+    pub fn blocked(&mut self, step: u64, words: &str, reason: Option<Reason>) {
+        self.blocked += 1;
+        self.explained("blocked", step, words, reason);
+    }
+
+    /// What is forbidden, and under it the rule and the chains; or why these are not told.
+    fn explained(&mut self, answer: &str, step: u64, words: &str, reason: Option<Reason>) {
+        let (remark, lines) = match reason {
             Some(Reason::Remark(remark)) => (format!(" ({remark})"), Vec::new()),
             Some(Reason::Lines(lines)) => (String::new(), lines),
             None => Default::default(),
         };
-        self.line(&format!("alert, step {step}: {words}{remark}"));
-        lines.iter().for_each(|line| self.line(&format!("  {line}")));
+        self.line(&format!("{answer}, step {step}: {words}{remark}"));
+        for (place, line) in lines.iter().enumerate() {
+            let kind = if place == 0 { "rule" } else { "chain" };
+            match self.json {
+                true => self.write(&object(kind, Some(("step", step)), line)),
+                false => self.write(&format!("  {line}")),
+            }
+        }
     }
 
     pub fn refusal(&mut self, step: u64, number: u32, words: &str) {
@@ -85,6 +123,12 @@ impl Report {
         }
     }
 
+    /// Something in the story that does not fit the files of the run.
+    pub fn story(&mut self, words: &str) {
+        self.gaps += 1;
+        self.line(&format!("story: {words}"));
+    }
+
     /// Shows how far the run is, on a terminal.
     pub fn progress(&mut self, records: u64, processes: usize) {
         if self.shown.is_some_and(|shown| shown.elapsed() >= PROGRESS) {
@@ -99,9 +143,19 @@ impl Report {
             0 => String::new(),
             count => format!(" ({count} as told above)"),
         };
+        let blocked = match self.blocked {
+            0 => String::new(),
+            count => format!(", {count} blocked"),
+        };
         let (alerts, refusals, gaps) = (self.alerts, self.refusals, self.gaps);
+        if self.json {
+            let blocked = self.blocked;
+            return self.write(&format!(
+                "{{\"kind\":\"summary\",\"records\":{records},\"containers\":{containers},\"alerts\":{alerts},\"blocked\":{blocked},\"refused\":{refusals},\"not_followed\":{gaps}}}"
+            ));
+        }
         self.line(&format!(
-            "{records} records, {containers} containers: {alerts} alerts{repeated}, {refusals} refused, {gaps} not followed"
+            "{records} records, {containers} containers: {alerts} alerts{repeated}{blocked}, {refusals} refused, {gaps} not followed"
         ));
     }
 
@@ -114,7 +168,7 @@ impl Report {
         if self.unknown > 0 {
             return status::FAILED;
         }
-        let alerts = if self.alerts > 0 { status::ALERTS } else { status::QUIET };
+        let alerts = if self.alerts + self.blocked > 0 { status::ALERTS } else { status::QUIET };
         let incomplete = if self.incomplete() { status::NOT_FOLLOWED } else { status::QUIET };
         alerts + incomplete
     }
@@ -123,4 +177,33 @@ impl Report {
     pub fn failure(&mut self) -> Option<io::Error> {
         self.failure.take()
     }
+}
+
+/// A line as an object of JSON: the word that it begins with, the number of a step or a line, and the text.
+fn as_json(line: &str) -> String {
+    const KINDS: [&str; 8] =
+        ["alert", "blocked", "quiet", "refused", "unknown answer", "not followed", "story", "note"];
+    let (head, text) = line.split_once(": ").unwrap_or(("", line));
+    let kind = KINDS.iter().find(|kind| head.starts_with(**kind));
+    let number = head.rsplit_once([' ']).and_then(|(_, number)| number.parse::<u64>().ok());
+    let place = if head.contains("line ") { "line" } else { "step" };
+    match kind {
+        Some(kind) => object(kind, number.map(|number| (place, number)), text),
+        None => object("line", None, line),
+    }
+}
+
+fn object(kind: &str, number: Option<(&str, u64)>, text: &str) -> String {
+    let number = number.map_or_else(String::new, |(place, number)| format!("\"{place}\":{number},"));
+    format!("{{\"kind\":{},{number}\"text\":{}}}", quoted(kind), quoted(text))
+}
+
+/// A text as a string of JSON.
+fn quoted(text: &str) -> String {
+    let escaped = |letter: char| match letter {
+        '"' | '\\' => format!("\\{letter}"),
+        letter if letter.is_control() => format!("\\u{:04x}", u32::from(letter)),
+        letter => letter.to_string(),
+    };
+    format!("\"{}\"", text.chars().map(escaped).collect::<String>())
 }

@@ -47,7 +47,7 @@ refused " .p. is no file, expected files alone: the run brings the rest" "source
 refused "3: found a step, expected none: the steps come from the run" "source a" "process p" "step read p a"
 refused " .a. and .\./a. are the same file, expected each file under one name" "source a" "file ./a"
 log=$work/no-folder
-echo '1  execve("/bin/sh", ["sh"], 0x1 /* 1 var */) = 0' >"$log"
+printf '%s\n' '1  execve("/bin/sh", ["sh"], 0x1 /* 1 var */) = 0' '1  +++ exited with 0 +++' >"$log"
 refused " .a. is a relative name and the log names no folder, expected .--folder FOLDER." "source a"
 "$record" --story "$work/story" --log "$log" --folder /srv/x --out "$work/o" >"$work/out"
 note $? "a story's relative names with --folder"

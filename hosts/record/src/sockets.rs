@@ -1,0 +1,248 @@
+//! Sockets of a run: where what is sent goes, and whence what is received comes. Sides and addresses are asked of the kernel.
+
+use std::collections::{BTreeSet, HashMap};
+use std::os::fd::OwnedFd;
+
+use crate::event::Way;
+use crate::look::{self, Found, Key};
+use crate::sys::{self, Tid};
+
+/// The objects of a socket for one way, or why they are not known.
+pub enum Ends {
+    Objects(Vec<Found>),
+    /// It has no other side yet.
+    Open,
+    NotFollowed(String),
+}
+
+#[derive(Default)]
+pub struct Sockets {
+    /// The other side of local connections, by inodes.
+    peers: HashMap<u64, u64>,
+    /// Local sockets that have called and that nobody was seen to answer.
+    calling: BTreeSet<u64>,
+    /// Who has a local address: the file's identity, or an abstract name.
+    bound: HashMap<Key, u64>,
+    /// The ports that a socket for datagrams has had.
+    ports: HashMap<u64, BTreeSet<u16>>,
+    /// The two addresses of connections, by inode.
+    sides: HashMap<u64, (Vec<u8>, Vec<u8>)>,
+}
+
+/// An open copy of a task's socket.
+struct Copy {
+    descriptor: OwnedFd,
+    inode: u64,
+    family: i32,
+    kind: i32,
+}
+
+fn copy(task: Tid, number: i32) -> Option<Copy> {
+    let descriptor = sys::copy_descriptor(task, number).ok()?;
+    let inode = sys::status_of(&descriptor).ok()?.inode;
+    let family = sys::socket_option(&descriptor, libc::SO_DOMAIN).ok()?;
+    let kind = sys::socket_option(&descriptor, libc::SO_TYPE).ok()?;
+    Some(Copy { descriptor, inode, family, kind })
+}
+
+impl Copy {
+    fn address(&self, other_side: bool) -> Option<Vec<u8>> {
+        sys::socket_address(&self.descriptor, other_side).ok()
+    }
+
+    fn is_datagram(&self) -> bool {
+        self.kind == libc::SOCK_DGRAM
+    }
+}
+
+fn family(address: &[u8]) -> i32 {
+    address.get(..2).map_or(libc::AF_UNSPEC, |bytes| i32::from(u16::from_ne_bytes([bytes[0], bytes[1]])))
+}
+
+/// Host and port as 18 bytes, for both versions of the protocol.
+fn host_and_port(address: &[u8]) -> Option<Vec<u8>> {
+    match family(address) {
+        libc::AF_INET => Some([&[0; 10][..], &[255, 255], address.get(4..8)?, address.get(2..4)?].concat()),
+        libc::AF_INET6 => Some([address.get(8..24)?, address.get(2..4)?].concat()),
+        _ => None,
+    }
+}
+
+fn port(address: &[u8]) -> Option<u16> {
+    host_and_port(address)?;
+    address.get(2..4).map(|bytes| u16::from_be_bytes([bytes[0], bytes[1]])).filter(|port| *port != 0)
+}
+
+/// What makes a local address the same one: the socket's file, or its abstract name.
+fn local_address(task: Tid, address: &[u8]) -> Option<Key> {
+    let name = address.get(2..).filter(|name| !name.is_empty())?;
+    if name[0] == 0 {
+        return Some(Key::Address(name.to_vec()));
+    }
+    let end = name.iter().position(|byte| *byte == 0).unwrap_or(name.len());
+    let path = std::ffi::CString::new(look::path_of(task, libc::AT_FDCWD, &name[..end])).ok()?;
+    let status = sys::status(&path, true).ok()?;
+    Some(Key::Inode { device: status.device, inode: status.inode, birth: status.birth })
+}
+
+fn not_followed(copy: &Copy) -> Ends {
+    Ends::NotFollowed(format!(
+        "a socket of family {} and type {}, of which the other sides are not known",
+        copy.family, copy.kind
+    ))
+}
+
+impl Sockets {
+    /// The objects of a task's socket: of what it sends, to the address that the call names if there is one, or of what it receives.
+    pub fn ends(&mut self, task: Tid, number: i32, way: Way, address: Option<&[u8]>) -> Ends {
+        let Some(copy) = copy(task, number) else {
+            return Ends::NotFollowed(format!("a socket of process {task}, which cannot be looked into"));
+        };
+        match (copy.family, copy.is_datagram()) {
+            (libc::AF_UNIX, true) => self.local_datagrams(task, &copy, way, address),
+            (libc::AF_UNIX, false) => Ends::Objects(self.local_stream(&copy, way)),
+            (libc::AF_INET | libc::AF_INET6, true) => self.datagrams(&copy, way, address),
+            (libc::AF_INET | libc::AF_INET6, false) if copy.kind == libc::SOCK_STREAM => self.stream(&copy, way),
+            (libc::AF_NETLINK, _) => netlink(&copy, way, address),
+            _ => not_followed(&copy),
+        }
+    }
+
+    fn local_stream(&mut self, copy: &Copy, way: Way) -> Vec<Found> {
+        let sent = |inode: u64| Found::passing(Key::Sent(inode));
+        match way {
+            Way::Out => vec![sent(copy.inode)],
+            Way::In => match self.peer(copy.inode) {
+                Some(peer) => vec![sent(peer)],
+                // The other side was gone before it was seen: it is one of those that nobody has answered.
+                None => self.calling.iter().map(|inode| sent(*inode)).collect(),
+            },
+        }
+    }
+
+    fn peer(&mut self, inode: u64) -> Option<u64> {
+        if let Some(peer) = self.peers.get(&inode) {
+            return Some(*peer);
+        }
+        let peer = sys::local_peer(inode).ok().flatten()?;
+        self.pair(inode, peer);
+        Some(peer)
+    }
+
+    fn pair(&mut self, one: u64, other: u64) {
+        self.peers.insert(one, other);
+        self.peers.insert(other, one);
+        self.calling.remove(&one);
+        self.calling.remove(&other);
+    }
+
+    fn local_datagrams(&mut self, task: Tid, copy: &Copy, way: Way, address: Option<&[u8]>) -> Ends {
+        let inbox = |inode: u64| Ends::Objects(vec![Found::passing(Key::Inbox(inode))]);
+        match (way, address) {
+            (Way::In, _) => inbox(copy.inode),
+            (Way::Out, Some(address)) => match local_address(task, address) {
+                Some(key) => match self.bound.get(&key) {
+                    Some(inode) => inbox(*inode),
+                    None => Ends::Objects(vec![Found::passing(key)]),
+                },
+                None => Ends::Objects(Vec::new()),
+            },
+            (Way::Out, None) => match sys::local_peer(copy.inode).ok().flatten() {
+                Some(peer) => inbox(peer),
+                None => Ends::Open,
+            },
+        }
+    }
+
+    fn datagrams(&mut self, copy: &Copy, way: Way, address: Option<&[u8]>) -> Ends {
+        let objects = |ports: &mut dyn Iterator<Item = u16>| {
+            Ends::Objects(ports.map(|port| Found::passing(Key::Port(port))).collect())
+        };
+        match way {
+            Way::In => {
+                self.note_port(copy);
+                objects(&mut self.ports.get(&copy.inode).into_iter().flatten().copied())
+            }
+            Way::Out => {
+                let to = address.map(<[u8]>::to_vec).or_else(|| copy.address(true));
+                match to.as_deref().and_then(port) {
+                    Some(port) => objects(&mut std::iter::once(port)),
+                    None => Ends::Open,
+                }
+            }
+        }
+    }
+
+    fn note_port(&mut self, copy: &Copy) {
+        if let Some(port) = copy.address(false).as_deref().and_then(port) {
+            self.ports.entry(copy.inode).or_default().insert(port);
+        }
+    }
+
+    fn stream(&mut self, copy: &Copy, way: Way) -> Ends {
+        let side = |other| copy.address(other).as_deref().and_then(host_and_port);
+        if let (Some(own), Some(other)) = (side(false), side(true)) {
+            self.sides.insert(copy.inode, (own, other));
+        }
+        let stream = |from: &Vec<u8>, to: &Vec<u8>| Found::passing(Key::Stream { from: from.clone(), to: to.clone() });
+        match (self.sides.get(&copy.inode), way) {
+            (Some((own, other)), Way::Out) => Ends::Objects(vec![stream(own, other)]),
+            (Some((own, other)), Way::In) => Ends::Objects(vec![stream(other, own)]),
+            (None, Way::Out) => Ends::Open,
+            // It was reset before anybody looked: what is left in it may be of any connection.
+            (None, Way::In) => {
+                let all = self.sides.values();
+                Ends::Objects(all.flat_map(|(one, other)| [stream(one, other), stream(other, one)]).collect())
+            }
+        }
+    }
+
+    /// A socket has got an address, or another side, or both.
+    pub fn addressed(&mut self, task: Tid, number: i32, address: Option<&[u8]>, binds: bool) {
+        let Some(copy) = copy(task, number) else { return };
+        match (copy.family, copy.is_datagram()) {
+            (libc::AF_UNIX, _) if binds => {
+                let bound =
+                    address.filter(|address| address.len() > 2).map(<[u8]>::to_vec).or_else(|| copy.address(false));
+                if let Some(key) = bound.and_then(|address| local_address(task, &address)) {
+                    self.bound.insert(key, copy.inode);
+                }
+            }
+            (libc::AF_UNIX, false) if !self.peers.contains_key(&copy.inode) => {
+                self.calling.insert(copy.inode);
+            }
+            (libc::AF_INET | libc::AF_INET6, true) => self.note_port(&copy),
+            _ => {}
+        }
+    }
+
+    /// A connection was accepted, under this number.
+    pub fn accepted(&mut self, task: Tid, number: i32) {
+        if let Some(copy) = copy(task, number).filter(|copy| copy.family == libc::AF_UNIX) {
+            self.peer(copy.inode);
+        }
+    }
+
+    /// The inode of the other side of a local socket.
+    pub fn other_side(&mut self, task: Tid, number: i32) -> Option<u64> {
+        let copy = copy(task, number).filter(|copy| copy.family == libc::AF_UNIX)?;
+        self.peer(copy.inode)
+    }
+
+    /// Two sockets were made as a pair.
+    pub fn paired(&mut self, task: Tid, one: i32, other: i32) {
+        if let (Some(one), Some(other)) = (copy(task, one), copy(task, other)) {
+            self.pair(one.inode, other.inode);
+        }
+    }
+}
+
+/// Messages to the kernel are about the machine; those to other processes are not followed.
+fn netlink(copy: &Copy, way: Way, address: Option<&[u8]>) -> Ends {
+    let to = address.map(<[u8]>::to_vec).or_else(|| copy.address(true)).unwrap_or_default();
+    let to_others = to.get(4..12).is_some_and(|process_and_groups| process_and_groups.iter().any(|byte| *byte != 0));
+    match way {
+        Way::Out if to_others => not_followed(copy),
+        _ => Ends::Objects(Vec::new()),
+    }
+}

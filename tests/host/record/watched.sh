@@ -1,0 +1,52 @@
+# Part of tests/host/record/run and tests/host/record/soak: programs that bring the source a.pos into the report `out`, which may hold
+# b.pos alone, one folder of watched/ for each way. A folder has program.c or `command`, a text of the shell that runs $record; and
+# it may have `story`, `setup`, `leaked` (whether the source has come into the report, if another way than by its text) and `needs`
+# (a tool) or `as-root` (why another user does not run it). `expect` says what must be seen, and what the way is. `told` is right also where an alert is, and the other way round.
+
+# watched NAME: runs one of them in a folder of its own.
+watched() {
+    local from=$here/watched/$1 name=$1 wanted words secret status leaked tool
+    tool=$(cat "$from/needs" 2>/dev/null)
+    # shellcheck disable=SC2086
+    if [ -n "$tool" ] && ! ${as_other:-} sh -c "command -v $tool" >/dev/null; then
+        echo "left out: $name, since there is no $tool"
+        return
+    fi
+    if [ -n "${as_other:-}" ] && [ -f "$from/as-root" ]; then
+        echo "left out as another user: $name"
+        return
+    fi
+    { read -r wanted && read -r words; } <"$from/expect"
+    w=${watched_in:-$work}/watched
+    rm -rf "$w" && mkdir -p "$w" && cp -r "$from/." "$w" && chmod 755 "$w"
+    secret=S3CRET-$(od -An -N8 -tx1 /dev/urandom | tr -d ' \n')
+    cd "$w" || exit 2
+    [ -f a.pos ] || echo "$secret" >a.pos
+    [ -f b.pos ] || echo b >b.pos
+    [ -f story ] || printf '%s\n' "source a.pos" "source b.pos" "permit out: b.pos" >story
+    [ ! -f program.c ] || gcc -w -O1 -pthread -I"$here/watched/.." -o program -iquote "$from" program.c -lrt
+    # shellcheck disable=SC1091
+    [ ! -f setup ] || . ./setup
+    [ -z "${as_other:-}" ] || { chown -R 65534:65534 "$w" && export HOME=$w; }
+    # shellcheck disable=SC1091
+    if [ -f command ]; then . ./command; else timeout 60 "$record" --story story --keep events --out first -- ./program >stdout 2>stderr </dev/null; fi
+    status=$?
+    if [ ! -f command ]; then
+        "$record" --story story --log events --out second >again 2>&1
+        [ $? -eq "$status" ] && diff -r first second >differences || note 1 "$name: its event list gives other records"
+    fi
+    # shellcheck disable=SC1091
+    if [ -f leaked ]; then . ./leaked; else grep -aq "$secret" out 2>/dev/null; fi
+    [ $? -eq 0 ] && leaked=0 || leaked=1
+    cd "$root" || exit 2
+    case "$wanted $status $leaked" in
+    'alert '[123]' '* | 'told '[123]' '* | 'quiet 0 '*) note 0 "$name: $words" ;;
+    'alert 0 1' | 'told 0 1') echo "left out: $name, since nothing has come into the report here" ;;
+    *)
+        cat "$w/stderr"
+        note 1 "$name: $words (exit status $status, expected: $wanted)"
+        ;;
+    esac
+}
+
+for folder in "$here"/watched/*/; do watched "$(basename "$folder")"; done

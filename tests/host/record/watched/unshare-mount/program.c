@@ -1,0 +1,13 @@
+/* A mount in a name space of its own. */
+#include "../moves.h"
+int main()
+{
+    if (unshare(CLONE_NEWNS))
+        DIE("unshare");
+    mount(0, "/", 0, MS_REC | MS_PRIVATE, 0);
+    close(open("m", O_CREAT | O_WRONLY, 0644));
+    mount("a.pos", "m", 0, MS_BIND, 0);
+    int f = open("m", O_RDONLY);
+    N = read(f, S, 99);
+    leak(S, N);
+}
