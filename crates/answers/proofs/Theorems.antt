@@ -8,7 +8,7 @@ use lib.ListN.{length}
 use Rattle.answers.specs.declared.Answer.{Answer}
 use Rattle.answers.specs.declared.Tally.{Tally}
 use Rattle.answers.specs.Answers.{isAlert, isRefused}
-use Rattle.answers.specs.Tallies.{more, noTally, counted, countedAll, countOf}
+use Rattle.answers.specs.Tallies.{more, noTally, tallied, talliedAll, countOf}
 
 -- a tally, and so many more of each
 abbrev behind : Tally → ℕ → ℕ → ℕ → Tally
@@ -23,8 +23,8 @@ at-most true n m h l = omega arith
 at-most false n m h l = omega arith
 
 counted-behind : (t : Tally) (l : List Answer) → t .records + length l < 2 ^ 64 → t .alerts ≤ t .records → t .refused ≤ t .records
-    → countedAll t l ≡ behind t (length l) (countOf isAlert l) (countOf isRefused l)
-unfolding countedAll counted countOf
+    → talliedAll t l ≡ behind t (length l) (countOf isAlert l) (countOf isRefused l)
+unfolding talliedAll tallied countOf
 counted-behind t [] h a r =
     let en : t .records ≡ t .records + 0 = omega arith in
     let ea : t .alerts ≡ t .alerts + 0 = omega arith in
@@ -37,9 +37,9 @@ counted-behind t (x ∷ l) h a r =
     one-more (isAlert x) (t .alerts) (countOf isAlert l) (omega arith) in
     let er : cond (isRefused x) (more (t .refused)) (t .refused) + countOf isRefused l ≡ t .refused + cond (isRefused x) (suc (countOf isRefused l)) (countOf isRefused l) =
     one-more (isRefused x) (t .refused) (countOf isRefused l) (omega arith) in
-    counted-behind (counted t x) l (omega arith) (at-most (isAlert x) (t .alerts) (t .records) a (omega arith)) (at-most (isRefused x) (t .refused) (t .records) r (omega arith))
+    counted-behind (tallied t x) l (omega arith) (at-most (isAlert x) (t .alerts) (t .records) a (omega arith)) (at-most (isRefused x) (t .refused) (t .records) r (omega arith))
     ∙ (λ i. record { records = en i; alerts = ea i; refused = er i })
 
 pub tally-counts : (l : List Answer) → length l < 2 ^ 64
-    → (countedAll noTally l .records ≡ length l) × (countedAll noTally l .alerts ≡ countOf isAlert l) × (countedAll noTally l .refused ≡ countOf isRefused l)
+    → (talliedAll noTally l .records ≡ length l) × (talliedAll noTally l .alerts ≡ countOf isAlert l) × (talliedAll noTally l .refused ≡ countOf isRefused l)
 tally-counts l h = rw (counted-behind noTally l (omega arith) (omega arith) (omega arith)) (omega arith, omega arith, omega arith)

@@ -14,8 +14,8 @@ abbrev pub noTally : Tally
 noTally = record { records = 0; alerts = 0; refused = 0 }
 
 -- with one more answer
-unfoldable pub counted : Tally → Answer → Tally
-counted t a =
+unfoldable pub tallied : Tally → Answer → Tally
+tallied t a =
     record {
       records = more (t .records);
       alerts = cond (isAlert a) (more (t .alerts)) (t .alerts);
@@ -23,9 +23,9 @@ counted t a =
     }
 
 -- with the answers one after the other
-unfoldable pub countedAll : Tally → List Answer → Tally
-countedAll t [] = t
-countedAll t (a ∷ l) = countedAll (counted t a) l
+unfoldable pub talliedAll : Tally → List Answer → Tally
+talliedAll t [] = t
+talliedAll t (a ∷ l) = talliedAll (tallied t a) l
 
 -- how many answers pass the test
 unfoldable pub countOf : (Answer → Bool) → List Answer → ℕ

@@ -3,7 +3,7 @@
 ghost use mathlib.Core.Path.{_≡_};
 ghost use mathlib.Core.Bool.{cond, _||_};
 ghost use Rattle.answers.specs.Answers.{isQuiet, isAlert, isBlocked, isRefused, accepted, receivedOf, answerNumber};
-ghost use Rattle.answers.specs.Tallies.{more, noTally, counted};
+ghost use Rattle.answers.specs.Tallies.{more, noTally, tallied};
 use std::num::wrapping_add_u64;
 
 // ---- the refusals
@@ -262,7 +262,7 @@ fn counted_if(counts: bool, n: u64) -> u64
 
 // The tally with one more record, which was answered so.
 pub fn count(tally: Tally, answer: Answer) -> Tally
-    ensures { λ r. ⌜ r ≡ counted tally answer ⌝ }
+    ensures { λ r. ⌜ r ≡ tallied tally answer ⌝ }
 {
     Tally {
         records: more(tally.records),

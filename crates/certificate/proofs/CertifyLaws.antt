@@ -37,7 +37,7 @@ use Rattle.monitor.specs.Steps.{stepAsked, stepAnswer}
 use Rattle.monitor.specs.Runs.{stepOn, runEffect}
 use Rattle.monitor.proofs.Theorems.{answer-new, given-spelled}
 use Rattle.monitor.proofs.Guarded.{blocked-step, blocked-exactly}
-use Rattle.monitor.proofs.RunLaws.{record-last, answer-last, take-before}
+use Rattle.monitor.proofs.RunHistories.{record-last, answer-last, take-before}
 use Rattle.witness.specs.Witness.{Witness, witness}
 use Rattle.witness.specs.Told.{toldHistory, toldNumbers, itemOf, chainFile, foundIn, atEnd}
 use Rattle.witness.specs.Explains.{atomWitness, atomFound}
@@ -50,7 +50,7 @@ use Rattle.certificate.proofs.LackLaws.{Wide, lacked-out, uncovered-hel
 use Rattle.witness.proofs.ExplainFacts.{end-back}
 use Rattle.witness.proofs.LowLaws.{reaches-low, reaches-item}
 use Rattle.certificate.proofs.CertificateLaws.{Uncovered, uncovered, certified}
-use Rattle.certificate.proofs.ReadLaws.{rule-short}
+use Rattle.certificate.proofs.ImageRules.{rule-short}
 use Rattle.certificate.proofs.SearchLaws.{chain-file}
 use Rattle.certificate.proofs.ReasonRight.{ReasonRight, reason-right, comes-from}
 use Rattle.certificate.proofs.WhyCases.{none-refused}

@@ -21,7 +21,7 @@ use Rattle.records.specs.declared.Request.{Request}
 use Rattle.records.specs.Codes.{newFileCode}
 use Rattle.records.specs.Records.{recordLength, requestIn, stepOf}
 use Rattle.records.specs.Traces.{traceRecords}
-use Rattle.records.proofs.TraceLaws.{records-append}
+use Rattle.records.proofs.TraceRecords.{records-append}
 use Rattle.monitor.specs.Runs.{stepOn}
 use Rattle.witness.specs.declared.Found.{Found}
 use Rattle.witness.specs.Witness.{Witness}

@@ -16,7 +16,7 @@ use Rattle.lists.proofs.Bools.{decide}
 use Rattle.lists.proofs.Counting.{count-length, count-at}
 use Rattle.answers.specs.Answers.{accepted}
 use Rattle.image.specs.Limits.{containerLimit}
-use Rattle.chains.specs.History.{Step, read, write, append, exec, fork, newFile, newVolatile, end, delete, History, start, _▸_, size, receiver}
+use Rattle.chains.specs.History.{Step, read, write, append, exec, fork, newFile, newVolatile, end, delete, History, start, _▸_, stepCount, receiver}
 use Rattle.chains.specs.Demand.{historyFrom, historyOf}
 use Rattle.records.specs.declared.Request.{Request}
 use Rattle.records.specs.Codes.{stepWith}
@@ -71,7 +71,7 @@ module _ (Is : ℕ → List ℕ → Type 0) where
 
   pub record MarksGood (h : History) (ns marks : List ℕ) : Type 0 where
     pub long : length marks ≡ containerLimit
-    pub count : length ns ≡ size h
+    pub count : length ns ≡ stepCount h
     pub each : (c : ℕ) → c < containerLimit → Marked ns (getD marks c 0) (origin h c)
 
   -- one more number changes nothing before it
@@ -104,10 +104,10 @@ module _ (Is : ℕ → List ℕ → Type 0) where
     each-more : (c : ℕ) → c < containerLimit → Marked (ns ++ (n ∷ [])) (getD marks c 0) (origin h c)
     each-more c l = marked-more ns n (getD marks c 0) (origin h c) (g .each c l)
 
-    new-number : getD (ns ++ (n ∷ [])) (size h) 0 ≡ n
+    new-number : getD (ns ++ (n ∷ [])) (stepCount h) 0 ≡ n
     new-number = rw (← g .count) (getD-append-seam ns n [] 0)
 
-    new-inside : size h < length (ns ++ (n ∷ []))
+    new-inside : stepCount h < length (ns ++ (n ∷ []))
     new-inside = omega (arith, g .count, length-append ns (n ∷ []))
 
     put : (to v : ℕ) (a : Origin) → to < containerLimit → Marked (ns ++ (n ∷ [])) v a
@@ -125,11 +125,11 @@ module _ (Is : ℕ → List ℕ → Type 0) where
     each-next (write p o) w k = kept o
     each-next (append p o) w k = kept o
     each-next (exec p o u) w k =
-        put p (recordMark n) (started (size h) o u) (w .0)
+        put p (recordMark n) (started (stepCount h) o u) (w .0)
         (new-inside, ap recordMark (sym new-number), (p, subst (λ (j : ℕ). Asks j (exec p o u)) (sym new-number) k))
     each-next (fork p o) w k = put o (getD marks p 0) (origin h p) (w .1) (each-more p (w .0))
     each-next (newFile p o u) w k =
-        put o (recordMark n) (made (size h) u) (w .1)
+        put o (recordMark n) (made (stepCount h) u) (w .1)
         (new-inside, ap recordMark (sym new-number), (p, o, subst (λ (j : ℕ). Asks j (newFile p o u)) (sym new-number) k))
     each-next (newVolatile p o) w k = put o nowhereMark nowhere (w .1) refl
     each-next (end p) w k = put p nowhereMark nowhere (w .0) refl

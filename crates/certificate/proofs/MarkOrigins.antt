@@ -16,7 +16,7 @@ use Rattle.records.specs.Records.{recordLength, requestIn, stepIn, Asked}
 use Rattle.records.specs.Traces.{traceRecords}
 use Rattle.records.proofs.CodeLaws.{by-code}
 use Rattle.records.proofs.RecordLaws.{record-long}
-use Rattle.records.proofs.TraceLaws.{records-rest, next-record, no-record}
+use Rattle.records.proofs.TraceRecords.{records-rest, next-record, no-record}
 use Rattle.monitor.specs.Steps.{stepAsked}
 use Rattle.monitor.specs.Runs.{runEffect}
 use Rattle.monitor.proofs.StepLaws.{step-record, accepted-zero}

@@ -10,7 +10,7 @@ use mathlib.Core.Option.{Option, none, some}
 use lib.ListN.{length, take, getD}
 use Rattle.lists.proofs.Bools.{decide}
 use Rattle.answers.specs.Answers.{accepted}
-use Rattle.chains.specs.History.{Step, History, start, _▸_, size}
+use Rattle.chains.specs.History.{Step, History, start, _▸_, stepCount}
 use Rattle.chains.specs.Demand.{extend, historyFrom, historyOf}
 use Rattle.records.specs.Records.{stepOf}
 use Rattle.monitor.specs.Steps.{stepAsked, stepAnswer, stepEffect}
@@ -46,24 +46,24 @@ module _ (s r : List ℕ) (a : accepted (stepAnswer s r) ≡ false) where
 
 -- ---- as many as there are steps
 
-pub numbers-size : (h : History) (n : ℕ) (s : List ℕ) (rs : List (List ℕ)) → size (historyFrom stepOn stepOf h s rs) ≡ size h + length (numbersFrom n s rs)
+pub numbers-size : (h : History) (n : ℕ) (s : List ℕ) (rs : List (List ℕ)) → stepCount (historyFrom stepOn stepOf h s rs) ≡ stepCount h + length (numbersFrom n s rs)
 numbers-size h n s [] = unfold numbersFrom in omega arith
 numbers-size h n s (r ∷ rs) = on (λ k. numbers-size k (suc n) (stepEffect s r) rs) (decide (accepted (stepAnswer s r)))
   where
-    on : ((k : History) → size (historyFrom stepOn stepOf k (stepEffect s r) rs) ≡ size k + length (numbersFrom (suc n) (stepEffect s r) rs))
+    on : ((k : History) → stepCount (historyFrom stepOn stepOf k (stepEffect s r) rs) ≡ stepCount k + length (numbersFrom (suc n) (stepEffect s r) rs))
         → (accepted (stepAnswer s r) ≡ true) ⊎ (accepted (stepAnswer s r) ≡ false)
-        → size (historyFrom stepOn stepOf h s (r ∷ rs)) ≡ size h + length (numbersFrom n s (r ∷ rs))
+        → stepCount (historyFrom stepOn stepOf h s (r ∷ rs)) ≡ stepCount h + length (numbersFrom n s (r ∷ rs))
     on ih (inl a) = rw (history-accepted s r a h rs, numbers-accepted s r a n rs) (omega (arith, ih (h ▸ stepAsked r)))
     on ih (inr a) = rw (history-skipped s r a h rs, numbers-skipped s r a n rs) (ih h)
 
 -- ---- what stands before each
 
 -- the history before a step that stands already
-pub before-from : (i : ℕ) (h : History) (s : List ℕ) (rs : List (List ℕ)) → i < size h → before i (historyFrom stepOn stepOf h s rs) ≡ before i h
+pub before-from : (i : ℕ) (h : History) (s : List ℕ) (rs : List (List ℕ)) → i < stepCount h → before i (historyFrom stepOn stepOf h s rs) ≡ before i h
 before-from i h s [] l = refl
 before-from i h s (r ∷ rs) l = on (λ k m. before-from i k (stepEffect s r) rs m) (decide (accepted (stepAnswer s r)))
   where
-    on : ((k : History) → i < size k → before i (historyFrom stepOn stepOf k (stepEffect s r) rs) ≡ before i k)
+    on : ((k : History) → i < stepCount k → before i (historyFrom stepOn stepOf k (stepEffect s r) rs) ≡ before i k)
         → (accepted (stepAnswer s r) ≡ true) ⊎ (accepted (stepAnswer s r) ≡ false)
         → before i (historyFrom stepOn stepOf h s (r ∷ rs)) ≡ before i h
     on ih (inl a) = rw (history-accepted s r a h rs) (ih (h ▸ stepAsked r) (omega arith) ∙ before-earlier i h (stepAsked r) l)
@@ -73,26 +73,26 @@ before-from i h s (r ∷ rs) l = on (λ k m. before-from i k (stepEffect s r) rs
 pub record NumberAt (h : History) (n : ℕ) (s : List ℕ) (rs : List (List ℕ)) (j m : ℕ) : Type 0 where
   pub is : getD (numbersFrom n s rs) j 0 ≡ n + m
   pub inside : m < length rs
-  pub earlier : before (size h + j) (historyFrom stepOn stepOf h s rs) ≡ historyFrom stepOn stepOf h s (take m rs)
+  pub earlier : before (stepCount h + j) (historyFrom stepOn stepOf h s rs) ≡ historyFrom stepOn stepOf h s (take m rs)
   pub numbers : numbersFrom n s (take m rs) ≡ take j (numbersFrom n s rs)
 
 module _ (h : History) (n : ℕ) (s r : List ℕ) (rs : List (List ℕ)) where
   first-at : accepted (stepAnswer s r) ≡ true → NumberAt h n s (r ∷ rs) 0 0
   first-at a =
-      let z : size h + 0 ≡ size h = omega arith in
+      let z : stepCount h + 0 ≡ stepCount h = omega arith in
       let y : n ≡ n + 0 = omega arith in
       record {
         is = rw (numbers-accepted s r a n rs) y;
         inside = omega arith;
         earlier =
             rw (z, history-accepted s r a h rs)
-            (before-from (size h) (h ▸ stepAsked r) (stepEffect s r) rs (omega arith) ∙ before-last h (stepAsked r));
+            (before-from (stepCount h) (h ▸ stepAsked r) (stepEffect s r) rs (omega arith) ∙ before-last h (stepAsked r));
         numbers = unfold numbersFrom in refl;
       }
 
   next-at : accepted (stepAnswer s r) ≡ true → (j m : ℕ) → NumberAt (h ▸ stepAsked r) (suc n) (stepEffect s r) rs j m → NumberAt h n s (r ∷ rs) (suc j) (suc m)
   next-at a j m N =
-      let z : size h + suc j ≡ suc (size h) + j = omega arith in
+      let z : stepCount h + suc j ≡ suc (stepCount h) + j = omega arith in
       let y : suc n + m ≡ n + suc m = omega arith in
       record {
         is = rw (numbers-accepted s r a n rs) (N .is ∙ y);
@@ -129,7 +129,7 @@ number-at h n s (r ∷ rs) j l = on (λ k i m. number-at k (suc n) (stepEffect s
 -- ---- of the paper's history
 
 module _ (s : List ℕ) (rs : List (List ℕ)) where
-  pub accepted-size : size (historyOf stepOn stepOf s rs) ≡ length (acceptedNumbers s rs)
+  pub accepted-size : stepCount (historyOf stepOn stepOf s rs) ≡ length (acceptedNumbers s rs)
   unfolding acceptedNumbers
   accepted-size = numbers-size start 0 s rs ∙ zero-add (length (numbersFrom 0 s rs))
 

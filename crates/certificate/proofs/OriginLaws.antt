@@ -8,34 +8,34 @@ use mathlib.Core.Logic.{_⊎_, inl, inr, _↔_, _≢_}
 use lib.Dec.{eqb}
 use borrow.Author.Tests.{eqb-true, eqb-false, eq-eqb, ne-eqb}
 use Rattle.image.specs.Policy.{Policy}
-use Rattle.chains.specs.History.{Step, read, write, append, exec, fork, newFile, newVolatile, end, delete, History, start, _▸_, size}
+use Rattle.chains.specs.History.{Step, read, write, append, exec, fork, newFile, newVolatile, end, delete, History, start, _▸_, stepCount}
 use Rattle.chains.specs.Chains.{UserRule, runRule, Chain, Governs, Forbidden}
 use Rattle.certificate.specs.Origins.{Origin, own, made, started, nowhere, origin, before, From, Certificate}
 
 -- ---- the history before a step
 
-pub before-last : (h : History) (s : Step) → before (size h) (h ▸ s) ≡ h
+pub before-last : (h : History) (s : Step) → before (stepCount h) (h ▸ s) ≡ h
 unfolding before
-before-last h s = ap (λ (b : Bool). cond b h (before (size h) h)) (eq-eqb (size h) (size h) refl)
+before-last h s = ap (λ (b : Bool). cond b h (before (stepCount h) h)) (eq-eqb (stepCount h) (stepCount h) refl)
 
-pub before-earlier : (i : ℕ) (h : History) (s : Step) → i < size h → before i (h ▸ s) ≡ before i h
+pub before-earlier : (i : ℕ) (h : History) (s : Step) → i < stepCount h → before i (h ▸ s) ≡ before i h
 unfolding before
-before-earlier i h s l = ap (λ (b : Bool). cond b h (before i h)) (ne-eqb i (size h) (λ e. absurd (omega arith)))
+before-earlier i h s l = ap (λ (b : Bool). cond b h (before i h)) (ne-eqb i (stepCount h) (λ e. absurd (omega arith)))
 
-pub before-size : (i : ℕ) (h : History) → i < size h → size (before i h) ≡ i
+pub before-size : (i : ℕ) (h : History) → i < stepCount h → stepCount (before i h) ≡ i
 unfolding before
 before-size i start l = absurd (omega arith)
-before-size i (h ▸ s) l = on (eqb i (size h)) refl (λ m. before-size i h m)
+before-size i (h ▸ s) l = on (eqb i (stepCount h)) refl (λ m. before-size i h m)
   where
-    on : (b : Bool) → eqb i (size h) ≡ b → (i < size h → size (before i h) ≡ i) → size (cond b h (before i h)) ≡ i
-    on true e ih = sym (eqb-true i (size h) e)
-    on false e ih = let d = eqb-false i (size h) e in ih (omega arith)
+    on : (b : Bool) → eqb i (stepCount h) ≡ b → (i < stepCount h → stepCount (before i h) ≡ i) → stepCount (cond b h (before i h)) ≡ i
+    on true e ih = sym (eqb-true i (stepCount h) e)
+    on false e ih = let d = eqb-false i (stepCount h) e in ih (omega arith)
 
 -- the exec of an origin lies in the history
 abbrev pub Inside : History → Origin → Type 0
 Inside h (own c) = Unit {0}
-Inside h (made i u) = i < size h
-Inside h (started i o u) = i < size h
+Inside h (made i u) = i < stepCount h
+Inside h (started i o u) = i < stepCount h
 Inside h nowhere = Unit {0}
 
 inside-more : (h : History) (s : Step) (a : Origin) → Inside h a → Inside (h ▸ s) a
@@ -54,9 +54,9 @@ inside start c = tt
 inside (h ▸ read p o) c = inside-more h (read p o) (origin h c) (inside h c)
 inside (h ▸ write p o) c = inside-more h (write p o) (origin h c) (inside h c)
 inside (h ▸ append p o) c = inside-more h (append p o) (origin h c) (inside h c)
-inside (h ▸ exec p o u) c = inside-cond (h ▸ exec p o u) (eqb c p) (started (size h) o u) (origin h c) (omega arith) (inside-more h (exec p o u) (origin h c) (inside h c))
+inside (h ▸ exec p o u) c = inside-cond (h ▸ exec p o u) (eqb c p) (started (stepCount h) o u) (origin h c) (omega arith) (inside-more h (exec p o u) (origin h c) (inside h c))
 inside (h ▸ fork p o) c = inside-cond (h ▸ fork p o) (eqb c o) (origin h p) (origin h c) (inside-more h (fork p o) (origin h p) (inside h p)) (inside-more h (fork p o) (origin h c) (inside h c))
-inside (h ▸ newFile p o u) c = inside-cond (h ▸ newFile p o u) (eqb c o) (made (size h) u) (origin h c) (omega arith) (inside-more h (newFile p o u) (origin h c) (inside h c))
+inside (h ▸ newFile p o u) c = inside-cond (h ▸ newFile p o u) (eqb c o) (made (stepCount h) u) (origin h c) (omega arith) (inside-more h (newFile p o u) (origin h c) (inside h c))
 inside (h ▸ newVolatile p o) c = inside-cond (h ▸ newVolatile p o) (eqb c o) nowhere (origin h c) tt (inside-more h (newVolatile p o) (origin h c) (inside h c))
 inside (h ▸ end p) c = inside-cond (h ▸ end p) (eqb c p) nowhere (origin h c) tt (inside-more h (end p) (origin h c) (inside h c))
 inside (h ▸ delete p o) c = inside-cond (h ▸ delete p o) (eqb c o) nowhere (origin h c) tt (inside-more h (delete p o) (origin h c) (inside h c))
@@ -115,7 +115,7 @@ module _ (P : Policy) where
   same h s c r old =
       let m = from-more h s (origin h c) r (inside h c) in (λ x. m .1 (old .0 x), λ x. old .1 (m .0 x))
 
-  exec-from : (h : History) (p o u : ℕ) (r : List ℕ) → From P (h ▸ exec p o u) (started (size h) o u) r ↔ (UserRule P u r ⊎ Chain P h (runRule r) o)
+  exec-from : (h : History) (p o u : ℕ) (r : List ℕ) → From P (h ▸ exec p o u) (started (stepCount h) o u) r ↔ (UserRule P u r ⊎ Chain P h (runRule r) o)
   exec-from h p o u r =
       subst (λ (z : History). (UserRule P u r ⊎ Chain P z (runRule r) o) ↔ (UserRule P u r ⊎ Chain P h (runRule r) o)) (sym (before-last h (exec p o u))) (λ x. x, λ x. x)
 
@@ -126,12 +126,12 @@ module _ (P : Policy) where
   governs-from (h ▸ read p o) c r = same h (read p o) c r (governs-from h c r)
   governs-from (h ▸ write p o) c r = same h (write p o) c r (governs-from h c r)
   governs-from (h ▸ append p o) c r = same h (append p o) c r (governs-from h c r)
-  governs-from (h ▸ exec p o u) c r = change h (exec p o u) c p r (started (size h) o u) (UserRule P u r ⊎ Chain P h (runRule r) o) (exec-from h p o u r) (governs-from h c r)
+  governs-from (h ▸ exec p o u) c r = change h (exec p o u) c p r (started (stepCount h) o u) (UserRule P u r ⊎ Chain P h (runRule r) o) (exec-from h p o u r) (governs-from h c r)
   governs-from (h ▸ fork p o) c r =
       let g = governs-from h p r in
       let m = from-more h (fork p o) (origin h p) r (inside h p) in
       change h (fork p o) c o r (origin h p) (Governs P h p r) (λ x. g .1 (m .0 x), λ x. m .1 (g .0 x)) (governs-from h c r)
-  governs-from (h ▸ newFile p o u) c r = change h (newFile p o u) c o r (made (size h) u) (UserRule P u r) (λ x. x, λ x. x) (governs-from h c r)
+  governs-from (h ▸ newFile p o u) c r = change h (newFile p o u) c o r (made (stepCount h) u) (UserRule P u r) (λ x. x, λ x. x) (governs-from h c r)
   governs-from (h ▸ newVolatile p o) c r = leave h (newVolatile p o) c o r (governs-from h c r)
   governs-from (h ▸ end p) c r = leave h (end p) c p r (governs-from h c r)
   governs-from (h ▸ delete p o) c r = leave h (delete p o) c o r (governs-from h c r)

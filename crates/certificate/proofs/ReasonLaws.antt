@@ -9,7 +9,7 @@ use lib.Dec.{eqb}
 use lib.ListN.{length, take, getD, getElem?}
 use lib.Seq.{getD-take}
 use Rattle.image.specs.Policy.{Container, Policy, ruleAt}
-use Rattle.chains.specs.History.{History, start, _▸_, size, receiver}
+use Rattle.chains.specs.History.{History, start, _▸_, stepCount, receiver}
 use Rattle.chains.specs.Chains.{Item, runRule}
 use Rattle.chains.specs.Demand.{historyOf}
 use Rattle.records.specs.Records.{stepOf}
@@ -61,23 +61,23 @@ cond-below : (n : ℕ) (b : Bool) (v w : Option Witness) → ChainBelow n v → 
 cond-below n true v w x y = x
 cond-below n false v w x y = y
 
-pub witness-below : (P : Policy) (h : History) (y : Item) (c : ℕ) → ChainBelow (size h) (witness P h y c)
+pub witness-below : (P : Policy) (h : History) (y : Item) (c : ℕ) → ChainBelow (stepCount h) (witness P h y c)
 unfolding witness
 witness-below P start y c =
     cond-below 0 (startsIn (P .rules) y (getElem? (P .containers) c)) (some (record { file = c; item = y; falling = [] })) none tt tt
 witness-below P (h ▸ s) y c =
-    cond-below (suc (size h)) (eqb c (receiver s)) _ _
-    (first-below (suc (size h)) (stays (endsItem s y) (witness P h y c)) _
-    (more (size h) (stays (endsItem s y) (witness P h y c)) (stays-below (size h) (endsItem s y) (witness P h y c) (witness-below P h y c)))
-    (carried-below (λ x b. witness P h x b) (size h) (takesUp s y) (λ x b. witness-below P h x b)))
-    (more (size h) (witness P h y c) (witness-below P h y c))
+    cond-below (suc (stepCount h)) (eqb c (receiver s)) _ _
+    (first-below (suc (stepCount h)) (stays (endsItem s y) (witness P h y c)) _
+    (more (stepCount h) (stays (endsItem s y) (witness P h y c)) (stays-below (stepCount h) (endsItem s y) (witness P h y c) (witness-below P h y c)))
+    (carried-below (λ x b. witness P h x b) (stepCount h) (takesUp s y) (λ x b. witness-below P h x b)))
+    (more (stepCount h) (witness P h y c) (witness-below P h y c))
 
-pub run-below : (P : Policy) (h : History) (t o : ℕ) (Ks : List Container) → ChainBelow (size h) (runChain P h t o Ks)
+pub run-below : (P : Policy) (h : History) (t o : ℕ) (Ks : List Container) → ChainBelow (stepCount h) (runChain P h t o Ks)
 unfolding runChain runWitness
 run-below P h t o [] = tt
 run-below P h t o (K ∷ Ks) =
-    cond-below (size h) (runForbids P t K) _ _
-    (first-below (size h) (witness P h (runRule (ruleAt (P .rules) (K .run))) o) (runChain P h t o Ks) (witness-below P h (runRule (ruleAt (P .rules) (K .run))) o) (run-below P h t o Ks))
+    cond-below (stepCount h) (runForbids P t K) _ _
+    (first-below (stepCount h) (witness P h (runRule (ruleAt (P .rules) (K .run))) o) (runChain P h t o Ks) (witness-below P h (runRule (ruleAt (P .rules) (K .run))) o) (run-below P h t o Ks))
     (run-below P h t o Ks)
 
 -- ---- so that their records are among the first
@@ -117,9 +117,9 @@ module _ (P : Policy) (s : List ℕ) (rs : List (List ℕ)) (t : ℕ) where
   reason-same (started i o u) l =
       let m : i < length (acceptedNumbers s rs) = omega (arith, accepted-size s rs, l) in
       let q : Placed s rs i (getD (acceptedNumbers s rs) i 0) = placed s rs i m in
-      let z : size (before i (historyOf stepOn stepOf s rs)) ≡ i = before-size i (historyOf stepOn stepOf s rs) l in
+      let z : stepCount (before i (historyOf stepOn stepOf s rs)) ≡ i = before-size i (historyOf stepOn stepOf s rs) l in
       rw (← q .earlier, q .numbers)
-      (exec-same P (take i (acceptedNumbers s rs)) (acceptedNumbers s rs) (size (before i (historyOf stepOn stepOf s rs))) (getD (acceptedNumbers s rs) i 0) u t
+      (exec-same P (take i (acceptedNumbers s rs)) (acceptedNumbers s rs) (stepCount (before i (historyOf stepOn stepOf s rs))) (getD (acceptedNumbers s rs) i 0) u t
       (λ j k. getD-take i (acceptedNumbers s rs) j 0 (omega (arith, k, z)))
       (runChain P (before i (historyOf stepOn stepOf s rs)) t o (P .containers))
       (run-below P (before i (historyOf stepOn stepOf s rs)) t o (P .containers)))

@@ -34,7 +34,7 @@ use Rattle.witness.proofs.HistoryLaws.{rule-links-long}
 use Rattle.witness.proofs.Theorems.{witness-right}
 use Rattle.certificate.specs.Whys.{runOf, runForbids, runWitness, runChain, passLinks, searchLinks}
 use Rattle.certificate.specs.Marks.{forbidsAt, searchChain, searchedLinks, Roomy, FileFound, Searched}
-use Rattle.certificate.proofs.ReadLaws.{read-rule}
+use Rattle.certificate.proofs.ImageRules.{read-rule}
 
 -- ---- a chain begins in a container
 

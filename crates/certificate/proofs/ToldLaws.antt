@@ -13,7 +13,7 @@ use Rattle.answers.specs.declared.Answer.{Answer}
 use Rattle.answers.specs.Answers.{quiet, accepted, isBlocked, isRefused}
 use Rattle.answers.proofs.Cases.{given-cases, blocked-unaccepted}
 use Rattle.image.specs.Policy.{Policy}
-use Rattle.chains.specs.History.{Step, read, write, append, exec, fork, newFile, newVolatile, end, delete, History, _▸_, size}
+use Rattle.chains.specs.History.{Step, read, write, append, exec, fork, newFile, newVolatile, end, delete, History, _▸_, stepCount}
 use Rattle.chains.specs.Guards.{writing}
 use Rattle.chains.specs.Demand.{historyFrom, historyOf}
 use Rattle.chains.proofs.Theorems.{history-append}
@@ -21,7 +21,7 @@ use Rattle.records.specs.Records.{stepOf}
 use Rattle.monitor.specs.Steps.{stepAsked, stepAnswer, stepEffect}
 use Rattle.monitor.specs.Runs.{stepOn, runAnswers, runEffect}
 use Rattle.monitor.proofs.Guarded.{blocked-step}
-use Rattle.monitor.proofs.RunLaws.{runAnswers-append}
+use Rattle.monitor.proofs.RunHistories.{runAnswers-append}
 use Rattle.witness.proofs.Theorems.{told-given}
 use Rattle.witness.specs.Told.{frontOf, lastOf, toldHistory, numbersFrom, acceptedNumbers, toldNumbers}
 use Rattle.certificate.specs.Origins.{Origin, own, made, started, nowhere, origin, before}
@@ -144,8 +144,8 @@ writing-origin h (newVolatile p o) c w = clash w refl
 writing-origin h (end p) c w = clash w refl
 writing-origin h (delete p o) c w = clash w refl
 
-module _ (P : Policy) (h : History) (x : Step) (ns : List ℕ) (n t : ℕ) (count : size h ≡ length ns) where
-  same-number : (i : ℕ) → i < size h → getD (ns ++ (n ∷ [])) i 0 ≡ getD ns i 0
+module _ (P : Policy) (h : History) (x : Step) (ns : List ℕ) (n t : ℕ) (count : stepCount h ≡ length ns) where
+  same-number : (i : ℕ) → i < stepCount h → getD (ns ++ (n ∷ [])) i 0 ≡ getD ns i 0
   same-number i l = List·getD-append ns (n ∷ []) 0 i (omega arith)
 
   reason-more : (a : Origin) → Inside h a → reasonBy P (h ▸ x) (ns ++ (n ∷ [])) t a ≡ reasonBy P h ns t a
@@ -153,7 +153,7 @@ module _ (P : Policy) (h : History) (x : Step) (ns : List ℕ) (n t : ℕ) (coun
   reason-more (made i u) l = rw (same-number i l)
   reason-more (started i o u) l =
       rw (same-number i l, before-earlier i h x l)
-      (exec-same P (ns ++ (n ∷ [])) ns (size (before i h)) (getD ns i 0) u t (λ j k. same-number j (omega (arith, k, l, before-size i h l)))
+      (exec-same P (ns ++ (n ∷ [])) ns (stepCount (before i h)) (getD ns i 0) u t (λ j k. same-number j (omega (arith, k, l, before-size i h l)))
       (runChain P (before i h) t o (P .containers)) (run-below P (before i h) t o (P .containers)))
   reason-more nowhere l = refl
 

@@ -8,7 +8,7 @@ use mathlib.Core.Logic.{_⊎_, _≢_, _↔_, ⊎-elim}
 use lib.ListN.{length}
 use borrow.Author.Tests.{ne-eqb, le-leb, lt-leb}
 use Rattle.lists.specs.Lists.{elem}
-use Rattle.lists.specs.Conditions.{Condition, _orRefuse_, firstFailed, numbersOf, numbersGood}
+use Rattle.lists.specs.Conditions.{Condition, _orRefuse_, firstFailed, numbersOf, numbersDistinct}
 use Rattle.lists.proofs.Bools.{and-in, decide, clash, passes-test, fails-test}
 use Rattle.lists.proofs.Conditions.{passed, failed, none-left, first-stops, first-passed, zero-or-not, given-among}
 use Rattle.answers.specs.Refusals.{lentLength, explainTrace}
@@ -84,8 +84,8 @@ module _ (i t links steps out : List ℕ) where
 
   -- ---- each refusal has its condition
 
-  pub numbers : numbersGood (numbersOf (whyConditions i t links steps out)) ≡ true
-  unfolding whyConditions imageConditions numbersOf numbersGood elem
+  pub numbers : numbersDistinct (numbersOf (whyConditions i t links steps out)) ≡ true
+  unfolding whyConditions imageConditions numbersOf numbersDistinct elem
   numbers = refl
 
   by-tests : (C : ℕ → Type 0) → (roomGood t links steps out ≡ false → C lentLength)

@@ -34,7 +34,7 @@ use Rattle.certificate.proofs.MarkLaws.{Marked, AcceptedRecord, good-al
 use Rattle.certificate.proofs.MarkOrigins.{renumbered, mark-origin, mark-good}
 use Rattle.certificate.proofs.ReasonLaws.{reason-same, links-same}
 use Rattle.certificate.proofs.ToldLaws.{Ended, ended, last-answer, reason-told, links-told}
-use Rattle.certificate.proofs.JudgeLaws.{answered-low}
+use Rattle.certificate.proofs.LastAnswer.{answered-low}
 use Rattle.certificate.proofs.WhyCases.{refusal-none, Left}
 
 -- ---- the last record

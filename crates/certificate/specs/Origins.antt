@@ -11,7 +11,7 @@ use Rattle.lists.specs.Counting.{leastBelow}
 use Rattle.rules.specs.Sets.{atom}
 use Rattle.rules.specs.Answers.{tagWidth}
 use Rattle.image.specs.Policy.{Policy}
-use Rattle.chains.specs.History.{read, write, append, exec, fork, newFile, newVolatile, end, delete, History, start, _▸_, size}
+use Rattle.chains.specs.History.{read, write, append, exec, fork, newFile, newVolatile, end, delete, History, start, _▸_, stepCount}
 use Rattle.chains.specs.Chains.{UserRule, runRule, Chain, Own, Reaches}
 
 -- "for a file or volatile of the image its own permit rule", as container number c; "for a new file its creating user's", the user u by
@@ -29,9 +29,9 @@ origin start c = own c
 origin (h ▸ read p o) c = origin h c
 origin (h ▸ write p o) c = origin h c
 origin (h ▸ append p o) c = origin h c
-origin (h ▸ exec p o u) c = cond (eqb c p) (started (size h) o u) (origin h c)
+origin (h ▸ exec p o u) c = cond (eqb c p) (started (stepCount h) o u) (origin h c)
 origin (h ▸ fork p o) c = cond (eqb c o) (origin h p) (origin h c)
-origin (h ▸ newFile p o u) c = cond (eqb c o) (made (size h) u) (origin h c)
+origin (h ▸ newFile p o u) c = cond (eqb c o) (made (stepCount h) u) (origin h c)
 origin (h ▸ newVolatile p o) c = cond (eqb c o) nowhere (origin h c)
 origin (h ▸ end p) c = cond (eqb c p) nowhere (origin h c)
 origin (h ▸ delete p o) c = cond (eqb c o) nowhere (origin h c)
@@ -39,7 +39,7 @@ origin (h ▸ delete p o) c = cond (eqb c o) nowhere (origin h c)
 -- the history before step number i
 unfoldable pub before : ℕ → History → History
 before i start = start
-before i (h ▸ s) = cond (eqb i (size h)) h (before i h)
+before i (h ▸ s) = cond (eqb i (stepCount h)) h (before i h)
 
 -- the rules of an origin
 abbrev pub From : Policy → History → Origin → List ℕ → Type 0

@@ -26,14 +26,9 @@ use records::RECORD_LENGTH;
 use records::Request;
 use rules::Bounded;
 use rules::MIXTURE_LIMIT;
+use rules::TAG_WIDTH;
 use session::SESSION_LENGTH;
 use witness::Found;
-
-// The atoms of a tag.
-const TAG_WIDTH: usize = 64;
-
-// Where the count stands in the record of a rule.
-const COUNT_FIELD: usize = 2;
 
 // ---- the atom that a mixture lacks
 
@@ -171,7 +166,7 @@ pub struct Judgement {
 }
 
 // The trace on the session that the image starts.
-fn judge(image: &[u8], trace: &[u8]) -> Judgement
+fn judgement_of(image: &[u8], trace: &[u8]) -> Judgement
     requires { ⌜ checkOf (now image) ≡ 0 ⌝ }
     ensures { λ r. ⌜ r ≡ judgementOf (now (image .entry)) (now (trace .entry)) ⌝ }
 {
@@ -213,7 +208,10 @@ fn permit_number(image: &[u8], c: usize) -> usize
     if containers.len() / image::CONTAINER_SIZE <= c {
         return image::UNRESTRICTED_NUMBER;
     }
-    fields::read16(containers, c * image::CONTAINER_SIZE + image::PERMIT_FIELD)
+    fields::read16(
+        containers,
+        c * image::CONTAINER_SIZE + image::CONTAINER_PERMIT_AT,
+    )
 }
 
 // The number of its run rule.
@@ -225,7 +223,10 @@ fn run_number(image: &[u8], c: usize) -> usize
     if containers.len() / image::CONTAINER_SIZE <= c {
         return image::UNRESTRICTED_NUMBER;
     }
-    fields::read16(containers, c * image::CONTAINER_SIZE + image::RUN_FIELD)
+    fields::read16(
+        containers,
+        c * image::CONTAINER_SIZE + image::CONTAINER_RUN_AT,
+    )
 }
 
 // The owner of the rule with the number n.
@@ -240,7 +241,7 @@ fn owner_at(image: &[u8], n: usize) -> usize
     if rules.len() / image::RULE_SIZE <= n {
         return image::NO_OWNER;
     }
-    fields::read16(rules, n * image::RULE_SIZE + image::OWNER_FIELD)
+    fields::read16(rules, n * image::RULE_SIZE + image::RULE_OWNER_AT)
 }
 
 // The `count` mixtures from `first` on, in the image's own order.
@@ -275,7 +276,7 @@ pub fn rule_at(image: &[u8], n: usize) -> Bounded
         return span_rule(m, 0, 0);
     }
     let first = fields::read16(rules, n * image::RULE_SIZE);
-    let count = fields::read16(rules, n * image::RULE_SIZE + COUNT_FIELD);
+    let count = fields::read16(rules, n * image::RULE_SIZE + image::RULE_COUNT_AT);
     span_rule(m, first, count)
 }
 
@@ -300,7 +301,10 @@ fn run_forbids(image: &[u8], c: usize, tag: u64) -> bool
         return false;
     }
     if !image::is_file(
-        fields::read8(containers, c * image::CONTAINER_SIZE + image::KIND_FIELD) as u64,
+        fields::read8(
+            containers,
+            c * image::CONTAINER_SIZE + image::CONTAINER_KIND_AT,
+        ) as u64,
     ) {
         return false;
     }
@@ -561,7 +565,7 @@ pub fn why(image: &[u8], trace: &[u8], links: &mut [u64], steps: &mut [u64], out
     if refusal != 0 {
         return refusal;
     }
-    let judged = judge(image, trace);
+    let judged = judgement_of(image, trace);
     if !judged.forbidden {
         return answers::EXPLAIN_TRACE;
     }

@@ -5,10 +5,10 @@ use mathlib.Core.Path.{_≡_, refl, sym, subst, _∙_}
 use mathlib.Core.List.{List, [], _∷_, _++_}
 use mathlib.Core.Logic.{_⊎_, inl, inr}
 use Rattle.image.specs.Policy.{Policy}
-use Rattle.chains.specs.History.{Step, History, start, _▸_, size, StepAt}
+use Rattle.chains.specs.History.{Step, History, start, _▸_, stepCount, StepAt}
 use Rattle.chains.specs.Chains.{Item, Starts, Carries, Ends, Stands, Leads, Chain}
 
-pub at-lt : (h : History) (i : ℕ) (s : Step) → StepAt h i s → i < size h
+pub at-lt : (h : History) (i : ℕ) (s : Step) → StepAt h i s → i < stepCount h
 at-lt start i s e = absurd e
 at-lt (h ▸ t) i s (inl e) = omega arith
 at-lt (h ▸ t) i s (inr e) = omega (arith, at-lt h i s e)
@@ -32,27 +32,27 @@ module _ (h : History) (t : Step) where
   stands-less : (lo hi a : ℕ) (k : Item) (hi′ : ℕ) → hi ≤ hi′ → Stands (h ▸ t) lo hi′ a k → Stands h lo hi a k
   stands-less lo hi a k hi′ le st j s l g e = st j s l (omega arith) (inr e)
 
-  stands-more : (lo hi a : ℕ) (k : Item) → hi ≤ size h → Stands h lo hi a k → Stands (h ▸ t) lo hi a k
+  stands-more : (lo hi a : ℕ) (k : Item) → hi ≤ stepCount h → Stands h lo hi a k → Stands (h ▸ t) lo hi a k
   stands-more lo hi a k le st j s l g (inl e) = absurd (omega arith)
   stands-more lo hi a k le st j s l g (inr e) = st j s l g e
 
-  stands-last : (lo a : ℕ) (k : Item) → Stands h lo (size h) a k → ¬ Ends t a k → Stands (h ▸ t) lo (suc (size h)) a k
+  stands-last : (lo a : ℕ) (k : Item) → Stands h lo (stepCount h) a k → ¬ Ends t a k → Stands (h ▸ t) lo (suc (stepCount h)) a k
   stands-last lo a k st ne j s l g (inl e) = subst (λ (x : Step). ¬ Ends x a k) (e .1) ne
   stands-last lo a k st ne j s l g (inr e) = st j s l (at-lt h j s e) e
 
   -- a chain that the last step ends
-  no-more : (a : ℕ) (k : Item) (is : List ℕ) (c : ℕ) (l : Item) → Leads (h ▸ t) (suc (size h)) a k is c l → (a ≡ c) × (k ≡ l)
+  no-more : (a : ℕ) (k : Item) (is : List ℕ) (c : ℕ) (l : Item) → Leads (h ▸ t) (suc (stepCount h)) a k is c l → (a ≡ c) × (k ≡ l)
   no-more a k [] c l w = (w .0, w .1)
   no-more a k (i ∷ is) c l w = absurd (omega (arith, w .3, at-lt (h ▸ t) i (w .0) (w .4)))
 
-  split : (lo a : ℕ) (k : Item) (is : List ℕ) (c : ℕ) (l : Item) → lo ≤ size h → Leads (h ▸ t) lo a k is c l
+  split : (lo a : ℕ) (k : Item) (is : List ℕ) (c : ℕ) (l : Item) → lo ≤ stepCount h → Leads (h ▸ t) lo a k is c l
       → Passed lo a k c l ⊎ Taken lo a k c l
   split lo a k [] c l le w =
       inl (
         [],
-        (w .0, w .1, stands-less lo (size h) a k (suc (size h)) (omega arith) (w .2)),
+        (w .0, w .1, stands-less lo (stepCount h) a k (suc (stepCount h)) (omega arith) (w .2)),
         subst (λ (x : ℕ). ¬ Ends t x l) (w .0)
-            (subst (λ (x : Item). ¬ Ends t a x) (w .1) (w .2 (size h) t le (omega arith) (inl (refl, refl)))),
+            (subst (λ (x : Item). ¬ Ends t a x) (w .1) (w .2 (stepCount h) t le (omega arith) (inl (refl, refl)))),
       )
   split lo a k (i ∷ is) c l le (s, b, m, li, inl e, st, ca, w) =
       let u : (b ≡ c) × (m ≡ l) = no-more b m is c l (subst (λ (x : ℕ). Leads (h ▸ t) (suc x) b m is c l) (e .0) w) in
@@ -60,7 +60,7 @@ module _ (h : History) (t : Step) where
         [],
         a,
         k,
-        (refl, refl, stands-less lo (size h) a k i (omega arith) st),
+        (refl, refl, stands-less lo (stepCount h) a k i (omega arith) st),
         subst (λ (x : Step). Carries x a k c l) (sym (e .1))
             (subst (λ (x : ℕ). Carries s a k x l) (u .0) (subst (λ (x : Item). Carries s a k b x) (u .1) ca)),
       )
@@ -81,15 +81,15 @@ module _ (h : History) (t : Step) where
   pass lo a k (i ∷ is) c l (s, b, m, li, e, st, ca, w) ne =
       (s, b, m, li, inr e, stands-more lo i a k (omega (arith, at-lt h i s e)) st, ca, pass (suc i) b m is c l w ne)
 
-  take : (lo a : ℕ) (k : Item) (is : List ℕ) (b : ℕ) (m : Item) (c : ℕ) (l : Item) → lo ≤ size h → Leads h lo a k is b m → Carries t b m c l
-      → Leads (h ▸ t) lo a k (is ++ (size h ∷ [])) c l
+  take : (lo a : ℕ) (k : Item) (is : List ℕ) (b : ℕ) (m : Item) (c : ℕ) (l : Item) → lo ≤ stepCount h → Leads h lo a k is b m → Carries t b m c l
+      → Leads (h ▸ t) lo a k (is ++ (stepCount h ∷ [])) c l
   take lo a k [] b m c l le (ea, ek, st) ca = (
     t,
     c,
     l,
     le,
     inl (refl, refl),
-    stands-more lo (size h) a k (omega arith) st,
+    stands-more lo (stepCount h) a k (omega arith) st,
     subst (λ (x : ℕ). Carries t x k c l) (sym ea) (subst (λ (x : Item). Carries t b x c l) (sym ek) ca),
     (refl, refl, λ j s l g e. absurd (omega arith)),
   )
@@ -111,7 +111,7 @@ chain-stay P h t y c (f, x, sx, is, w) ne = (f, x, sx, is, pass h t zero f x is 
 
 pub chain-carry : (P : Policy) (h : History) (t : Step) (x y : Item) (b c : ℕ) → Chain P h x b → Carries t b x c y → Chain P (h ▸ t) y c
 chain-carry P h t x y b c (f, z, sz, is, w) ca =
-    (f, z, sz, is ++ (size h ∷ []), take h t zero f z is b x c y (omega arith) w ca)
+    (f, z, sz, is ++ (stepCount h ∷ []), take h t zero f z is b x c y (omega arith) w ca)
 
 pub chain-none : (P : Policy) (y : Item) (c : ℕ) → Chain P start y c → Starts P c y
 chain-none P y c (f, x, sx, [], w) = subst (λ (z : ℕ). Starts P z y) (w .0) (subst (λ (z : Item). Starts P f z) (w .1) sx)

@@ -19,7 +19,7 @@ use Rattle.chains.specs.Guards.{guardedFile, guarded, writing, writtenIn
 use Rattle.chains.specs.Demand.{judged}
 use Rattle.chains.specs.Table.{State, freeRow, readRow, writeRow, appendRow, execRow, forkRow, newFileRow, newVolatileRow, entry, processGood, objectGood, alerts, blocks, startRowOf, begin}
 use Rattle.image.proofs.KindLaws.{process-free, guarded-used, free-kinds}
-use Rattle.chains.proofs.TableLaws.{Passed}
+use Rattle.chains.proofs.TableStates.{Passed}
 
 -- the row w of container c is guarded as the history says; if it is, its permit rule covers what was written into it, or nothing was
 pub record Guarding (P : Policy) (h : History) (c : ℕ) (w : Row) : Type 0 where

@@ -8,11 +8,11 @@ pub mod Steps
 pub mod Exact
 pub mod Rows
 pub mod Start
-pub mod VerdictLaws
-pub mod TableLaws
+pub mod ThreeAnswers
+pub mod TableStates
 pub mod GuardLaws
 -- a whole list of records
 pub mod Monitors
 -- the table as a monitor, and the paper's listing run by it
 pub mod TableMonitor
-pub mod PaperListing
+pub mod PaperSteps

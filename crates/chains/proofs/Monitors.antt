@@ -53,8 +53,8 @@ use Rattle.chains.proofs.Exact.{Exact, covers-in, covers-out, Tagged, t
 use Rattle.chains.proofs.Rows.{Good, RowOk, other, read-good, write-good, append-good, exec-good, fork-good, new-file-good, new-volatile-good}
 use Rattle.lists.proofs.Places.{some-inj, none-some}
 use Rattle.image.proofs.KindLaws.{process-used, guarded-used, file-used, store-used, free-kinds}
-use Rattle.chains.proofs.TableLaws.{Passed, passed, operate-done, operate-given, rule-declared}
-use Rattle.chains.proofs.VerdictLaws.{verdict-blocked, verdict-alert, verdict-quiet, verdict-receiver, verdict-tag, blocked-blocks, accepted-put, alert-alerts, left-put, left-blocked}
+use Rattle.chains.proofs.TableStates.{Passed, passed, operate-done, operate-given, rule-declared}
+use Rattle.chains.proofs.ThreeAnswers.{verdict-blocked, verdict-alert, verdict-quiet, verdict-receiver, verdict-tag, blocked-blocks, accepted-put, alert-alerts, left-put, left-blocked}
 use Rattle.chains.proofs.GuardLaws.{Guarding, guarding-other, guarded-written, guards-next, guarded-stays, guarding-next}
 use Rattle.chains.proofs.Steps.{end-none, delete-none, new-file-none, new-file-rules, new-volatile-none, new-volatile-rules, fork-chains, fork-rules}
 use Rattle.chains.proofs.Start.{Inv}
@@ -332,23 +332,23 @@ module _ (P : Policy) where
     told-at h σ ok I (q ∷ rs) zero s a A =
         let ea : op σ q .1 ≡ a = some-inj (A .answered) in
         subst (λ (x : Answer). Told (extend h (stepOf q) (accepted (op σ q .1))) s x) ea
-        (op-told h σ ok I q s (ap stepOf (some-inj (A .spelled .1)) ∙ A .spelled .2) (ap accepted ea ∙ A .counted))
+        (op-told h σ ok I q s (ap stepOf (some-inj (A .spelled .1)) ∙ A .spelled .2) (ap accepted ea ∙ A .accepting))
     told-at h σ ok I (q ∷ rs) (suc n) s a A =
         told-at (extend h (stepOf q) (accepted (op σ q .1))) (op σ q .0) (F .stays σ q ok) (op-ok h σ ok I q) rs n s a
-        (record { spelled = A .spelled; answered = A .answered; counted = A .counted })
+        (record { spelled = A .spelled; answered = A .answered; accepting = A .accepting })
 
     -- each accepted record of a list that takes a free number begins it with nothing of its past
     pub taken-at : (h : History) (σ : S) → Valid σ → Inv P h (view σ) → (rs : List R) (n : ℕ) (s : Step) (a : Answer) → AcceptedAt op stepOf σ rs n s a
         → Taken P (historyFrom op stepOf h σ (take n rs)) s
     taken-at h σ ok I [] n s a A = absurd (none-some (A .answered))
     taken-at h σ ok I (q ∷ rs) zero s a A =
-        let e : accepted (op σ q .1) ≡ true = ap accepted (some-inj (A .answered)) ∙ A .counted in
+        let e : accepted (op σ q .1) ≡ true = ap accepted (some-inj (A .answered)) ∙ A .accepting in
         let f : (t : Step) × (stepOf q ≡ some t) × (view (op σ q .0) ≡ operate (view σ) t .0) × (op σ q .1 ≡ operate (view σ) t .1) = F .answering σ q ok (accepted-given (op σ q .1) e) in
         let es : f .0 ≡ s = some-inj (sym (f .1) ∙ ap stepOf (some-inj (A .spelled .1)) ∙ A .spelled .2) in
         subst (Taken P h) es (taken h (view σ) I (f .0) (passed (view σ) (f .0) (operate-given (view σ) (f .0) (accepted-given (operate (view σ) (f .0) .1) (ap accepted (sym (f .3)) ∙ e)))))
     taken-at h σ ok I (q ∷ rs) (suc n) s a A =
         taken-at (extend h (stepOf q) (accepted (op σ q .1))) (op σ q .0) (F .stays σ q ok) (op-ok h σ ok I q) rs n s a
-        (record { spelled = A .spelled; answered = A .answered; counted = A .counted })
+        (record { spelled = A .spelled; answered = A .answered; accepting = A .accepting })
 
     -- each record of a list that is not refused is answered with the truth about what it would bring
     pub given-at : (h : History) (σ : S) → Valid σ → Inv P h (view σ) → (rs : List R) (n : ℕ) (s : Step) (a : Answer) → GivenAt op stepOf σ rs n s a → judged s ≡ true
@@ -371,14 +371,14 @@ module _ (P : Policy) where
     spared-at h σ ok I [] n s a A k = absurd (none-some (A .answered))
     spared-at h σ ok I (q ∷ rs) zero s a A k =
         let ea : op σ q .1 ≡ a = some-inj (A .answered) in
-        let e : accepted (op σ q .1) ≡ true = ap accepted ea ∙ A .counted in
+        let e : accepted (op σ q .1) ≡ true = ap accepted ea ∙ A .accepting in
         let f : (t : Step) × (stepOf q ≡ some t) × (view (op σ q .0) ≡ operate (view σ) t .0) × (op σ q .1 ≡ operate (view σ) t .1) = F .answering σ q ok (accepted-given (op σ q .1) e) in
         let es : f .0 ≡ s = some-inj (sym (f .1) ∙ ap stepOf (some-inj (A .spelled .1)) ∙ A .spelled .2) in
         ap isAlert (sym ea ∙ f .3)
         ∙ operate-spared h (view σ) I (f .0) (ap accepted (sym (f .3)) ∙ e) (ap (λ (t : Step). guarded P h (receiver t)) es ∙ k)
     spared-at h σ ok I (q ∷ rs) (suc n) s a A k =
         spared-at (extend h (stepOf q) (accepted (op σ q .1))) (op σ q .0) (F .stays σ q ok) (op-ok h σ ok I q) rs n s a
-        (record { spelled = A .spelled; answered = A .answered; counted = A .counted }) k
+        (record { spelled = A .spelled; answered = A .answered; accepting = A .accepting }) k
 
 -- the history of a list of records begins with the history of its first records
 pub history-from-append : {S R : Type 0} (op : S → R → S × Answer) (stepOf : R → Option Step) (h : History) (σ : S) (rs qs : List R)

@@ -4,7 +4,7 @@ use mathlib.Core.Logic.{_⊎_, inl, inr, _≢_}
 use Rattle.lists.specs.Conditions.{firstFailed}
 use Rattle.lists.proofs.Conditions.{zero-or-not}
 use Rattle.answers.specs.declared.Answer.{Answer}
-use Rattle.chains.proofs.TableLaws.{operate-done, operate-refused}
+use Rattle.chains.proofs.TableStates.{operate-done, operate-refused}
 use mathlib.Core.Bool.{true}
 use mathlib.Core.Option.{some}
 use Rattle.lists.proofs.Bools.{clash}
@@ -13,7 +13,7 @@ use Rattle.chains.specs.History.{Step}
 use Rattle.answers.specs.Answers.{isRefused}
 use Rattle.chains.specs.Demand.{Demand3, TagTold}
 use Rattle.chains.specs.Table.{State, entry, tableConditions, operate, begin, Faithful}
-use Rattle.chains.proofs.VerdictLaws.{verdict-given}
+use Rattle.chains.proofs.ThreeAnswers.{verdict-given}
 use Rattle.chains.proofs.Theorems.{demand3, tag-told}
 
 -- a refused step changes nothing

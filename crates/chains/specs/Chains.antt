@@ -26,7 +26,7 @@ use Rattle.chains.specs.History.{
   History,
   start,
   _▸_,
-  size,
+  stepCount,
   StepAt,
 }
 
@@ -84,7 +84,7 @@ Stands h lo hi a x = (j : ℕ) (s : Step) → lo ≤ j → j < hi → StepAt h j
 -- "a rising list of accepted steps, possibly none: the first takes up in that file, each other where the one before it put
 -- down": x stands in a before step number lo, and the steps with the numbers in the list lead it to c, as y
 abbrev pub Leads : History → ℕ → ℕ → Item → List ℕ → ℕ → Item → Type 0
-Leads h lo a x [] c y = (a ≡ c) × (x ≡ y) × Stands h lo (size h) a x
+Leads h lo a x [] c y = (a ≡ c) × (x ≡ y) × Stands h lo (stepCount h) a x
 Leads h lo a x (i ∷ is) c y =
     (s : Step) × (b : ℕ) × (z : Item)
     × (lo ≤ i) × StepAt h i s × Stands h lo i a x × Carries s a x b z × Leads h (suc i) b z is c y

@@ -110,7 +110,7 @@ module _ {S R : Type 0} (op : S → R → S × Answer) where
     pub record AcceptedAt (σ : S) (rs : List R) (n : ℕ) (s : Step) (a : Answer) : Type 0 where
       pub spelled : (r : R) × (getElem? rs n ≡ some r) × (stepOf r ≡ some s)
       pub answered : getElem? (answers σ rs) n ≡ some a
-      pub counted : accepted a ≡ true
+      pub accepting : accepted a ≡ true
 
     -- Demand 3, of the state σ that the policy P starts: of any list of records, each accepted read, write, append, exec or
     -- fork is answered by an alert exactly when its receiver is forbidden what it holds after the history up to and with it.

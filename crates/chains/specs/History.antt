@@ -17,14 +17,14 @@ pub data History : Type 0 where
 
 infixl 40 _▸_
 -- how many steps the history has
-abbrev pub size : History → ℕ
-size start = zero
-size (h ▸ s) = suc (size h)
+abbrev pub stepCount : History → ℕ
+stepCount start = zero
+stepCount (h ▸ s) = suc (stepCount h)
 
 -- step number i of the history, counted from 0, is s
 abbrev pub StepAt : History → ℕ → Step → Type 0
 StepAt start i s = ⊥
-StepAt (h ▸ t) i s = ((i ≡ size h) × (t ≡ s)) ⊎ StepAt h i s
+StepAt (h ▸ t) i s = ((i ≡ stepCount h) × (t ≡ s)) ⊎ StepAt h i s
 
 -- "The receiver is p for 1 and 4, else o"; for 8, "with o equal to p", that is p.
 abbrev pub receiver : Step → ℕ

@@ -15,7 +15,7 @@ use Rattle.image.specs.Image.{part, containersIn, policyIn, checkOf}
 use Rattle.image.specs.Normal.{policyOf, encode}
 use Rattle.image.proofs.RecordsByPlace.{users-count}
 use Rattle.normaliser.specs.Normaliser.{writtenUnless}
-use Rattle.normaliser.proofs.AnswerLaws.{refused-effect}
+use Rattle.normaliser.proofs.WrittenAnswers.{refused-effect}
 use Rattle.composition.specs.declared.Composition.{Composition}
 use Rattle.composition.specs.Composed.{consentGood, consenting}
 use Rattle.composition.specs.Images.{sameContainers, sameShape, composed, composedImage, inputGood, limitGood, answerUnless, composeAnswer, composeEffect}

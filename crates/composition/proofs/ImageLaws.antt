@@ -10,7 +10,7 @@ use lib.Dec.{eqb, leb}
 use lib.ListN.{length, length-map}
 use borrow.Author.Tests.{eq-eqb, ne-eqb, eqb-true, leb-true, le-leb, lt-leb}
 use Rattle.lists.proofs.Bools.{decide, and-in, and-0, and-1}
-use Rattle.lists.specs.Conditions.{_orRefuse_, firstFailed, AllHold, numbersOf, numbersGood}
+use Rattle.lists.specs.Conditions.{_orRefuse_, firstFailed, AllHold, numbersOf, numbersDistinct}
 use Rattle.lists.specs.Lists.{elem, every}
 use Rattle.lists.proofs.Every.{every-elem}
 use Rattle.lists.proofs.Conditions.{passed, failed, none-left, first-stops, first-passed, given-none, given-among}
@@ -72,7 +72,7 @@ matched p q h =
 -- ---- the conditions in their order
 
 pub image-holds : (a : List ℕ) → checkOf a ≡ 0 → AllHold (imageConditions a)
-unfolding checkOf imageConditions numbersGood numbersOf elem
+unfolding checkOf imageConditions numbersDistinct numbersOf elem
 image-holds a h = given-none (imageConditions a) refl .0 h
 
 -- an image is refused by 1 to 6, or not

@@ -5,12 +5,12 @@ pub mod UseLaws
 pub mod ImageLaws
 pub mod ConsentLoops
 pub mod EnteringLoop
-pub mod RowLaws
+pub mod UseRows
 pub mod UseNumbers
 pub mod RowLoop
 pub mod RecordLoops
 pub mod PairPolicy
-pub mod RepeatLaws
+pub mod SelfComposition
 pub mod ComposeCases
 pub mod Theorems
 pub mod Examples

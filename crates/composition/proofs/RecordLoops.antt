@@ -17,7 +17,7 @@ use Rattle.fields.specs.Bytes.{bytesOf, field}
 use Rattle.fields.specs.Writing.{Wrote}
 use Rattle.fields.proofs.ByteLaws.{joined-length, bytes-length}
 use Rattle.fields.proofs.RowWriting.{RowsWritten, rows-start, rows-room, rows-next, rows-end}
-use Rattle.image.specs.Limits.{containerSize, userSize, size8, size16, kindField, atomField, containerLimit, userLimit}
+use Rattle.image.specs.Limits.{containerSize, userSize, size8, size16, containerKindAt, containerAtomAt, containerLimit, userLimit}
 use Rattle.image.specs.Policy.{Container}
 use Rattle.image.specs.Image.{containersIn}
 use Rattle.image.specs.Normal.{containerBytes}
@@ -61,7 +61,7 @@ module _ (s : List ℕ) where
   pub own-start : (out : List ℕ) → length s / containerSize ≤ containerLimit → containerLimit * containerSize ≤ length out → RowsWritten (ownRows s) out 0 out 0 0
   own-start out h l = rows-start (ownRows s) out 0 (omega (arith, own-size))
 
-  module _ (i : ℕ) (l : i < length s / containerSize) {kind atom : ℕ} (e : kind ≡ field s (i * containerSize + kindField) size8) (f : atom ≡ field s (i * containerSize + atomField) size8) where
+  module _ (i : ℕ) (l : i < length s / containerSize) {kind atom : ℕ} (e : kind ≡ field s (i * containerSize + containerKindAt) size8) (f : atom ≡ field s (i * containerSize + containerAtomAt) size8) where
     row-is : getD (ownRows s) i [] ≡ containerBytes (record { kind = kind; atom = atom; permit = 2 * i; run = 2 * i + 1 })
     row-is =
         let z : 0 + 2 * i ≡ 2 * i = omega arith in
@@ -137,10 +137,10 @@ comparing-other a b d =
 
 module _ (a b : List ℕ) (i : ℕ) (h : Comparing a b i) (l : i < length a / containerSize) where
   abbrev kindOf : List ℕ → ℕ
-  kindOf s = field s (i * containerSize + kindField) size8
+  kindOf s = field s (i * containerSize + containerKindAt) size8
 
   abbrev atomOf : List ℕ → ℕ
-  atomOf s = field s (i * containerSize + atomField) size8
+  atomOf s = field s (i * containerSize + containerAtomAt) size8
 
   split : (eqb (kindOf a) (kindOf b) && (eqb (atomOf a) (atomOf b) && sameContainers (drop (suc i) (containersIn a)) (drop (suc i) (containersIn b)))) ≡ sameContainers (containersIn a) (containersIn b)
   unfolding sameContainers

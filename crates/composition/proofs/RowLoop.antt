@@ -22,7 +22,7 @@ use Rattle.image.specs.Normal.{Use, freeUse}
 use Rattle.normaliser.specs.Writer.{formWidth, formRow}
 use Rattle.composition.specs.Images.{shortUse}
 use Rattle.composition.specs.Tables.{UsePut, UsesPut}
-use Rattle.composition.proofs.RowLaws.{row-long}
+use Rattle.composition.proofs.UseRows.{row-long}
 
 every-place : (f : Use → Bool) (xs : List Use) → ((k : ℕ) → k < length xs → f (getD xs k freeUse) ≡ true) → every f xs ≡ true
 every-place f [] h = every-nil f

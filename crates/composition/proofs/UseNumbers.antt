@@ -10,8 +10,8 @@ use Rattle.lists.proofs.Every.{every-0, every-1, every-nil, every-cons, every-a
 use Rattle.lists.proofs.Places.{map-at}
 use Rattle.fields.specs.Bytes.{numberIn, field}
 use Rattle.fields.proofs.FieldLaws.{field-record}
-use Rattle.fields.proofs.RecordLaws.{record-at}
-use Rattle.image.specs.Limits.{containerSize, userSize, ruleSize, size8, size16, kindField, atomField, permitField, runField}
+use Rattle.fields.proofs.SectionRecords.{record-at}
+use Rattle.image.specs.Limits.{containerSize, userSize, ruleSize, size8, size16, containerKindAt, containerAtomAt, containerPermitAt, containerRunAt}
 use Rattle.image.specs.Policy.{Container, Policy, named, containerGood}
 use Rattle.image.specs.Image.{part, containerIn, containersIn, usersIn, policyIn, checkOf}
 use Rattle.image.specs.Normal.{Use, useAt, ownedPlace, owned, placeUses, uses, freeUse}
@@ -55,21 +55,21 @@ module _ (s : List ℕ) (i : ℕ) (l : i < length s / containerSize) where
   unfolding containersIn
   record-is = record-at containerIn containerSize i s noContainer l
 
-  pub kind-at : getD (containersIn s) i noContainer .kind ≡ field s (i * containerSize + kindField) size8
+  pub kind-at : getD (containersIn s) i noContainer .kind ≡ field s (i * containerSize + containerKindAt) size8
   unfolding containerIn
-  kind-at = ap (λ (c : Container). c .kind) record-is ∙ field-record s (i * containerSize) containerSize kindField size8 (omega arith)
+  kind-at = ap (λ (c : Container). c .kind) record-is ∙ field-record s (i * containerSize) containerSize containerKindAt size8 (omega arith)
 
-  pub atom-at : getD (containersIn s) i noContainer .atom ≡ field s (i * containerSize + atomField) size8
+  pub atom-at : getD (containersIn s) i noContainer .atom ≡ field s (i * containerSize + containerAtomAt) size8
   unfolding containerIn
-  atom-at = ap (λ (c : Container). c .atom) record-is ∙ field-record s (i * containerSize) containerSize atomField size8 (omega arith)
+  atom-at = ap (λ (c : Container). c .atom) record-is ∙ field-record s (i * containerSize) containerSize containerAtomAt size8 (omega arith)
 
-  permit-field : getD (containersIn s) i noContainer .permit ≡ field s (i * containerSize + permitField) size16
+  permit-field : getD (containersIn s) i noContainer .permit ≡ field s (i * containerSize + containerPermitAt) size16
   unfolding containerIn
-  permit-field = ap (λ (c : Container). c .permit) record-is ∙ field-record s (i * containerSize) containerSize permitField size16 (omega arith)
+  permit-field = ap (λ (c : Container). c .permit) record-is ∙ field-record s (i * containerSize) containerSize containerPermitAt size16 (omega arith)
 
-  run-field : getD (containersIn s) i noContainer .run ≡ field s (i * containerSize + runField) size16
+  run-field : getD (containersIn s) i noContainer .run ≡ field s (i * containerSize + containerRunAt) size16
   unfolding containerIn
-  run-field = ap (λ (c : Container). c .run) record-is ∙ field-record s (i * containerSize) containerSize runField size16 (omega arith)
+  run-field = ap (λ (c : Container). c .run) record-is ∙ field-record s (i * containerSize) containerSize containerRunAt size16 (omega arith)
 
 getD-left : (xs ys : List ℕ) (k : ℕ) → k < length xs → getD (xs ++ ys) k 0 ≡ getD xs k 0
 getD-left [] ys k l = absurd (omega arith)
@@ -90,7 +90,7 @@ module _ (a : List ℕ) where
   use-count = omega (arith, length-append (containerUses (containersIn (part a 0))) (usersIn (part a 1)), numbers-long, users-count (part a 1))
 
   module _ (k : ℕ) where
-    pub number-permit : k < 2 * (length (part a 0) / containerSize) → k % 2 ≡ 0 → {r : ℕ} → r ≡ field (part a 0) (k / 2 * containerSize + permitField) size16 → r ≡ getD (usedNumbers (policyIn a)) k 0
+    pub number-permit : k < 2 * (length (part a 0) / containerSize) → k % 2 ≡ 0 → {r : ℕ} → r ≡ field (part a 0) (k / 2 * containerSize + containerPermitAt) size16 → r ≡ getD (usedNumbers (policyIn a)) k 0
     unfolding usedNumbers policyIn
     number-permit l e {r} f =
         let n : 2 * (k / 2) ≡ k = omega arith in
@@ -99,7 +99,7 @@ module _ (a : List ℕ) where
         ∙ ap (λ (j : ℕ). getD (containerUses (containersIn (part a 0))) j 0) (sym n)
         ∙ permit-at (containersIn (part a 0)) (k / 2) (omega (arith, containers-count (part a 0))) ∙ permit-field (part a 0) (k / 2) h)
 
-    pub number-run : k < 2 * (length (part a 0) / containerSize) → (k % 2 ≡ 0 → ⊥) → {r : ℕ} → r ≡ field (part a 0) (k / 2 * containerSize + runField) size16 → r ≡ getD (usedNumbers (policyIn a)) k 0
+    pub number-run : k < 2 * (length (part a 0) / containerSize) → (k % 2 ≡ 0 → ⊥) → {r : ℕ} → r ≡ field (part a 0) (k / 2 * containerSize + containerRunAt) size16 → r ≡ getD (usedNumbers (policyIn a)) k 0
     unfolding usedNumbers policyIn
     number-run l d {r} f =
         let n : 2 * (k / 2) + 1 ≡ k = omega arith in

@@ -144,7 +144,7 @@ fn owner_at(rules: &[u8], n: usize) -> u64
     if n == image::UNRESTRICTED_NUMBER {
         return image::NO_OWNER as u64;
     }
-    fields::read16(rules, n * image::RULE_SIZE + image::OWNER_FIELD) as u64
+    fields::read16(rules, n * image::RULE_SIZE + image::RULE_OWNER_AT) as u64
 }
 
 // An owner stays where both agree.
@@ -210,9 +210,9 @@ fn number_at(image: &[u8], k: usize) -> usize
     if k < n {
         let at = k / 2 * image::CONTAINER_SIZE;
         if k % 2 == 0 {
-            return fields::read16(containers, at + image::PERMIT_FIELD);
+            return fields::read16(containers, at + image::CONTAINER_PERMIT_AT);
         }
-        return fields::read16(containers, at + image::RUN_FIELD);
+        return fields::read16(containers, at + image::CONTAINER_RUN_AT);
     }
     fields::read16(image::section(image, 1), (k - n) * image::USER_SIZE)
 }
@@ -255,9 +255,9 @@ fn put_places(out: &mut [u8], containers: &[u8]) -> usize
     let mut i: usize = 0;
     while i < n {
         let from = i * image::CONTAINER_SIZE;
-        let kind = fields::read8(containers, from + image::KIND_FIELD);
-        let atom = fields::read8(containers, from + image::ATOM_FIELD);
-        at = normaliser::put_container(out, at, kind, atom, 2 * i, 2 * i + 1);
+        let kind = fields::read8(containers, from + image::CONTAINER_KIND_AT);
+        let atom = fields::read8(containers, from + image::CONTAINER_ATOM_AT);
+        at = normaliser::put_container_record(out, at, kind, atom, 2 * i, 2 * i + 1);
         i += 1;
     }
     at
@@ -311,10 +311,14 @@ fn same_containers(a: &[u8], b: &[u8]) -> bool
     while i < n {
         let at = i * image::CONTAINER_SIZE;
         i += 1;
-        if fields::read8(a, at + image::KIND_FIELD) != fields::read8(b, at + image::KIND_FIELD) {
+        if fields::read8(a, at + image::CONTAINER_KIND_AT)
+            != fields::read8(b, at + image::CONTAINER_KIND_AT)
+        {
             return false;
         }
-        if fields::read8(a, at + image::ATOM_FIELD) != fields::read8(b, at + image::ATOM_FIELD) {
+        if fields::read8(a, at + image::CONTAINER_ATOM_AT)
+            != fields::read8(b, at + image::CONTAINER_ATOM_AT)
+        {
             return false;
         }
     }

@@ -27,7 +27,7 @@ use Rattle.image.specs.Normal.{containerBytes, normalImage}
 use Rattle.image.proofs.Encode.{container-wide}
 use Rattle.normaliser.specs.Writer.{unowned, formWidth, formRow, normalUse, formWords, policyAt, Tabled, Answered}
 use Rattle.normaliser.proofs.WriterLaws.{producer-tabled, producer-wrote, normal-short}
-use Rattle.normaliser.proofs.AnswerLaws.{refused-answer, refused-effect, wrote-answer}
+use Rattle.normaliser.proofs.WrittenAnswers.{refused-answer, refused-effect, wrote-answer}
 use Rattle.profiles.specs.Profiles.{Profile}
 use Rattle.profiles.specs.Texts.{textGood}
 use Rattle.profiles.specs.LineWords.{textWords, Judged}
@@ -36,7 +36,7 @@ use Rattle.confinement.specs.Confinement.{pathsOf, rulesOf, filesFrom, i
 use Rattle.confinement.specs.Images.{profilesIn, limitsGood, profileConditions, profileImage, profileAnswer, profileEffect}
 use Rattle.confinement.specs.Tables.{PathTable, ProgramTable, mixtures, ruleFrom, plainRow, formsFrom, shortRule, FormsPut, tablePolicy, Tabulated, PolicyWritten}
 use Rattle.confinement.proofs.PolicyLaws.{profile-none, profile-sound}
-use Rattle.confinement.proofs.FormLaws.{fileRows, files-size}
+use Rattle.confinement.proofs.PathRuleRows.{fileRows, files-size}
 use Rattle.confinement.proofs.TablePolicy.{rules-are, tables-policy}
 
 -- ---- the rules

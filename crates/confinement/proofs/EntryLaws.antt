@@ -13,14 +13,14 @@ use Rattle.lists.specs.Lists.{every, sameList, known, knownBy}
 use Rattle.lists.proofs.Bools.{and-0, and-1, or-0, or-1, or-cases, clash, refuted}
 use Rattle.lists.proofs.Same.{same-eq}
 use Rattle.lists.proofs.Every.{every-0, every-1, every-nil, every-cons, every-map}
-use Rattle.profiles.specs.Profiles.{Mode, Entry, Profile}
+use Rattle.profiles.specs.Profiles.{Mode, PathEntry, Profile}
 use Rattle.profiles.specs.Reading.{Line, opens, enters, closes, linesOf}
 use Rattle.profiles.specs.Scanning.{withModes, modeBits}
 use Rattle.profiles.specs.Texts.{noRepeat, profiledOnce}
 use Rattle.confinement.specs.Confinement.{pathsOf, modesAmong, modesOn}
 use Rattle.confinement.specs.Tables.{noProfile}
-use Rattle.confinement.proofs.BitLaws.{bits-append}
-use Rattle.confinement.proofs.PathLaws.{profiles-known}
+use Rattle.confinement.proofs.ModeBits.{bits-append}
+use Rattle.confinement.proofs.PathsNamed.{profiles-known}
 use Rattle.confinement.proofs.LineWalks.{entered, opened, withEntry, namingLines}
 
 -- ---- no more programs than paths
@@ -84,14 +84,14 @@ few-programs ps h =
 
 -- ---- one more entry
 
-pub entered-before : (ps : List Profile) (e : Entry) (j : ℕ) → suc j < length ps → getD (entered ps e) j noProfile ≡ getD ps j noProfile
+pub entered-before : (ps : List Profile) (e : PathEntry) (j : ℕ) → suc j < length ps → getD (entered ps e) j noProfile ≡ getD ps j noProfile
 unfolding entered
 entered-before [] e j h = absurd (omega arith)
 entered-before (p ∷ []) e j h = absurd (omega arith)
 entered-before (p ∷ q ∷ ps) e zero h = refl
 entered-before (p ∷ q ∷ ps) e (suc j) h = entered-before (q ∷ ps) e j (omega arith)
 
-pub entered-at : (ps : List Profile) (e : Entry) (j : ℕ) → suc j ≡ length ps → getD (entered ps e) j noProfile ≡ withEntry (getD ps j noProfile) e
+pub entered-at : (ps : List Profile) (e : PathEntry) (j : ℕ) → suc j ≡ length ps → getD (entered ps e) j noProfile ≡ withEntry (getD ps j noProfile) e
 unfolding entered
 entered-at [] e j h = absurd (omega arith)
 entered-at (p ∷ []) e zero h = refl
@@ -99,7 +99,7 @@ entered-at (p ∷ []) e (suc j) h = absurd (omega arith)
 entered-at (p ∷ q ∷ ps) e zero h = absurd (omega arith)
 entered-at (p ∷ q ∷ ps) e (suc j) h = entered-at (q ∷ ps) e j (omega arith)
 
-among-last : (es : List Entry) (e : Entry) (q : List ℕ) → modesAmong (es ++ (e ∷ [])) q ≡ modesAmong es q ++ cond (sameList q (e .path)) (e .modes) []
+among-last : (es : List PathEntry) (e : PathEntry) (q : List ℕ) → modesAmong (es ++ (e ∷ [])) q ≡ modesAmong es q ++ cond (sameList q (e .path)) (e .modes) []
 unfolding modesAmong
 among-last [] e q = by (sameList q (e .path))
   where
@@ -114,7 +114,7 @@ among-last (f ∷ es) e q = by (sameList q (f .path)) (among-last es e q)
     by true ih = ap (λ (x : List Mode). f .modes ++ x) ih ∙ sym (append-assoc (f .modes) (modesAmong es q) (cond (sameList q (e .path)) (e .modes) []))
     by false ih = ih
 
-pub bits-last : (p : Profile) (e : Entry) (q : List ℕ)
+pub bits-last : (p : Profile) (e : PathEntry) (q : List ℕ)
     → modeBits (modesOn (withEntry p e) q) ≡ bitOr (modeBits (modesOn p q)) (modeBits (cond (sameList q (e .path)) (e .modes) []))
 unfolding modesOn
 bits-last p e q = ap modeBits (among-last (p .entries) e q) ∙ bits-append (modesAmong (p .entries) q) (cond (sameList q (e .path)) (e .modes) [])
@@ -140,7 +140,7 @@ unfolding linesOf namingLines
 opening-first [] = refl
 opening-first (p ∷ ps) = refl
 
-pub not-first : (ps : List Profile) (e : Entry) (ls : List Line) → namingLines (linesOf ps) ≡ enters e ∷ ls → ⊥
+pub not-first : (ps : List Profile) (e : PathEntry) (ls : List Line) → namingLines (linesOf ps) ≡ enters e ∷ ls → ⊥
 not-first ps e ls h = omega (arith, opening-first ps, ap isOpening h)
 
 pub getD-zeros : (n i : ℕ) → _≡_ {A = ℕ} (getD (replicate n 0) i 0) 0

@@ -13,16 +13,16 @@ use Rattle.fields.specs.Bytes.{bytesOf}
 use Rattle.image.specs.Limits.{fileKind, processKind, noAtom, unrestrictedNumber, noOwner}
 use Rattle.image.specs.Policy.{Container, Policy, unrestrictedRule, ruleAt, ownerAt}
 use Rattle.image.specs.Normal.{normalAt, useAt, ownedPlace, owned, placeUses, uses, sameUse, freeUse, noted, numbered, numberOf, containerOf, writtenBy, writtenUses, policyOf, normalPolicy, containerBytes, spanBytes, spansOf, pair, header, framed, encode, normalImage}
-use Rattle.profiles.specs.Profiles.{Mode, mode-r, mode-w, mode-a, mode-l, mode-m, mode-ix, mode-px, mode-Px, mode-ux, mode-Ux, Entry, Profile, modeText, slash}
+use Rattle.profiles.specs.Profiles.{Mode, mode-r, mode-w, mode-a, mode-l, mode-m, mode-ix, mode-px, mode-Px, mode-ux, mode-Ux, PathEntry, Profile, modeText, slash}
 use Rattle.confinement.specs.Confinement.{namesOf, withPath, withPaths, pathsOf, isOneOf, someOf, reading, executing, writing, unconfined, inheriting, confined, modesAmong, modesOn, fileAtoms, atomsFrom, runMixture, programsWith, profilesAt, orElse, ifSome, permitMixtures, runMixtures, rulesFrom, rulesOf, filesFrom, initialProcess, profilePolicy}
 use Rattle.confinement.specs.Images.{limitsGood}
 
 -- a line `PATH MODES,`
-abbrev line : String → List Mode → Entry
+abbrev line : String → List Mode → PathEntry
 line q ms = record { path = ascii q; modes = ms }
 
 -- a profile
-abbrev profile : String → List Entry → Profile
+abbrev profile : String → List PathEntry → Profile
 profile q es = record { path = ascii q; entries = es }
 
 -- the data atom and the running atom (the twin) of the path with atom k
@@ -107,12 +107,12 @@ clauses =
 -- ---- the limits
 
 -- n lines with these modes, of paths that are a slash and n letters or fewer
-abbrev linesOf : ℕ → List Mode → List Entry
+abbrev linesOf : ℕ → List Mode → List PathEntry
 linesOf zero ms = []
 linesOf (suc n) ms = record { path = slash ∷ replicate (suc n) 97; modes = ms } ∷ linesOf n ms
 
 -- n profiles of such paths, each with these lines
-abbrev profilesOf : ℕ → List Entry → List Profile
+abbrev profilesOf : ℕ → List PathEntry → List Profile
 profilesOf zero es = []
 profilesOf (suc n) es = record { path = slash ∷ replicate (suc n) 97; entries = es } ∷ profilesOf n es
 

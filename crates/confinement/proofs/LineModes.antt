@@ -8,9 +8,9 @@ use Rattle.lists.specs.Lists.{sameList}
 use Rattle.lists.proofs.Bools.{or-0, or-1, or-cases, clash}
 use Rattle.lists.proofs.Same.{same-refl, same-eq}
 use Rattle.lists.proofs.Places.{some-inj}
-use Rattle.profiles.specs.Profiles.{Mode, Entry, Profile, modeText}
+use Rattle.profiles.specs.Profiles.{Mode, PathEntry, Profile, modeText}
 use Rattle.profiles.specs.Reading.{modeIn}
-use Rattle.profiles.proofs.LineLaws.{mode-back}
+use Rattle.profiles.proofs.ProfileLines.{mode-back}
 use Rattle.confinement.specs.Confinement.{isOneOf, someOf, modesAmong, modesOn}
 
 -- the letters tell the mode
@@ -44,10 +44,10 @@ in-some wanted (n ∷ ms) m k w =
 -- ---- the modes of lines
 
 -- a line of the path that has the mode
-abbrev LineWith : List Entry → List ℕ → Mode → Type 0
-LineWith es q m = (e : Entry) × List·Memᴰ e es × (q ≡ e .path) × List·Memᴰ m (e .modes)
+abbrev LineWith : List PathEntry → List ℕ → Mode → Type 0
+LineWith es q m = (e : PathEntry) × List·Memᴰ e es × (q ≡ e .path) × List·Memᴰ m (e .modes)
 
-among-line : (es : List Entry) (q : List ℕ) (m : Mode) → List·Memᴰ m (modesAmong es q) → LineWith es q m
+among-line : (es : List PathEntry) (q : List ℕ) (m : Mode) → List·Memᴰ m (modesAmong es q) → LineWith es q m
 unfolding modesAmong
 among-line [] q m k = absurd (List·Memᴰ·not-nil k)
 among-line (e ∷ es) q m k = by (sameList q (e .path)) refl k (among-line es q m)
@@ -59,27 +59,27 @@ among-line (e ∷ es) q m k = by (sameList q (e .path)) refl k (among-line es q 
     by true s k ih = ⊎-elim (λ j. (e, List·Memᴰ·head refl, same-eq q (e .path) s, j)) (λ j. later (ih j)) (List·Memᴰ·append-cases (e .modes) k)
     by false s k ih = later (ih k)
 
-line-among : (es : List Entry) (q : List ℕ) (m : Mode) → LineWith es q m → List·Memᴰ m (modesAmong es q)
+line-among : (es : List PathEntry) (q : List ℕ) (m : Mode) → LineWith es q m → List·Memᴰ m (modesAmong es q)
 unfolding modesAmong
 line-among [] q m (e, i, p, j) = absurd (List·Memᴰ·not-nil i)
 line-among (x ∷ es) q m (e, i, p, j) = by (sameList q (x .path)) refl (List·Memᴰ·cases-cons i) (λ k. line-among es q m (e, k, p, j))
   where
     by : (b : Bool) → sameList q (x .path) ≡ b → (e ≡ x) ⊎ List·Memᴰ e es → (List·Memᴰ e es → List·Memᴰ m (modesAmong es q)) → List·Memᴰ m (cond b (x .modes ++ modesAmong es q) (modesAmong es q))
-    by true s (inl z) ih = Memᴰ·append-left (modesAmong es q) (subst (λ (y : Entry). List·Memᴰ m (y .modes)) z j)
+    by true s (inl z) ih = Memᴰ·append-left (modesAmong es q) (subst (λ (y : PathEntry). List·Memᴰ m (y .modes)) z j)
     by true s (inr k) ih = Memᴰ·append-right (x .modes) (ih k)
-    by false s (inl z) ih = clash (ap (sameList q) (sym (p ∙ ap (λ (y : Entry). y .path) z)) ∙ same-refl q) s
+    by false s (inl z) ih = clash (ap (sameList q) (sym (p ∙ ap (λ (y : PathEntry). y .path) z)) ∙ same-refl q) s
     by false s (inr k) ih = ih k
 
 pub lines-tell : (p : Profile) (wanted : List Mode) (q : List ℕ) → (someOf wanted (modesOn p q) ≡ true)
-    ↔ ((e : Entry) × List·Memᴰ e (p .entries) × (q ≡ e .path) × ((m : Mode) × List·Memᴰ m (e .modes) × List·Memᴰ m wanted))
+    ↔ ((e : PathEntry) × List·Memᴰ e (p .entries) × (q ≡ e .path) × ((m : Mode) × List·Memᴰ m (e .modes) × List·Memᴰ m wanted))
 unfolding modesOn
 lines-tell p wanted q = (to, from)
   where
-    to : someOf wanted (modesAmong (p .entries) q) ≡ true → (e : Entry) × List·Memᴰ e (p .entries) × (q ≡ e .path) × ((m : Mode) × List·Memᴰ m (e .modes) × List·Memᴰ m wanted)
+    to : someOf wanted (modesAmong (p .entries) q) ≡ true → (e : PathEntry) × List·Memᴰ e (p .entries) × (q ≡ e .path) × ((m : Mode) × List·Memᴰ m (e .modes) × List·Memᴰ m wanted)
     to h =
         let r = some-in wanted (modesAmong (p .entries) q) h in
         let s = among-line (p .entries) q (r .0) (r .1) in
         (s .0, s .1, s .2, (r .0, s .3, r .2))
 
-    from : (e : Entry) × List·Memᴰ e (p .entries) × (q ≡ e .path) × ((m : Mode) × List·Memᴰ m (e .modes) × List·Memᴰ m wanted) → someOf wanted (modesAmong (p .entries) q) ≡ true
+    from : (e : PathEntry) × List·Memᴰ e (p .entries) × (q ≡ e .path) × ((m : Mode) × List·Memᴰ m (e .modes) × List·Memᴰ m wanted) → someOf wanted (modesAmong (p .entries) q) ≡ true
     from (e, i, z, (m, j, w)) = in-some wanted (modesAmong (p .entries) q) m (line-among (p .entries) q m (e, i, z, j)) w

@@ -11,7 +11,7 @@ use lib.ListN.{length, drop, length-append}
 use borrow.Author.Tests.{leb-true}
 use Rattle.lists.proofs.Bools.{and-0, and-1, clash}
 use Rattle.lists.proofs.Places.{some-inj}
-use Rattle.profiles.specs.Profiles.{Entry, Profile, entryLine, modesText, modesStart, modesEnd, pathGood, entryGood}
+use Rattle.profiles.specs.Profiles.{PathEntry, Profile, entryLine, modesText, modesStart, modesEnd, pathGood, entryGood}
 use Rattle.profiles.specs.Grammar.{Grammar}
 use Rattle.profiles.specs.Reading.{Line, opens, enters, closes, lineText, lineGood, lineIn, linesIn, entryLines, linesOf, readingOf}
 use Rattle.profiles.specs.Scanning.{modeBits, lineScan, lineAt}
@@ -20,13 +20,13 @@ use Rattle.profiles.specs.Texts.{textLimit, profiledOnce, readsWell, textGood}
 use Rattle.profiles.specs.declared.ScannedLine.{ScannedLine}
 use Rattle.profiles.specs.declared.NamedPath.{NamedPath}
 use Rattle.profiles.proofs.Theorems.{reads-exactly}
-use Rattle.profiles.proofs.LineLaws.{line-good}
+use Rattle.profiles.proofs.ProfileLines.{line-good}
 use Rattle.profiles.proofs.LineWordLaws.{Small, small-line, word-back}
 use Rattle.profiles.proofs.Walks.{Walk, walk-start, walk-line, walk-end, LineHere, scanned, profile-at, entry-at}
 use Rattle.confinement.specs.Confinement.{namesOf}
 use Rattle.confinement.specs.Images.{readProfiles, profilesIn}
 use Rattle.confinement.specs.Tables.{pathAt}
-use Rattle.confinement.proofs.BitLaws.{no-bit}
+use Rattle.confinement.proofs.ModeBits.{no-bit}
 
 -- ---- a walk with the lines that are left
 
@@ -95,7 +95,7 @@ lineNames (opens p ∷ ls) = p ∷ lineNames ls
 lineNames (enters e ∷ ls) = e .path ∷ lineNames ls
 lineNames (closes ∷ ls) = lineNames ls
 
-entry-names : (es : List Entry) (ls : List Line) → lineNames (entryLines es ls) ≡ map (λ e. e .path) es ++ lineNames ls
+entry-names : (es : List PathEntry) (ls : List Line) → lineNames (entryLines es ls) ≡ map (λ e. e .path) es ++ lineNames ls
 unfolding lineNames entryLines
 entry-names [] ls = refl
 entry-names (e ∷ es) ls = ap (λ (x : List (List ℕ)). e .path ∷ x) (entry-names es ls)
@@ -109,7 +109,7 @@ names-of (p ∷ ps) =
 
 -- ---- the profiles so far, and the lines behind them
 
-unfoldable pub entered : List Profile → Entry → List Profile
+unfoldable pub entered : List Profile → PathEntry → List Profile
 entered [] e = []
 entered (p ∷ []) e = record { path = p .path; entries = p .entries ++ (e ∷ []) } ∷ []
 entered (p ∷ q ∷ ps) e = p ∷ entered (q ∷ ps) e
@@ -123,23 +123,23 @@ resumed ps (opens p ∷ ls) = resumed (ps ++ (opened p ∷ [])) ls
 resumed ps (enters e ∷ ls) = resumed (entered ps e) ls
 resumed ps (closes ∷ ls) = resumed ps ls
 
-abbrev pub withEntry : Profile → Entry → Profile
+abbrev pub withEntry : Profile → PathEntry → Profile
 withEntry p e = record { path = p .path; entries = p .entries ++ (e ∷ []) }
 
-entered-last : (ps : List Profile) (p : Profile) (e : Entry) → entered (ps ++ (p ∷ [])) e ≡ ps ++ (withEntry p e ∷ [])
+entered-last : (ps : List Profile) (p : Profile) (e : PathEntry) → entered (ps ++ (p ∷ [])) e ≡ ps ++ (withEntry p e ∷ [])
 unfolding entered
 entered-last [] p e = refl
 entered-last (q ∷ []) p e = refl
 entered-last (q ∷ r ∷ ps) p e = ap (λ (x : List Profile). q ∷ x) (entered-last (r ∷ ps) p e)
 
-resumed-entries : (ps : List Profile) (p : List ℕ) (es fs : List Entry) (ls : List Line)
+resumed-entries : (ps : List Profile) (p : List ℕ) (es fs : List PathEntry) (ls : List Line)
     → resumed (ps ++ (record { path = p; entries = es } ∷ [])) (entryLines fs ls) ≡ resumed (ps ++ (record { path = p; entries = es ++ fs } ∷ [])) ls
 unfolding resumed entryLines
-resumed-entries ps p es [] ls = ap (λ (x : List Entry). resumed (ps ++ (record { path = p; entries = x } ∷ [])) ls) (sym (append-nil es))
+resumed-entries ps p es [] ls = ap (λ (x : List PathEntry). resumed (ps ++ (record { path = p; entries = x } ∷ [])) ls) (sym (append-nil es))
 resumed-entries ps p es (f ∷ fs) ls =
     ap (λ (x : List Profile). resumed x (entryLines fs ls)) (entered-last ps (record { path = p; entries = es }) f)
     ∙ resumed-entries ps p (es ++ (f ∷ [])) fs ls
-    ∙ ap (λ (x : List Entry). resumed (ps ++ (record { path = p; entries = x } ∷ [])) ls) (append-assoc es (f ∷ []) fs)
+    ∙ ap (λ (x : List PathEntry). resumed (ps ++ (record { path = p; entries = x } ∷ [])) ls) (append-assoc es (f ∷ []) fs)
 
 resumed-lines : (ps qs : List Profile) → resumed ps (linesOf qs) ≡ ps ++ qs
 unfolding resumed linesOf
@@ -152,7 +152,7 @@ resumed-lines ps (q ∷ qs) =
 pub resumed-whole : (ps : List Profile) → resumed [] (linesOf ps) ≡ ps
 resumed-whole ps = resumed-lines [] ps
 
-pub entered-length : (ps : List Profile) (e : Entry) → length (entered ps e) ≡ length ps
+pub entered-length : (ps : List Profile) (e : PathEntry) → length (entered ps e) ≡ length ps
 unfolding entered
 entered-length [] e = refl
 entered-length (p ∷ []) e = refl
@@ -190,7 +190,7 @@ naming-resumed ps (closes ∷ ls) = naming-resumed ps ls
 opens-same : {p q : List ℕ} → opens p ≡ opens q → p ≡ q
 opens-same e = cc
 
-enters-same : {d e : Entry} → enters d ≡ enters e → d ≡ e
+enters-same : {d e : PathEntry} → enters d ≡ enters e → d ≡ e
 enters-same e = cc
 
 -- a path with these modes stands where a number says
@@ -203,13 +203,13 @@ pub record Tells (t : List ℕ) (s : NamedPath) (path : List ℕ) (bits : ℕ) :
 pub data Told (t : List ℕ) : List ℕ → List Line → Type 0 where
   told-none : Told t [] []
   told-profile : {w : ℕ} {ws : List ℕ} {p : List ℕ} {ls : List Line} → Tells t (namedPath w) p 0 → Told t ws ls → Told t (w ∷ ws) (opens p ∷ ls)
-  told-entry : {w : ℕ} {ws : List ℕ} {e : Entry} {ls : List Line} → Tells t (namedPath w) (e .path) (modeBits (e .modes)) → (modeBits (e .modes) ≡ 0 → ⊥) → Told t ws ls
+  told-entry : {w : ℕ} {ws : List ℕ} {e : PathEntry} {ls : List Line} → Tells t (namedPath w) (e .path) (modeBits (e .modes)) → (modeBits (e .modes) ≡ 0 → ⊥) → Told t ws ls
       → Told t (w ∷ ws) (enters e ∷ ls)
 
 tells : (t : List ℕ) (s : ScannedLine) → Small s → (path : List ℕ) → pathAt t (s .path) (s .length) ≡ path → s .path + s .length ≤ length t → Tells t (namedPath (lineWord s)) path (s .modes)
 tells t s h path e l = subst (λ (x : NamedPath). Tells t x path (s .modes)) (sym (word-back s h)) (record { text = e; fits = l; modes = refl })
 
-entry-long : (e : Entry) → length (e .path) ≤ length (lineText (enters e))
+entry-long : (e : PathEntry) → length (e .path) ≤ length (lineText (enters e))
 unfolding lineText entryLine
 entry-long e = omega (arith, length-append (e .path) (modesStart ++ (modesText (e .modes) ++ modesEnd)))
 
@@ -222,16 +222,16 @@ module _ (t : List ℕ) (short : length t ≤ textLimit) where
       let o : opens (x .path) ≡ opens p = some-inj (sym (x .reads) ∙ f .reads) in
       tells t (lineScan at (opens p)) (small-line t at (f .inside) short (lineScan at (opens p)) q) p (x .text ∙ opens-same o) (omega (arith, x .room, x .ahead))
 
-  tells-entry : (at : ℕ) (e : Entry) (ls : List Line) → Front t at (enters e) ls → Tells t (namedPath (lineWord (lineScan at (enters e)))) (e .path) (modeBits (e .modes))
+  tells-entry : (at : ℕ) (e : PathEntry) (ls : List Line) → Front t at (enters e) ls → Tells t (namedPath (lineWord (lineScan at (enters e)))) (e .path) (modeBits (e .modes))
   unfolding lineScan
   tells-entry at e ls f =
       let q : lineScan at (enters e) ≡ lineAt t at = sym (scanned t at (enters e) (f .reads)) in
       let x = entry-at t at (omega (arith, f .inside)) (lineScan at (enters e)) q refl in
       let o : enters (x .entry) ≡ enters e = some-inj (sym (x .reads) ∙ f .reads) in
-      tells t (lineScan at (enters e)) (small-line t at (f .inside) short (lineScan at (enters e)) q) (e .path) (x .text ∙ ap (λ (y : Entry). y .path) (enters-same o))
+      tells t (lineScan at (enters e)) (small-line t at (f .inside) short (lineScan at (enters e)) q) (e .path) (x .text ∙ ap (λ (y : PathEntry). y .path) (enters-same o))
       (omega (arith, x .start, x .size, x .next, x .ahead, entry-long (x .entry)))
 
-  entry-some : (at : ℕ) (e : Entry) (ls : List Line) → Front t at (enters e) ls → modeBits (e .modes) ≡ 0 → ⊥
+  entry-some : (at : ℕ) (e : PathEntry) (ls : List Line) → Front t at (enters e) ls → modeBits (e .modes) ≡ 0 → ⊥
   unfolding lineGood entryGood
   entry-some at e ls f = no-bit (e .modes) (and-1 (pathGood (e .path)) (line-good (drop at t) (enters e) (f .reads)))
 
@@ -266,7 +266,7 @@ pub record Opens (t ws : List ℕ) (ls : List Line) (s : NamedPath) : Type 0 whe
   pub tells : Tells t s path 0
 
 pub record Enters (t ws : List ℕ) (ls : List Line) (s : NamedPath) : Type 0 where
-  pub entry : Entry
+  pub entry : PathEntry
   pub rest : List Line
   pub lines : ls ≡ enters entry ∷ rest
   pub told : Told t ws rest

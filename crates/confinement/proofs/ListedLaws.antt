@@ -17,7 +17,7 @@ use Rattle.rule_words.proofs.WordLaws.{words-nine, bounded-words}
 use Rattle.image.specs.Limits.{noOwner}
 use Rattle.image.specs.Policy.{unrestrictedRule}
 use Rattle.normaliser.specs.Writer.{unowned, formWidth, formRow}
-use Rattle.normaliser.proofs.FormLaws.{row-put}
+use Rattle.normaliser.proofs.RuleForms.{row-put}
 use Rattle.confinement.specs.Confinement.{orElse}
 use Rattle.confinement.specs.Tables.{columnAt, ifAny, permitFrom, runFrom, Listed, FormPut, ruleFrom}
 

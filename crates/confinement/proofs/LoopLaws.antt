@@ -11,8 +11,8 @@ use lib.ListN.{length, getD, take, drop, set, length-take, length-set, drop-of-l
 use lib.Seq.{drop-cons, take-suc-set}
 use Rattle.rules.specs.Answers.{dataWidth}
 use Rattle.confinement.specs.Tables.{meets, fileBits, rowAtoms, rowMixture, listFrom, columnAt, chosenBy, chosenAt, Listed}
-use Rattle.confinement.proofs.BitLaws.{or-assoc}
-use Rattle.confinement.proofs.TableLaws.{list-snoc}
+use Rattle.confinement.proofs.ModeBits.{or-assoc}
+use Rattle.confinement.proofs.ModeTables.{list-snoc}
 
 -- ---- a run mixture, path by path
 

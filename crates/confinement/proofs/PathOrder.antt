@@ -16,7 +16,7 @@ use Rattle.lists.proofs.Known.{known-more, known-last, known-every, position-lt
 use Rattle.profiles.specs.Profiles.{Profile}
 use Rattle.confinement.specs.Confinement.{namesOf, withPath, withPaths, pathsOf}
 use Rattle.confinement.specs.Sentences.{Names}
-use Rattle.confinement.proofs.PathLaws.{path-kept, path-added, position-new}
+use Rattle.confinement.proofs.PathsNamed.{path-kept, path-added, position-new}
 
 -- ---- the paths t of the names us
 

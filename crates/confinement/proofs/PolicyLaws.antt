@@ -23,7 +23,7 @@ use Rattle.image.specs.Policy.{unrestrictedRule, ownerGood, named, containerGoo
 use Rattle.profiles.specs.Profiles.{Mode, Profile}
 use Rattle.confinement.specs.Confinement.{pathsOf, someOf, reading, executing, writing, unconfined, inheriting, confined, modesOn, fileAtoms, atomsFrom, runMixture, programsWith, profilesAt, orElse, ifSome, permitMixtures, runMixtures, rulesFrom, rulesOf, filesFrom, initialProcess, profilePolicy}
 use Rattle.confinement.specs.Images.{limitsGood}
-use Rattle.confinement.proofs.PathLaws.{profiles-known}
+use Rattle.confinement.proofs.PathsNamed.{profiles-known}
 
 -- ---- mixtures have 64 atoms
 

@@ -16,7 +16,7 @@ use Rattle.fields.specs.Bytes.{Bytes}
 use Rattle.image.specs.Limits.{fileKind, processKind, noAtom, unrestrictedNumber, noOwner}
 use Rattle.image.specs.Policy.{unrestrictedRule, ruleAt, Sound}
 use Rattle.image.specs.Image.{policyIn, checkOf}
-use Rattle.image.specs.Normal.{Place, normalAt, placeOf, meaning, Owned, owned, ownersAt, policyOf, normalPolicy, encode, normalImage}
+use Rattle.image.specs.Normal.{Place, processPlace, normalAt, placeOf, meaning, Owned, owned, ownersAt, policyOf, normalPolicy, encode, normalImage}
 use Rattle.image.proofs.Encode.{read-encode, encode-bytes}
 use Rattle.image.proofs.WrittenMeaning.{normal-unrestricted}
 use Rattle.image.proofs.WrittenOwners.{Ownable, owned-ownable, policy-sound, policy-owns}
@@ -33,9 +33,6 @@ abbrev pub filePlaces : List (List ℕ) → List Profile → ℕ → List (List 
 filePlaces ns ps k [] = []
 filePlaces ns ps k (q ∷ qs) =
     record { kind = fileKind; atom = k; permit = normal (permitMixtures ns ps k q); run = normal (runMixtures ns ps q) } ∷ filePlaces ns ps (suc k) qs
-
-abbrev pub processPlace : Place
-processPlace = record { kind = processKind; atom = noAtom; permit = unrestrictedRule; run = unrestrictedRule }
 
 -- a rule with its number
 rule-at : (rules : List (List ℕ)) (n i : ℕ) (r : List ℕ) → n + i < unrestrictedNumber → getD (drop n rules) i [] ≡ normal r → normalAt rules (n + i) ≡ normal r

@@ -21,18 +21,18 @@ use Rattle.rules.proofs.RuleLaws.{covers-normal}
 use Rattle.rules.proofs.MeetAll.{normal-one}
 use Rattle.image.specs.Limits.{fileKind}
 use Rattle.image.specs.Policy.{unrestrictedRule}
-use Rattle.image.specs.Normal.{Place}
+use Rattle.image.specs.Normal.{Place, processPlace}
 use Rattle.image.proofs.WrittenMeaning.{normal-unrestricted}
 use Rattle.profiles.specs.Profiles.{Mode, Profile}
 use Rattle.profiles.specs.Texts.{noRepeat, profiledOnce}
 use Rattle.confinement.specs.Confinement.{pathsOf, someOf, writing, unconfined, inheriting, confined, modesOn, runMixture, programsWith, profilesAt, orElse, ifSome, permitMixtures, runMixtures, rulesFrom, rulesOf}
 use Rattle.confinement.specs.Images.{limitsGood}
 use Rattle.confinement.specs.Sentences.{MayHold, SomeWith, NoneWith, Unprofiled}
-use Rattle.confinement.proofs.PathLaws.{Distinct, profiles-known, paths-distinct}
+use Rattle.confinement.proofs.PathsNamed.{Distinct, profiles-known, paths-distinct}
 use Rattle.confinement.proofs.PathOrder.{member-known}
 use Rattle.confinement.proofs.PolicyLaws.{few-paths}
-use Rattle.confinement.proofs.ProfileLaws.{filePlaces, processPlace}
-use Rattle.confinement.proofs.MixtureLaws.{run-data, run-running, run-none}
+use Rattle.confinement.proofs.ProfileLaws.{filePlaces}
+use Rattle.confinement.proofs.RunMixtures.{run-data, run-running, run-none}
 
 -- ---- programs that are chosen
 

@@ -16,9 +16,9 @@ use Rattle.image.specs.Policy.{Container}
 use Rattle.profiles.specs.Profiles.{Profile}
 use Rattle.confinement.specs.Confinement.{pathsOf, runMixture, permitMixtures, runMixtures, rulesFrom, rulesOf, filesFrom, initialProcess, profilePolicy}
 use Rattle.confinement.specs.Tables.{noProfile, mixtures, columnAt, ruleFrom, formsFrom, tablePolicy, Tabulated}
-use Rattle.confinement.proofs.PathLaws.{profiles-known, paths-distinct, number-tells}
-use Rattle.confinement.proofs.TableLaws.{bitsOn, permit-from, run-from, table-runs, table-column, table-own}
-use Rattle.confinement.proofs.FormLaws.{files-same, forms-length}
+use Rattle.confinement.proofs.PathsNamed.{profiles-known, paths-distinct, number-tells}
+use Rattle.confinement.proofs.ModeTables.{bitsOn, permit-from, run-from, table-runs, table-column, table-own}
+use Rattle.confinement.proofs.PathRuleRows.{files-same, forms-length}
 
 -- ---- rules by turns
 

@@ -16,29 +16,29 @@ use Rattle.fields.specs.Bytes.{Bytes}
 use Rattle.image.specs.Limits.{fileKind, noOwner, headerSize, outputBound}
 use Rattle.image.specs.Policy.{unrestrictedRule, Sound}
 use Rattle.image.specs.Image.{policyIn, checkOf}
-use Rattle.image.specs.Normal.{Meaning, meaning, ownersAt, normalPolicy, normalImage}
+use Rattle.image.specs.Normal.{Meaning, processPlace, meaning, ownersAt, normalPolicy, normalImage}
 use Rattle.lists.specs.Lists.{every, elem, known, position}
 use Rattle.lists.proofs.Bools.{and-in}
 use Rattle.lists.proofs.Every.{every-elem}
-use Rattle.lists.specs.Conditions.{Condition, firstFailed, numbersOf, numberAt, numbersGood}
+use Rattle.lists.specs.Conditions.{Condition, firstFailed, numbersOf, numberAt, numbersDistinct}
 use Rattle.lists.proofs.Conditions.{given-exactly, given-none, given-among}
 use Rattle.answers.specs.Refusals.{lentLength, profileText, profileLimit}
-use Rattle.normaliser.proofs.AnswerLaws.{through, refused-answer, answer-number, answer-length, answer-front}
+use Rattle.normaliser.proofs.WrittenAnswers.{through, refused-answer, answer-number, answer-length, answer-front}
 use Rattle.normaliser.proofs.WriterLaws.{normal-long, normal-short}
-use Rattle.profiles.specs.Profiles.{Mode, Entry, Profile}
+use Rattle.profiles.specs.Profiles.{Mode, PathEntry, Profile}
 use Rattle.profiles.specs.Texts.{Differ, profiledOnce, textGood}
 use Rattle.confinement.specs.Confinement.{namesOf, pathsOf, someOf, reading, executing, writing, unconfined, inheriting, confined, modesOn, runMixture, rulesOf, profilePolicy}
 use Rattle.confinement.specs.Images.{profilesIn, limitsGood, profileConditions, profileImage, profileAnswer, profileEffect}
 use Rattle.confinement.specs.Sentences.{Names, MayHold, SomeWith, NoneWith, Unprofiled}
 use Rattle.confinement.proofs.PolicyLaws as policy
 use Rattle.confinement.proofs.ProfileLaws as profile
-use Rattle.confinement.proofs.MixtureLaws as mixture
+use Rattle.confinement.proofs.RunMixtures as mixture
 use Rattle.confinement.proofs.LineWalks as walks
 use Rattle.confinement.proofs.PathOrder as order
 use Rattle.confinement.proofs.LineModes as lines
 use Rattle.confinement.proofs.RuleWords as words
-use Rattle.confinement.proofs.PathLaws.{profiles-known, paths-distinct}
-use Rattle.confinement.proofs.ProfileLaws.{filePlaces, processPlace}
+use Rattle.confinement.proofs.PathsNamed.{profiles-known, paths-distinct}
+use Rattle.confinement.proofs.ProfileLaws.{filePlaces}
 
 -- ---- the answer
 
@@ -48,7 +48,7 @@ module _ (text out : List ℕ) where
 
   long : firstFailed cs ≡ 0 → headerSize ≤ length (profileImage text)
   unfolding profileImage
-  long e = normal-long (profilePolicy (profilesIn text)) (policy.profile-sound (profilesIn text) (unfold profileConditions numbersGood numbersOf elem in (given-none cs refl .0 e .1 .1)))
+  long e = normal-long (profilePolicy (profilesIn text)) (policy.profile-sound (profilesIn text) (unfold profileConditions numbersDistinct numbersOf elem in (given-none cs refl .0 e .1 .1)))
 
   derive-number : (k : ℕ) → 0 < k → k < headerSize → (profileAnswer text out ≡ k) ↔ (firstFailed cs ≡ k)
   unfolding profileAnswer
@@ -62,24 +62,24 @@ module _ (text out : List ℕ) where
 
   -- 9 exactly if the output is too short
   pub derive-9 : (profileAnswer text out ≡ lentLength) ↔ (leb outputBound (length out) ≡ false)
-  unfolding profileConditions numbersGood numbersOf numberAt elem
+  unfolding profileConditions numbersDistinct numbersOf numberAt elem
   derive-9 = through (derive-number lentLength (omega arith) (omega arith)) (given-exactly cs refl 0 (omega arith))
 
   -- 16 exactly if it is not, and the text is too long, breaks the grammar or profiles a path twice
   pub derive-16 : (profileAnswer text out ≡ profileText) ↔ ((leb outputBound (length out) ≡ true) × (textGood text ≡ false))
-  unfolding profileConditions numbersGood numbersOf numberAt elem
+  unfolding profileConditions numbersDistinct numbersOf numberAt elem
   derive-16 = through (derive-number profileText (omega arith) (omega arith)) (given-exactly cs refl 1 (omega arith))
 
   -- 17 exactly if neither is so, and the text has over 32 paths or a rule over 8 mixtures in normal form
   pub derive-17 : (profileAnswer text out ≡ profileLimit)
       ↔ ((leb outputBound (length out) ≡ true) × ((textGood text ≡ true) × (limitsGood (profilesIn text) ≡ false)))
-  unfolding profileConditions numbersGood numbersOf numberAt elem
+  unfolding profileConditions numbersDistinct numbersOf numberAt elem
   derive-17 = through (derive-number profileLimit (omega arith) (omega arith)) (given-exactly cs refl 2 (omega arith))
 
   -- nothing is refused exactly if none of these is so; no other number is given
   pub derive-accepted : (firstFailed cs ≡ 0)
       ↔ ((leb outputBound (length out) ≡ true) × ((textGood text ≡ true) × (limitsGood (profilesIn text) ≡ true)))
-  unfolding profileConditions numbersGood numbersOf elem
+  unfolding profileConditions numbersDistinct numbersOf elem
   derive-accepted = given-none cs refl
 
   pub derive-among : elem (firstFailed cs) (0 ∷ lentLength ∷ profileText ∷ profileLimit ∷ []) ≡ true
@@ -169,7 +169,7 @@ module _ (ps : List Profile) (good : limitsGood ps ≡ true) where
 
 -- "a path's lines within a profile add up": one of the wanted modes exactly if one of its lines of that path has one of them
 pub lines-add-up : (p : Profile) (wanted : List Mode) (q : List ℕ) → (someOf wanted (modesOn p q) ≡ true)
-    ↔ ((e : Entry) × List·Memᴰ e (p .entries) × (q ≡ e .path) × ((m : Mode) × List·Memᴰ m (e .modes) × List·Memᴰ m wanted))
+    ↔ ((e : PathEntry) × List·Memᴰ e (p .entries) × (q ≡ e .path) × ((m : Mode) × List·Memᴰ m (e .modes) × List·Memᴰ m wanted))
 lines-add-up = lines.lines-tell
 
 -- ---- what a run mixture says

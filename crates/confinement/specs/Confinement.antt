@@ -9,7 +9,7 @@ use Rattle.rules.specs.Rules.{normal}
 use Rattle.rules.specs.Answers.{dataWidth}
 use Rattle.image.specs.Limits.{fileKind, processKind, noAtom, unrestrictedNumber, noOwner}
 use Rattle.image.specs.Policy.{Container, Policy, unrestrictedRule}
-use Rattle.profiles.specs.Profiles.{Mode, mode-r, mode-w, mode-a, mode-m, mode-ix, mode-px, mode-Px, mode-ux, mode-Ux, Entry, Profile, modeText}
+use Rattle.profiles.specs.Profiles.{Mode, mode-r, mode-w, mode-a, mode-m, mode-ix, mode-px, mode-Px, mode-ux, mode-Ux, PathEntry, Profile, modeText}
 
 -- ---- paths
 
@@ -65,7 +65,7 @@ unfoldable pub confined : List Mode
 confined = mode-px ∷ mode-Px ∷ []
 
 -- "a path's lines within a profile add up": the modes of all lines that name it
-unfoldable pub modesAmong : List Entry → List ℕ → List Mode
+unfoldable pub modesAmong : List PathEntry → List ℕ → List Mode
 modesAmong [] q = []
 modesAmong (e ∷ es) q = cond (sameList q (e .path)) (e .modes ++ modesAmong es q) (modesAmong es q)
 

@@ -21,7 +21,7 @@ abbrev pub tablePaths : List ℕ → List ℕ → List ℕ → ℕ → List (Lis
 tablePaths t starts sizes n = pathsFrom t starts sizes 0 n
 
 -- the first n places are of paths in the text, none of which stands twice
-pub record Places (t starts sizes : List ℕ) (n : ℕ) : Type 0 where
+pub record PathSpans (t starts sizes : List ℕ) (n : ℕ) : Type 0 where
   pub few : n ≤ dataWidth
   pub startsLong : length starts ≡ dataWidth
   pub sizesLong : length sizes ≡ dataWidth
@@ -39,7 +39,7 @@ pub record Hinted (t starts sizes : List ℕ) (n hint : ℕ) (q : List ℕ) (r :
 -- a path's number in a table of n paths, and how many these are with it: the next number if it is new, 32 if there is no room
 pub record Placed (t starts₀ sizes₀ : List ℕ) (n : ℕ) (q starts sizes hints : List ℕ) (number count : ℕ) : Type 0 where
   pub full : dataWidth ≤ number → dataWidth < length (withPath (tablePaths t starts₀ sizes₀ n) q)
-  pub places : number < dataWidth → Places t starts sizes count
+  pub spans : number < dataWidth → PathSpans t starts sizes count
   pub paths : number < dataWidth → tablePaths t starts sizes count ≡ withPath (tablePaths t starts₀ sizes₀ n) q
   pub found : number < dataWidth → number ≡ position q (withPath (tablePaths t starts₀ sizes₀ n) q)
   pub startsLong : length starts ≡ dataWidth

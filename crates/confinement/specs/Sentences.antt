@@ -6,12 +6,12 @@ use mathlib.Core.Bool.{true, false}
 use mathlib.Core.List.{List, [], List·Memᴰ}
 use lib.ListN.{length, getD}
 use Rattle.rules.specs.Answers.{dataWidth}
-use Rattle.profiles.specs.Profiles.{Mode, Entry, Profile}
+use Rattle.profiles.specs.Profiles.{Mode, PathEntry, Profile}
 use Rattle.confinement.specs.Confinement.{someOf, reading, executing, modesOn}
 
 -- a profile names its own path and the path of each of its lines
 abbrev pub Names : Profile → List ℕ → Type 0
-Names p q = (q ≡ p .path) ⊎ ((e : Entry) × List·Memᴰ e (p .entries) × (q ≡ e .path))
+Names p q = (q ≡ p .path) ⊎ ((e : PathEntry) × List·Memᴰ e (p .entries) × (q ≡ e .path))
 
 -- the atom i is in the run mixture: it is an atom of "files it may read (r, m)", or its own running atom or that of one of
 -- "those it may execute (any x mode)"

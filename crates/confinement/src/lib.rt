@@ -259,7 +259,14 @@ fn put_files(out: &mut [u8], n: usize) -> usize
     let mut at = 0;
     let mut k = 0;
     while k < n {
-        at = normaliser::put_container(out, at, image::FILE_KIND as usize, k, 2 * k, 2 * k + 1);
+        at = normaliser::put_container_record(
+            out,
+            at,
+            image::FILE_KIND as usize,
+            k,
+            2 * k,
+            2 * k + 1,
+        );
         k += 1;
     }
     at
@@ -287,7 +294,7 @@ fn write_tables(own: &[usize], modes: &[u64], n: usize, m: usize, out: &mut [u8]
     }
     let mut containers = [0u8; CONTAINER_BYTES];
     let process = put_files(&mut containers, n);
-    let end = normaliser::put_container(
+    let end = normaliser::put_container_record(
         &mut containers,
         process,
         image::PROCESS_KIND as usize,

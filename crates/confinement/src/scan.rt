@@ -9,7 +9,7 @@ ghost use Rattle.rules.specs.Answers.{dataWidth};
 ghost use Rattle.profiles.specs.Texts.{textGood};
 ghost use Rattle.profiles.specs.LineWords.{textWords};
 ghost use Rattle.confinement.specs.Tables.{pathAt, cellCount};
-ghost use Rattle.confinement.specs.Scans.{tablePaths, Places, hintCount, Hinted, Placed, Scanned};
+ghost use Rattle.confinement.specs.Scans.{tablePaths, PathSpans, hintCount, Hinted, Placed, Scanned};
 
 // As many paths as there are data atoms.
 const PATHS: usize = 32;
@@ -54,7 +54,7 @@ fn find(
     start: usize,
     size: usize,
 ) -> usize
-    requires { ⌜ Places (now text) (now starts) (now sizes) n × (start + size ≤ length (now text)) ⌝ }
+    requires { ⌜ PathSpans (now text) (now starts) (now sizes) n × (start + size ≤ length (now text)) ⌝ }
     ensures { λ r. ⌜ r ≡ position (pathAt (now (text .entry)) start size) (tablePaths (now (text .entry)) (now (starts .entry)) (now (sizes .entry)) n) ⌝ }
 {
     let mut j = 0;
@@ -98,7 +98,7 @@ fn is_hinted(
     start: usize,
     size: usize,
 ) -> bool
-    requires { ⌜ Places (now text) (now starts) (now sizes) n × (start + size ≤ length (now text)) ⌝ }
+    requires { ⌜ PathSpans (now text) (now starts) (now sizes) n × (start + size ≤ length (now text)) ⌝ }
     ensures { λ r. ⌜ Hinted (now (text .entry)) (now (starts .entry)) (now (sizes .entry)) n hint (pathAt (now (text .entry)) start size) r ⌝ }
 {
     if n <= hint {
@@ -117,7 +117,7 @@ fn number_of(
     start: usize,
     size: usize,
 ) -> usize
-    requires { ⌜ Places (now text) (now starts) (now sizes) n × (start + size ≤ length (now text)) ⌝ }
+    requires { ⌜ PathSpans (now text) (now starts) (now sizes) n × (start + size ≤ length (now text)) ⌝ }
     ensures { λ r. ⌜ r ≡ position (pathAt (now (text .entry)) start size) (tablePaths (now (text .entry)) (now (starts .entry)) (now (sizes .entry)) n) ⌝ }
 {
     if is_hinted(text, starts, sizes, n, hint, start, size) {
@@ -142,7 +142,7 @@ fn place(
     start: usize,
     size: usize,
 ) -> Number
-    requires { ⌜ Places (now text) (now starts) (now sizes) n × (start + size ≤ length (now text)) × (length (now hints) ≡ hintCount) ⌝ }
+    requires { ⌜ PathSpans (now text) (now starts) (now sizes) n × (start + size ≤ length (now text)) × (length (now hints) ≡ hintCount) ⌝ }
     ensures { λ r. ⌜ Placed (now (text .entry)) (now (starts .entry)) (now (sizes .entry)) n (pathAt (now (text .entry)) start size) (now (starts .exit)) (now (sizes .exit)) (now (hints .exit)) (r .number) (r .count) ⌝ }
 {
     let h = hint_place(text, start, size);

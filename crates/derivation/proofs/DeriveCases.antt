@@ -24,7 +24,7 @@ use Rattle.image.specs.Policy.{Container, Sound}
 use Rattle.image.specs.Normal.{containerBytes}
 use Rattle.normaliser.specs.Writer.{unowned, formWidth, formWords, policyAt, Tabled, Answered}
 use Rattle.normaliser.proofs.WriterLaws.{producer-tabled, producer-wrote, normal-short}
-use Rattle.normaliser.proofs.AnswerLaws.{refused-answer, refused-effect, wrote-answer}
+use Rattle.normaliser.proofs.WrittenAnswers.{refused-answer, refused-effect, wrote-answer}
 use Rattle.matrix.specs.Flows.{matrixGood}
 use Rattle.matrix.proofs.GoodLaws.{good-parts}
 use Rattle.derivation.specs.Derived.{subjectProcess, derivedPolicy, derivedImage, derivedConditions, derivedAnswer, derivedEffect}

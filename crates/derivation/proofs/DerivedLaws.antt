@@ -22,7 +22,7 @@ use Rattle.lists.proofs.Elem.{elem-here}
 use Rattle.rules.proofs.RuleLaws.{normal-among}
 use Rattle.image.specs.Policy.{Container, unrestrictedRule, ruleAt, ownerGood, named, containerGood, ruleGood, Sound}
 use Rattle.image.specs.Image.{policyIn, checkOf}
-use Rattle.image.specs.Normal.{Place, normalAt, placeOf, meaning, Owned, owned, ownersAt, policyOf, normalPolicy, encode, normalImage}
+use Rattle.image.specs.Normal.{Place, processPlace, normalAt, placeOf, meaning, Owned, owned, ownersAt, policyOf, normalPolicy, encode, normalImage}
 use Rattle.image.proofs.Encode.{read-encode}
 use Rattle.image.proofs.WrittenMeaning.{Encodable, meaning-encodable, normal-unrestricted}
 use Rattle.image.proofs.WrittenOwners.{owned-ownable, policy-sound, policy-owns}
@@ -106,12 +106,9 @@ map-at f k zero b l = absurd (omega arith)
 map-at f k (suc n) zero l = ap f (sym (add-zero k))
 map-at f k (suc n) (suc b) l = let e : suc k + b ≡ k + suc b = omega arith in map-at f (suc k) n b (omega arith) ∙ ap f e
 
--- what is stated of object b, and of a subject
+-- what is stated of object b
 abbrev pub filePlace : List ℕ → List ℕ → ℕ → Place
 filePlace reads writes b = record { kind = fileKind; atom = b; permit = normal (permitOf reads writes b); run = unrestrictedRule }
-
-abbrev pub processPlace : Place
-processPlace = record { kind = processKind; atom = noAtom; permit = unrestrictedRule; run = unrestrictedRule }
 
 -- nobody owns a rule
 pub derived-none : (reads writes : List ℕ) (objects : ℕ) → derivedPolicy reads writes objects .owners ≡ replicate (length (derivedPolicy reads writes objects .rules)) noOwner

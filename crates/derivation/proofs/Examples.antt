@@ -9,7 +9,7 @@ use Rattle.rules.specs.Rules.{distinct, heldIn, unheldIn, insert, sort, normal,
 use Rattle.fields.specs.Bytes.{bytesOf, numberIn, field}
 use Rattle.image.specs.Limits.{fileKind, processKind, noAtom, unrestrictedNumber, noOwner}
 use Rattle.image.specs.Policy.{Container, Policy, unrestrictedRule, ruleAt, ownerAt}
-use Rattle.image.specs.Image.{offset, size}
+use Rattle.image.specs.Image.{offset, sectionLength}
 use Rattle.image.specs.Normal.{normalAt, useAt, ownedPlace, owned, placeUses, uses, sameUse, freeUse, noted, numbered, numberOf, containerOf, writtenBy, writtenUses, policyOf, normalPolicy, containerBytes, spanBytes, spansOf, pair, header, framed, encode, normalImage}
 use Rattle.matrix.specs.Flows.{has}
 use Rattle.lists.specs.Counting.{countFrom}
@@ -62,6 +62,6 @@ pub image-offsets : map (offset image) (0 ∷ 1 ∷ 2 ∷ 3 ∷ []) ≡ 18 ∷ 6
 unfolding encode framed header pair containerBytes spanBytes spansOf bytesOf joined offset field numberIn
 image-offsets = ap (λ (i : List ℕ). map (offset i) (0 ∷ 1 ∷ 2 ∷ 3 ∷ [])) image-is
 
-pub image-sizes : map (size image) (0 ∷ 1 ∷ 2 ∷ 3 ∷ []) ≡ 42 ∷ 2 ∷ 24 ∷ 32 ∷ []
-unfolding encode framed header pair containerBytes spanBytes spansOf bytesOf joined size field numberIn
-image-sizes = ap (λ (i : List ℕ). map (size i) (0 ∷ 1 ∷ 2 ∷ 3 ∷ [])) image-is
+pub image-sizes : map (sectionLength image) (0 ∷ 1 ∷ 2 ∷ 3 ∷ []) ≡ 42 ∷ 2 ∷ 24 ∷ 32 ∷ []
+unfolding encode framed header pair containerBytes spanBytes spansOf bytesOf joined sectionLength field numberIn
+image-sizes = ap (λ (i : List ℕ). map (sectionLength i) (0 ∷ 1 ∷ 2 ∷ 3 ∷ [])) image-is

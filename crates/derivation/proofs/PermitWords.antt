@@ -28,11 +28,11 @@ use Rattle.rule_words.proofs.KeptWords.{kept-normal}
 use Rattle.image.specs.Limits.{noOwner}
 use Rattle.image.specs.Normal.{freeUse}
 use Rattle.normaliser.specs.Writer.{unowned, formWidth, formRow, normalUse, formWords}
-use Rattle.normaliser.proofs.FormLaws.{shortUse, row-long, row-put}
+use Rattle.normaliser.proofs.RuleForms.{shortUse, row-long, row-put}
 use Rattle.normaliser.proofs.WriterLaws.{words-length}
 use Rattle.matrix.specs.Limits.{subjectLimit, objectLimit}
 use Rattle.matrix.specs.Flows.{has}
-use Rattle.matrix.proofs.BitLaws.{has-is, has-not}
+use Rattle.matrix.proofs.RowBits.{has-is, has-not}
 use Rattle.lists.specs.Counting.{countFrom}
 use Rattle.lists.proofs.Counting.{count-length, count-at, every-count}
 use Rattle.derivation.specs.Derived.{writerMixtures, orAlone, permitOf}

@@ -14,10 +14,10 @@ use Rattle.image.specs.Policy.{unrestrictedRule, Sound}
 use Rattle.image.specs.Image.{policyIn, checkOf}
 use Rattle.image.specs.Normal.{meaning, ownersAt, normalPolicy, normalImage}
 use Rattle.lists.specs.Lists.{elem, every}
-use Rattle.lists.specs.Conditions.{Condition, firstFailed, numbersOf, numberAt, numbersGood}
+use Rattle.lists.specs.Conditions.{Condition, firstFailed, numbersOf, numberAt, numbersDistinct}
 use Rattle.lists.proofs.Conditions.{given-exactly, given-none, given-among}
 use Rattle.answers.specs.Refusals.{matrix, lentLength}
-use Rattle.normaliser.proofs.AnswerLaws.{through, refused-answer, answer-number, answer-front}
+use Rattle.normaliser.proofs.WrittenAnswers.{through, refused-answer, answer-number, answer-front}
 use Rattle.matrix.specs.Flows.{matrixGood}
 use Rattle.matrix.proofs.GoodLaws.{good-parts}
 use Rattle.lists.specs.Counting.{countFrom}
@@ -38,24 +38,24 @@ module _ (reads writes : List ℕ) (objects : ℕ) (out : List ℕ) where
       by (yes z) = answer-number (derivedImage reads writes objects) (derived.derived-long reads writes objects (good-parts reads writes objects (accepted z))) (firstFailed cs) k p l
         where
           accepted : firstFailed cs ≡ 0 → matrixGood reads writes objects ≡ true
-          accepted e = unfold derivedConditions numbersGood numbersOf elem in (given-none cs refl .0 e .1)
+          accepted e = unfold derivedConditions numbersDistinct numbersOf elem in (given-none cs refl .0 e .1)
       by (no d) =
           let e = refused-answer (firstFailed cs) (derivedImage reads writes objects) out d in
           ((λ h. sym e ∙ h), (λ h. e ∙ h))
 
   -- 9 exactly if the output is too short
   pub derive-9 : (derivedAnswer reads writes objects out ≡ lentLength) ↔ (leb outputBound (length out) ≡ false)
-  unfolding derivedConditions numbersGood numbersOf numberAt elem
+  unfolding derivedConditions numbersDistinct numbersOf numberAt elem
   derive-9 = through (derive-number lentLength (omega arith) (omega arith)) (given-exactly cs refl 0 (omega arith))
 
   -- 8 exactly if it is not, and the matrix is malformed
   pub derive-8 : (derivedAnswer reads writes objects out ≡ matrix) ↔ ((leb outputBound (length out) ≡ true) × (matrixGood reads writes objects ≡ false))
-  unfolding derivedConditions numbersGood numbersOf numberAt elem
+  unfolding derivedConditions numbersDistinct numbersOf numberAt elem
   derive-8 = through (derive-number matrix (omega arith) (omega arith)) (given-exactly cs refl 1 (omega arith))
 
   -- nothing is refused exactly if the output is long enough and the matrix is well formed; no other number is given
   pub derive-accepted : (firstFailed cs ≡ 0) ↔ ((leb outputBound (length out) ≡ true) × (matrixGood reads writes objects ≡ true))
-  unfolding derivedConditions numbersGood numbersOf elem
+  unfolding derivedConditions numbersDistinct numbersOf elem
   derive-accepted = given-none cs refl
 
   pub derive-among : elem (firstFailed cs) (0 ∷ lentLength ∷ matrix ∷ []) ≡ true

@@ -29,7 +29,7 @@ fn put_objects(out: &mut [u8], start: usize, n: usize) -> usize
     let mut at = start;
     let mut b = 0;
     while b < n {
-        at = normaliser::put_container(
+        at = normaliser::put_container_record(
             out,
             at,
             image::FILE_KIND as usize,
@@ -50,7 +50,7 @@ fn put_subjects(out: &mut [u8], start: usize, n: usize) -> usize
     let mut at = start;
     let mut s = 0;
     while s < n {
-        at = normaliser::put_container(
+        at = normaliser::put_container_record(
             out,
             at,
             image::PROCESS_KIND as usize,

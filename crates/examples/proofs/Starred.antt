@@ -10,7 +10,7 @@ use Rattle.rules.specs.Rules.{covers, distinct, heldIn, unheldIn, insert, sort,
 use Rattle.lists.specs.Lists.{elem, joined}
 use Rattle.rules.specs.Answers.{dataWidth, boundedOf}
 use Rattle.fields.specs.Bytes.{bytesOf}
-use Rattle.image.specs.Image.{offset, size}
+use Rattle.image.specs.Image.{offset, sectionLength}
 use Rattle.image.specs.Normal.{containerBytes, spanBytes, spansOf, pair, header, framed, encode}
 use Rattle.session.specs.Rows.{Row}
 use Rattle.session.specs.Session.{startOf}
@@ -20,7 +20,7 @@ use Rattle.records.specs.Codes.{readCode, writeCode, appendCode, execCode, fork
 use Rattle.records.specs.Records.{noUser}
 use Rattle.monitor.specs.Runs.{runAnswers}
 use Rattle.monitor.proofs.Examples.{recordOf, P, Q, R, checked-runs, exec-holding, exec-keeping}
-use Rattle.monitor.proofs.PaperListing.{image}
+use Rattle.monitor.proofs.PaperTrace.{image}
 use Rattle.matrix.specs.Verdicts.{matrixVerdict}
 use Rattle.lists.specs.Counting.{countFrom}
 use Rattle.derivation.specs.Derived.{permitOf, derivedImage}
@@ -78,7 +78,7 @@ pub record Starred : Type 0 where
   pub matrix-image : length (derivedImage reads writes 4) ≡ 118
   pub matrix-bytes : derivedImage reads writes 4 ≡ image
   pub matrix-offsets : map (offset (derivedImage reads writes 4)) (0 ∷ 1 ∷ 2 ∷ 3 ∷ []) ≡ 18 ∷ 60 ∷ 62 ∷ 86 ∷ []
-  pub matrix-sizes : map (size (derivedImage reads writes 4)) (0 ∷ 1 ∷ 2 ∷ 3 ∷ []) ≡ 42 ∷ 2 ∷ 24 ∷ 32 ∷ []
+  pub matrix-sizes : map (sectionLength (derivedImage reads writes 4)) (0 ∷ 1 ∷ 2 ∷ 3 ∷ []) ≡ 42 ∷ 2 ∷ 24 ∷ 32 ∷ []
 
 -- the derived image, byte by byte
 bytes : derivedImage reads writes 4 ≡ image

@@ -10,7 +10,7 @@ use Rattle.listing.specs.Lines.{leading}
 use Rattle.listing.specs.Buffer.{fieldLimit}
 use Rattle.explanations.specs.Lines.{stepFields}
 use Rattle.explanations.specs.Buffer.{partLimit}
-use Rattle.explanations.proofs.LineLaws.{no-steps, leading-steps, wrote-front}
+use Rattle.explanations.proofs.ExplanationLines.{no-steps, leading-steps, wrote-front}
 use Rattle.files.specs.Calls.{Handed, handed-none, handed-then, handed-as}
 
 -- ---- parts of a list

@@ -1,6 +1,6 @@
 -- The program's laws.
 pub mod HandLaws
-pub mod MixtureLaws
-pub mod AnswerLaws
-pub mod RecordLaws
-pub mod RunLaws
+pub mod LackedMixtures
+pub mod WhyAnswers
+pub mod ExplainedRecords
+pub mod WholeText

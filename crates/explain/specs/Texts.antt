@@ -18,7 +18,7 @@ use Rattle.witness.specs.Explains.{atomWitness, atomNumbers}
 use Rattle.certificate.specs.Origins.{lackedBy}
 use Rattle.certificate.specs.Whys.{answered, reasonIn}
 use Rattle.listing.specs.Lines.{policyLine}
-use Rattle.explanations.specs.Lines.{foundLine, ruleLine, wayLine, mixtureLines, totalLine}
+use Rattle.explanations.specs.Lines.{foundLine, ruleLine, wayLine, mixtureLines, explainedTotalLine}
 
 -- ---- the last record of a trace, which is answered by an alert or blocked
 
@@ -71,7 +71,7 @@ unfoldable pub answersTo : List ℕ → List ℕ → List Answer
 answersTo i t = runAnswers (startOf (policyIn i)) (traceRecords t)
 
 unfoldable pub traceText : List ℕ → List ℕ → List ℕ
-traceText i t = recordsText i t 0 (answersTo i t) ++ totalLine (length (answersTo i t)) (countOf isForbidden (answersTo i t))
+traceText i t = recordsText i t 0 (answersTo i t) ++ explainedTotalLine (length (answersTo i t)) (countOf isForbidden (answersTo i t))
 
 -- Each record that is answered by an alert or blocked is explained, in their order, and the last line counts; "a refused policy is shown as
 -- in the watch program".

@@ -277,7 +277,7 @@ fn show_record(
 }
 
 // One more, if the answer is explained.
-fn counted(explained: u64, answer: Answer) -> u64
+fn explained_with(explained: u64, answer: Answer) -> u64
     requires { ⌜ explained < recordLimit ⌝ }
     ensures { λ r. ⌜ r ≡ cond (isForbidden answer) (explained + 1) explained ⌝ }
 {
@@ -330,7 +330,7 @@ fn show_records(
                 explained: explained,
             };
         }
-        explained = counted(explained, answer);
+        explained = explained_with(explained, answer);
         records += 1;
     }
     Progress {

@@ -18,7 +18,7 @@ use Rattle.explanations.specs.Lines.{
   wayFields,
   wayLine,
   mixtureLines,
-  totalLine,
+  explainedTotalLine,
 }
 
 -- record number 2, whose receiver is 0; the fifth record, blocked
@@ -62,6 +62,6 @@ pub told-once : mixtureLines (λ m. m) (λ k. wayLine k k []) [] (1 ∷ 2 ∷ 1 
 unfolding mixtureLines lacksLine wayLine wayFields stepFields elem line hexadecimal digits decimal decimalIn digit ascii
 told-once = refl
 
-pub total-line : totalLine 15 7 ≡ ascii "total 15 explained 7\n"
-unfolding totalLine line decimal decimalIn digit ascii
+pub total-line : explainedTotalLine 15 7 ≡ ascii "total 15 explained 7\n"
+unfolding explainedTotalLine line decimal decimalIn digit ascii
 total-line = refl

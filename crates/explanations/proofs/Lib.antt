@@ -1,3 +1,3 @@
--- Examples has each line, computed from the definitions; LineLaws proves the lines, in parts and whole.
+-- Examples has each line, computed from the definitions; ExplanationLines proves the lines, in parts and whole.
 pub mod Examples
-pub mod LineLaws
+pub mod ExplanationLines

@@ -80,5 +80,5 @@ mixtureLines lacked way told (m ∷ ms) =
 -- ---- the last line
 
 -- `total RECORDS explained COUNT`
-unfoldable pub totalLine : ℕ → ℕ → List ℕ
-totalLine records explained = line (ascii "total") (decimal records ∷ ascii "explained" ∷ decimal explained ∷ [])
+unfoldable pub explainedTotalLine : ℕ → ℕ → List ℕ
+explainedTotalLine records explained = line (ascii "total") (decimal records ∷ ascii "explained" ∷ decimal explained ∷ [])

@@ -10,7 +10,7 @@ ghost use Rattle.fields.specs.Writing.{Wrote};
 ghost use Rattle.listing.specs.Text.{decimal};
 ghost use Rattle.listing.specs.Lines.{leading};
 ghost use Rattle.listing.specs.Buffer.{fieldLimit, lineLimit};
-ghost use Rattle.explanations.specs.Lines.{stepField, stepFields, foundLine, originWord, ruleFields, lacksLine, wayFields, totalLine};
+ghost use Rattle.explanations.specs.Lines.{stepField, stepFields, foundLine, originWord, ruleFields, lacksLine, wayFields, explainedTotalLine};
 ghost use Rattle.explanations.specs.Buffer.{opened, partLimit};
 use listing::NEWLINE;
 use listing::SPACE;
@@ -159,7 +159,7 @@ pub fn is_among(numbers: &[u64], n: u64) -> bool
 // The last line.
 pub fn put_total(out: &mut [u8], at: usize, records: u64, explained: u64) -> usize
     requires { ⌜ at + lineLimit ≤ length (now out) ⌝ }
-    ensures { λ r. ⌜ Wrote (totalLine records explained) (now (out .entry)) (now (out .exit)) at r ⌝ }
+    ensures { λ r. ⌜ Wrote (explainedTotalLine records explained) (now (out .entry)) (now (out .exit)) at r ⌝ }
 {
     let next = listing::put_named(out, at, b"total ", records, SPACE);
     listing::put_named(out, next, b"explained ", explained, NEWLINE)

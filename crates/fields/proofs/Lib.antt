@@ -1,7 +1,7 @@
 -- Laws that the other crates cite.
 pub mod FieldLaws
 pub mod ByteLaws
-pub mod RecordLaws
+pub mod SectionRecords
 pub mod WritingLaws
 pub mod RowWriting
-pub mod RowLaws
+pub mod WidthRows

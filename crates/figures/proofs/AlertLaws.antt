@@ -20,7 +20,7 @@ use Rattle.answers.proofs.Cases.{one, one-case, accepted-cases, alert-accepted,
 use Rattle.rules.specs.Rules.{covers, coverPlace}
 use Rattle.image.specs.Limits.{containerLimit}
 use Rattle.image.specs.Policy.{Policy}
-use Rattle.chains.specs.History.{Step, History, size, receiver}
+use Rattle.chains.specs.History.{Step, History, stepCount, receiver}
 use Rattle.chains.specs.Demand.{judged, extend, AcceptedAt, GivenAt, Demand3, BlockedExactly}
 use Rattle.chains.specs.Table.{entry}
 use Rattle.chains.proofs.GuardLaws.{writing-judged}
@@ -36,7 +36,7 @@ use Rattle.figures.specs.Positions.{ForbiddenAt, ForbiddenInto, BlockedA
 
 -- ---- the history
 
-pub history-size : (h : History) (s : List ℕ) (rs : List (List ℕ)) → size (historyBehind h rs (runAnswers s rs)) ≡ size h + countOf accepted (runAnswers s rs)
+pub history-size : (h : History) (s : List ℕ) (rs : List (List ℕ)) → stepCount (historyBehind h rs (runAnswers s rs)) ≡ stepCount h + countOf accepted (runAnswers s rs)
 unfolding historyBehind runAnswers countOf stepOn
 history-size h s [] = omega arith
 history-size h s (r ∷ rs) =
@@ -48,8 +48,8 @@ history-size h s (r ∷ rs) =
     unchanged (some t) = refl
 
     by : (b : Bool) → accepted (stepAnswer s r) ≡ b
-        → size (extend h (stepOf r) b) + countOf accepted (runAnswers (stepEffect s r) rs)
-        ≡ size h + cond b (suc (countOf accepted (runAnswers (stepEffect s r) rs))) (countOf accepted (runAnswers (stepEffect s r) rs))
+        → stepCount (extend h (stepOf r) b) + countOf accepted (runAnswers (stepEffect s r) rs)
+        ≡ stepCount h + cond b (suc (countOf accepted (runAnswers (stepEffect s r) rs))) (countOf accepted (runAnswers (stepEffect s r) rs))
     by true e = rw (accepted-spelled s r e) (omega arith)
     by false e = rw (unchanged (stepOf r))
 
@@ -136,10 +136,10 @@ abbrev passes : (Answer → Bool) → Option Answer → Bool
 passes f none = false
 passes f (some a) = f a
 
-count-places : (f : Answer → Bool) (l : List Answer) → countOf f l ≡ countBelow (λ n. passes f (getElem? l n)) (length l)
+count-alerted : (f : Answer → Bool) (l : List Answer) → countOf f l ≡ countBelow (λ n. passes f (getElem? l n)) (length l)
 unfolding countBelow
-count-places f [] = unfold countOf in refl
-count-places f (a ∷ l) = one-more f a l ∙ ap (λ (n : ℕ). cond (f a) 1 0 + n) (count-places f l)
+count-alerted f [] = unfold countOf in refl
+count-alerted f (a ∷ l) = one-more f a l ∙ ap (λ (n : ℕ). cond (f a) 1 0 + n) (count-alerted f l)
 
 there : (l : List Answer) (n : ℕ) → n < length l → (a : Answer) × (getElem? l n ≡ some a)
 there [] n h = absurd (omega arith)
@@ -149,7 +149,7 @@ there (a ∷ l) (suc n) h = there l n (omega arith)
 -- a test of positions that passes exactly where the answers pass one, and how many pass
 pub count-told : (f : Answer → Bool) (Q : ℕ → Type 0) (l : List Answer) → ((n : ℕ) (a : Answer) → getElem? l n ≡ some a → (f a ≡ true) ↔ Q n)
     → (t : ℕ → Bool) × ((n : ℕ) → n < length l → (t n ≡ true) ↔ Q n) × (countOf f l ≡ countBelow t (length l))
-count-told f Q l e = (λ n. passes f (getElem? l n), λ n b. at n (there l n b), count-places f l)
+count-told f Q l e = (λ n. passes f (getElem? l n), λ n b. at n (there l n b), count-alerted f l)
   where
     at : (n : ℕ) → (a : Answer) × (getElem? l n ≡ some a) → (passes f (getElem? l n) ≡ true) ↔ Q n
     at n (a, g) = subst (λ (x : Option Answer). (passes f x ≡ true) ↔ Q n) (sym g) (e n a g)
@@ -170,7 +170,7 @@ module _ (s : List ℕ) (P : Policy) (d : Demand3 stepOn stepOf s P) (rs : List 
       record {
         spelled = (r, er, accepted-spelled q r (ap accepted (sym e) ∙ alert-accepted a h));
         answered = g;
-        counted = alert-accepted a h;
+        accepting = alert-accepted a h;
       }
 
   same-answer : (t : Step) (b : Answer) → AcceptedAt stepOn stepOf s rs n t b → b ≡ a

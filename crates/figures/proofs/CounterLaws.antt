@@ -14,7 +14,7 @@ use Rattle.answers.specs.declared.Answer.{Answer}
 use Rattle.answers.specs.Answers.{isAlert, receiverOf}
 use Rattle.answers.specs.Tallies.{countOf}
 use Rattle.figures.specs.Figures.{Figures, countLimit, testAt, alertAt, figuresOf, sumOf}
-use Rattle.figures.specs.Counters.{Counters, oneMore, oneAdded, countsWith, placesWith, counted, countedAll, valuesBelow, countersOf, figuresIn}
+use Rattle.figures.specs.Counters.{Counters, oneMore, oneAdded, countsWith, alertedWith, counted, countedAll, valuesBelow, countersOf, figuresIn}
 use Rattle.figures.proofs.FigureLaws.{figures-append, sum-none-right, sum-assoc}
 
 -- ---- lists of values
@@ -44,8 +44,8 @@ values-list f n p l e =
 
 -- ---- counters
 
-counters-same : {k l : Counters} → k .records ≡ l .records → k .counts ≡ l .counts → k .places ≡ l .places → k ≡ l
-counters-same r c p = λ i. record { records = r i; counts = c i; places = p i }
+counters-same : {k l : Counters} → k .records ≡ l .records → k .counts ≡ l .counts → k .alerted ≡ l .alerted → k ≡ l
+counters-same r c p = λ i. record { records = r i; counts = c i; alerted = p i }
 
 wrapped-more : (a : ℕ) → (a % 2 ^ 32 + 1) % 2 ^ 32 ≡ (a + 1) % 2 ^ 32
 wrapped-more a = omega arith
@@ -63,9 +63,9 @@ abbrev kept : (ℕ → ℕ) → ℕ → ℕ
 kept f k = f k % 2 ^ 32
 
 module _ (f : ℕ → ℕ) where
-  places-more : (r : ℕ) → oneAdded (valuesBelow (kept f) containerLimit) r ≡ valuesBelow (λ c. (f c + cond (eqb r c) 1 0) % 2 ^ 32) containerLimit
+  alerted-more : (r : ℕ) → oneAdded (valuesBelow (kept f) containerLimit) r ≡ valuesBelow (λ c. (f c + cond (eqb r c) 1 0) % 2 ^ 32) containerLimit
   unfolding oneAdded
-  places-more r =
+  alerted-more r =
       values-list (λ c. (f c + cond (eqb r c) 1 0) % 2 ^ 32) containerLimit
       (set (valuesBelow (kept f) containerLimit) r (oneMore (getD (valuesBelow (kept f) containerLimit) r 0)))
       (length-set (valuesBelow (kept f) containerLimit) r _ ∙ values-length (kept f) containerLimit)
@@ -82,13 +82,13 @@ module _ (f : ℕ → ℕ) where
           (getD-set-other (valuesBelow (kept f) containerLimit) r c (oneMore (getD (valuesBelow (kept f) containerLimit) r 0)) 0 n
           ∙ values-at (kept f) containerLimit c l ∙ wrapped-none (f c))
 
-  places-one : (a : Answer) → placesWith (valuesBelow (kept f) containerLimit) a ≡ valuesBelow (λ c. (f c + countOf (alertAt c) (a ∷ [])) % 2 ^ 32) containerLimit
-  unfolding placesWith countOf alertAt
-  places-one a = by (isAlert a)
+  alerted-one : (a : Answer) → alertedWith (valuesBelow (kept f) containerLimit) a ≡ valuesBelow (λ c. (f c + countOf (alertAt c) (a ∷ [])) % 2 ^ 32) containerLimit
+  unfolding alertedWith countOf alertAt
+  alerted-one a = by (isAlert a)
     where
       by : (b : Bool) → cond b (oneAdded (valuesBelow (kept f) containerLimit) (receiverOf a)) (valuesBelow (kept f) containerLimit)
           ≡ valuesBelow (λ c. (f c + cond (b && eqb (receiverOf a) c) 1 0) % 2 ^ 32) containerLimit
-      by true = places-more (receiverOf a)
+      by true = alerted-more (receiverOf a)
       by false = values-same (kept f) (λ c. (f c + 0) % 2 ^ 32) containerLimit (λ c l. wrapped-none (f c))
 
   counts-one : (a : Answer) → countsWith (valuesBelow (kept f) countLimit) a ≡ valuesBelow (λ k. (f k + countOf (testAt k) (a ∷ [])) % 2 ^ 32) countLimit
@@ -103,7 +103,7 @@ module _ (f : ℕ → ℕ) where
 
 counted-one : (f : Figures) (a : Answer) → counted (countersOf f) a ≡ countersOf (sumOf f (figuresOf (a ∷ [])))
 unfolding counted countersOf sumOf figuresOf
-counted-one f a = counters-same (omega arith) (counts-one (f .counts) a) (places-one (f .alertsAt) a)
+counted-one f a = counters-same (omega arith) (counts-one (f .counts) a) (alerted-one (f .alertsAt) a)
 
 -- ---- lists of answers
 

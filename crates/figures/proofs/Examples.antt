@@ -12,11 +12,11 @@ use Rattle.answers.specs.Tallies.{countOf}
 use Rattle.image.specs.Image.{checkOf}
 use Rattle.session.specs.Limits.{sessionLength}
 use Rattle.session.proofs.Canonical.{effect-start}
-use Rattle.monitor.proofs.PaperListing.{image, read-image, traceBytes, given, answered}
+use Rattle.monitor.proofs.PaperTrace.{image, read-image, traceBytes, given, answered}
 use Rattle.listing.specs.Text.{digit, digits, decimalIn, decimal}
 use Rattle.listing.specs.Lines.{line}
 use Rattle.figures.specs.Figures.{Figures, testAt, alertAt, figuresOf, noFigures, sumOf, tooMany}
-use Rattle.figures.specs.Lines.{nameOf, rateFields, containerFields, fieldsFrom, countFields, alertFields, figureFields, figuresLine, traceLine, totalLine}
+use Rattle.figures.specs.Lines.{nameOf, rateFields, containerFields, fieldsFrom, countFields, alertFields, figureFields, figuresLine, traceLine, monthTotalLine}
 use Rattle.figures.specs.Months.{traceFigures, counting, traceLines, totalFigures, tracesText, monthText}
 
 -- ---- lines
@@ -46,9 +46,9 @@ too-long = refl
 -- ---- a month of the paper's trace twice
 
 spelled : (traceLine 0 (figuresOf given) ++ (traceLine 1 (figuresOf given) ++ []))
-    ++ totalLine (sumOf (counting (figuresOf given)) (sumOf (counting (figuresOf given)) noFigures))
+    ++ monthTotalLine (sumOf (counting (figuresOf given)) (sumOf (counting (figuresOf given)) noFigures))
     ≡ ascii "00.bin 5 1 1 0 200 0 1 1\n01.bin 5 1 1 0 200 0 1 1\ntotal 10 2 2 0 200 0 1 2\n"
-unfolding traceLine tooMany counting figuresOf testAt countOf alertAt noFigures sumOf figuresLine figureFields totalLine nameOf rateFields alertFields countFields fieldsFrom containerFields line decimal decimalIn digits digit ascii
+unfolding traceLine tooMany counting figuresOf testAt countOf alertAt noFigures sumOf figuresLine figureFields monthTotalLine nameOf rateFields alertFields countFields fieldsFrom containerFields line decimal decimalIn digits digit ascii
 spelled = refl
 
 pub month : monthText image (traceBytes ∷ traceBytes ∷ []) ≡ ascii "00.bin 5 1 1 0 200 0 1 1\n01.bin 5 1 1 0 200 0 1 1\ntotal 10 2 2 0 200 0 1 2\n"

@@ -3,9 +3,9 @@ pub mod Theorems
 pub mod Examples
 pub mod FigureLaws
 pub mod CounterLaws
-pub mod LineLaws
-pub mod PartLaws
+pub mod FigureLines
+pub mod CountedParts
 pub mod MonthLaws
-pub mod ReadLaws
+pub mod MonthReads
 pub mod LongLaws
 pub mod AlertLaws

@@ -10,17 +10,17 @@ use borrow.Author.Tests.{ltb-true, ltb-false, lt-ltb}
 use Rattle.fields.specs.Ascii.{ascii}
 use Rattle.answers.specs.declared.Answer.{Answer}
 use Rattle.image.specs.Limits.{containerLimit}
-use Rattle.fields.proofs.RecordLaws.{cut-count}
+use Rattle.fields.proofs.SectionRecords.{cut-count}
 use Rattle.records.specs.Records.{recordLength}
 use Rattle.records.specs.Traces.{traceRecords}
-use Rattle.records.proofs.TraceLaws.{records-append}
+use Rattle.records.proofs.TraceRecords.{records-append}
 use Rattle.monitor.specs.Runs.{runAnswers, runEffect}
-use Rattle.monitor.proofs.RunLaws.{runAnswers-append}
+use Rattle.monitor.proofs.RunHistories.{runAnswers-append}
 use Rattle.listing.specs.Text.{decimal}
 use Rattle.monitor.proofs.TraceCuts.{answers-length}
-use Rattle.monitor.specs.Parts.{partSession, WholeRecords, together}
+use Rattle.monitor.specs.PartSessions.{partSession, WholeRecords, together}
 use Rattle.figures.specs.Figures.{Figures, countLimit, testAt, recordLimit, alertAt, figuresOf, noFigures, sumOf, tooMany}
-use Rattle.figures.specs.Lines.{nameOf, containerFields, fieldsFrom, countFields, alertFields, figureFields, figuresLine, traceLine, totalLine}
+use Rattle.figures.specs.Lines.{nameOf, containerFields, fieldsFrom, countFields, alertFields, figureFields, figuresLine, traceLine, monthTotalLine}
 use Rattle.figures.specs.Months.{traceFigures, counting, traceLines, totalFigures, traceLimit, tracesText}
 use Rattle.figures.specs.Counters.{Counters, countedAll, countersOf, figuresIn, noCounters, totalWith, partCounters, partsCounters, linesByParts, totalByParts, textByParts, InParts}
 use Rattle.figures.proofs.FigureLaws.{count-most, figures-append, sum-none-left, sum-none-right, sum-assoc}
@@ -86,14 +86,14 @@ lines-agree name f g h =
 
 -- ---- figures that stay within bits
 
-pub record Within (f : Figures) (n : ℕ) : Type 0 where
+pub record FiguresWithin (f : Figures) (n : ℕ) : Type 0 where
   pub counts : (k : ℕ) → f .counts k ≤ n
   pub each : (c : ℕ) → f .alertsAt c ≤ n
 
 small : (n m : ℕ) → n ≤ m → m < 2 ^ 32 → n % 2 ^ 32 ≡ n
 small n m l h = omega arith
 
-pub held-agree : (f : Figures) (n : ℕ) → Within f n → n < 2 ^ 32 → Agree (figuresIn (countersOf f)) f
+pub held-agree : (f : Figures) (n : ℕ) → FiguresWithin f n → n < 2 ^ 32 → Agree (figuresIn (countersOf f)) f
 unfolding figuresIn countersOf
 held-agree f n w h =
     record {
@@ -101,14 +101,14 @@ held-agree f n w h =
       each = λ c l. values-at (λ k. f .alertsAt k % 2 ^ 32) containerLimit c l ∙ small (f .alertsAt c) n (w .each c) h;
     }
 
-answers-within : (l : List Answer) → Within (figuresOf l) (length l)
+answers-within : (l : List Answer) → FiguresWithin (figuresOf l) (length l)
 unfolding figuresOf
 answers-within l = record { counts = λ k. count-most (testAt k) l; each = λ c. count-most (alertAt c) l }
 
-within-more : (f : Figures) (m n : ℕ) → m ≤ n → Within f m → Within f n
+within-more : (f : Figures) (m n : ℕ) → m ≤ n → FiguresWithin f m → FiguresWithin f n
 within-more f m n l w = record { counts = λ k. omega (arith, w .counts k); each = λ c. omega (arith, w .each c) }
 
-sum-within : (f g : Figures) (m n : ℕ) → Within f m → Within g n → Within (sumOf f g) (m + n)
+sum-within : (f g : Figures) (m n : ℕ) → FiguresWithin f m → FiguresWithin g n → FiguresWithin (sumOf f g) (m + n)
 unfolding sumOf
 sum-within f g m n w v = record { counts = λ k. omega (arith, w .counts k, v .counts k); each = λ c. omega (arith, w .each c, v .each c) }
 
@@ -118,7 +118,7 @@ pub few : (n : ℕ) → tooMany n ≡ false → n ≤ recordLimit
 unfolding tooMany
 few n h = ltb-false recordLimit n h
 
-trace-within : (s t : List ℕ) → tooMany (traceFigures s t .records) ≡ false → Within (traceFigures s t) recordLimit
+trace-within : (s t : List ℕ) → tooMany (traceFigures s t .records) ≡ false → FiguresWithin (traceFigures s t) recordLimit
 unfolding traceFigures figuresOf
 trace-within s t h =
     within-more (figuresOf (runAnswers s (traceRecords t))) (length (runAnswers s (traceRecords t))) recordLimit (few (length (runAnswers s (traceRecords t))) h) (answers-within (runAnswers s (traceRecords t)))
@@ -157,14 +157,14 @@ total-held f s t h = by (tooMany (traceFigures s t .records)) refl (ap tooMany (
     by true e r = rw (r, e, sum-none-right f)
     by false e r = rw (r, e) (summed-from f (traceFigures s t))
 
-counting-within : (s t : List ℕ) → Within (counting (traceFigures s t)) recordLimit
+counting-within : (s t : List ℕ) → FiguresWithin (counting (traceFigures s t)) recordLimit
 counting-within s t = by (tooMany (traceFigures s t .records)) refl
   where
-    by : (b : Bool) → tooMany (traceFigures s t .records) ≡ b → Within (counting (traceFigures s t)) recordLimit
+    by : (b : Bool) → tooMany (traceFigures s t .records) ≡ b → FiguresWithin (counting (traceFigures s t)) recordLimit
     by true e = unfold counting noFigures in (rw e (within-more (figuresOf []) 0 recordLimit (omega arith) (answers-within [])))
     by false e = unfold counting in (rw e (trace-within s t e))
 
-pub total-within : (s : List ℕ) (ts : List (List ℕ)) → Within (totalFigures s ts) (recordLimit * length ts)
+pub total-within : (s : List ℕ) (ts : List (List ℕ)) → FiguresWithin (totalFigures s ts) (recordLimit * length ts)
 unfolding totalFigures
 total-within s [] = unfold noFigures in (within-more (figuresOf []) 0 (recordLimit * 0) (omega arith) (answers-within []))
 total-within s (t ∷ ts) =
@@ -204,8 +204,8 @@ total-parts f s (t ∷ ts) w =
     ∙ total-parts (sumOf f (counting (traceFigures s (together t)))) s ts (w .2)
     ∙ ap countersOf (sum-assoc f (counting (traceFigures s (together t))) (totalFigures s (map together ts)))
 
-pub total-line : (f g : Figures) → Agree f g → totalLine f ≡ totalLine g
-unfolding totalLine
+pub total-line : (f g : Figures) → Agree f g → monthTotalLine f ≡ monthTotalLine g
+unfolding monthTotalLine
 total-line f g h = lines-agree (ascii "total") f g h
 
 pub text-parts : (s : List ℕ) (ts : List (List (List ℕ))) → InParts ts → length ts ≤ traceLimit → textByParts s ts ≡ tracesText s (map together ts)
@@ -215,7 +215,7 @@ text-parts s ts w l =
     let few : recordLimit * length (map together ts) < 2 ^ 32 = omega (arith, length-map ts together) in
     ap₂ (λ (x y : List ℕ). x ++ y)
     (lines-parts 0 s ts w)
-    (ap (λ (k : Counters). totalLine (figuresIn k)) (total-parts noFigures s ts w ∙ ap countersOf (sum-none-left f))
+    (ap (λ (k : Counters). monthTotalLine (figuresIn k)) (total-parts noFigures s ts w ∙ ap countersOf (sum-none-left f))
     ∙ total-line (figuresIn (countersOf f)) f (held-agree f (recordLimit * length (map together ts)) (total-within s (map together ts)) few))
 
 -- ---- a trace that is too long from its front on

@@ -23,7 +23,7 @@ use Rattle.answers.proofs.Theorems.{tally-counts}
 use Rattle.image.specs.Limits.{containerLimit}
 use Rattle.image.specs.Image.{checkOf, policyIn}
 use Rattle.session.specs.Session.{startOf}
-use Rattle.chains.specs.History.{size, start}
+use Rattle.chains.specs.History.{stepCount, start}
 use Rattle.records.specs.Records.{recordLength}
 use Rattle.records.specs.Traces.{traceRecords}
 use Rattle.monitor.specs.Runs.{runAnswers, historyIn}
@@ -32,12 +32,12 @@ use Rattle.monitor.proofs.Guarded.{blocked-exactly}
 use Rattle.listing.specs.Text.{decimal}
 use Rattle.listing.specs.Lines as watched
 use Rattle.listing.specs.Lines.{line, totalOf, policyLine}
-use Rattle.monitor.specs.Parts.{partTally, partSession, together}
+use Rattle.monitor.specs.PartSessions.{partTally, partSession, together}
 use Rattle.monitor.proofs.TraceCuts.{answers-length}
 use Rattle.figures.specs.Figures.{Figures, testAt, acceptedIn, alertsIn, refusedIn, blockedIn, alertAt, figuresOf, noFigures, sumOf, recordLimit, tooMany}
 use Rattle.figures.specs.Lines.{nameOf, rateFields, fieldsFrom, countFields, alertFields, figureFields, traceLine}
 use Rattle.figures.specs.Months.{traceFigures, counting, totalFigures, traceLimit, monthText, FrontsOf}
-use Rattle.figures.proofs.ReadLaws.{fronts-text}
+use Rattle.figures.proofs.MonthReads.{fronts-text}
 use Rattle.figures.specs.Counters.{figuresIn, noCounters, partCounters, textByParts, InParts}
 use Rattle.figures.specs.Positions.{ForbiddenAt, ForbiddenInto, BlockedAt}
 use Rattle.figures.proofs.MonthLaws as months
@@ -57,7 +57,7 @@ counts-told l = (refl, refl, refl, refl)
 
 module _ (s : List ℕ) (rs : List (List ℕ)) where
   -- the accepted steps are those of the history
-  pub accepted-history : acceptedIn (figuresOf (runAnswers s rs)) ≡ size (historyIn rs (runAnswers s rs))
+  pub accepted-history : acceptedIn (figuresOf (runAnswers s rs)) ≡ stepCount (historyIn rs (runAnswers s rs))
   unfolding figuresOf testAt historyIn
   accepted-history = sym (history-size start s rs ∙ omega arith)
 
@@ -71,9 +71,9 @@ module _ (s : List ℕ) (rs : List (List ℕ)) where
   accepted-refused = answers-split (runAnswers s rs) ∙ answers-length s rs
 
   -- each alert is one container's
-  pub alerts-places : alertsIn (figuresOf (runAnswers s rs)) ≡ sumBelow (figuresOf (runAnswers s rs) .alertsAt) containerLimit
+  pub alerts-alerted : alertsIn (figuresOf (runAnswers s rs)) ≡ sumBelow (figuresOf (runAnswers s rs) .alertsAt) containerLimit
   unfolding figuresOf testAt
-  alerts-places = alerts-summed s rs
+  alerts-alerted = alerts-summed s rs
 
 -- a trace has a record for each 8 bytes, and one for what is left
 pub records-counted : (s t : List ℕ) → traceFigures s t .records ≡ (length t + (recordLength - 1)) / recordLength
@@ -159,7 +159,7 @@ total-without = months.total-without
 
 -- so that the accepted steps in total are the sizes of the histories that count, one after the other
 pub total-accepted : (s t : List ℕ) (ts : List (List ℕ)) → tooMany (traceFigures s t .records) ≡ false
-    → acceptedIn (totalFigures s (t ∷ ts)) ≡ size (historyIn (traceRecords t) (runAnswers s (traceRecords t))) + acceptedIn (totalFigures s ts)
+    → acceptedIn (totalFigures s (t ∷ ts)) ≡ stepCount (historyIn (traceRecords t) (runAnswers s (traceRecords t))) + acceptedIn (totalFigures s ts)
 total-accepted s t ts h =
     ap acceptedIn (total-next s t ts h)
     ∙ unfold sumOf traceFigures in (ap (λ (n : ℕ). n + acceptedIn (totalFigures s ts)) (accepted-history s (traceRecords t)))

@@ -13,8 +13,8 @@ unfoldable pub countsText : List ℕ → List ℕ
 countsText counts = leading (countFields (λ k. getD counts k 0))
 
 -- the fields of the containers, by the alerts of each
-unfoldable pub placesText : List ℕ → List ℕ
-placesText places = leading (alertFields (λ c. getD places c 0))
+unfoldable pub alertedText : List ℕ → List ℕ
+alertedText alerted = leading (alertFields (λ c. getD alerted c 0))
 
 -- all that stands behind the name
 unfoldable pub figuresText : Figures → List ℕ
@@ -25,9 +25,9 @@ abbrev pub countsLimit : ℕ
 countsLimit = fieldLimit * countLimit
 
 -- of the fields of the containers
-abbrev pub placesLimit : ℕ
-placesLimit = 2 * fieldLimit * containerLimit
+abbrev pub alertedLimit : ℕ
+alertedLimit = 2 * fieldLimit * containerLimit
 
 -- of what stands behind the name: counts, rate, containers, byte 10
 abbrev pub figuresLimit : ℕ
-figuresLimit = countsLimit + 2 * fieldLimit + placesLimit + 1
+figuresLimit = countsLimit + 2 * fieldLimit + alertedLimit + 1

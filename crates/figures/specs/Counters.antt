@@ -9,9 +9,9 @@ use Rattle.answers.specs.Answers.{isAlert, receiverOf}
 use Rattle.answers.specs.Tallies.{more}
 use Rattle.records.specs.Traces.{traceRecords}
 use Rattle.monitor.specs.Runs.{runAnswers}
-use Rattle.monitor.specs.Parts.{partSession, WholeRecords, together}
+use Rattle.monitor.specs.PartSessions.{partSession, WholeRecords, together}
 use Rattle.figures.specs.Figures.{Figures, countLimit, testAt, noFigures, sumOf, tooMany}
-use Rattle.figures.specs.Lines.{traceLine, totalLine}
+use Rattle.figures.specs.Lines.{traceLine, monthTotalLine}
 
 -- ---- counters
 
@@ -19,10 +19,10 @@ use Rattle.figures.specs.Lines.{traceLine, totalLine}
 pub record Counters : Type 0 where
   pub records : ℕ
   pub counts : List ℕ
-  pub places : List ℕ
+  pub alerted : List ℕ
 
 abbrev pub counters : ℕ → List ℕ → List ℕ → Counters
-counters r c p = record { records = r; counts = c; places = p }
+counters r c p = record { records = r; counts = c; alerted = p }
 
 -- f 0 to f (n - 1)
 unfoldable pub valuesBelow : (ℕ → ℕ) → ℕ → List ℕ
@@ -42,12 +42,12 @@ unfoldable pub countsWith : List ℕ → Answer → List ℕ
 countsWith counts a = valuesBelow (λ k. cond (testAt k a) (oneMore (getD counts k 0)) (getD counts k 0)) countLimit
 
 -- one more alert of its receiver, if the answer is an alert
-unfoldable pub placesWith : List ℕ → Answer → List ℕ
-placesWith places a = cond (isAlert a) (oneAdded places (receiverOf a)) places
+unfoldable pub alertedWith : List ℕ → Answer → List ℕ
+alertedWith alerted a = cond (isAlert a) (oneAdded alerted (receiverOf a)) alerted
 
 -- with one more answer
 unfoldable pub counted : Counters → Answer → Counters
-counted k a = counters (more (k .records)) (countsWith (k .counts) a) (placesWith (k .places) a)
+counted k a = counters (more (k .records)) (countsWith (k .counts) a) (alertedWith (k .alerted) a)
 
 -- with the answers one after the other
 unfoldable pub countedAll : Counters → List Answer → Counters
@@ -62,12 +62,12 @@ countersOf f =
     record {
       records = f .records % 2 ^ 64;
       counts = valuesBelow (λ k. f .counts k % 2 ^ 32) countLimit;
-      places = valuesBelow (λ c. f .alertsAt c % 2 ^ 32) containerLimit;
+      alerted = valuesBelow (λ c. f .alertsAt c % 2 ^ 32) containerLimit;
     }
 
 -- the figures that counters hold
 unfoldable pub figuresIn : Counters → Figures
-figuresIn k = record { records = k .records; counts = λ t. getD (k .counts) t 0; alertsAt = λ c. getD (k .places) c 0 }
+figuresIn k = record { records = k .records; counts = λ t. getD (k .counts) t 0; alertsAt = λ c. getD (k .alerted) c 0 }
 
 unfoldable pub noCounters : Counters
 noCounters = countersOf noFigures
@@ -98,7 +98,7 @@ totalByParts k s [] = k
 totalByParts k s (t ∷ ts) = totalByParts (totalWith k (partsCounters noCounters s t)) s ts
 
 unfoldable pub textByParts : List ℕ → List (List (List ℕ)) → List ℕ
-textByParts s traces = linesByParts 0 s traces ++ totalLine (figuresIn (totalByParts noCounters s traces))
+textByParts s traces = linesByParts 0 s traces ++ monthTotalLine (figuresIn (totalByParts noCounters s traces))
 
 -- traces in parts of whole records, each trace of fewer than 2 to the 64 bytes
 abbrev pub InParts : List (List (List ℕ)) → Type 0

@@ -50,5 +50,5 @@ unfoldable pub traceLine : ℕ → Figures → List ℕ
 traceLine n f = cond (tooMany (f .records)) (line (nameOf n) (decimal traceLength ∷ [])) (figuresLine (nameOf n) f)
 
 -- "name (`total` in the last)"
-unfoldable pub totalLine : Figures → List ℕ
-totalLine f = figuresLine (ascii "total") f
+unfoldable pub monthTotalLine : Figures → List ℕ
+monthTotalLine f = figuresLine (ascii "total") f

@@ -13,7 +13,7 @@ use Rattle.records.specs.Traces.{traceRecords}
 use Rattle.monitor.specs.Runs.{runAnswers}
 use Rattle.listing.specs.Lines.{policyLine}
 use Rattle.figures.specs.Figures.{Figures, figuresOf, noFigures, sumOf, tooMany}
-use Rattle.figures.specs.Lines.{traceLine, totalLine}
+use Rattle.figures.specs.Lines.{traceLine, monthTotalLine}
 
 -- the figures of a trace, or of a part of one, on this session
 unfoldable pub traceFigures : List ℕ → List ℕ → Figures
@@ -39,7 +39,7 @@ traceLimit = 64
 
 -- "a line per trace and a last one in total"
 unfoldable pub tracesText : List ℕ → List (List ℕ) → List ℕ
-tracesText s traces = traceLines 0 s traces ++ totalLine (totalFigures s traces)
+tracesText s traces = traceLines 0 s traces ++ monthTotalLine (totalFigures s traces)
 
 -- the traces are those that are there, "ending at the first missing name"; "a refused policy is shown as in the watch program"
 unfoldable pub monthText : List ℕ → List (List ℕ) → List ℕ

@@ -9,12 +9,12 @@ ghost use Rattle.listing.specs.Text.{decimal};
 ghost use Rattle.listing.specs.Lines.{newline, leading};
 ghost use Rattle.listing.specs.Buffer.{fieldLimit};
 ghost use Rattle.fields.specs.Writing.{Wrote};
-ghost use Rattle.monitor.specs.Parts.{partSession};
+ghost use Rattle.monitor.specs.PartSessions.{partSession};
 ghost use Rattle.listing.specs.Buffer.{ListedText};
 ghost use Rattle.figures.specs.Figures.{countLimit, testAt, tooMany};
-ghost use Rattle.figures.specs.Lines.{nameOf, rateFields, containerFields, traceLine, totalLine};
-ghost use Rattle.figures.specs.Counters.{counters, valuesBelow, oneAdded, countsWith, placesWith, counted, figuresIn, totalWith, partCounters};
-ghost use Rattle.figures.specs.Buffer.{countsText, placesText, figuresText, countsLimit, placesLimit, figuresLimit};
+ghost use Rattle.figures.specs.Lines.{nameOf, rateFields, containerFields, traceLine, monthTotalLine};
+ghost use Rattle.figures.specs.Counters.{counters, valuesBelow, oneAdded, countsWith, alertedWith, counted, figuresIn, totalWith, partCounters};
+ghost use Rattle.figures.specs.Buffer.{countsText, alertedText, figuresText, countsLimit, alertedLimit, figuresLimit};
 use answers::Answer;
 use image::CONTAINER_LIMIT;
 use listing::BUFFER_SIZE;
@@ -88,14 +88,14 @@ fn add_counts(counts: &mut [u32], answer: Answer)
 }
 
 // One more alert of its receiver, if the answer is an alert.
-fn add_alert(places: &mut [u32], answer: Answer)
-    ensures { λ _. ⌜ now (places .exit) ≡ placesWith (now (places .entry)) answer ⌝ }
+fn add_alert(alerted: &mut [u32], answer: Answer)
+    ensures { λ _. ⌜ now (alerted .exit) ≡ alertedWith (now (alerted .entry)) answer ⌝ }
 {
     if !answers::is_alert(answer) {
         return;
     }
     match answer {
-        Answer::Given(_, received) => add_one(places, received.receiver),
+        Answer::Given(_, received) => add_one(alerted, received.receiver),
         Answer::Refused(_) => {}
     }
 }
@@ -103,14 +103,14 @@ fn add_alert(places: &mut [u32], answer: Answer)
 // One more record, which was answered so: the records with it.
 fn add_answer(
     counts: &mut [u32; COUNT_LIMIT],
-    places: &mut [u32],
+    alerted: &mut [u32],
     records: u64,
     answer: Answer,
 ) -> u64
-    ensures { λ r. ⌜ counters r (now (counts .exit)) (now (places .exit)) ≡ counted (counters records (now (counts .entry)) (now (places .entry))) answer ⌝ }
+    ensures { λ r. ⌜ counters r (now (counts .exit)) (now (alerted .exit)) ≡ counted (counters records (now (counts .entry)) (now (alerted .entry))) answer ⌝ }
 {
     add_counts(counts, answer);
-    add_alert(places, answer);
+    add_alert(alerted, answer);
     answers::more(records)
 }
 
@@ -119,17 +119,17 @@ pub fn add_part(
     part: &[u8],
     session: &mut [u64],
     counts: &mut [u32; COUNT_LIMIT],
-    places: &mut [u32],
+    alerted: &mut [u32],
     begun: u64,
 ) -> u64
-    ensures { λ r. ⌜ (counters r (now (counts .exit)) (now (places .exit)) ≡ partCounters (counters begun (now (counts .entry)) (now (places .entry))) (now (session .entry)) (now (part .entry))) × (now (session .exit) ≡ partSession (now (session .entry)) (now (part .entry))) ⌝ }
+    ensures { λ r. ⌜ (counters r (now (counts .exit)) (now (alerted .exit)) ≡ partCounters (counters begun (now (counts .entry)) (now (alerted .entry))) (now (session .entry)) (now (part .entry))) × (now (session .exit) ≡ partSession (now (session .entry)) (now (part .entry))) ⌝ }
 {
     let mut records = begun;
     let mut at: usize = 0;
     while at < part.len() {
         let bytes = records::record_at(part, at);
         let answer = monitor::step(session, bytes);
-        records = add_answer(counts, places, records, answer);
+        records = add_answer(counts, alerted, records, answer);
         at += bytes.len();
     }
     records
@@ -160,16 +160,16 @@ pub fn add_total(
     sums: &mut [u32; CONTAINER_LIMIT],
     total: u64,
     counts: &[u32; COUNT_LIMIT],
-    places: &[u32; CONTAINER_LIMIT],
+    alerted: &[u32; CONTAINER_LIMIT],
     records: u64,
 ) -> u64
-    ensures { λ r. ⌜ counters r (now (totals .exit)) (now (sums .exit)) ≡ totalWith (counters total (now (totals .entry)) (now (sums .entry))) (counters records (now (counts .entry)) (now (places .entry))) ⌝ }
+    ensures { λ r. ⌜ counters r (now (totals .exit)) (now (sums .exit)) ≡ totalWith (counters total (now (totals .entry)) (now (sums .entry))) (counters records (now (counts .entry)) (now (alerted .entry))) ⌝ }
 {
     if too_long(records) {
         return total;
     }
     add_numbers(totals, counts);
-    add_numbers(sums, places);
+    add_numbers(sums, alerted);
     wrapping_add_u64(total, records)
 }
 
@@ -221,7 +221,7 @@ fn put_rate(out: &mut [u8], at: usize, alerts: u32, accepted: u32) -> usize
 }
 
 // Number and alerts of a container that alerted.
-fn put_container(out: &mut [u8], at: usize, c: usize, alerts: u32) -> usize
+fn put_container_alerts(out: &mut [u8], at: usize, c: usize, alerts: u32) -> usize
     requires { ⌜ at + 2 * fieldLimit ≤ length (now out) ⌝ }
     ensures { λ r. ⌜ Wrote (leading (containerFields c alerts)) (now (out .entry)) (now (out .exit)) at r ⌝ }
 {
@@ -233,14 +233,14 @@ fn put_container(out: &mut [u8], at: usize, c: usize, alerts: u32) -> usize
 }
 
 // Number and alerts of each container that alerted, rising.
-fn put_places(out: &mut [u8], at: usize, places: &[u32; CONTAINER_LIMIT]) -> usize
-    requires { ⌜ at + placesLimit ≤ length (now out) ⌝ }
-    ensures { λ r. ⌜ Wrote (placesText (now (places .entry))) (now (out .entry)) (now (out .exit)) at r ⌝ }
+fn put_alerted(out: &mut [u8], at: usize, alerted: &[u32; CONTAINER_LIMIT]) -> usize
+    requires { ⌜ at + alertedLimit ≤ length (now out) ⌝ }
+    ensures { λ r. ⌜ Wrote (alertedText (now (alerted .entry))) (now (out .entry)) (now (out .exit)) at r ⌝ }
 {
     let mut next = at;
     let mut c: usize = 0;
     while c < CONTAINER_LIMIT {
-        next = put_container(out, next, c, places[c]);
+        next = put_container_alerts(out, next, c, alerted[c]);
         c += 1;
     }
     next
@@ -251,14 +251,14 @@ fn put_figures(
     out: &mut [u8],
     at: usize,
     counts: &[u32; COUNT_LIMIT],
-    places: &[u32; CONTAINER_LIMIT],
+    alerted: &[u32; CONTAINER_LIMIT],
 ) -> usize
     requires { ⌜ at + figuresLimit ≤ length (now out) ⌝ }
-    ensures { λ r. ⌜ ((records : ℕ) → Wrote (figuresText (figuresIn (counters records (now (counts .entry)) (now (places .entry))))) (now (out .entry)) (now (out .exit)) at r) ⌝ }
+    ensures { λ r. ⌜ ((records : ℕ) → Wrote (figuresText (figuresIn (counters records (now (counts .entry)) (now (alerted .entry))))) (now (out .entry)) (now (out .exit)) at r) ⌝ }
 {
     let rate = put_counts(out, at, counts);
     let alerts = put_rate(out, rate, counts[ALERTS], counts[ACCEPTED]);
-    let end = put_places(out, alerts, places);
+    let end = put_alerted(out, alerts, alerted);
     out[end] = NEWLINE;
     end + 1
 }
@@ -279,26 +279,26 @@ pub fn put_trace(
     n: usize,
     records: u64,
     counts: &[u32; COUNT_LIMIT],
-    places: &[u32; CONTAINER_LIMIT],
+    alerted: &[u32; CONTAINER_LIMIT],
 ) -> usize
-    ensures { λ r. ⌜ ListedText (traceLine n (figuresIn (counters records (now (counts .entry)) (now (places .entry))))) (now (out .entry)) (now (out .exit)) r ⌝ }
+    ensures { λ r. ⌜ ListedText (traceLine n (figuresIn (counters records (now (counts .entry)) (now (alerted .entry))))) (now (out .entry)) (now (out .exit)) r ⌝ }
 {
     let name = trace_name(n);
     let next = listing::put_text(out, 0, &name);
     if too_long(records) {
         return put_too_long(out, next);
     }
-    put_figures(out, next, counts, places)
+    put_figures(out, next, counts, alerted)
 }
 
 // The last line.
 pub fn put_total(
     out: &mut [u8; BUFFER_SIZE],
     counts: &[u32; COUNT_LIMIT],
-    places: &[u32; CONTAINER_LIMIT],
+    alerted: &[u32; CONTAINER_LIMIT],
 ) -> usize
-    ensures { λ r. ⌜ ((records : ℕ) → ListedText (totalLine (figuresIn (counters records (now (counts .entry)) (now (places .entry))))) (now (out .entry)) (now (out .exit)) r) ⌝ }
+    ensures { λ r. ⌜ ((records : ℕ) → ListedText (monthTotalLine (figuresIn (counters records (now (counts .entry)) (now (alerted .entry))))) (now (out .entry)) (now (out .exit)) r) ⌝ }
 {
     let next = listing::put_text(out, 0, b"total");
-    put_figures(out, next, counts, places)
+    put_figures(out, next, counts, alerted)
 }

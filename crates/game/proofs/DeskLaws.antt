@@ -11,13 +11,13 @@ use Rattle.lists.specs.Counting.{leastBelow}
 use Rattle.lists.proofs.Bools.{decide, and-0, and-1, or-1}
 use Rattle.lists.proofs.Below.{some-at, some-none, none-at, Least, least-some, Failing, failing-end}
 use Rattle.matrix.specs.Flows.{has}
-use Rattle.matrix.proofs.BitLaws.{has-or, has-single}
+use Rattle.matrix.proofs.RowBits.{has-or, has-single}
 use Rattle.game.specs.declared.Position.{Position}
 use Rattle.game.specs.Limits.{readCount, rightCount}
 use Rattle.game.specs.Positions.{moved, reached, subjectOf, objectOf, withSubject, withObject}
 use Rattle.game.specs.Games.{deskWins, guardLoses}
 use Rattle.game.specs.Search.{adds, additionWins, additions, appendsTo, reachesIn, Searched}
-use Rattle.game.proofs.PositionLaws.{read-moves, append-moves, moved-searched}
+use Rattle.game.proofs.GamePositions.{read-moves, append-moves, moved-searched}
 use Rattle.game.proofs.MoveSetLaws.{in-set}
 use Rattle.game.proofs.Turns.{guard-over}
 use Rattle.game.proofs.IdleLaws.{desk-adds}

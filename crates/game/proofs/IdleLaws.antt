@@ -14,7 +14,7 @@ use Rattle.game.specs.Limits.{rightCount, moveCount}
 use Rattle.game.specs.Positions.{legal, moved, withdrawn, reached}
 use Rattle.game.specs.Games.{deskIn, guardIn, deskWins, guardLoses, moveWins}
 use Rattle.game.specs.Search.{adds, additionWins}
-use Rattle.game.proofs.PositionLaws.{adds-legal, idle-stays}
+use Rattle.game.proofs.GamePositions.{adds-legal, idle-stays}
 use Rattle.game.proofs.Turns.{desk-turn}
 
 -- ---- a round more does not harm the desk

@@ -17,7 +17,7 @@ use Rattle.lists.proofs.Below.{none-at, Least, least-some, all-at}
 use Rattle.rules.specs.Sets.{atom}
 use Rattle.matrix.specs.Flows.{has}
 use Rattle.matrix.specs.Rows.{bitsOf}
-use Rattle.matrix.proofs.BitLaws.{has-is, has-not, has-and, has-above, has-ext, has-zero, bits-has, bits-is}
+use Rattle.matrix.proofs.RowBits.{has-is, has-not, has-and, has-above, has-ext, has-zero, bits-has, bits-is}
 use Rattle.game.specs.declared.Position.{Position}
 use Rattle.game.specs.Limits.{sideLimit, readCount, rightCount}
 use Rattle.game.specs.Positions.{subjectOf, objectOf}

@@ -11,9 +11,9 @@ use borrow.Author.Tests.{eq-eqb, ne-eqb, lt-ltb, le-ltb, le-leb, lt-leb, leb-tru
 use Rattle.lists.specs.Conditions.{firstFailed}
 use Rattle.lists.proofs.Bools.{and-0, and-1}
 use Rattle.answers.specs.Refusals.{matrix, gameBounds}
-use Rattle.matrix.specs.Flows.{counted, matrixGood}
+use Rattle.matrix.specs.Flows.{countGood, matrixGood}
 use Rattle.matrix.specs.Rows.{bitsOf}
-use Rattle.matrix.proofs.BitLaws.{one-bit, has-single, bits-has}
+use Rattle.matrix.proofs.RowBits.{one-bit, has-single, bits-has}
 use Rattle.game.specs.declared.Position.{Position}
 use Rattle.game.specs.declared.Move.{Move}
 use Rattle.game.specs.declared.Move.the-variants.{Read, Append, Pass}
@@ -24,8 +24,8 @@ use Rattle.game.specs.Limits.{sideLimit, rightCount, moveCount, roundLim
 use Rattle.game.specs.Positions.{legal, reached}
 use Rattle.game.specs.Outcomes.{gameGood, gameConditions, rightIn, opening, moveAt, firstWinning, outcomeOf, withoutMove, moveValues, outcomeValues, unlessRefused, gameValues}
 use Rattle.game.specs.Search.{Searched, Rows}
-use Rattle.game.proofs.PositionLaws.{legal-is}
-use Rattle.game.proofs.RightLaws.{good-rows}
+use Rattle.game.proofs.GamePositions.{legal-is}
+use Rattle.game.proofs.RightSets.{good-rows}
 
 -- ---- what a game is refused for
 
@@ -55,21 +55,21 @@ module _ (subjects objects a b rounds withdrawals : ℕ) where
           same-object h = rw (le-leb subjects sideLimit s, le-leb objects sideLimit o, lt-ltb a objects i, lt-ltb b objects j, eq-eqb a b h)
 
           -- the objects are good: what is left are the counts
-          counts : (a ≡ b → ⊥) → gameGood subjects objects a b rounds withdrawals ≡ (counted roundLimit rounds && leb withdrawals withdrawalLimit)
+          counts : (a ≡ b → ⊥) → gameGood subjects objects a b rounds withdrawals ≡ (countGood roundLimit rounds && leb withdrawals withdrawalLimit)
           unfolding gameGood
           counts n = rw (le-leb subjects sideLimit s, le-leb objects sideLimit o, lt-ltb a objects i, lt-ltb b objects j, ne-eqb a b n)
 
           module _ (n : a ≡ b → ⊥) where
             pub few-rounds : rounds < 1 → false ≡ gameGood subjects objects a b rounds withdrawals
-            unfolding counted
+            unfolding countGood
             few-rounds h = sym (counts n ∙ rw (lt-leb 1 rounds h))
 
             pub many-rounds : 1 ≤ rounds → roundLimit < rounds → false ≡ gameGood subjects objects a b rounds withdrawals
-            unfolding counted
+            unfolding countGood
             many-rounds l h = sym (counts n ∙ rw (le-leb 1 rounds l, lt-leb rounds roundLimit h))
 
             pub withdrawals-left : 1 ≤ rounds → rounds ≤ roundLimit → leb withdrawals withdrawalLimit ≡ gameGood subjects objects a b rounds withdrawals
-            unfolding counted
+            unfolding countGood
             withdrawals-left l h = sym (counts n ∙ rw (le-leb 1 rounds l, le-leb rounds roundLimit h))
 
 -- what a game has that is not refused
@@ -85,7 +85,7 @@ pub record Bounds (subjects objects a b rounds withdrawals : ℕ) : Type 0 where
 
 pub game-bounds : (subjects objects a b rounds withdrawals : ℕ) → gameGood subjects objects a b rounds withdrawals ≡ true
     → Bounds subjects objects a b rounds withdrawals
-unfolding gameGood counted
+unfolding gameGood countGood
 game-bounds subjects objects a b rounds withdrawals h =
     let x = and-1 (leb subjects sideLimit) h in
     let y = and-1 (leb objects sideLimit) x in
@@ -106,7 +106,7 @@ game-bounds subjects objects a b rounds withdrawals h =
 
 pub bounds-game : (subjects objects a b rounds withdrawals : ℕ) → Bounds subjects objects a b rounds withdrawals
     → gameGood subjects objects a b rounds withdrawals ≡ true
-unfolding gameGood counted
+unfolding gameGood countGood
 bounds-game subjects objects a b rounds withdrawals g =
     rw (
       le-leb subjects sideLimit (g .fewSubjects),

@@ -19,11 +19,11 @@ use Rattle.game.specs.Games.{deskWins}
 use Rattle.game.specs.Strategies.{DeskForces, GuardForces, FirstWinning}
 use Rattle.game.specs.Outcomes.{gameGood, rightIn, opening, firstWinning, moveValues, withoutMove, outcomeValues, gameValues}
 use Rattle.game.specs.Search.{adds, additionWins}
-use Rattle.game.proofs.PositionLaws as positions
+use Rattle.game.proofs.GamePositions as positions
 use Rattle.game.proofs.IdleLaws as idle
 use Rattle.game.proofs.StrategyLaws as strategies
 use Rattle.game.proofs.OutcomeLaws as outcomes
-use Rattle.game.proofs.AnswerLaws as answers
+use Rattle.game.proofs.GameAnswers as answers
 
 -- ---- who can force the outcome, from any position
 

@@ -7,7 +7,7 @@ use lib.ListN.{length}
 use Rattle.lists.specs.Counting.{leastBelow}
 use Rattle.lists.specs.Conditions.{Condition, _orRefuse_, firstFailed}
 use Rattle.answers.specs.Refusals.{matrix, gameBounds}
-use Rattle.matrix.specs.Flows.{matrixGood, counted}
+use Rattle.matrix.specs.Flows.{matrixGood, countGood}
 use Rattle.matrix.specs.Rows.{bitAt, bitsOf}
 use Rattle.game.specs.Limits.{sideLimit, readCount, rightCount, moveCount, roundLimit, withdrawalLimit}
 use Rattle.game.specs.Positions.{subjectOf, objectOf}
@@ -26,7 +26,7 @@ unfoldable pub gameGood : ℕ → ℕ → ℕ → ℕ → ℕ → ℕ → Bool
 gameGood subjects objects a b rounds withdrawals =
     leb subjects sideLimit
     && (leb objects sideLimit
-    && (ltb a objects && (ltb b objects && (not (eqb a b) && (counted roundLimit rounds && leb withdrawals withdrawalLimit)))))
+    && (ltb a objects && (ltb b objects && (not (eqb a b) && (countGood roundLimit rounds && leb withdrawals withdrawalLimit)))))
 
 -- "placed after 8"
 unfoldable pub gameConditions : List ℕ → List ℕ → ℕ → ℕ → ℕ → ℕ → ℕ → List Condition

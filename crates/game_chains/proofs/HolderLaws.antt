@@ -19,7 +19,7 @@ use Rattle.game.specs.declared.Position.{Position}
 use Rattle.game.specs.Limits.{readCount, rightCount}
 use Rattle.game.specs.Positions.{subjectOf, objectOf, moved}
 use Rattle.game.specs.Outcomes.{rightIn}
-use Rattle.game.proofs.PositionLaws.{read-holders, read-objects, append-holders, append-subjects, pass-keeps}
+use Rattle.game.proofs.GamePositions.{read-holders, read-objects, append-holders, append-subjects, pass-keeps}
 use Rattle.game_chains.specs.Histories.{allowedMove, AllowedMoves, withMove, historyAfter, positionAfter}
 
 -- ---- what reads and appends carry, and that they end nothing

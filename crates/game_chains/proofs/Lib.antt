@@ -1,4 +1,4 @@
 -- Theorems is the file to read: the laws of this crate, stated and cited.
 pub mod Theorems
 pub mod HolderLaws
-pub mod StartLaws
+pub mod AtomStarts

@@ -13,8 +13,8 @@ use Rattle.lists.proofs.Bools.{clash}
 use Rattle.image.specs.Policy.{Policy}
 use Rattle.image.specs.Image.{policyIn}
 use Rattle.matrix.specs.Flows.{has, matrixGood}
-use Rattle.matrix.proofs.BitLaws.{has-single, has-zero}
-use Rattle.matrix.proofs.FlowLaws.{rows-exact}
+use Rattle.matrix.proofs.RowBits.{has-single, has-zero}
+use Rattle.matrix.proofs.PathFlows.{rows-exact}
 use Rattle.matrix.proofs.GoodLaws.{Good, good-parts}
 use Rattle.derivation.specs.Derived.{derivedImage}
 use Rattle.chains.specs.History.{start, read, append}
@@ -24,10 +24,10 @@ use Rattle.silence.specs.Sessions.{Allowed, mayRead, mayAppend}
 use Rattle.game.specs.Limits.{readCount, rightCount}
 use Rattle.game.specs.Positions.{subjectOf, objectOf, reached}
 use Rattle.game.specs.Outcomes.{rightIn, opening}
-use Rattle.game.proofs.FlowLaws.{row-there, object-there, reads-right, writes-right}
+use Rattle.game.proofs.GameFlows.{row-there, object-there, reads-right, writes-right}
 use Rattle.game_chains.specs.Histories.{AllowedMoves, historyAfter, positionAfter}
 use Rattle.game_chains.proofs.HolderLaws.{Agrees, agrees-moves}
-use Rattle.game_chains.proofs.StartLaws.{atom-starts}
+use Rattle.game_chains.proofs.AtomStarts.{atom-starts}
 
 module _ (reads writes : List ℕ) (objects : ℕ) (good : matrixGood reads writes objects ≡ true) where
   -- the derived policy, as its image spells it

@@ -28,7 +28,7 @@ use Rattle.image.specs.Limits.{
 use Rattle.image.specs.Policy.{named, ownerGood, containerGood}
 use Rattle.image.specs.Image.{
   offset,
-  size,
+  sectionLength,
   part,
   containersIn,
   usersIn,
@@ -49,26 +49,26 @@ use Rattle.image.proofs.ImageRefusals.{refused-by-none}
 
 -- ---- good pairs: each section ends within the image
 
-part-end : (i : List ℕ) (from k : ℕ) → partGood i from k ≡ true → offset i k + size i k ≤ length i
+part-end : (i : List ℕ) (from k : ℕ) → partGood i from k ≡ true → offset i k + sectionLength i k ≤ length i
 unfolding partGood
-part-end i from k h = leb-true (offset i k + size i k) (length i) (and-1 (leb from (offset i k)) h)
+part-end i from k h = leb-true (offset i k + sectionLength i k) (length i) (and-1 (leb from (offset i k)) h)
 
 module _ (i : List ℕ) (h : pairsGood i ≡ true) where
-  after-0 : (partGood i headerSize 0 && (partGood i (offset i 0 + size i 0) 1 && (partGood i (offset i 1 + size i 1) 2 && partGood i (offset i 2 + size i 2) 3))) ≡ true
+  after-0 : (partGood i headerSize 0 && (partGood i (offset i 0 + sectionLength i 0) 1 && (partGood i (offset i 1 + sectionLength i 1) 2 && partGood i (offset i 2 + sectionLength i 2) 3))) ≡ true
   unfolding pairsGood
   after-0 = and-1 (eqb (field i 0 size16) leadingNumber) h
 
-  after-1 : (partGood i (offset i 0 + size i 0) 1 && (partGood i (offset i 1 + size i 1) 2 && partGood i (offset i 2 + size i 2) 3)) ≡ true
+  after-1 : (partGood i (offset i 0 + sectionLength i 0) 1 && (partGood i (offset i 1 + sectionLength i 1) 2 && partGood i (offset i 2 + sectionLength i 2) 3)) ≡ true
   after-1 = and-1 (partGood i headerSize 0) after-0
 
-  after-2 : (partGood i (offset i 1 + size i 1) 2 && partGood i (offset i 2 + size i 2) 3) ≡ true
-  after-2 = and-1 (partGood i (offset i 0 + size i 0) 1) after-1
+  after-2 : (partGood i (offset i 1 + sectionLength i 1) 2 && partGood i (offset i 2 + sectionLength i 2) 3) ≡ true
+  after-2 = and-1 (partGood i (offset i 0 + sectionLength i 0) 1) after-1
 
-  pub part-ends : (k : ℕ) → k < sectionCount → offset i k + size i k ≤ length i
+  pub part-ends : (k : ℕ) → k < sectionCount → offset i k + sectionLength i k ≤ length i
   part-ends zero l = part-end i headerSize 0 (and-0 (partGood i headerSize 0) _ after-0)
-  part-ends (suc zero) l = part-end i (offset i 0 + size i 0) 1 (and-0 (partGood i (offset i 0 + size i 0) 1) _ after-1)
-  part-ends (suc (suc zero)) l = part-end i (offset i 1 + size i 1) 2 (and-0 (partGood i (offset i 1 + size i 1) 2) _ after-2)
-  part-ends (suc (suc (suc zero))) l = part-end i (offset i 2 + size i 2) 3 (and-1 (partGood i (offset i 1 + size i 1) 2) after-2)
+  part-ends (suc zero) l = part-end i (offset i 0 + sectionLength i 0) 1 (and-0 (partGood i (offset i 0 + sectionLength i 0) 1) _ after-1)
+  part-ends (suc (suc zero)) l = part-end i (offset i 1 + sectionLength i 1) 2 (and-0 (partGood i (offset i 1 + sectionLength i 1) 2) _ after-2)
+  part-ends (suc (suc (suc zero))) l = part-end i (offset i 2 + sectionLength i 2) 3 (and-1 (partGood i (offset i 1 + sectionLength i 1) 2) after-2)
   part-ends (suc (suc (suc (suc k)))) l = absurd (omega arith)
 
 -- ---- every test is passed
@@ -100,7 +100,7 @@ module _ (i : List ℕ) (e : checkOf i ≡ 0) where
   accepted-long = leb-true headerSize (length i) (and-0 (leb headerSize (length i)) (leb (length i) imageLimit) (tests .long))
 
   -- section k can be lent
-  pub accepted-section : (k : ℕ) → k < sectionCount → (headerSize ≤ length i) × (k < sectionCount) × (offset i k + size i k ≤ length i)
+  pub accepted-section : (k : ℕ) → k < sectionCount → (headerSize ≤ length i) × (k < sectionCount) × (offset i k + sectionLength i k ≤ length i)
   accepted-section k l = (accepted-long, l, part-ends i (tests .pairs) k l)
 
   pub accepted-spans : ruleRecordsGood (part i 2) (part i 3) ≡ true

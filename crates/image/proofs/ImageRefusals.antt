@@ -9,13 +9,13 @@ use borrow.Author.Tests.{lt-leb, le-leb}
 use Rattle.lists.proofs.Bools.{and-in}
 use Rattle.image.specs.Limits.{headerSize, imageLimit}
 use Rattle.lists.specs.Lists.{elem}
-use Rattle.lists.specs.Conditions.{FailsFirst, AllHold, numbersOf, numberAt, numbersGood}
+use Rattle.lists.specs.Conditions.{FailsFirst, AllHold, numbersOf, numberAt, numbersDistinct}
 use Rattle.lists.proofs.Conditions.{given-exactly, given-none}
 use Rattle.image.specs.Image.{imageLengthGood, imageConditions, checkOf}
 
 module _ (i : List ℕ) where
-  pub image-numbers : numbersGood (numbersOf (imageConditions i)) ≡ true
-  unfolding imageConditions numbersOf numbersGood elem
+  pub image-numbers : numbersDistinct (numbersOf (imageConditions i)) ≡ true
+  unfolding imageConditions numbersOf numbersDistinct elem
   image-numbers = refl
 
   -- by the condition at place k

@@ -23,7 +23,7 @@ use Rattle.rules.proofs.RuleLaws.{normal-length}
 use native.Mathlib.Decide.{ℕ-discrete}
 use Rattle.image.proofs.WrittenMeaning.{normal-unrestricted}
 use Rattle.image.proofs.RecordsByPlace.{mixtures-count, rule-at, rule-fits}
-use Rattle.image.specs.Limits.{ruleSize, mixtureSize, size16, countField, unrestrictedNumber}
+use Rattle.image.specs.Limits.{ruleSize, mixtureSize, size16, ruleCountAt, unrestrictedNumber}
 
 -- the mixtures from first on
 module _ (m : List ℕ) (first n : ℕ) (h : first + n ≤ length m / mixtureSize) where
@@ -36,7 +36,7 @@ module _ (m : List ℕ) (first n : ℕ) (h : first + n ≤ length m / mixtureSiz
 -- ---- a rule by its number
 
 pub own-rule : (r m : List ℕ) (n first count : ℕ) → ruleRecordsGood r m ≡ true → n < length r / ruleSize
-    → first ≡ field r (n * ruleSize) size16 → count ≡ field r (n * ruleSize + countField) size16 → take count (drop first (mixturesIn m)) ≡ getD (rulesIn r m) n []
+    → first ≡ field r (n * ruleSize) size16 → count ≡ field r (n * ruleSize + ruleCountAt) size16 → take count (drop first (mixturesIn m)) ≡ getD (rulesIn r m) n []
 own-rule r m n first count h l e f = ap₂ (λ (k a : ℕ). take k (drop a (mixturesIn m))) f e ∙ sym (rule-at r m h n l)
 
 unrestricted-at : (rules : List (List ℕ)) (n : ℕ) → n ≡ unrestrictedNumber → normalAt rules n ≡ unrestricted tagWidth
@@ -68,4 +68,4 @@ normal-short r m n h k = by (ℕ-discrete n unrestrictedNumber)
     by (no d) =
         let l : n < length r / ruleSize = named-own (length r / ruleSize) n k d in
         rw (← own-normal (rulesIn r m) n d, rule-at r m h n l)
-        (omega (arith, normal-length (take (field r (n * ruleSize + countField) size16) (drop (field r (n * ruleSize) size16) (mixturesIn m))), length-take (field r (n * ruleSize + countField) size16) (drop (field r (n * ruleSize) size16) (mixturesIn m)), rule-fits r m h n l))
+        (omega (arith, normal-length (take (field r (n * ruleSize + ruleCountAt) size16) (drop (field r (n * ruleSize) size16) (mixturesIn m))), length-take (field r (n * ruleSize + ruleCountAt) size16) (drop (field r (n * ruleSize) size16) (mixturesIn m)), rule-fits r m h n l))

@@ -20,13 +20,13 @@ use Rattle.image.specs.Limits.{
   mixtureSize,
   size8,
   size16,
-  kindField,
-  atomField,
-  permitField,
-  runField,
-  firstField,
-  countField,
-  ownerField,
+  containerKindAt,
+  containerAtomAt,
+  containerPermitAt,
+  containerRunAt,
+  ruleFirstAt,
+  ruleCountAt,
+  ruleOwnerAt,
   offsetAt,
   sizeAt,
   leadingNumber,
@@ -40,21 +40,21 @@ use Rattle.image.specs.Policy.{Container, Policy, containerGood, named, 
 unfoldable pub offset : List ℕ → ℕ → ℕ
 offset i k = field i (offsetAt k) size16
 
-unfoldable pub size : List ℕ → ℕ → ℕ
-size i k = field i (sizeAt k) size16
+unfoldable pub sectionLength : List ℕ → ℕ → ℕ
+sectionLength i k = field i (sizeAt k) size16
 
 unfoldable pub part : List ℕ → ℕ → List ℕ
-part i k = take (size i k) (drop (offset i k) i)
+part i k = take (sectionLength i k) (drop (offset i k) i)
 
 -- ---- the records
 
 unfoldable pub containerIn : List ℕ → Container
 containerIn r =
     record {
-      kind = field r kindField size8;
-      atom = field r atomField size8;
-      permit = field r permitField size16;
-      run = field r runField size16;
+      kind = field r containerKindAt size8;
+      atom = field r containerAtomAt size8;
+      permit = field r containerPermitAt size16;
+      run = field r containerRunAt size16;
     }
 
 -- a rule record: its first mixture, its count and its owner
@@ -64,7 +64,7 @@ pub record Span : Type 0 where
   pub owner : ℕ
 
 unfoldable pub spanIn : List ℕ → Span
-spanIn r = record { first = field r firstField size16; count = field r countField size16; owner = field r ownerField size16 }
+spanIn r = record { first = field r ruleFirstAt size16; count = field r ruleCountAt size16; owner = field r ruleOwnerAt size16 }
 
 unfoldable pub ruleIn : List ℕ → Span → List ℕ
 ruleIn mixtures r = take (r .count) (drop (r .first) mixtures)
@@ -106,16 +106,16 @@ imageLengthGood i = leb headerSize (length i) && leb (length i) imageLimit
 
 -- "Each section starts at or after the previous end .. and ends within the image": section k, the previous end being given
 unfoldable pub partGood : List ℕ → ℕ → ℕ → Bool
-partGood i from k = leb from (offset i k) && leb (offset i k + size i k) (length i)
+partGood i from k = leb from (offset i k) && leb (offset i k + sectionLength i k) (length i)
 
 -- 2: the leading number "or the pairs"; "Every image now leads with a 16-bit 5, and 2 refuses the old 4" (change request No. 10)
 unfoldable pub pairsGood : List ℕ → Bool
 pairsGood i =
     eqb (field i 0 size16) leadingNumber
     && (partGood i headerSize 0
-    && (partGood i (offset i 0 + size i 0) 1
-    && (partGood i (offset i 1 + size i 1) 2
-    && partGood i (offset i 2 + size i 2) 3)))
+    && (partGood i (offset i 0 + sectionLength i 0) 1
+    && (partGood i (offset i 1 + sectionLength i 1) 2
+    && partGood i (offset i 2 + sectionLength i 2) 3)))
 
 -- a section has whole records of w bytes, and no more than most
 unfoldable pub wholeGood : ℕ → ℕ → List ℕ → Bool

@@ -130,26 +130,26 @@ size8 = 1
 abbrev pub size16 : ℕ
 size16 = 2
 
-abbrev pub kindField : ℕ
-kindField = 0
+abbrev pub containerKindAt : ℕ
+containerKindAt = 0
 
-abbrev pub atomField : ℕ
-atomField = 1
+abbrev pub containerAtomAt : ℕ
+containerAtomAt = 1
 
-abbrev pub permitField : ℕ
-permitField = 2
+abbrev pub containerPermitAt : ℕ
+containerPermitAt = 2
 
-abbrev pub runField : ℕ
-runField = 4
+abbrev pub containerRunAt : ℕ
+containerRunAt = 4
 
-abbrev pub firstField : ℕ
-firstField = 0
+abbrev pub ruleFirstAt : ℕ
+ruleFirstAt = 0
 
-abbrev pub countField : ℕ
-countField = 2
+abbrev pub ruleCountAt : ℕ
+ruleCountAt = 2
 
-abbrev pub ownerField : ℕ
-ownerField = 4
+abbrev pub ruleOwnerAt : ℕ
+ruleOwnerAt = 4
 
 -- ---- "Every image now leads with a 16-bit 5" (change request No. 10), "then four pairs of 16-bit offset and length .., so 18 bytes"; "At
 -- most 20,480 bytes"; "Any output for a normal image must hold 19,506 bytes" (change request No. 10)

@@ -6,7 +6,7 @@ use lib.Dec.{eqb}
 use lib.ListN.{length, getD, drop}
 use Rattle.rules.specs.Rules.{normal}
 use Rattle.lists.specs.Lists.{sameList, joined, knownBy, positionBy}
-use Rattle.image.specs.Limits.{unrestrictedNumber, noOwner, userSize, mixtureSize, size8, size16, leadingNumber, headerSize}
+use Rattle.image.specs.Limits.{processKind, noAtom, unrestrictedNumber, noOwner, userSize, mixtureSize, size8, size16, leadingNumber, headerSize}
 use Rattle.fields.specs.Bytes.{bytesOf}
 use Rattle.image.specs.Policy.{Container, Policy, unrestrictedRule, ruleAt, ownerAt}
 use Rattle.image.specs.Image.{Span}
@@ -18,6 +18,10 @@ pub record Place : Type 0 where
   pub atom : ℕ
   pub permit : List ℕ
   pub run : List ℕ
+
+-- a process without an atom and without rules
+abbrev pub processPlace : Place
+processPlace = record { kind = processKind; atom = noAtom; permit = unrestrictedRule; run = unrestrictedRule }
 
 pub record Meaning : Type 0 where
   pub places : List Place

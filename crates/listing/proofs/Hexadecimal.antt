@@ -9,7 +9,7 @@ use lib.Pow.{pow-pos, pow-mono, split, mod-mod-pow, ones-lt}
 use lib.Bits.{bitAnd, and-block, and-mask, and-le-r}
 use Rattle.fields.specs.Bytes.{numberIn, bytesOf}
 use Rattle.listing.specs.Text.{digit, digits}
-use Rattle.listing.proofs.TextLaws.{zeroCode, letterGap, digit-glyph, Below, bytes-below}
+use Rattle.listing.proofs.NumberTexts.{zeroCode, letterGap, digit-glyph, Below, bytes-below}
 
 -- ---- masks
 

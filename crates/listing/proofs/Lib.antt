@@ -4,8 +4,8 @@ pub mod Theorems
 pub mod Examples
 -- Inside this crate: what proves the theorems and what the functions ensure.
 pub mod Finite
-pub mod TextLaws
+pub mod NumberTexts
 pub mod Hexadecimal
 pub mod BufferLaws
-pub mod LineLaws
+pub mod ListingLines
 pub mod Spelling

@@ -6,7 +6,7 @@ use mathlib.Core.List.{List}
 use lib.ListN.{length, set, length-set}
 use Rattle.listing.specs.Text.{digit, digits}
 use Rattle.fields.specs.Writing.{overwritten, Wrote}
-use Rattle.listing.proofs.TextLaws.{digits-length}
+use Rattle.listing.proofs.NumberTexts.{digits-length}
 use Rattle.fields.proofs.WritingLaws.{overwritten-none, overwritten-back}
 
 -- of the k digits of n in base b, i are still to be written: those of `rest`

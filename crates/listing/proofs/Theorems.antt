@@ -14,8 +14,8 @@ use Rattle.listing.specs.Text.{digit, decimalLimit, decimalIn, decimal, 
 use Rattle.listing.specs.Lines.{line, operationWord, verdictWord, answerWord, answerFields, heading, stepLine, shortLine, totalLine, policyLine}
 use Rattle.listing.specs.Buffer.{lineLimit, WroteWithSpare, ListedText}
 use Rattle.fields.specs.Writing.{Wrote}
-use Rattle.listing.proofs.TextLaws as text
-use Rattle.listing.proofs.LineLaws as lines
+use Rattle.listing.proofs.NumberTexts as text
+use Rattle.listing.proofs.ListingLines as lines
 use Rattle.listing.proofs.BufferLaws as buffer
 
 -- ---- numbers

@@ -9,7 +9,7 @@ use lib.Dec.{eqb}
 use lib.ListN.{length}
 use borrow.Author.Tests.{eqb-false, not-true}
 use Rattle.lists.specs.Lists.{elem}
-use Rattle.lists.specs.Conditions.{Condition, firstFailed, FailsFirst, AllHold, numbersOf, numberAt, numbersGood}
+use Rattle.lists.specs.Conditions.{Condition, firstFailed, FailsFirst, AllHold, numbersOf, numberAt, numbersDistinct}
 use Rattle.lists.proofs.Bools.{and-0, and-1, clash}
 use Rattle.lists.proofs.Elem.{elem-here, elem-there, elem-cases}
 
@@ -66,17 +66,17 @@ given-among (c ∷ cs) = by (c .holds) (elem-cases (firstFailed cs) 0 (numbersOf
 
 -- ---- numbers that are not 0 and differ
 
-module _ (c : Condition) (cs : List Condition) (g : numbersGood (numbersOf (c ∷ cs)) ≡ true) where
+module _ (c : Condition) (cs : List Condition) (g : numbersDistinct (numbersOf (c ∷ cs)) ≡ true) where
   number-some : c .number ≢ 0
-  unfolding numbersGood numbersOf
+  unfolding numbersDistinct numbersOf
   number-some = eqb-false (c .number) 0 (not-true (eqb (c .number) 0) (and-0 (not (eqb (c .number) 0)) _ g))
 
   number-apart : elem (c .number) (numbersOf cs) ≡ false
-  unfolding numbersGood numbersOf
+  unfolding numbersDistinct numbersOf
   number-apart = not-true (elem (c .number) (numbersOf cs)) (and-0 (not (elem (c .number) (numbersOf cs))) _ (and-1 (not (eqb (c .number) 0)) g))
 
-  numbers-rest : numbersGood (numbersOf cs) ≡ true
-  unfolding numbersGood numbersOf
+  numbers-rest : numbersDistinct (numbersOf cs) ≡ true
+  unfolding numbersDistinct numbersOf
   numbers-rest = and-1 (not (elem (c .number) (numbersOf cs))) (and-1 (not (eqb (c .number) 0)) g)
 
   not-later : firstFailed cs ≢ c .number
@@ -94,7 +94,7 @@ at-among (c ∷ cs) (suc k) l = elem-there (numberAt cs k) (c .number) (numbersO
 
 -- ---- each number exactly under its condition
 
-module _ (c : Condition) (cs : List Condition) (g : numbersGood (numbersOf (c ∷ cs)) ≡ true) where
+module _ (c : Condition) (cs : List Condition) (g : numbersDistinct (numbersOf (c ∷ cs)) ≡ true) where
   here : (firstFailed (c ∷ cs) ≡ c .number) ↔ (c .holds ≡ false)
   here = (on (c .holds) refl, failed c cs)
     where
@@ -110,7 +110,7 @@ module _ (c : Condition) (cs : List Condition) (g : numbersGood (numbersOf (c �
       on true h e = (h, to (sym (passed c cs h) ∙ e))
       on false h e = absurd (ne (sym e ∙ failed c cs h))
 
-pub given-exactly : (cs : List Condition) → numbersGood (numbersOf cs) ≡ true → (k : ℕ) → k < length cs → (firstFailed cs ≡ numberAt cs k) ↔ FailsFirst cs k
+pub given-exactly : (cs : List Condition) → numbersDistinct (numbersOf cs) ≡ true → (k : ℕ) → k < length cs → (firstFailed cs ≡ numberAt cs k) ↔ FailsFirst cs k
 unfolding numberAt numbersOf
 given-exactly [] g k l = absurd (omega arith)
 given-exactly (c ∷ cs) g zero l = here c cs g
@@ -119,7 +119,7 @@ given-exactly (c ∷ cs) g (suc k) l =
     (given-exactly cs (numbers-rest c cs g) k (omega arith))
 
 -- 0 exactly if each holds
-pub given-none : (cs : List Condition) → numbersGood (numbersOf cs) ≡ true → (firstFailed cs ≡ 0) ↔ AllHold cs
+pub given-none : (cs : List Condition) → numbersDistinct (numbersOf cs) ≡ true → (firstFailed cs ≡ 0) ↔ AllHold cs
 given-none [] g = (λ e. tt, λ h. none-left)
 given-none (c ∷ []) g = (λ e. behind c [] g 0 (λ z. number-some c [] g (sym z)) (given-none [] (numbers-rest c [] g)) .0 e .0, λ h. passed c [] h ∙ none-left)
 given-none (c ∷ d ∷ cs) g = behind c (d ∷ cs) g 0 (λ z. number-some c (d ∷ cs) g (sym z)) (given-none (d ∷ cs) (numbers-rest c (d ∷ cs) g))

@@ -44,6 +44,6 @@ unfoldable pub numberAt : List Condition → ℕ → ℕ
 numberAt cs k = getD (numbersOf cs) k 0
 
 -- no number is 0 or given twice
-unfoldable pub numbersGood : List ℕ → Bool
-numbersGood [] = true
-numbersGood (n ∷ ns) = not (eqb n 0) && (not (elem n ns) && numbersGood ns)
+unfoldable pub numbersDistinct : List ℕ → Bool
+numbersDistinct [] = true
+numbersDistinct (n ∷ ns) = not (eqb n 0) && (not (elem n ns) && numbersDistinct ns)

@@ -10,7 +10,7 @@ use borrow.Author.Tests.{eq-eqb, ne-eqb}
 use Rattle.lists.specs.Counting.{countBelow}
 use Rattle.lists.proofs.Counting.{count-same}
 use Rattle.matrix.specs.Flows.{has}
-use Rattle.matrix.proofs.BitLaws.{has-first, has-next}
+use Rattle.matrix.proofs.RowBits.{has-first, has-next}
 
 first-one : (n : ℕ) → n % 2 ≡ cond (has n 0) 1 0
 first-one n = rw (has-first n) (by (ℕ-discrete (n % 2) 1))

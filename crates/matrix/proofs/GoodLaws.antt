@@ -8,7 +8,7 @@ use lib.ListN.{length}
 use borrow.Author.Tests.{eq-eqb, le-leb, eqb-true, leb-true}
 use Rattle.lists.proofs.Bools.{and-in, and-0, and-1}
 use Rattle.matrix.specs.Limits.{subjectLimit, objectLimit}
-use Rattle.matrix.specs.Flows.{rowsWithin, counted, matrixGood}
+use Rattle.matrix.specs.Flows.{rowsWithin, countGood, matrixGood}
 
 pub record Good (reads writes : List ℕ) (objects : ℕ) : Type 0 where
   pub even : length writes ≡ length reads
@@ -20,13 +20,13 @@ pub record Good (reads writes : List ℕ) (objects : ℕ) : Type 0 where
   pub writesGood : rowsWithin objects writes ≡ true
 
 pub good-parts : (reads writes : List ℕ) (objects : ℕ) → matrixGood reads writes objects ≡ true → Good reads writes objects
-unfolding matrixGood counted
+unfolding matrixGood countGood
 good-parts reads writes objects h =
     let h1 = and-1 (eqb (length reads) (length writes)) h in
-    let s = and-0 (counted subjectLimit (length reads)) _ h1 in
-    let h2 = and-1 (counted subjectLimit (length reads)) h1 in
-    let o = and-0 (counted objectLimit objects) _ h2 in
-    let h3 = and-1 (counted objectLimit objects) h2 in
+    let s = and-0 (countGood subjectLimit (length reads)) _ h1 in
+    let h2 = and-1 (countGood subjectLimit (length reads)) h1 in
+    let o = and-0 (countGood objectLimit objects) _ h2 in
+    let h3 = and-1 (countGood objectLimit objects) h2 in
     record {
       even = sym (eqb-true (length reads) (length writes) (and-0 (eqb (length reads) (length writes)) _ h));
       few = leb-true objects objectLimit (and-1 (leb 1 objects) o);
@@ -39,12 +39,12 @@ good-parts reads writes objects h =
 
 pub parts-good : (reads writes : List ℕ) (objects : ℕ) → length reads ≡ length writes → 1 ≤ length reads → length reads ≤ subjectLimit → 1 ≤ objects → objects ≤ objectLimit
     → rowsWithin objects reads ≡ true → rowsWithin objects writes ≡ true → matrixGood reads writes objects ≡ true
-unfolding matrixGood counted
+unfolding matrixGood countGood
 parts-good reads writes objects e s t o p r w =
     and-in (eq-eqb (length reads) (length writes) e)
     (and-in (and-in (le-leb 1 (length reads) s) (le-leb (length reads) subjectLimit t))
     (and-in (and-in (le-leb 1 objects o) (le-leb objects objectLimit p)) (and-in r w)))
 
-pub counted-most : (most n : ℕ) → counted most n ≡ true → n ≤ most
-unfolding counted
-counted-most most n h = leb-true n most (and-1 (leb 1 n) h)
+pub count-good-most : (most n : ℕ) → countGood most n ≡ true → n ≤ most
+unfolding countGood
+count-good-most most n h = leb-true n most (and-1 (leb 1 n) h)

@@ -7,7 +7,7 @@ use mathlib.Core.List.{List, [], _∷_}
 use mathlib.Core.Logic.{_⊎_, _↔_}
 use lib.ListN.{length, getD}
 use Rattle.lists.specs.Lists.{elem}
-use Rattle.lists.specs.Conditions.{Condition, firstFailed, numbersOf, numberAt, numbersGood}
+use Rattle.lists.specs.Conditions.{Condition, firstFailed, numbersOf, numberAt, numbersDistinct}
 use Rattle.lists.proofs.Conditions.{given-exactly, given-none}
 use Rattle.answers.specs.Refusals.{matrix}
 use Rattle.matrix.specs.Limits.{subjectLimit, objectLimit}
@@ -15,8 +15,8 @@ use Rattle.matrix.specs.Flows.{has, granted, Composed, composed, matrixG
 use Rattle.lists.specs.Counting.{countBelow, sumBelow}
 use Rattle.matrix.specs.Verdicts.{flowCount, firstSource, firstTarget, consistent, matrixConditions, matrixVerdict}
 use Rattle.matrix.specs.Rows.{Closed}
-use Rattle.matrix.proofs.FlowLaws as flows
-use Rattle.matrix.proofs.VerdictLaws as verdicts
+use Rattle.matrix.proofs.PathFlows as flows
+use Rattle.matrix.proofs.VerdictLoops as verdicts
 
 -- ---- which rows are a matrix: all but those refused by 8
 
@@ -91,11 +91,11 @@ module _ (reads writes : List ℕ) (objects : ℕ) where
   cs = matrixConditions reads writes objects
 
   pub refused-8 : (firstFailed cs ≡ matrix) ↔ (matrixGood reads writes objects ≡ false)
-  unfolding matrixConditions numbersGood numbersOf numberAt elem
+  unfolding matrixConditions numbersDistinct numbersOf numberAt elem
   refused-8 = given-exactly cs refl 0 (omega arith)
 
   pub refused-none : (firstFailed cs ≡ 0) ↔ (matrixGood reads writes objects ≡ true)
-  unfolding matrixConditions numbersGood numbersOf elem
+  unfolding matrixConditions numbersDistinct numbersOf elem
   refused-none = given-none cs refl
 
 pub verdict-refused : (reads writes : List ℕ) (objects : ℕ) → matrixGood reads writes objects ≡ false →

@@ -17,15 +17,15 @@ unfoldable pub rowsWithin : ℕ → List ℕ → Bool
 rowsWithin objects rows = every (λ row. ltb row (2 ^ objects)) rows
 
 -- a number from 1 to most
-unfoldable pub counted : ℕ → ℕ → Bool
-counted most n = leb 1 n && leb n most
+unfoldable pub countGood : ℕ → ℕ → Bool
+countGood most n = leb 1 n && leb n most
 
 -- a matrix: "row counts differ, counts, bit beyond the objects" is what it is refused for
 unfoldable pub matrixGood : List ℕ → List ℕ → ℕ → Bool
 matrixGood reads writes objects =
     eqb (length reads) (length writes)
-    && (counted subjectLimit (length reads)
-    && (counted objectLimit objects && (rowsWithin objects reads && rowsWithin objects writes)))
+    && (countGood subjectLimit (length reads)
+    && (countGood objectLimit objects && (rowsWithin objects reads && rowsWithin objects writes)))
 
 -- the three together: subject s may read object k where row s of the reads has bit k, and write it where row s of the writes has it
 pub record Matrix : Type 0 where

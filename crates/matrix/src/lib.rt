@@ -4,7 +4,7 @@ ghost use Prim.Native.Nat.{ℕ, _+_, _≤_, _<_};
 ghost use mathlib.Core.Bool.{true};
 ghost use lib.ListN.{length};
 ghost use Rattle.matrix.specs.Limits.{objectLimit};
-ghost use Rattle.matrix.specs.Flows.{matrixGood, rowsWithin, counted, has, granted, within, composed};
+ghost use Rattle.matrix.specs.Flows.{matrixGood, rowsWithin, countGood, has, granted, within, composed};
 ghost use Rattle.matrix.specs.Verdicts.{ungranted, flowCount, judgedBy, consistencyValues, matrixVerdict};
 ghost use Rattle.matrix.specs.Rows.{bitAt, spelling, joinedAt, Passed, Closed};
 
@@ -157,8 +157,8 @@ fn rows_within(objects: u32, rows: &[u32]) -> bool
 }
 
 // A number from 1 to most.
-fn counted(most: usize, n: usize) -> bool
-    ensures { λ r. ⌜ r ≡ counted most n ⌝ }
+fn count_good(most: usize, n: usize) -> bool
+    ensures { λ r. ⌜ r ≡ countGood most n ⌝ }
 {
     1 <= n && n <= most
 }
@@ -170,10 +170,10 @@ pub fn matrix_good(reads: &[u32], writes: &[u32], objects: u32) -> bool
     if reads.len() != writes.len() {
         return false;
     }
-    if !counted(SUBJECT_LIMIT, reads.len()) {
+    if !count_good(SUBJECT_LIMIT, reads.len()) {
         return false;
     }
-    if !counted(OBJECT_LIMIT, objects as usize) {
+    if !count_good(OBJECT_LIMIT, objects as usize) {
         return false;
     }
     if !rows_within(objects, reads) {
@@ -183,7 +183,7 @@ pub fn matrix_good(reads: &[u32], writes: &[u32], objects: u32) -> bool
 }
 
 // The first n rows become those of the composed flows; the others stay.
-pub fn compose(reads: &[u32], writes: &[u32], rows: &mut [u32], n: usize)
+pub fn compose_flows(reads: &[u32], writes: &[u32], rows: &mut [u32], n: usize)
     requires { ⌜ (matrixGood (now reads) (now writes) n ≡ true) × (n ≤ length (now rows)) ⌝ }
     ensures { λ _. ⌜ now (rows .exit) ≡ spelling (composed (now (reads .entry)) (now (writes .entry)) n) n (now (rows .entry)) ⌝ }
 {
@@ -200,7 +200,7 @@ pub fn verdict(reads: &[u32], writes: &[u32], objects: u32) -> Consistency
     }
     let n = objects as usize;
     let mut rows = [0u32; OBJECT_LIMIT];
-    compose(reads, writes, &mut rows, n);
+    compose_flows(reads, writes, &mut rows, n);
     let count = count_flows(reads, writes, &rows, n);
     first_flow(reads, writes, &rows, n, count)
 }

@@ -18,7 +18,7 @@ use Rattle.monitor.specs.Steps.{stepAsked, stepAnswer}
 use Rattle.monitor.specs.Runs.{stepOn, runAnswers, runEffect, historyIn}
 use Rattle.records.proofs.RecordLaws.{record-step}
 use Rattle.monitor.proofs.StepLaws.{step-record, answered-zero, accepted-zero}
-use Rattle.monitor.proofs.RunLaws.{history-told, history-first, answer-last, record-last, take-last, take-before}
+use Rattle.monitor.proofs.RunHistories.{history-told, history-first, answer-last, record-last, take-last, take-before}
 
 -- ---- a position of a list of records
 
@@ -27,7 +27,7 @@ module _ (s : List ℕ) (P : Policy) (rs : List (List ℕ)) (given : List Answer
     (t : Step) (et : stepOf r ≡ some t) (h : History) (eh : historyIn (take (suc n) rs) (take (suc n) given) ≡ h) where
   at : AcceptedAt stepOn stepOf s rs n t a
   unfolding runAnswers
-  at = record { spelled = (r, er, et); answered = ap (λ l. getElem? l n) told ∙ ea; counted = k }
+  at = record { spelled = (r, er, et); answered = ap (λ l. getElem? l n) told ∙ ea; accepting = k }
 
   up-to : historyOf stepOn stepOf s (take (suc n) rs) ≡ h
   up-to = history-first (suc n) s rs ∙ ap (λ l. historyIn (take (suc n) rs) (take (suc n) l)) told ∙ eh
@@ -47,7 +47,7 @@ module _ (s : List ℕ) (P : Policy) (rs : List (List ℕ)) (r : List ℕ) (e : 
   last = record {
     spelled = (r, record-last rs r, record-step r (step-record (runEffect s rs) r (accepted-zero (runEffect s rs) r e)));
     answered = answer-last s rs r;
-    counted = e;
+    accepting = e;
   }
 
   whole : historyOf stepOn stepOf s (take (suc (length rs)) (rs ++ (r ∷ []))) ≡ historyIn (rs ++ (r ∷ [])) (runAnswers s (rs ++ (r ∷ [])))

@@ -26,8 +26,8 @@ use Rattle.chains.specs.Guards.{guarded, writing, writtenInto}
 use Rattle.chains.specs.Demand.{judged, historyOf, BlockedTold, BlockedExactly, GuardedHolds, GuardedSpared}
 use Rattle.chains.specs.Table.{State, appendRow, entry, meetGood, alerts, blocks}
 use Rattle.chains.proofs.Exact.{covers-in, covers-out}
-use Rattle.chains.proofs.TableLaws.{passed}
-use Rattle.chains.proofs.VerdictLaws.{verdict-blocked, blocks-alerts, blocked-blocks}
+use Rattle.chains.proofs.TableStates.{passed}
+use Rattle.chains.proofs.ThreeAnswers.{verdict-blocked, blocks-alerts, blocked-blocks}
 use Rattle.chains.proofs.GuardLaws.{guarded-written, writing-judged, written-kind}
 use Rattle.chains.proofs.Theorems as chains
 use Rattle.records.specs.Records.{stepOf}
@@ -38,9 +38,9 @@ use Rattle.monitor.specs.Steps.{stepAsked, refusalOf, stepAnswer, stepEf
 use Rattle.monitor.specs.Runs.{stepOn, runAnswers, runEffect, historyIn}
 use Rattle.monitor.specs.Stops.{ran}
 use Rattle.monitor.proofs.StepLaws.{step-table, step-meet, made-answer, blocked-effect, answered-zero, faithful}
-use Rattle.monitor.proofs.AnswerLaws.{verdict-judged}
+use Rattle.monitor.proofs.AnswerNumbers.{verdict-judged}
 use Rattle.monitor.proofs.StartView.{start-valid, start-view}
-use Rattle.monitor.proofs.RunLaws.{runEffect-append}
+use Rattle.monitor.proofs.RunHistories.{runEffect-append}
 use Rattle.monitor.proofs.DemandLaws.{blocked-last}
 use Rattle.monitor.proofs.StopLaws as stops
 

@@ -19,7 +19,7 @@ use Rattle.image.specs.Image.{policyIn}
 use Rattle.session.specs.Limits.{sessionLength, rowWidth, kindAt, nobody}
 use Rattle.session.specs.Rows.{rowWords, containerRowGood, userRowGood, containerRow, userRow}
 use Rattle.session.specs.Session.{startAnswer, startEffect}
-use Rattle.session.proofs.RowLaws.{row-kind}
+use Rattle.session.proofs.RowMeaning.{row-kind}
 use Rattle.session.proofs.Canonical.{effect-start}
 use Rattle.chains.specs.History.{Step, fork, newFile, newVolatile, end, delete, History, receiver}
 use Rattle.chains.specs.Behalf.{onBehalf}
@@ -31,7 +31,7 @@ use Rattle.operations.specs.View.{view}
 use Rattle.operations.proofs.PlacedRows.{Valid}
 use Rattle.monitor.specs.Steps.{stepAsked, refusalOf, stepAnswer, stepEffect}
 use Rattle.monitor.specs.Runs.{stepOn, runEffect}
-use Rattle.monitor.proofs.RunLaws.{run-last}
+use Rattle.monitor.proofs.RunHistories.{run-last}
 use Rattle.monitor.proofs.BehalfLaws.{behalf-either}
 use Rattle.monitor.proofs.LeavingLaws.{free-words, zeros-free, free-left, left-free, free-taken, valid-taken}
 use Rattle.monitor.proofs.Theorems.{not-refused, answer-accepted, object-fork, object-file, object-volatile, reached, effect-row, effect-others, declared-exactly-started, behalf-told-started}

@@ -47,10 +47,10 @@ use Rattle.records.specs.Records.{recordGood}
 use Rattle.operations.specs.View.{view}
 use Rattle.operations.specs.Effects.{userNamedGood, rowsGood, sessionConditions}
 use Rattle.operations.proofs.ViewLaws.{view-row, view-no-row}
-use Rattle.operations.proofs.KeptLaws.{laid-free}
+use Rattle.operations.proofs.RowsKept.{laid-free}
 use Rattle.operations.proofs.PlacedRows.{Valid}
 use Rattle.monitor.specs.Steps.{stepAsked, stepConditions, refusalOf, stepAnswer}
-use Rattle.monitor.proofs.RunLaws.{record-rows}
+use Rattle.monitor.proofs.RunHistories.{record-rows}
 use Rattle.monitor.proofs.Guarded.{blocked-step}
 use Rattle.monitor.proofs.Theorems.{length-good, not-refused, answer-accepted}
 

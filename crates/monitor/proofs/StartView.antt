@@ -15,12 +15,12 @@ use Rattle.image.specs.Normal.{normalAt, placeOf, meaning}
 use Rattle.session.specs.Rows.{rowOf, permitWords, runWords, freeWords, isDeclared, userRuleOf, userWords, undeclaredWords}
 use Rattle.rule_words.specs.Words.{ruleOf}
 use Rattle.session.specs.Session.{startOf}
-use Rattle.session.proofs.RowLaws.{user-words, user-declared, undeclared-not}
-use Rattle.session.proofs.StartLaws.{start-length, start-said, start-free, start-user, start-user-short, start-undeclared, start-rows-good, start-users-good}
+use Rattle.session.proofs.RowMeaning.{user-words, user-declared, undeclared-not}
+use Rattle.session.proofs.StartRows.{start-length, start-said, start-free, start-user, start-user-short, start-undeclared, start-rows-good, start-users-good}
 use Rattle.chains.specs.Table.{freeRow, isSome, startRowOf, begin}
 use Rattle.lists.proofs.Bools.{clash}
 use Rattle.lists.proofs.Places.{mapped, mapped-at}
-use Rattle.chains.proofs.TableLaws.{same-state}
+use Rattle.chains.proofs.TableStates.{same-state}
 use Rattle.operations.specs.View.{view}
 use Rattle.operations.proofs.PlacedRows.{Valid}
 use Rattle.operations.proofs.ViewLaws.{view-row, view-user, view-no-row, view-no-user}

@@ -9,7 +9,7 @@ use mathlib.Core.Option.{some}
 use lib.ListN.{length}
 use borrow.Author.Tests.{eqb-true, eq-eqb, ne-eqb}
 use Rattle.lists.specs.Lists.{elem}
-use Rattle.lists.specs.Conditions.{FailsFirst, AllHold, firstFailed, numbersOf, numberAt, numbersGood}
+use Rattle.lists.specs.Conditions.{FailsFirst, AllHold, firstFailed, numbersOf, numberAt, numbersDistinct}
 use Rattle.lists.proofs.Bools.{clash, decide}
 use Rattle.lists.proofs.Conditions.{passed, zero-or-not, given-exactly, given-none}
 use Rattle.answers.specs.Refusals.{operationRecord, lentLength}
@@ -21,8 +21,8 @@ use Rattle.session.specs.Limits.{sessionLength}
 use Rattle.session.specs.Rows.{rowWords, putRow}
 use Rattle.chains.specs.History.{Step, receiver}
 use Rattle.chains.specs.Table.{State, entry, meetGood, earlyConditions, tableConditions, blocks, verdict, operate, Faithful}
-use Rattle.chains.proofs.TableLaws.{operate-done}
-use Rattle.chains.proofs.VerdictLaws.{verdict-given, accepted-put, left-put, left-blocked}
+use Rattle.chains.proofs.TableStates.{operate-done}
+use Rattle.chains.proofs.ThreeAnswers.{verdict-given, accepted-put, left-put, left-blocked}
 use Rattle.records.specs.declared.Code.{Code}
 use Rattle.records.specs.declared.Request.{Request}
 use Rattle.records.specs.Codes.{codeAt}
@@ -31,8 +31,8 @@ use Rattle.records.proofs.CodeLaws.{receiver-bound}
 use Rattle.records.proofs.RecordLaws.{asked, record-step, record-missing, record-there, record-needs}
 use Rattle.operations.specs.View.{view}
 use Rattle.operations.specs.Effects.{Named, sessionConditions, sessionRefusal, madeAnswer, madeEffect, performAnswer, performEffect}
-use Rattle.operations.specs.Parts.{firstConditions, Ready}
-use Rattle.operations.proofs.KeptLaws.{Laid, entry-laid}
+use Rattle.operations.specs.EarlyTests.{firstConditions, Ready}
+use Rattle.operations.proofs.RowsKept.{Laid, entry-laid}
 use Rattle.operations.proofs.PlacedRows.{Valid, view-put, valid-put, placed-long}
 use Rattle.operations.proofs.PerformLaws.{Performed, ready}
 use Rattle.session.specs.Session.{sessionLengthGood}
@@ -88,8 +88,8 @@ module _ (s r : List ℕ) (n : refusalOf s r ≢ 0) where
 
 -- ---- not refused
 
-pub numbers : (s r : List ℕ) → numbersGood (numbersOf (stepConditions s r)) ≡ true
-unfolding stepConditions sessionConditions tableConditions earlyConditions numbersOf numbersGood elem
+pub numbers : (s r : List ℕ) → numbersDistinct (numbersOf (stepConditions s r)) ≡ true
+unfolding stepConditions sessionConditions tableConditions earlyConditions numbersOf numbersDistinct elem
 numbers s r = refl
 
 conditions : (s r : List ℕ) → length (stepConditions s r) ≡ 9

@@ -20,14 +20,14 @@ use Rattle.session.specs.Limits.{sessionLength}
 use Rattle.session.specs.Session.{sessionLengthGood}
 use Rattle.records.specs.Records.{recordLength}
 use Rattle.records.specs.Traces.{traceRecords}
-use Rattle.records.proofs.TraceLaws.{records-rest}
+use Rattle.records.proofs.TraceRecords.{records-rest}
 use Rattle.monitor.specs.declared.Ran.{Ran}
 use Rattle.monitor.specs.Steps.{stepConditions, refusalOf, stepAnswer, stepEffect}
 use Rattle.monitor.specs.Runs.{stepOn, runAnswers, runEffect}
 use Rattle.monitor.specs.Stops.{stopAnswer, stopCount, ran}
 use Rattle.monitor.proofs.StepLaws.{refused-effect, refused-at, effect-long, answered}
-use Rattle.monitor.proofs.AnswerLaws.{number-refused}
-use Rattle.monitor.proofs.RunLaws.{runAnswers-append, runEffect-append}
+use Rattle.monitor.proofs.AnswerNumbers.{number-refused}
+use Rattle.monitor.proofs.RunHistories.{runAnswers-append, runEffect-append}
 
 -- ---- answers up to and with the first that is not quiet
 

@@ -12,7 +12,7 @@ use Rattle.session.specs.Limits.{sessionLength}
 use Rattle.session.specs.Session.{sessionLengthGood}
 use Rattle.records.specs.Records.{recordLength}
 use Rattle.records.specs.Traces.{traceRecords}
-use Rattle.records.proofs.TraceLaws.{next-record, no-record, record-length}
+use Rattle.records.proofs.TraceRecords.{next-record, no-record, record-length}
 use Rattle.monitor.specs.declared.Ran.{Ran}
 use Rattle.monitor.specs.Steps.{stepAnswer, stepEffect}
 use Rattle.monitor.specs.Runs.{stepOn, runAnswers, runEffect}
@@ -28,21 +28,21 @@ stopEffect s rs = runEffect s (take (stopCount (runAnswers s rs)) rs)
 -- what a list of records comes to is a, n and s′
 pub record StopsAt (s : List ℕ) (rs : List (List ℕ)) (a : Answer) (n : ℕ) (s′ : List ℕ) : Type 0 where
   pub told : stopAnswer (runAnswers s rs) ≡ a
-  pub counted : stopCount (runAnswers s rs) ≡ n
+  pub count : stopCount (runAnswers s rs) ≡ n
   pub left : stopEffect s rs ≡ s′
 
 stops-none : (s : List ℕ) → StopsAt s [] (quiet 0 0 0) 0 s
 unfolding stopEffect runAnswers runEffect stopAnswer stopCount
-stops-none s = record { told = refl; counted = refl; left = refl }
+stops-none s = record { told = refl; count = refl; left = refl }
 
 stops-here : (s r : List ℕ) (rs : List (List ℕ)) → isQuiet (stepAnswer s r) ≡ false → StopsAt s (r ∷ rs) (stepAnswer s r) 1 (stepEffect s r)
 unfolding stopEffect runAnswers runEffect stopAnswer stopCount stepOn
-stops-here s r rs q = record { told = rw q; counted = rw q; left = rw q }
+stops-here s r rs q = record { told = rw q; count = rw q; left = rw q }
 
 stops-later : (s r : List ℕ) (rs : List (List ℕ)) → isQuiet (stepAnswer s r) ≡ true
     → StopsAt s (r ∷ rs) (stopAnswer (runAnswers (stepEffect s r) rs)) (suc (stopCount (runAnswers (stepEffect s r) rs))) (stopEffect (stepEffect s r) rs)
 unfolding stopEffect runAnswers runEffect stopAnswer stopCount stepOn
-stops-later s r rs q = record { told = rw q; counted = rw q; left = rw q }
+stops-later s r rs q = record { told = rw q; count = rw q; left = rw q }
 
 -- ---- the loop: taken records were quiet, at is the place of the next, s the session now, s₀ at the beginning
 
@@ -52,7 +52,7 @@ pub record Running (s₀ t s : List ℕ) (taken at : ℕ) : Type 0 where
   pub within : at ≤ length t
   pub fewer : taken ≤ at
   pub told : stopAnswer (runAnswers s (traceRecords (drop at t))) ≡ stopAnswer (runAnswers s₀ (traceRecords t))
-  pub counted : taken + stopCount (runAnswers s (traceRecords (drop at t))) ≡ stopCount (runAnswers s₀ (traceRecords t))
+  pub count : taken + stopCount (runAnswers s (traceRecords (drop at t))) ≡ stopCount (runAnswers s₀ (traceRecords t))
   pub leaves : stopEffect s (traceRecords (drop at t)) ≡ stopEffect s₀ (traceRecords t)
 
 pub run-start : (s t : List ℕ) → length s ≡ sessionLength → Running s t s 0 0
@@ -63,7 +63,7 @@ run-start s t l = record {
   within = omega arith;
   fewer = omega arith;
   told = refl;
-  counted = omega arith;
+  count = omega arith;
   leaves = refl;
 }
 
@@ -74,7 +74,7 @@ unfolding ran ranEffect stopEffect
 whole s₀ t s taken at h a n s′ e w we =
     let o : sessionLengthGood s₀ ≡ true = h .good in
     let f : a ≡ stopAnswer (runAnswers s₀ (traceRecords t)) = sym (e .told) ∙ h .told in
-    let g : taken + n ≡ stopCount (runAnswers s₀ (traceRecords t)) = ap (λ (k : ℕ). taken + k) (sym (e .counted)) ∙ h .counted in
+    let g : taken + n ≡ stopCount (runAnswers s₀ (traceRecords t)) = ap (λ (k : ℕ). taken + k) (sym (e .count)) ∙ h .count in
     (we ∙ rw (o, f, g), sym (e .left) ∙ h .leaves ∙ rw o)
 
 module _ (s₀ t s x s′ : List ℕ) (taken at : ℕ) (a : Answer) (h : Running s₀ t s taken at) (l : at < length t) (xe : x ≡ take recordLength (drop at t))
@@ -98,7 +98,7 @@ module _ (s₀ t s x s′ : List ℕ) (taken at : ℕ) (a : Answer) (h : Running
         within = record-length t x at l xe .1;
         fewer = omega (arith, h .fewer, record-length t x at l xe .0);
         told = sym (e .told) ∙ h .told;
-        counted = omega (arith, h .counted, e .counted);
+        count = omega (arith, h .count, e .count);
         leaves = sym (e .left) ∙ h .leaves;
       }
 

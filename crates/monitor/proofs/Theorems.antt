@@ -49,13 +49,13 @@ use Rattle.monitor.specs.Steps.{stepAsked, stepConditions, refusalOf, st
 use Rattle.monitor.specs.Runs.{stepOn, runAnswers, runEffect, historyIn}
 use Rattle.monitor.specs.Stops.{ran, ranEffect}
 use Rattle.monitor.proofs.StepLaws.{numbers, refused-at, refused-answer, refused-effect, step-long, step-record, step-receiver, step-laid, effect-long, made-answer, made-effect, answered, answered-zero, accepted-zero, accepted-free, faithful}
-use Rattle.monitor.proofs.AnswerLaws as answers
-use Rattle.monitor.proofs.PositionLaws as positions
-use Rattle.monitor.proofs.AnswerLaws.{verdict-put, new-quiet}
+use Rattle.monitor.proofs.AnswerNumbers as answers
+use Rattle.monitor.proofs.AnswerPositions as positions
+use Rattle.monitor.proofs.AnswerNumbers.{verdict-put, new-quiet}
 use Rattle.monitor.proofs.BehalfLaws.{Other, behalf-fails, other-same, process-named}
 use Rattle.monitor.proofs.StartView.{start-valid, start-view, begun-declared}
 use Rattle.monitor.proofs.UserLaws.{Users, reached-recorded}
-use Rattle.monitor.proofs.RunLaws.{valid-run, never-10, runEffect-append}
+use Rattle.monitor.proofs.RunHistories.{valid-run, never-10, runEffect-append}
 use Rattle.monitor.proofs.DemandLaws.{alert-at, tag-at, alert-last}
 use Rattle.monitor.proofs.StopLaws.{stopped, all-quiet, quiet-stop, length-run, ran-good, ran-alert, number-9, number-0, number-256, number-257, answers-split, effect-split}
 

@@ -5,20 +5,20 @@ use mathlib.Core.List.{List, [], _∷_, _++_, append-nil}
 use lib.ListN.{length}
 use Rattle.answers.specs.declared.Answer.{Answer}
 use Rattle.answers.specs.declared.Tally.{Tally}
-use Rattle.answers.specs.Tallies.{counted, countedAll}
+use Rattle.answers.specs.Tallies.{tallied, talliedAll}
 use Rattle.records.specs.Records.{recordLength}
 use Rattle.records.specs.Traces.{traceRecords}
-use Rattle.records.proofs.TraceLaws.{records-append}
+use Rattle.records.proofs.TraceRecords.{records-append}
 use Rattle.monitor.specs.Runs.{stepOn, runAnswers, runEffect}
-use Rattle.monitor.specs.Parts.{partTally, partSession, WholeRecords, together, partsTally, partsSession}
-use Rattle.monitor.proofs.RunLaws.{runAnswers-append, runEffect-append}
+use Rattle.monitor.specs.PartSessions.{partTally, partSession, WholeRecords, together, partsTally, partsSession}
+use Rattle.monitor.proofs.RunHistories.{runAnswers-append, runEffect-append}
 
 -- ---- lists of records
 
-pub counted-append : (t : Tally) (l m : List Answer) → countedAll t (l ++ m) ≡ countedAll (countedAll t l) m
-unfolding countedAll
-counted-append t [] m = refl
-counted-append t (a ∷ l) m = counted-append (counted t a) l m
+pub tallied-append : (t : Tally) (l m : List Answer) → talliedAll t (l ++ m) ≡ talliedAll (talliedAll t l) m
+unfolding talliedAll
+tallied-append t [] m = refl
+tallied-append t (a ∷ l) m = tallied-append (tallied t a) l m
 
 pub answers-length : (s : List ℕ) (rs : List (List ℕ)) → length (runAnswers s rs) ≡ length rs
 unfolding runAnswers
@@ -31,9 +31,9 @@ module _ (s x y : List ℕ) (h : length x % recordLength ≡ 0) where
   pub tally-cut : (t : Tally) → partTally t s (x ++ y) ≡ partTally (partTally t s x) (partSession s x) y
   unfolding partTally partSession
   tally-cut t =
-      ap (λ (rs : List (List ℕ)). countedAll t (runAnswers s rs)) (records-append x y h)
-      ∙ ap (countedAll t) (runAnswers-append s (traceRecords x) (traceRecords y))
-      ∙ counted-append t (runAnswers s (traceRecords x)) (runAnswers (runEffect s (traceRecords x)) (traceRecords y))
+      ap (λ (rs : List (List ℕ)). talliedAll t (runAnswers s rs)) (records-append x y h)
+      ∙ ap (talliedAll t) (runAnswers-append s (traceRecords x) (traceRecords y))
+      ∙ tallied-append t (runAnswers s (traceRecords x)) (runAnswers (runEffect s (traceRecords x)) (traceRecords y))
 
   pub session-cut : partSession s (x ++ y) ≡ partSession (partSession s x) y
   unfolding partSession
@@ -43,7 +43,7 @@ module _ (s x y : List ℕ) (h : length x % recordLength ≡ 0) where
 
 pub tally-parts : (t : Tally) (s : List ℕ) (ps : List (List ℕ)) → WholeRecords ps → partsTally t s ps ≡ partTally t s (together ps)
 unfolding partsTally together
-tally-parts t s [] w = unfold partTally countedAll runAnswers traceRecords Rattle.fields.specs.Bytes.cut in refl
+tally-parts t s [] w = unfold partTally talliedAll runAnswers traceRecords Rattle.fields.specs.Bytes.cut in refl
 tally-parts t s (p ∷ []) w = ap (partTally t s) (sym (append-nil p))
 tally-parts t s (p ∷ q ∷ ps) w =
     tally-parts (partTally t s p) (partSession s p) (q ∷ ps) (w .1) ∙ sym (tally-cut s p (together (q ∷ ps)) (w .0) t)

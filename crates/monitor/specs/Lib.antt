@@ -2,4 +2,4 @@
 pub mod Steps
 pub mod Runs
 pub mod Stops
-pub mod Parts
+pub mod PartSessions

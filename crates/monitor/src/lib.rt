@@ -14,11 +14,15 @@ pub fn step(session: &mut [u64], bytes: &[u8]) -> Answer
     if session.len() != SESSION_LENGTH {
         return Answer::Refused(answers::LENT_LENGTH);
     }
-    let need = records::need_of(bytes);
+    if bytes.len() != records::RECORD_LENGTH {
+        return Answer::Refused(answers::OPERATION_RECORD);
+    }
+    let q = records::request_of(bytes);
+    let need = records::need_of(bytes, q);
     if need.object == image::NO_KINDS {
         return Answer::Refused(answers::OPERATION_RECORD);
     }
-    operations::perform(session, records::request_of(bytes), need)
+    operations::perform(session, q, need)
 }
 
 // ---- a run

@@ -1,2 +1,2 @@
 -- The program's laws.
-pub mod RunLaws
+pub mod CountedMonth

@@ -36,10 +36,10 @@ fn add_file(
     name: &[u8],
     session: &mut [u64],
     counts: &mut [u32; COUNT_LIMIT],
-    places: &mut [u32],
+    alerted: &mut [u32],
 ) -> Progress
-    requires { ⌜ OpenedAs (now name) fd × (now counts ≡ noCounters .counts) × (now places ≡ noCounters .places) ⌝ }
-    ensures { λ r. ⌜ DoneOrTold (r .good) (TraceCounted (now (name .entry)) (now (session .entry)) (counters (r .records) (now (counts .exit)) (now (places .exit)))) ⌝ }
+    requires { ⌜ OpenedAs (now name) fd × (now counts ≡ noCounters .counts) × (now alerted ≡ noCounters .alerted) ⌝ }
+    ensures { λ r. ⌜ DoneOrTold (r .good) (TraceCounted (now (name .entry)) (now (session .entry)) (counters (r .records) (now (counts .exit)) (now (alerted .exit)))) ⌝ }
 {
     let mut part = [0u8; PART_SIZE];
     let mut records: u64 = 0;
@@ -49,7 +49,7 @@ fn add_file(
         turns -= 1;
         let got = files::read_part(fd, name, &mut part, &mut place);
         let n = got.size;
-        records = figures::add_part(&part[..n], session, counts, places, records);
+        records = figures::add_part(&part[..n], session, counts, alerted, records);
         if got.last {
             return Progress {
                 good: got.good,
@@ -87,16 +87,16 @@ fn show_trace(
     ensures { λ r. ⌜ DoneOrTold (r .good) (TraceShown n (now (name .entry)) (startOf (policyIn (now (policy .entry)))) (counters total (now (totals .entry)) (now (sums .entry))) (counters (r .records) (now (totals .exit)) (now (sums .exit))) (now (sent .entry)) (now (sent .exit))) ⌝ }
 {
     let mut counts = [0u32; COUNT_LIMIT];
-    let mut places = [0u32; CONTAINER_LIMIT];
+    let mut alerted = [0u32; CONTAINER_LIMIT];
     session::start(policy, session);
-    let run = add_file(fd, name, session, &mut counts, &mut places);
+    let run = add_file(fd, name, session, &mut counts, &mut alerted);
     if !run.good {
         return run;
     }
     let records = run.records;
-    let end = figures::put_trace(out, n, records, &counts, &places);
+    let end = figures::put_trace(out, n, records, &counts, &alerted);
     let written = files::write_front(out, end, sent);
-    let summed = figures::add_total(totals, sums, total, &counts, &places, records);
+    let summed = figures::add_total(totals, sums, total, &counts, &alerted, records);
     Progress {
         good: written,
         records: summed,
@@ -112,7 +112,7 @@ fn show_traces(
     out: &mut [u8; BUFFER_SIZE],
     sent: &mut u64,
 ) -> Progress
-    requires { ⌜ (checkOf (now policy) ≡ 0) × (length (now session) ≡ sessionLength) × (now totals ≡ noCounters .counts) × (now sums ≡ noCounters .places) ⌝ }
+    requires { ⌜ (checkOf (now policy) ≡ 0) × (length (now session) ≡ sessionLength) × (now totals ≡ noCounters .counts) × (now sums ≡ noCounters .alerted) ⌝ }
     ensures { λ r. ⌜ DoneOrTold (r .good) (TracesShown (startOf (policyIn (now (policy .entry)))) (counters (r .records) (now (totals .exit)) (now (sums .exit))) (now (sent .entry)) (now (sent .exit))) ⌝ }
 {
     let mut total: u64 = 0;

@@ -20,9 +20,9 @@ use Rattle.image.specs.Policy.{unrestrictedRule}
 use Rattle.image.specs.Normal.{sameUse, freeUse}
 use Rattle.rule_words.specs.Words.{ruleWidth, ruleOf}
 use Rattle.normaliser.specs.Writer.{formWidth, formIn}
-use Rattle.fields.proofs.RecordLaws.{records-count}
-use Rattle.normaliser.specs.Keys.{wordsAt}
-use Rattle.normaliser.proofs.FormLaws.{words-at}
+use Rattle.fields.proofs.SectionRecords.{records-count}
+use Rattle.normaliser.specs.Hashes.{wordsAt}
+use Rattle.normaliser.proofs.RuleForms.{words-at}
 
 -- the words of a rule, lent
 pub words-part : (forms : List ℕ) (k : ℕ) → take (k * formWidth + formWidth - k * formWidth) (drop (k * formWidth) forms) ≡ wordsAt forms k

@@ -96,22 +96,22 @@ place-other v x t d =
     by false e = refl
 
 -- the tables with one class more
-module _ (order places : List ℕ) (m : ℕ) (g : Ordered order places m) (v : ℕ) (room : m < length order) (small : v < length places) (h : elem v (take m order) ≡ false) where
+module _ (order ranks : List ℕ) (m : ℕ) (g : Ordered order ranks m) (v : ℕ) (room : m < length order) (small : v < length ranks) (h : elem v (take m order) ≡ false) where
   pub taken-new : take (m + 1) (set order m v) ≡ take m order ++ (v ∷ [])
   taken-new = ap (λ (n : ℕ). take n (set order m v)) (add-one m) ∙ take-suc-set order m v room
 
-  pub ordered-new : Ordered (set order m v) (set places v (m + 1)) (m + 1)
-  ordered-new = record { room = omega (arith, length-set order m v); few = omega (arith, length-set order m v, g .few); is = λ x l. by x (omega (arith, length-set places v (m + 1))) (ℕ-discrete x v) }
+  pub ordered-new : Ordered (set order m v) (set ranks v (m + 1)) (m + 1)
+  ordered-new = record { room = omega (arith, length-set order m v); few = omega (arith, length-set order m v, g .few); is = λ x l. by x (omega (arith, length-set ranks v (m + 1))) (ℕ-discrete x v) }
     where
       e : length (take m order) ≡ m
       e = length-take-le m order (omega arith)
 
-      by : (x : ℕ) → x < length places → Dec (x ≡ v) → getD (set places v (m + 1)) x 0 ≡ placeIn x (take (m + 1) (set order m v))
+      by : (x : ℕ) → x < length ranks → Dec (x ≡ v) → getD (set ranks v (m + 1)) x 0 ≡ placeIn x (take (m + 1) (set order m v))
       by x l (yes q) =
-          ap (λ (y : ℕ). getD (set places v (m + 1)) y 0) q ∙ getD-set-same places v (m + 1) 0 small
+          ap (λ (y : ℕ). getD (set ranks v (m + 1)) y 0) q ∙ getD-set-same ranks v (m + 1) 0 small
           ∙ sym (ap₂ placeIn q taken-new ∙ place-last v (take m order) h ∙ omega (arith, e))
       by x l (no d) =
-          getD-set-other places v x (m + 1) 0 d ∙ g .is x l ∙ sym (ap (placeIn x) taken-new ∙ place-other v x (take m order) d)
+          getD-set-other ranks v x (m + 1) 0 d ∙ g .is x l ∙ sym (ap (placeIn x) taken-new ∙ place-other v x (take m order) d)
 
 -- ---- several classes
 
@@ -134,47 +134,47 @@ classes-append t [] ws = refl
 classes-append t (v ∷ vs) ws = classes-append (withClass t v) vs ws
 
 -- what is left to place makes the whole
-pub record Placing (rest whole order₀ places₀ order places : List ℕ) (m : ℕ) : Type 0 where
-  pub ordered : Ordered order places m
+pub record Placing (rest whole order₀ ranks₀ order ranks : List ℕ) (m : ℕ) : Type 0 where
+  pub ordered : Ordered order ranks m
   pub left : withClasses (take m order) rest ≡ whole
   pub longOrder : length order ≡ length order₀
-  pub longPlaces : length places ≡ length places₀
+  pub longRanks : length ranks ≡ length ranks₀
   pub fits : length whole ≤ length order₀
 
-pub placing-start : (rest order places : List ℕ) (m : ℕ) → Ordered order places m → length (withClasses (take m order) rest) ≤ length order
-    → Placing rest (withClasses (take m order) rest) order places order places m
-placing-start rest order places m g h = record { ordered = g; left = refl; longOrder = refl; longPlaces = refl; fits = h }
+pub placing-start : (rest order ranks : List ℕ) (m : ℕ) → Ordered order ranks m → length (withClasses (take m order) rest) ≤ length order
+    → Placing rest (withClasses (take m order) rest) order ranks order ranks m
+placing-start rest order ranks m g h = record { ordered = g; left = refl; longOrder = refl; longRanks = refl; fits = h }
 
-module _ {v : ℕ} {rest whole order₀ places₀ order places : List ℕ} {m : ℕ} (g : Placing (v ∷ rest) whole order₀ places₀ order places m) where
+module _ {v : ℕ} {rest whole order₀ ranks₀ order ranks : List ℕ} {m : ℕ} (g : Placing (v ∷ rest) whole order₀ ranks₀ order ranks m) where
   pub placing-room : length (withClass (take m order) v) ≤ length order
   unfolding withClasses
   placing-room = omega (arith, classes-grow (withClass (take m order) v) rest, ap length (g .left), g .fits, g .longOrder)
 
-  pub placing-next : {order′ places′ : List ℕ} {r : ℕ} → Ordered order′ places′ r → take r order′ ≡ withClass (take m order) v → length order′ ≡ length order → length places′ ≡ length places
-      → Placing rest whole order₀ places₀ order′ places′ r
+  pub placing-next : {order′ ranks′ : List ℕ} {r : ℕ} → Ordered order′ ranks′ r → take r order′ ≡ withClass (take m order) v → length order′ ≡ length order → length ranks′ ≡ length ranks
+      → Placing rest whole order₀ ranks₀ order′ ranks′ r
   unfolding withClasses
   placing-next o e f q =
-      record { ordered = o; left = ap (λ (t : List ℕ). withClasses t rest) e ∙ g .left; longOrder = f ∙ g .longOrder; longPlaces = q ∙ g .longPlaces; fits = g .fits }
+      record { ordered = o; left = ap (λ (t : List ℕ). withClasses t rest) e ∙ g .left; longOrder = f ∙ g .longOrder; longRanks = q ∙ g .longRanks; fits = g .fits }
 
-pub placing-asks : (classes : List ℕ) {rest whole order₀ places₀ order places : List ℕ} {m : ℕ} (k : ℕ) → classNamed classes (length places₀) k ≡ true
-    → Placing (classAt classes k ∷ rest) whole order₀ places₀ order places m → Placeable classes order places m k
+pub placing-asks : (classes : List ℕ) {rest whole order₀ ranks₀ order ranks : List ℕ} {m : ℕ} (k : ℕ) → classNamed classes (length ranks₀) k ≡ true
+    → Placing (classAt classes k ∷ rest) whole order₀ ranks₀ order ranks m → Placeable classes order ranks m k
 unfolding classNamed
-placing-asks classes {rest} {whole} {order₀} {places₀} {order} {places} {m} k h g =
+placing-asks classes {rest} {whole} {order₀} {ranks₀} {order} {ranks} {m} k h g =
     record {
-      known = and-0 (named (length classes) k) (named (length places₀) (classAt classes k)) h;
-      small = rw (g .longPlaces) (and-1 (named (length classes) k) h);
+      known = and-0 (named (length classes) k) (named (length ranks₀) (classAt classes k)) h;
+      small = rw (g .longRanks) (and-1 (named (length classes) k) h);
       room = placing-room g;
       ordered = g .ordered;
     }
 
-pub placing-end : (whole order₀ places₀ order places : List ℕ) (m : ℕ) → Placing [] whole order₀ places₀ order places m → take m order ≡ whole
+pub placing-end : (whole order₀ ranks₀ order ranks : List ℕ) (m : ℕ) → Placing [] whole order₀ ranks₀ order ranks m → take m order ≡ whole
 unfolding withClasses
-placing-end whole order₀ places₀ order places m g = g .left
+placing-end whole order₀ ranks₀ order ranks m g = g .left
 
 -- nothing is withClass in tables of zeros
-pub ordered-empty : (order places : List ℕ) → length order ≤ useLimit → ((v : ℕ) → getD places v 0 ≡ 0) → Ordered order places 0
+pub ordered-empty : (order ranks : List ℕ) → length order ≤ useLimit → ((v : ℕ) → getD ranks v 0 ≡ 0) → Ordered order ranks 0
 unfolding placeIn elem
-ordered-empty order places l z = record { room = omega arith; few = l; is = λ v h. z v }
+ordered-empty order ranks l z = record { room = omega arith; few = l; is = λ v h. z v }
 
 -- ---- a rule number's class
 
@@ -192,7 +192,7 @@ named-some n k h d = ⊎-elim (λ p. ltb-true k n p) (λ p. absurd (d (eqb-true 
 
 -- ---- the function `place`
 
-module _ {classes order places : List ℕ} {m k : ℕ} (p : Placeable classes order places m k) where
+module _ {classes order ranks : List ℕ} {m k : ℕ} (p : Placeable classes order ranks m k) where
   pub place-none : k ≡ unrestrictedNumber → take m order ≡ withClass (take m order) (classAt classes k)
   place-none e = sym (with-class-none (take m order) (classAt classes k) (class-none classes k e))
 
@@ -202,16 +202,16 @@ module _ {classes order places : List ℕ} {m k : ℕ} (p : Placeable classes or
   pub place-unlimited : (k ≡ unrestrictedNumber → ⊥) → getD classes k 0 ≡ unrestrictedNumber → take m order ≡ withClass (take m order) (classAt classes k)
   place-unlimited d e = sym (with-class-none (take m order) (classAt classes k) (class-some classes k d ∙ e))
 
-module _ {classes order places : List ℕ} {m k : ℕ} (p : Placeable classes order places m k) (d : k ≡ unrestrictedNumber → ⊥) (f : getD classes k 0 ≡ unrestrictedNumber → ⊥) where
-  pub class-small : getD classes k 0 < length places
-  class-small = named-some (length places) (getD classes k 0) (rw (class-some classes k d) at (p .small)) f
+module _ {classes order ranks : List ℕ} {m k : ℕ} (p : Placeable classes order ranks m k) (d : k ≡ unrestrictedNumber → ⊥) (f : getD classes k 0 ≡ unrestrictedNumber → ⊥) where
+  pub class-small : getD classes k 0 < length ranks
+  class-small = named-some (length ranks) (getD classes k 0) (rw (class-some classes k d) at (p .small)) f
 
-  pub place-old : (getD places (getD classes k 0) 0 ≡ 0 → ⊥) → take m order ≡ withClass (take m order) (classAt classes k)
+  pub place-old : (getD ranks (getD classes k 0) 0 ≡ 0 → ⊥) → take m order ≡ withClass (take m order) (classAt classes k)
   place-old n =
       sym (ap (withClass (take m order)) (class-some classes k d)
       ∙ with-class-old (take m order) (getD classes k 0) (in-place (take m order) (getD classes k 0) (λ e. n (p .ordered .is (getD classes k 0) class-small ∙ e))))
 
-  module _ (n : getD places (getD classes k 0) 0 ≡ 0) where
+  module _ (n : getD ranks (getD classes k 0) 0 ≡ 0) where
     absent : elem (getD classes k 0) (take m order) ≡ false
     absent = not-in-place (take m order) (getD classes k 0) (sym (p .ordered .is (getD classes k 0) class-small) ∙ n)
 
@@ -226,15 +226,15 @@ module _ {classes order places : List ℕ} {m k : ℕ} (p : Placeable classes or
     place-fits = omega (arith, place-room, p .ordered .few)
 
     pub place-taken : take (m + 1) (set order m (getD classes k 0)) ≡ withClass (take m order) (classAt classes k)
-    place-taken = taken-new order places m (p .ordered) (getD classes k 0) place-room class-small absent ∙ sym added
+    place-taken = taken-new order ranks m (p .ordered) (getD classes k 0) place-room class-small absent ∙ sym added
 
-    pub place-ordered : Ordered (set order m (getD classes k 0)) (set places (getD classes k 0) (m + 1)) (m + 1)
-    place-ordered = ordered-new order places m (p .ordered) (getD classes k 0) place-room class-small absent
+    pub place-ordered : Ordered (set order m (getD classes k 0)) (set ranks (getD classes k 0) (m + 1)) (m + 1)
+    place-ordered = ordered-new order ranks m (p .ordered) (getD classes k 0) place-room class-small absent
 
 -- ---- the function `number`
 
-module _ (classes places : List ℕ) (k : ℕ) (h : found classes places k ≡ true) where
-  pub number-none : k ≡ unrestrictedNumber → unrestrictedNumber ≡ newNumber classes places k
+module _ (classes ranks : List ℕ) (k : ℕ) (h : found classes ranks k ≡ true) where
+  pub number-none : k ≡ unrestrictedNumber → unrestrictedNumber ≡ newNumber classes ranks k
   unfolding newNumber
   number-none e = rw (class-none classes k e)
 
@@ -243,23 +243,23 @@ module _ (classes places : List ℕ) (k : ℕ) (h : found classes places k ≡ t
   number-known d = named-some (length classes) k (and-0 (named (length classes) k) _ h) d
 
   module _ (d : k ≡ unrestrictedNumber → ⊥) where
-    pub number-unlimited : getD classes k 0 ≡ unrestrictedNumber → unrestrictedNumber ≡ newNumber classes places k
+    pub number-unlimited : getD classes k 0 ≡ unrestrictedNumber → unrestrictedNumber ≡ newNumber classes ranks k
     unfolding newNumber
     number-unlimited e = rw (class-some classes k d, e)
 
-    rest : (named (length places) (getD classes k 0) && (eqb (getD classes k 0) unrestrictedNumber || ltb 0 (getD places (getD classes k 0) 0))) ≡ true
+    rest : (named (length ranks) (getD classes k 0) && (eqb (getD classes k 0) unrestrictedNumber || ltb 0 (getD ranks (getD classes k 0) 0))) ≡ true
     unfolding found
     rest = rw (class-some classes k d) at (and-1 (named (length classes) k) h)
 
     module _ (f : getD classes k 0 ≡ unrestrictedNumber → ⊥) where
-      pub number-small : getD classes k 0 < length places
-      number-small = named-some (length places) (getD classes k 0) (and-0 (named (length places) (getD classes k 0)) _ rest) f
+      pub number-small : getD classes k 0 < length ranks
+      number-small = named-some (length ranks) (getD classes k 0) (and-0 (named (length ranks) (getD classes k 0)) _ rest) f
 
-      pub number-positive : 1 ≤ getD places (getD classes k 0) 0
+      pub number-positive : 1 ≤ getD ranks (getD classes k 0) 0
       number-positive =
-          ⊎-elim (λ p. absurd (f (eqb-true (getD classes k 0) unrestrictedNumber p))) (λ p. ltb-true 0 (getD places (getD classes k 0) 0) p)
-          (or-cases (eqb (getD classes k 0) unrestrictedNumber) (and-1 (named (length places) (getD classes k 0)) rest))
+          ⊎-elim (λ p. absurd (f (eqb-true (getD classes k 0) unrestrictedNumber p))) (λ p. ltb-true 0 (getD ranks (getD classes k 0) 0) p)
+          (or-cases (eqb (getD classes k 0) unrestrictedNumber) (and-1 (named (length ranks) (getD classes k 0)) rest))
 
-      pub number-some : getD places (getD classes k 0) 0 - 1 ≡ newNumber classes places k
+      pub number-some : getD ranks (getD classes k 0) 0 - 1 ≡ newNumber classes ranks k
       unfolding newNumber
       number-some = rw (class-some classes k d, ne-eqb (getD classes k 0) unrestrictedNumber f)

@@ -18,14 +18,14 @@ use Rattle.rules.specs.Rules.{normal}
 use Rattle.rules.proofs.RuleLaws.{normal-length}
 use Rattle.rule_words.specs.Words.{ruleWidth, wordsOf}
 use Rattle.rule_words.proofs.WordLaws.{words-nine}
-use Rattle.image.specs.Limits.{size16, noOwner, ruleSize, ownerField, ruleLimit}
+use Rattle.image.specs.Limits.{size16, noOwner, ruleSize, ruleOwnerAt, ruleLimit}
 use Rattle.image.specs.Image.{Span, spansIn, mixturesIn, ruleIn, rulesIn, ownersIn, ruleRecordsGood}
 use Rattle.image.specs.Normal.{Use, freeUse, normalImage}
 use Rattle.image.proofs.RecordsByPlace.{rules-count, owner-at, rule-at, rule-fits}
 use Rattle.fields.specs.Writing.{Wrote}
 use Rattle.normaliser.specs.Writer.{formWidth, formRow, normalUse, policyGiven, formWords, policyAt, Tabled, Answered}
 use Rattle.normaliser.specs.Sections.{ownedRule, ownedIn, SectionsAccepted}
-use Rattle.normaliser.proofs.FormLaws.{shortUse, row-long, row-put}
+use Rattle.normaliser.proofs.RuleForms.{shortUse, row-long, row-put}
 use Rattle.normaliser.proofs.WriterLaws.{sound-usable, words-length, words-tabled, words-answered, sound-wrote}
 
 every-place : (f : Use → Bool) (xs : List Use) → ((k : ℕ) → k < length xs → f (getD xs k freeUse) ≡ true) → every f xs ≡ true
@@ -58,7 +58,7 @@ module _ (rules mixtures : List ℕ) where
     mixtures-at : getD (ownedIn rules mixtures) k freeUse .mixtures ≡ getD (rulesIn rules mixtures) k []
     mixtures-at = sym (map-at (λ u. u .mixtures) (ownedIn rules mixtures) k freeUse [] (omega (arith, owned-count))) ∙ ap (λ (x : List (List ℕ)). getD x k []) owned-mixtures
 
-    owner-of : getD (ownedIn rules mixtures) k freeUse .owner ≡ field rules (k * ruleSize + ownerField) size16
+    owner-of : getD (ownedIn rules mixtures) k freeUse .owner ≡ field rules (k * ruleSize + ruleOwnerAt) size16
     owner-of =
         sym (map-at (λ u. u .owner) (ownedIn rules mixtures) k freeUse noOwner (omega (arith, owned-count)))
         ∙ ap (λ (x : List ℕ). getD x k noOwner) owned-owners
@@ -96,7 +96,7 @@ module _ (rules mixtures : List ℕ) (good : ruleRecordsGood rules mixtures ≡ 
     words-long = words-nine (normal (getD (rulesIn rules mixtures) k [])) (omega (arith, normal-length (getD (rulesIn rules mixtures) k []), short-at k l))
 
     pub row-done : (row : List ℕ) {ws : List ℕ} {owner : ℕ} → length row ≡ formWidth → ws ≡ wordsOf (normal (getD (rulesIn rules mixtures) k []))
-        → owner ≡ field rules (k * ruleSize + ownerField) size16
+        → owner ≡ field rules (k * ruleSize + ruleOwnerAt) size16
         → set (putMid 0 (ruleWidth - 0) row ws) ruleWidth owner ≡ formRow (normalUse (getD given k freeUse))
     unfolding formRow normalUse
     row-done row {ws} {owner} h e f =

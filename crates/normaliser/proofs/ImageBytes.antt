@@ -72,13 +72,13 @@ header-size c u r m = refl
 
 -- ---- the sizes of the sections
 
-pub container-section-size : (containers classes places : List ℕ) → length (containerSection containers classes places) ≡ length containers / containerSize * containerSize
+pub container-section-size : (containers classes ranks : List ℕ) → length (containerSection containers classes ranks) ≡ length containers / containerSize * containerSize
 unfolding containerSection
-container-section-size containers classes places = rows.containers-size containers classes places
+container-section-size containers classes ranks = rows.containers-size containers classes ranks
 
-pub user-section-size : (users classes places : List ℕ) → length (userSection users classes places) ≡ length users / userSize * userSize
+pub user-section-size : (users classes ranks : List ℕ) → length (userSection users classes ranks) ≡ length users / userSize * userSize
 unfolding userSection
-user-section-size users classes places = rows.users-size users classes places
+user-section-size users classes ranks = rows.users-size users classes ranks
 
 pub rule-section-size : (forms order : List ℕ) → length (ruleSection forms order) ≡ length order * ruleSize
 unfolding ruleSection
@@ -127,14 +127,14 @@ module _ {c u r m before o1 o2 o3 o4 : List ℕ} {a1 a2 a3 a4 : ℕ} (room : hea
           rw (x, y, z, w)
 
 -- the room that is asked for, in the sizes of the sections
-pub sections-room : {containers users forms classes places order out : List ℕ} → Writable containers users forms classes places order out
-    → headerSize + length (containerSection containers classes places) + length (userSection users classes places) + length (ruleSection forms order) + length (mixtureSection forms order) ≤ length out
-sections-room {containers} {users} {forms} {classes} {places} {order} w =
+pub sections-room : {containers users forms classes ranks order out : List ℕ} → Writable containers users forms classes ranks order out
+    → headerSize + length (containerSection containers classes ranks) + length (userSection users classes ranks) + length (ruleSection forms order) + length (mixtureSection forms order) ≤ length out
+sections-room {containers} {users} {forms} {classes} {ranks} {order} w =
     omega (
       arith,
       w .room,
-      container-section-size containers classes places,
-      user-section-size users classes places,
+      container-section-size containers classes ranks,
+      user-section-size users classes ranks,
       rule-section-size forms order,
       mixture-section-size forms order,
     )

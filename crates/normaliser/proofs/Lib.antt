@@ -1,11 +1,11 @@
--- WriterLaws, and FormLaws for rows, are the files that other producers of a policy cite. Theorems is the file to read. The others serve inside.
+-- WriterLaws, and RuleForms for rows, are the files that other producers of a policy cite. Theorems is the file to read. The others serve inside.
 pub mod Theorems
 pub mod WriterLaws
-pub mod AnswerLaws
+pub mod WrittenAnswers
 pub mod FirstEqual
-pub mod FormLaws
+pub mod RuleForms
 pub mod Classes
-pub mod KeyLaws
+pub mod HashLaws
 pub mod FirstUse
 pub mod SectionRows
 pub mod RuleRows

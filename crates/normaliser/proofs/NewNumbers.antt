@@ -23,7 +23,7 @@ use Rattle.normaliser.specs.Sections.{renumbered}
 use Rattle.normaliser.proofs.FirstUse.{named-some, classes-append}
 use Rattle.normaliser.proofs.Classes.{settled-at, number-unrestricted, place-number, all-numbered, restricted, numbered-restricted}
 use Rattle.normaliser.proofs.SectionRows.{uses-both}
-use Rattle.normaliser.proofs.FormLaws.{shortUse, forms-count, form-at, form-short, count-form, class-at, use-at}
+use Rattle.normaliser.proofs.RuleForms.{shortUse, forms-count, form-at, form-short, count-form, class-at, use-at}
 
 -- rules of at most 8 mixtures, one behind the other
 joined-short : (rules : List (List ℕ)) → every (λ r. leb (length r) mixtureLimit) rules ≡ true → length (joined rules) ≤ length rules * mixtureLimit
@@ -191,7 +191,7 @@ module _ (containers users forms : List ℕ) (t : Tabled containers users forms)
         same [] h = refl
         same (k ∷ l) h = ap₂ _∷_ (class-normal k (every-0 (named (length F)) k l h)) (same l (every-1 (named (length F)) k l h))
 
-    module _ (order places : List ℕ) (m : ℕ) (g : Ordered order places m) (e : take m order ≡ map (numberOf F) T) (room : length F ≤ length places) where
+    module _ (order ranks : List ℕ) (m : ℕ) (g : Ordered order ranks m) (e : take m order ≡ map (numberOf F) T) (room : length F ≤ length ranks) where
       module _ (k : ℕ) (h : named (length F) k ≡ true) (s : settled T (useAt P k) ≡ true) where
         is-none : eqb (classAt classes k) unrestrictedNumber ≡ sameUse (useAt P k) freeUse
         is-none = ap (λ (v : ℕ). eqb v unrestrictedNumber) (class-normal k h) ∙ number-unrestricted F few (useAt P k) (settled-normal k h)
@@ -200,7 +200,7 @@ module _ (containers users forms : List ℕ) (t : Tabled containers users forms)
         unfolding settled
         known-some d = ⊎-elim (λ p. clash p d) (λ p. p) (or-cases (sameUse (useAt P k) freeUse) s)
 
-        place-is : sameUse (useAt P k) freeUse ≡ false → getD places (classAt classes k) 0 ≡ suc (positionBy sameUse (useAt P k) T)
+        place-is : sameUse (useAt P k) freeUse ≡ false → getD ranks (classAt classes k) 0 ≡ suc (positionBy sameUse (useAt P k) T)
         place-is d =
             let l : classAt classes k < length F = named-some (length F) (classAt classes k) (class-named k h) (λ q. clash (sym is-none ∙ eq-eqb (classAt classes k) unrestrictedNumber q) d) in
             g .is (classAt classes k) (omega (arith, room))
@@ -208,54 +208,54 @@ module _ (containers users forms : List ℕ) (t : Tabled containers users forms)
             ∙ place-number F few (useAt P k) T (settled-normal k h) T-settled
             ∙ ap (λ (b : Bool). cond b (suc (positionBy sameUse (useAt P k) T)) 0) (known-some d)
 
-        number-at : newNumber classes places k ≡ numberOf T (useAt P k)
+        number-at : newNumber classes ranks k ≡ numberOf T (useAt P k)
         unfolding newNumber numberOf
-        number-at = ap (λ (b : Bool). cond b unrestrictedNumber (getD places (classAt classes k) 0 - 1)) is-none ∙ by (sameUse (useAt P k) freeUse) refl
+        number-at = ap (λ (b : Bool). cond b unrestrictedNumber (getD ranks (classAt classes k) 0 - 1)) is-none ∙ by (sameUse (useAt P k) freeUse) refl
           where
-            by : (b : Bool) → sameUse (useAt P k) freeUse ≡ b → cond b unrestrictedNumber (getD places (classAt classes k) 0 - 1) ≡ cond b unrestrictedNumber (positionBy sameUse (useAt P k) T)
+            by : (b : Bool) → sameUse (useAt P k) freeUse ≡ b → cond b unrestrictedNumber (getD ranks (classAt classes k) 0 - 1) ≡ cond b unrestrictedNumber (positionBy sameUse (useAt P k) T)
             by true d = refl
             by false d = omega (arith, place-is d)
 
-        number-found : length F ≤ length classes → found classes places k ≡ true
+        number-found : length F ≤ length classes → found classes ranks k ≡ true
         unfolding found
         number-found w =
             and-in (wider (length F) (length classes) k w h)
-            (and-in (wider (length F) (length places) (classAt classes k) room (class-named k h)) (by (sameUse (useAt P k) freeUse) refl))
+            (and-in (wider (length F) (length ranks) (classAt classes k) room (class-named k h)) (by (sameUse (useAt P k) freeUse) refl))
           where
-            by : (b : Bool) → sameUse (useAt P k) freeUse ≡ b → (eqb (classAt classes k) unrestrictedNumber || ltb 0 (getD places (classAt classes k) 0)) ≡ true
-            by true d = or-0 (eqb (classAt classes k) unrestrictedNumber) (ltb 0 (getD places (classAt classes k) 0)) (is-none ∙ d)
-            by false d = or-1 (eqb (classAt classes k) unrestrictedNumber) (ltb 0 (getD places (classAt classes k) 0)) (lt-ltb 0 (getD places (classAt classes k) 0) (omega (arith, place-is d)))
+            by : (b : Bool) → sameUse (useAt P k) freeUse ≡ b → (eqb (classAt classes k) unrestrictedNumber || ltb 0 (getD ranks (classAt classes k) 0)) ≡ true
+            by true d = or-0 (eqb (classAt classes k) unrestrictedNumber) (ltb 0 (getD ranks (classAt classes k) 0)) (is-none ∙ d)
+            by false d = or-1 (eqb (classAt classes k) unrestrictedNumber) (ltb 0 (getD ranks (classAt classes k) 0)) (lt-ltb 0 (getD ranks (classAt classes k) 0) (omega (arith, place-is d)))
 
       both : every (λ k. named (length F) k && settled T (useAt P k)) ks ≡ true
       both = every-both (named (length F)) (λ k. settled T (useAt P k)) ks all-named uses-placed
 
       -- each use has its number
-      pub all-found : length F ≤ length classes → every (found classes places) ks ≡ true
-      all-found w = every-imp (λ k. named (length F) k && settled T (useAt P k)) (found classes places) ks
+      pub all-found : length F ≤ length classes → every (found classes ranks) ks ≡ true
+      all-found w = every-imp (λ k. named (length F) k && settled T (useAt P k)) (found classes ranks) ks
           (λ k h. number-found k (and-0 (named (length F) k) (settled T (useAt P k)) h) (and-1 (named (length F) k) h) w) both
 
       -- it is that of the normal policy
-      pub containers-are : map (renumbered classes places) (containersIn containers) ≡ map (containerOf T) (map (ownedPlace P) (containersIn containers))
+      pub containers-are : map (renumbered classes ranks) (containersIn containers) ≡ map (containerOf T) (map (ownedPlace P) (containersIn containers))
       containers-are = go (containersIn containers) (uses-both (λ k. named (length F) k && settled T (useAt P k)) (containersIn containers) (every-left (λ k. named (length F) k && settled T (useAt P k)) (containerUses (containersIn containers)) (usersIn users) both))
         where
-          number : (k : ℕ) → (named (length F) k && settled T (useAt P k)) ≡ true → newNumber classes places k ≡ numberOf T (useAt P k)
+          number : (k : ℕ) → (named (length F) k && settled T (useAt P k)) ≡ true → newNumber classes ranks k ≡ numberOf T (useAt P k)
           number k h = number-at k (and-0 (named (length F) k) (settled T (useAt P k)) h) (and-1 (named (length F) k) h)
 
-          one : (c : Container) → ((named (length F) (c .permit) && settled T (useAt P (c .permit))) && (named (length F) (c .run) && settled T (useAt P (c .run)))) ≡ true → renumbered classes places c ≡ containerOf T (ownedPlace P c)
+          one : (c : Container) → ((named (length F) (c .permit) && settled T (useAt P (c .permit))) && (named (length F) (c .run) && settled T (useAt P (c .run)))) ≡ true → renumbered classes ranks c ≡ containerOf T (ownedPlace P c)
           one c h =
               unfold renumbered containerOf ownedPlace in
               (λ i. record { kind = c .kind; atom = c .atom; permit = number (c .permit) (and-0 (named (length F) (c .permit) && settled T (useAt P (c .permit))) (named (length F) (c .run) && settled T (useAt P (c .run))) h) i; run = number (c .run) (and-1 (named (length F) (c .permit) && settled T (useAt P (c .permit))) h) i })
 
-          go : (cs : List Container) → every (λ c. (named (length F) (c .permit) && settled T (useAt P (c .permit))) && (named (length F) (c .run) && settled T (useAt P (c .run)))) cs ≡ true → map (renumbered classes places) cs ≡ map (containerOf T) (map (ownedPlace P) cs)
+          go : (cs : List Container) → every (λ c. (named (length F) (c .permit) && settled T (useAt P (c .permit))) && (named (length F) (c .run) && settled T (useAt P (c .run)))) cs ≡ true → map (renumbered classes ranks) cs ≡ map (containerOf T) (map (ownedPlace P) cs)
           go [] h = refl
           go (c ∷ cs) h =
               ap₂ _∷_ (one c (every-0 (λ c. (named (length F) (c .permit) && settled T (useAt P (c .permit))) && (named (length F) (c .run) && settled T (useAt P (c .run)))) c cs h))
               (go cs (every-1 (λ c. (named (length F) (c .permit) && settled T (useAt P (c .permit))) && (named (length F) (c .run) && settled T (useAt P (c .run)))) c cs h))
 
-      pub users-are : map (newNumber classes places) (usersIn users) ≡ map (numberOf T) (map (useAt P) (usersIn users))
+      pub users-are : map (newNumber classes ranks) (usersIn users) ≡ map (numberOf T) (map (useAt P) (usersIn users))
       users-are = go (usersIn users) (every-right (λ k. named (length F) k && settled T (useAt P k)) (containerUses (containersIn containers)) (usersIn users) both)
         where
-          go : (us : List ℕ) → every (λ k. named (length F) k && settled T (useAt P k)) us ≡ true → map (newNumber classes places) us ≡ map (numberOf T) (map (useAt P) us)
+          go : (us : List ℕ) → every (λ k. named (length F) k && settled T (useAt P k)) us ≡ true → map (newNumber classes ranks) us ≡ map (numberOf T) (map (useAt P) us)
           go [] h = refl
           go (k ∷ us) h =
               let q : (named (length F) k && settled T (useAt P k)) ≡ true = every-0 (λ k. named (length F) k && settled T (useAt P k)) k us h in

@@ -21,7 +21,7 @@ use Rattle.normaliser.specs.Writer.{policyGiven}
 use Rattle.normaliser.specs.Sections.{ownedIn, SectionsAccepted}
 use Rattle.normaliser.proofs.FormRows.{owned-mixtures, owned-owners}
 use Rattle.normaliser.proofs.WriterLaws.{normal-short}
-use Rattle.normaliser.proofs.AnswerLaws.{refused-answer, refused-effect, wrote-answer}
+use Rattle.normaliser.proofs.WrittenAnswers.{refused-answer, refused-effect, wrote-answer}
 
 -- the refusal, 0 for none
 abbrev pub normalRefusal : List ℕ → List ℕ → ℕ

@@ -25,7 +25,7 @@ use Rattle.image.specs.Limits.{noOwner, ruleSize, mixtureSize}
 use Rattle.image.specs.Image.{Span}
 use Rattle.image.specs.Normal.{spanBytes, spansOf}
 use Rattle.image.proofs.Encode.{span-wide, spans-length}
-use Rattle.normaliser.specs.Keys.{wordsAt}
+use Rattle.normaliser.specs.Hashes.{wordsAt}
 use Rattle.normaliser.specs.Tables.{useOf, formAt, formOwner, formGood}
 use Rattle.normaliser.specs.Sections.{mixtureBytes, mixtureSection}
 

@@ -19,7 +19,7 @@ use Rattle.image.proofs.RecordsByPlace.{containers-count, users-count}
 use Rattle.image.proofs.Encode.{container-wide}
 use Rattle.fields.proofs.FieldLaws.{field-record}
 use Rattle.lists.proofs.Places.{map-at}
-use Rattle.fields.proofs.RecordLaws.{record-at}
+use Rattle.fields.proofs.SectionRecords.{record-at}
 use Rattle.fields.proofs.ByteLaws.{bytes-length, joined-length}
 use Rattle.fields.specs.Writing.{Wrote}
 use Rattle.fields.proofs.RowWriting.{RowsWritten, rows-room, rows-next}
@@ -111,20 +111,20 @@ module _ {forms classes₀ classes : List ℕ} {n k : ℕ} (g : Classing forms c
 -- ---- uses, one after the other
 
 -- what is left of the containers' uses makes the whole
-pub record Containing (containers classes whole order₀ places₀ order places : List ℕ) (n m i : ℕ) : Type 0 where
+pub record Containing (containers classes whole order₀ ranks₀ order ranks : List ℕ) (n m i : ℕ) : Type 0 where
   pub count : n ≡ length containers / containerSize
   pub place : i ≤ n
-  pub placing : Placing (map (classAt classes) (containerUses (drop i (containersIn containers)))) whole order₀ places₀ order places m
+  pub placing : Placing (map (classAt classes) (containerUses (drop i (containersIn containers)))) whole order₀ ranks₀ order ranks m
 
-pub containing-start : (containers classes order places : List ℕ) → Ordered order places 0 → length (withClasses [] (map (classAt classes) (containerUses (containersIn containers)))) ≤ length order
-    → Containing containers classes (withClasses [] (map (classAt classes) (containerUses (containersIn containers)))) order places order places (length containers / containerSize) 0 0
-containing-start containers classes order places g h =
-    record { count = refl; place = omega arith; placing = placing-start (map (classAt classes) (containerUses (containersIn containers))) order places 0 g h }
+pub containing-start : (containers classes order ranks : List ℕ) → Ordered order ranks 0 → length (withClasses [] (map (classAt classes) (containerUses (containersIn containers)))) ≤ length order
+    → Containing containers classes (withClasses [] (map (classAt classes) (containerUses (containersIn containers)))) order ranks order ranks (length containers / containerSize) 0 0
+containing-start containers classes order ranks g h =
+    record { count = refl; place = omega arith; placing = placing-start (map (classAt classes) (containerUses (containersIn containers))) order ranks 0 g h }
 
-module _ {containers classes whole order₀ places₀ order places : List ℕ} {n m i : ℕ} (g : Containing containers classes whole order₀ places₀ order places n m i) where
+module _ {containers classes whole order₀ ranks₀ order ranks : List ℕ} {n m i : ℕ} (g : Containing containers classes whole order₀ ranks₀ order ranks n m i) where
   pub containing-first : i < n
       → Placing (classAt classes (field containers (i * containerSize + 2) 2) ∷ classAt classes (field containers (i * containerSize + 4) 2) ∷ map (classAt classes) (containerUses (drop (i + 1) (containersIn containers))))
-      whole order₀ places₀ order places m
+      whole order₀ ranks₀ order ranks m
   unfolding containerUses containerAt
   containing-first l =
       let k : i < length containers / containerSize = omega (arith, g .count) in
@@ -133,28 +133,28 @@ module _ {containers classes whole order₀ places₀ order places : List ℕ} {
       drop-cons (containersIn containers) i none q ∙ ap₂ (λ (c : Container) (x : ℕ). c ∷ drop x (containersIn containers)) (container-at containers i k) (sym (add-one i)) in
       rw e at (g .placing)
 
-  pub containing-next : i < n → {order′ places′ : List ℕ} {m′ : ℕ} → Placing (map (classAt classes) (containerUses (drop (i + 1) (containersIn containers)))) whole order₀ places₀ order′ places′ m′
-      → Containing containers classes whole order₀ places₀ order′ places′ n m′ (i + 1)
+  pub containing-next : i < n → {order′ ranks′ : List ℕ} {m′ : ℕ} → Placing (map (classAt classes) (containerUses (drop (i + 1) (containersIn containers)))) whole order₀ ranks₀ order′ ranks′ m′
+      → Containing containers classes whole order₀ ranks₀ order′ ranks′ n m′ (i + 1)
   containing-next l p = record { count = g .count; place = omega arith; placing = p }
 
   pub containing-end : n ≤ i → take m order ≡ whole
   unfolding containerUses
   containing-end l =
       let e : drop i (containersIn containers) ≡ [] = drop-of-length-le (containersIn containers) {i = i} (omega (arith, containers-count containers, g .count)) in
-      placing-end whole order₀ places₀ order places m (rw e at (g .placing))
+      placing-end whole order₀ ranks₀ order ranks m (rw e at (g .placing))
 
 -- the same for the users
-pub record Using (users classes whole order₀ places₀ order places : List ℕ) (n m i : ℕ) : Type 0 where
+pub record Using (users classes whole order₀ ranks₀ order ranks : List ℕ) (n m i : ℕ) : Type 0 where
   pub count : n ≡ length users / userSize
   pub place : i ≤ n
-  pub placing : Placing (map (classAt classes) (drop i (usersIn users))) whole order₀ places₀ order places m
+  pub placing : Placing (map (classAt classes) (drop i (usersIn users))) whole order₀ ranks₀ order ranks m
 
-pub using-start : (users classes order places : List ℕ) (m : ℕ) → Ordered order places m → length (withClasses (take m order) (map (classAt classes) (usersIn users))) ≤ length order
-    → Using users classes (withClasses (take m order) (map (classAt classes) (usersIn users))) order places order places (length users / userSize) m 0
-using-start users classes order places m g h = record { count = refl; place = omega arith; placing = placing-start (map (classAt classes) (usersIn users)) order places m g h }
+pub using-start : (users classes order ranks : List ℕ) (m : ℕ) → Ordered order ranks m → length (withClasses (take m order) (map (classAt classes) (usersIn users))) ≤ length order
+    → Using users classes (withClasses (take m order) (map (classAt classes) (usersIn users))) order ranks order ranks (length users / userSize) m 0
+using-start users classes order ranks m g h = record { count = refl; place = omega arith; placing = placing-start (map (classAt classes) (usersIn users)) order ranks m g h }
 
-module _ {users classes whole order₀ places₀ order places : List ℕ} {n m i : ℕ} (g : Using users classes whole order₀ places₀ order places n m i) where
-  pub using-first : i < n → Placing (classAt classes (field users (i * userSize) 2) ∷ map (classAt classes) (drop (i + 1) (usersIn users))) whole order₀ places₀ order places m
+module _ {users classes whole order₀ ranks₀ order ranks : List ℕ} {n m i : ℕ} (g : Using users classes whole order₀ ranks₀ order ranks n m i) where
+  pub using-first : i < n → Placing (classAt classes (field users (i * userSize) 2) ∷ map (classAt classes) (drop (i + 1) (usersIn users))) whole order₀ ranks₀ order ranks m
   using-first l =
       let k : i < length users / userSize = omega (arith, g .count) in
       let q : i < length (usersIn users) = omega (arith, users-count users) in
@@ -162,39 +162,39 @@ module _ {users classes whole order₀ places₀ order places : List ℕ} {n m i
       drop-cons (usersIn users) i 0 q ∙ ap₂ (λ (c x : ℕ). c ∷ drop x (usersIn users)) (user-at users i k) (sym (add-one i)) in
       rw e at (g .placing)
 
-  pub using-next : i < n → {order′ places′ : List ℕ} {m′ : ℕ} → Placing (map (classAt classes) (drop (i + 1) (usersIn users))) whole order₀ places₀ order′ places′ m′
-      → Using users classes whole order₀ places₀ order′ places′ n m′ (i + 1)
+  pub using-next : i < n → {order′ ranks′ : List ℕ} {m′ : ℕ} → Placing (map (classAt classes) (drop (i + 1) (usersIn users))) whole order₀ ranks₀ order′ ranks′ m′
+      → Using users classes whole order₀ ranks₀ order′ ranks′ n m′ (i + 1)
   using-next l p = record { count = g .count; place = omega arith; placing = p }
 
   pub using-end : n ≤ i → take m order ≡ whole
   using-end l =
       let e : drop i (usersIn users) ≡ [] = drop-of-length-le (usersIn users) {i = i} (omega (arith, users-count users, g .count)) in
-      placing-end whole order₀ places₀ order places m (rw e at (g .placing))
+      placing-end whole order₀ ranks₀ order ranks m (rw e at (g .placing))
 
 -- ---- sections, row by row
 
-module _ (containers classes places : List ℕ) where
+module _ (containers classes ranks : List ℕ) where
   abbrev pub containerRows : List (List ℕ)
-  containerRows = map containerBytes (map (renumbered classes places) (containersIn containers))
+  containerRows = map containerBytes (map (renumbered classes ranks) (containersIn containers))
 
   pub container-rows : length containerRows ≡ length containers / containerSize
   container-rows =
-      length-map (map (renumbered classes places) (containersIn containers)) containerBytes
-      ∙ length-map (containersIn containers) (renumbered classes places) ∙ containers-count containers
+      length-map (map (renumbered classes ranks) (containersIn containers)) containerBytes
+      ∙ length-map (containersIn containers) (renumbered classes ranks) ∙ containers-count containers
 
   pub containers-size : length (joined containerRows) ≡ length containers / containerSize * containerSize
   containers-size =
-      joined-length containerSize containerBytes container-wide (map (renumbered classes places) (containersIn containers))
-      ∙ ap (λ (n : ℕ). n * containerSize) (length-map (containersIn containers) (renumbered classes places) ∙ containers-count containers)
+      joined-length containerSize containerBytes container-wide (map (renumbered classes ranks) (containersIn containers))
+      ∙ ap (λ (n : ℕ). n * containerSize) (length-map (containersIn containers) (renumbered classes ranks) ∙ containers-count containers)
 
   pub container-row : (i : ℕ) → i < length containers / containerSize → {permit run : ℕ}
-      → permit ≡ newNumber classes places (field containers (i * containerSize + 2) 2) → run ≡ newNumber classes places (field containers (i * containerSize + 4) 2)
+      → permit ≡ newNumber classes ranks (field containers (i * containerSize + 2) 2) → run ≡ newNumber classes ranks (field containers (i * containerSize + 4) 2)
       → containerBytes (record { kind = field containers (i * containerSize) 1; atom = field containers (i * containerSize + 1) 1; permit = permit; run = run }) ≡ getD containerRows i []
   container-row i l {permit} {run} p r =
-      sym (map-at containerBytes (map (renumbered classes places) (containersIn containers)) i (renumbered classes places none) [] (omega (arith, length-map (containersIn containers) (renumbered classes places), containers-count containers))
-      ∙ ap containerBytes (map-at (renumbered classes places) (containersIn containers) i none (renumbered classes places none) (omega (arith, containers-count containers)) ∙ ap (renumbered classes places) (container-at containers i l) ∙ sym there))
+      sym (map-at containerBytes (map (renumbered classes ranks) (containersIn containers)) i (renumbered classes ranks none) [] (omega (arith, length-map (containersIn containers) (renumbered classes ranks), containers-count containers))
+      ∙ ap containerBytes (map-at (renumbered classes ranks) (containersIn containers) i none (renumbered classes ranks none) (omega (arith, containers-count containers)) ∙ ap (renumbered classes ranks) (container-at containers i l) ∙ sym there))
     where
-      there : record { kind = field containers (i * containerSize) 1; atom = field containers (i * containerSize + 1) 1; permit = permit; run = run } ≡ renumbered classes places (containerAt containers i)
+      there : record { kind = field containers (i * containerSize) 1; atom = field containers (i * containerSize + 1) 1; permit = permit; run = run } ≡ renumbered classes ranks (containerAt containers i)
       there =
           unfold renumbered containerAt in
           (λ j. record { kind = field containers (i * containerSize) 1; atom = field containers (i * containerSize + 1) 1; permit = p j; run = r j })
@@ -205,34 +205,34 @@ module _ (containers classes places : List ℕ) where
         omega (
           arith,
           rows-room g (omega (arith, container-rows)),
-          ap length (container-row i l {permit = newNumber classes places (field containers (i * containerSize + 2) 2)} {run = newNumber classes places (field containers (i * containerSize + 4) 2)} refl refl),
-          container-wide (record { kind = field containers (i * containerSize) 1; atom = field containers (i * containerSize + 1) 1; permit = newNumber classes places (field containers (i * containerSize + 2) 2); run = newNumber classes places (field containers (i * containerSize + 4) 2) }),
+          ap length (container-row i l {permit = newNumber classes ranks (field containers (i * containerSize + 2) 2)} {run = newNumber classes ranks (field containers (i * containerSize + 4) 2)} refl refl),
+          container-wide (record { kind = field containers (i * containerSize) 1; atom = field containers (i * containerSize + 1) 1; permit = newNumber classes ranks (field containers (i * containerSize + 2) 2); run = newNumber classes ranks (field containers (i * containerSize + 4) 2) }),
         )
 
     pub container-next : {permit run next : ℕ} {after : List ℕ}
-        → permit ≡ newNumber classes places (field containers (i * containerSize + 2) 2) → run ≡ newNumber classes places (field containers (i * containerSize + 4) 2)
+        → permit ≡ newNumber classes ranks (field containers (i * containerSize + 2) 2) → run ≡ newNumber classes ranks (field containers (i * containerSize + 4) 2)
         → Wrote (containerBytes (record { kind = field containers (i * containerSize) 1; atom = field containers (i * containerSize + 1) 1; permit = permit; run = run })) out after at next
         → RowsWritten containerRows before start after next (i + 1)
     container-next p r w = rows-next g (omega (arith, container-rows)) (container-row i l p r) w
 
-module _ (users classes places : List ℕ) where
+module _ (users classes ranks : List ℕ) where
   abbrev pub userRows : List (List ℕ)
-  userRows = map (bytesOf userSize) (map (newNumber classes places) (usersIn users))
+  userRows = map (bytesOf userSize) (map (newNumber classes ranks) (usersIn users))
 
   pub user-rows : length userRows ≡ length users / userSize
   user-rows =
-      length-map (map (newNumber classes places) (usersIn users)) (bytesOf userSize)
-      ∙ length-map (usersIn users) (newNumber classes places) ∙ users-count users
+      length-map (map (newNumber classes ranks) (usersIn users)) (bytesOf userSize)
+      ∙ length-map (usersIn users) (newNumber classes ranks) ∙ users-count users
 
   pub users-size : length (joined userRows) ≡ length users / userSize * userSize
   users-size =
-      joined-length userSize (bytesOf userSize) (bytes-length userSize) (map (newNumber classes places) (usersIn users))
-      ∙ ap (λ (n : ℕ). n * userSize) (length-map (usersIn users) (newNumber classes places) ∙ users-count users)
+      joined-length userSize (bytesOf userSize) (bytes-length userSize) (map (newNumber classes ranks) (usersIn users))
+      ∙ ap (λ (n : ℕ). n * userSize) (length-map (usersIn users) (newNumber classes ranks) ∙ users-count users)
 
-  pub user-row : (i : ℕ) → i < length users / userSize → {n : ℕ} → n ≡ newNumber classes places (field users (i * userSize) 2) → bytesOf userSize n ≡ getD userRows i []
+  pub user-row : (i : ℕ) → i < length users / userSize → {n : ℕ} → n ≡ newNumber classes ranks (field users (i * userSize) 2) → bytesOf userSize n ≡ getD userRows i []
   user-row i l {n} e =
-      sym (map-at (bytesOf userSize) (map (newNumber classes places) (usersIn users)) i 0 [] (omega (arith, length-map (usersIn users) (newNumber classes places), users-count users))
-      ∙ ap (bytesOf userSize) (map-at (newNumber classes places) (usersIn users) i 0 0 (omega (arith, users-count users)) ∙ ap (newNumber classes places) (user-at users i l) ∙ sym e))
+      sym (map-at (bytesOf userSize) (map (newNumber classes ranks) (usersIn users)) i 0 [] (omega (arith, length-map (usersIn users) (newNumber classes ranks), users-count users))
+      ∙ ap (bytesOf userSize) (map-at (newNumber classes ranks) (usersIn users) i 0 0 (omega (arith, users-count users)) ∙ ap (newNumber classes ranks) (user-at users i l) ∙ sym e))
 
   module _ {before out : List ℕ} {start at i : ℕ} (g : RowsWritten userRows before start out at i) (l : i < length users / userSize) where
     pub user-room : at + userSize ≤ length out
@@ -240,10 +240,10 @@ module _ (users classes places : List ℕ) where
         omega (
           arith,
           rows-room g (omega (arith, user-rows)),
-          ap length (user-row i l {n = newNumber classes places (field users (i * userSize) 2)} refl),
-          bytes-length userSize (newNumber classes places (field users (i * userSize) 2)),
+          ap length (user-row i l {n = newNumber classes ranks (field users (i * userSize) 2)} refl),
+          bytes-length userSize (newNumber classes ranks (field users (i * userSize) 2)),
         )
 
-    pub user-next : (n : ℕ) {next : ℕ} {after : List ℕ} → n ≡ newNumber classes places (field users (i * userSize) 2) → Wrote (bytesOf userSize n) out after at next
+    pub user-next : (n : ℕ) {next : ℕ} {after : List ℕ} → n ≡ newNumber classes ranks (field users (i * userSize) 2) → Wrote (bytesOf userSize n) out after at next
         → RowsWritten userRows before start after next (i + 1)
     user-next n e w = rows-next g (omega (arith, user-rows)) (user-row i l e) w

@@ -20,7 +20,7 @@ use Rattle.normaliser.specs.Writer.{formWidth, policyGiven, formsIn, pol
 use Rattle.normaliser.specs.Tables.{useOf, formAt, formOwner, Classified, classAt, classNamed, withClasses, Ordered, found}
 use Rattle.normaliser.specs.Sections.{containerSection, userSection, ruleSection, mixtureBytes, mixtureSection, Writable}
 use Rattle.normaliser.proofs.FirstUse.{classes-grow}
-use Rattle.normaliser.proofs.FormLaws.{forms-count}
+use Rattle.normaliser.proofs.RuleForms.{forms-count}
 use Rattle.image.proofs.RecordsByPlace.{containers-count, users-count}
 use Rattle.normaliser.proofs.NewNumbers as new
 
@@ -63,22 +63,22 @@ module _ (containers users forms : List ℕ) (t : Tabled containers users forms)
       users-classed = every-right (classNamed classes w) (containerUses (containersIn containers)) (usersIn users) all
 
   -- the classes in use have their places
-  pub record Noted (classes order places : List ℕ) (m : ℕ) : Type 0 where
+  pub record Noted (classes order ranks : List ℕ) (m : ℕ) : Type 0 where
     pub told : Classified forms classes (length forms / formWidth)
-    pub ordered : Ordered order places m
+    pub ordered : Ordered order ranks m
     pub is : take m order ≡ withClasses (withClasses [] (containerClasses classes)) (userClasses classes)
-    pub room : length forms / formWidth ≤ length places
+    pub room : length forms / formWidth ≤ length ranks
 
-  pub noted : {classes first order places : List ℕ} {m : ℕ} → Classified forms classes (length forms / formWidth) → first ≡ withClasses [] (containerClasses classes)
-      → take m order ≡ withClasses first (userClasses classes) → Ordered order places m → length forms / formWidth ≤ length places → Noted classes order places m
+  pub noted : {classes first order ranks : List ℕ} {m : ℕ} → Classified forms classes (length forms / formWidth) → first ≡ withClasses [] (containerClasses classes)
+      → take m order ≡ withClasses first (userClasses classes) → Ordered order ranks m → length forms / formWidth ≤ length ranks → Noted classes order ranks m
   noted {classes} told p q g l = record { told = told; ordered = g; is = q ∙ ap (λ (x : List ℕ). withClasses x (userClasses classes)) p; room = l }
 
-  module _ {classes order places : List ℕ} {m : ℕ} (n : Noted classes order places m) where
+  module _ {classes order ranks : List ℕ} {m : ℕ} (n : Noted classes order ranks m) where
     numbers : take m order ≡ map (numberOf (formsIn forms)) rules
     numbers = n .is ∙ new.order-is containers users forms t classes (n .told)
 
-    placesRoom : length (formsIn forms) ≤ length places
-    placesRoom = omega (arith, n .room, forms-count forms)
+    ranksRoom : length (formsIn forms) ≤ length ranks
+    ranksRoom = omega (arith, n .room, forms-count forms)
 
     written-rules : map (useOf forms) (take m order) ≡ rules
     written-rules = ap (map (useOf forms)) numbers ∙ new.forms-back containers users forms t
@@ -99,8 +99,8 @@ module _ (containers users forms : List ℕ) (t : Tabled containers users forms)
         by [] = refl
         by (v ∷ l) = ap (λ (x : List ℕ). useOf forms v .owner ∷ x) (by l)
 
-    all-numbers : every (found classes places) (containerUses (containersIn containers) ++ usersIn users) ≡ true
-    all-numbers = new.all-found containers users forms t classes (n .told) order places m (n .ordered) numbers placesRoom (omega (arith, n .told .room, forms-count forms))
+    all-numbers : every (found classes ranks) (containerUses (containersIn containers) ++ usersIn users) ≡ true
+    all-numbers = new.all-found containers users forms t classes (n .told) order ranks m (n .ordered) numbers ranksRoom (omega (arith, n .told .room, forms-count forms))
 
     normal-is : normalPolicy policy ≡ writtenBy rules (owned policy)
     unfolding normalPolicy policyOf writtenUses
@@ -117,12 +117,12 @@ module _ (containers users forms : List ℕ) (t : Tabled containers users forms)
         same : length (writtenBy rules (owned policy) .rules) ≡ length (take m order)
         same = unfold writtenBy in (sym (ap length written-mixtures) ∙ length-map (take m order) (formAt forms))
 
-    pub tables-writable : (out : List ℕ) → m ≤ ruleLimit → outputBound ≤ length out → Writable containers users forms classes places (take m order) out
+    pub tables-writable : (out : List ℕ) → m ≤ ruleLimit → outputBound ≤ length out → Writable containers users forms classes ranks (take m order) out
     unfolding policyAt policyGiven
     tables-writable out few l =
         record {
-          containersFound = every-left (found classes places) (containerUses (containersIn containers)) (usersIn users) all-numbers;
-          usersFound = every-right (found classes places) (containerUses (containersIn containers)) (usersIn users) all-numbers;
+          containersFound = every-left (found classes ranks) (containerUses (containersIn containers)) (usersIn users) all-numbers;
+          usersFound = every-right (found classes ranks) (containerUses (containersIn containers)) (usersIn users) all-numbers;
           formsGood = rw numbers (new.forms-good containers users forms t);
           room =
               omega (
@@ -146,12 +146,12 @@ module _ (containers users forms : List ℕ) (t : Tabled containers users forms)
     userPart = joined (map (bytesOf userSize) (map (numberOf rules) (map (useAt policy) (usersIn users))))
 
     -- the sections from the tables are those of the normal policy
-    pub image-is : framed (containerSection containers classes places) (userSection users classes places) (ruleSection forms (take m order)) (mixtureSection forms (take m order)) ≡ normalImage policy
+    pub image-is : framed (containerSection containers classes ranks) (userSection users classes ranks) (ruleSection forms (take m order)) (mixtureSection forms (take m order)) ≡ normalImage policy
     unfolding normalImage containerSection userSection ruleSection mixtureSection mixtureBytes
     image-is =
         ap₂ (λ (c u : List ℕ). framed c u (joined (map spanBytes (spansOf 0 (map (formAt forms) (take m order)) (map (formOwner forms) (take m order))))) (joined (map (bytesOf mixtureSize) (joined (map (formAt forms) (take m order))))))
-        (ap (λ (x : List Container). joined (map containerBytes x)) (new.containers-are containers users forms t classes (n .told) order places m (n .ordered) numbers placesRoom))
-        (ap (λ (x : List ℕ). joined (map (bytesOf userSize) x)) (new.users-are containers users forms t classes (n .told) order places m (n .ordered) numbers placesRoom))
+        (ap (λ (x : List Container). joined (map containerBytes x)) (new.containers-are containers users forms t classes (n .told) order ranks m (n .ordered) numbers ranksRoom))
+        (ap (λ (x : List ℕ). joined (map (bytesOf userSize) x)) (new.users-are containers users forms t classes (n .told) order ranks m (n .ordered) numbers ranksRoom))
         ∙ ap₂ (λ (x : List (List ℕ)) (o : List ℕ). framed containerPart userPart (joined (map spanBytes (spansOf 0 x o))) (joined (map (bytesOf mixtureSize) (joined x)))) written-mixtures written-owners
         ∙ back
         ∙ ap encode (sym normal-is)
@@ -162,7 +162,7 @@ module _ (containers users forms : List ℕ) (t : Tabled containers users forms)
     -- ---- the answer
 
     pub answered : {before after : List ℕ} {r : ℕ} → m ≤ ruleLimit
-        → Wrote (framed (containerSection containers classes places) (userSection users classes places) (ruleSection forms (take m order)) (mixtureSection forms (take m order))) before after 0 r
+        → Wrote (framed (containerSection containers classes ranks) (userSection users classes ranks) (ruleSection forms (take m order)) (mixtureSection forms (take m order))) before after 0 r
         → Answered policy before after r
     unfolding writerAnswer writerEffect
     answered {before} {r = r} few w =

@@ -10,7 +10,7 @@ use lib.Dec.{leb, ltb}
 use lib.ListN.{length, take}
 use borrow.Author.Tests.{ltb-true}
 use Rattle.lists.specs.Lists.{elem, every}
-use Rattle.lists.specs.Conditions.{Condition, firstFailed, numbersOf, numberAt, numbersGood}
+use Rattle.lists.specs.Conditions.{Condition, firstFailed, numbersOf, numberAt, numbersDistinct}
 use Rattle.lists.proofs.Conditions.{given-exactly, given-among}
 use Rattle.lists.proofs.Every.{every-elem}
 use Rattle.answers.specs.Refusals.{imageLength, sections, recordCount, ruleRecord, containerRecord, userRule, lentLength}
@@ -20,7 +20,7 @@ use Rattle.image.specs.Image.{policyIn, imageConditions, checkOf}
 use Rattle.image.specs.Normal.{normalImage}
 use Rattle.image.proofs.Theorems.{normal-long, normal-accepted, normal-fixed as normal-again}
 use Rattle.normaliser.specs.Normaliser.{normalConditions, normalAnswer, normalEffect}
-use Rattle.normaliser.proofs.AnswerLaws.{through, refused-answer, answer-number, answer-length, answer-front}
+use Rattle.normaliser.proofs.WrittenAnswers.{through, refused-answer, answer-number, answer-length, answer-front}
 use Rattle.normaliser.proofs.NormalCases.{refusal-short, refusal-image}
 
 -- ---- the answer
@@ -29,8 +29,8 @@ module _ (i out : List ℕ) where
   abbrev cs : List Condition
   cs = normalConditions i out
 
-  numbers-good : numbersGood (numbersOf cs) ≡ true
-  unfolding normalConditions imageConditions numbersGood numbersOf elem
+  numbers-good : numbersDistinct (numbersOf cs) ≡ true
+  unfolding normalConditions imageConditions numbersDistinct numbersOf elem
   numbers-good = refl
 
   -- no number is given but these

@@ -13,7 +13,7 @@ use Rattle.lists.proofs.Bools.{and-0}
 use Rattle.lists.proofs.Every.{every-0, every-1, every-nil, every-cons, every-imp, every-map, map-back}
 use Rattle.fields.specs.Bytes.{bytesOf, records}
 use Rattle.fields.specs.Writing.{Wrote}
-use Rattle.fields.proofs.RowLaws.{wide, length-wide, rows-length, records-rows}
+use Rattle.fields.proofs.WidthRows.{wide, length-wide, rows-length, records-rows}
 use Rattle.rules.specs.Answers.{mixtureLimit}
 use Rattle.rules.specs.Rules.{normal, sort, unheldIn, distinct}
 use Rattle.rules.proofs.RuleLaws.{normal-normal, normal-length}
@@ -30,7 +30,7 @@ use Rattle.fields.proofs.ByteLaws.{bytes-length, joined-length}
 use Rattle.image.proofs.WrittenMeaning.{container-named}
 use Rattle.image.proofs.WrittenOwners.{owned-ownable, policy-sound}
 use Rattle.normaliser.specs.Writer.{policyGiven, unowned, formWidth, formRow, normalUse, formWords, formIn, formsIn, policyAt, containerUses, Usable, formKept, Tabled, rulesNeeded, writerAnswer, writerEffect, Answered}
-use Rattle.normaliser.proofs.FormLaws.{shortUse, row-long, row-form}
+use Rattle.normaliser.proofs.RuleForms.{shortUse, row-long, row-form}
 use Rattle.normaliser.proofs.NewNumbers.{every-unmap}
 
 -- ---- a policy that an image can spell is one that the writer takes

@@ -4,5 +4,5 @@ pub mod Writer
 -- Private contracts, which nothing public cites: the tables of the writer, how equal rules are found, and the sections that are
 -- written.
 pub mod Tables
-pub mod Keys
+pub mod Hashes
 pub mod Sections

@@ -27,19 +27,19 @@ headerBytes c u r m =
 -- ---- the sections, with the new rule numbers
 
 unfoldable pub renumbered : List ℕ → List ℕ → Container → Container
-renumbered classes places c =
+renumbered classes ranks c =
     record {
       kind = c .kind;
       atom = c .atom;
-      permit = newNumber classes places (c .permit);
-      run = newNumber classes places (c .run);
+      permit = newNumber classes ranks (c .permit);
+      run = newNumber classes ranks (c .run);
     }
 
 unfoldable pub containerSection : List ℕ → List ℕ → List ℕ → List ℕ
-containerSection containers classes places = joined (map containerBytes (map (renumbered classes places) (containersIn containers)))
+containerSection containers classes ranks = joined (map containerBytes (map (renumbered classes ranks) (containersIn containers)))
 
 unfoldable pub userSection : List ℕ → List ℕ → List ℕ → List ℕ
-userSection users classes places = joined (map (bytesOf userSize) (map (newNumber classes places) (usersIn users)))
+userSection users classes ranks = joined (map (bytesOf userSize) (map (newNumber classes ranks) (usersIn users)))
 
 unfoldable pub ruleSection : List ℕ → List ℕ → List ℕ
 ruleSection forms order = joined (map spanBytes (spansOf 0 (map (formAt forms) order) (map (formOwner forms) order)))
@@ -52,9 +52,9 @@ unfoldable pub mixtureSection : List ℕ → List ℕ → List ℕ
 mixtureSection forms order = mixtureBytes (joined (map (formAt forms) order))
 
 -- what the writing of the sections asks: each use has its number, each rule is there, and there is room
-pub record Writable (containers users forms classes places order out : List ℕ) : Type 0 where
-  pub containersFound : every (found classes places) (containerUses (containersIn containers)) ≡ true
-  pub usersFound : every (found classes places) (usersIn users) ≡ true
+pub record Writable (containers users forms classes ranks order out : List ℕ) : Type 0 where
+  pub containersFound : every (found classes ranks) (containerUses (containersIn containers)) ≡ true
+  pub usersFound : every (found classes ranks) (usersIn users) ≡ true
   pub formsGood : every (formGood forms) order ≡ true
   pub room : headerSize + length containers / containerSize * containerSize + length users / userSize * userSize
       + length order * ruleSize + length (joined (map (formAt forms) order)) * mixtureSize ≤ length out

@@ -12,7 +12,7 @@ use Rattle.fields.specs.Bytes.{records}
 use Rattle.image.specs.Policy.{named}
 use Rattle.image.specs.Normal.{Use, sameUse, freeUse}
 use Rattle.normaliser.specs.Writer.{formWidth, formIn, useLimit}
-use Rattle.normaliser.specs.Keys.{wordsAt, Keyed}
+use Rattle.normaliser.specs.Hashes.{wordsAt, Hashed}
 
 -- ---- the rules
 
@@ -69,32 +69,32 @@ indexOf v (x ∷ order) = cond (eqb v x) 0 (suc (indexOf v order))
 unfoldable pub placeIn : ℕ → List ℕ → ℕ
 placeIn v order = cond (elem v order) (suc (indexOf v order)) 0
 
--- the first m of the order are the classes that have a place, and the table of places says which
-pub record Ordered (order places : List ℕ) (m : ℕ) : Type 0 where
+-- the first m of the order are the classes that have a place, and the table of ranks says which, counted from 1
+pub record Ordered (order ranks : List ℕ) (m : ℕ) : Type 0 where
   pub room : m ≤ length order
   pub few : length order ≤ useLimit
-  pub is : (v : ℕ) → v < length places → getD places v 0 ≡ placeIn v (take m order)
+  pub is : (v : ℕ) → v < length ranks → getD ranks v 0 ≡ placeIn v (take m order)
 
 -- what is asked to note the class of rule number k behind the first m: there is a place for it
-pub record Placeable (classes order places : List ℕ) (m k : ℕ) : Type 0 where
+pub record Placeable (classes order ranks : List ℕ) (m k : ℕ) : Type 0 where
   pub known : named (length classes) k ≡ true
-  pub small : named (length places) (classAt classes k) ≡ true
+  pub small : named (length ranks) (classAt classes k) ≡ true
   pub room : length (withClass (take m order) (classAt classes k)) ≤ length order
-  pub ordered : Ordered order places m
+  pub ordered : Ordered order ranks m
 
 -- ---- new numbers
 
 -- the new number of rule number k
 unfoldable pub newNumber : List ℕ → List ℕ → ℕ → ℕ
-newNumber classes places k =
-    cond (eqb (classAt classes k) unrestrictedNumber) unrestrictedNumber (getD places (classAt classes k) 0 - 1)
+newNumber classes ranks k =
+    cond (eqb (classAt classes k) unrestrictedNumber) unrestrictedNumber (getD ranks (classAt classes k) 0 - 1)
 
 -- rule number k has a new number
 unfoldable pub found : List ℕ → List ℕ → ℕ → Bool
-found classes places k =
+found classes ranks k =
     named (length classes) k
-    && (named (length places) (classAt classes k)
-    && (eqb (classAt classes k) unrestrictedNumber || ltb 0 (getD places (classAt classes k) 0)))
+    && (named (length ranks) (classAt classes k)
+    && (eqb (classAt classes k) unrestrictedNumber || ltb 0 (getD ranks (classAt classes k) 0)))
 
 -- ---- the tables before the first rule
 
@@ -102,11 +102,11 @@ found classes places k =
 abbrev pub fewRules : ℕ
 fewRules = 16
 
-pub record Cleared (forms classes keys order places : List ℕ) : Type 0 where
+pub record Cleared (forms classes slots order ranks : List ℕ) : Type 0 where
   pub classesRoom : length forms / formWidth ≤ length classes
   pub classesFew : length classes ≤ useLimit
-  pub keyed : Keyed forms keys 0
+  pub hashed : Hashed forms slots 0
   pub orderRoom : length forms / formWidth ≤ length order
   pub orderFew : length order ≤ useLimit
-  pub placesRoom : length forms / formWidth ≤ length places
-  pub zero : (v : ℕ) → getD places v 0 ≡ 0
+  pub ranksRoom : length forms / formWidth ≤ length ranks
+  pub zero : (v : ℕ) → getD ranks v 0 ≡ 0

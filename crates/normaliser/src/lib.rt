@@ -12,7 +12,7 @@ ghost use Rattle.image.specs.Image.{containersIn, usersIn, ruleRecordsGood};
 ghost use Rattle.image.specs.Normal.{containerBytes, spanBytes, framed, normalImage, sameUse, freeUse};
 ghost use Rattle.normaliser.specs.Normaliser.{normalAnswer, normalEffect};
 ghost use Rattle.normaliser.specs.Writer.{formWidth, formRow, normalUse, formIn, useLimit, containerUses, policyGiven, policyAt, formWords, Tabled, Answered};
-ghost use Rattle.normaliser.specs.Keys.{wordsAt, mixed, keyLimit, keyOf, alike, slotOf, Keyed};
+ghost use Rattle.normaliser.specs.Hashes.{wordsAt, mixed, slotLimit, hashOf, alike, slotOf, Hashed};
 ghost use Rattle.normaliser.specs.Tables.{formAt, formGood, classOf, Classified, classAt, classNamed, withClass, withClasses, Ordered, Placeable, newNumber, found, Cleared, fewRules};
 ghost use Rattle.normaliser.specs.Sections.{pairBytes, headerBytes, containerSection, userSection, ruleSection, mixtureBytes, mixtureSection, Writable, ownedIn, SectionsAccepted};
 
@@ -24,14 +24,14 @@ pub const OWNER_WORD: usize = rule_words::RULE_WIDTH;
 // The most uses of a rule: two for each container, one for each user. A policy has no more rules to write.
 pub const USE_LIMIT: usize = 2 * image::CONTAINER_LIMIT + image::USER_LIMIT;
 
-// The most rules for which small tables do, and how many keys the small and the large tables have.
+// The most rules for which small tables do, and how many slots the small and the large tables have.
 const FEW_RULES: usize = 16;
 
-const FEW_KEYS: usize = 64;
+const FEW_SLOTS: usize = 64;
 
-const MANY_KEYS: usize = 2048;
+const MANY_SLOTS: usize = 2048;
 
-// How a key is made: by how many of its 64 bits a number is rotated for each word, how many numbers of half as many bits there are, and
+// How a hash is made: by how many of its 64 bits a number is rotated for each word, how many numbers of half as many bits there are, and
 // the factor that spreads them.
 const WORD_BITS: u64 = 64;
 
@@ -43,7 +43,7 @@ const HALF_WORDS: u64 = 1 << 32;
 
 const SPREAD_FACTOR: u64 = 2654435761;
 
-// What a spread number times the number of keys is divided by.
+// What a spread number times the number of slots is divided by.
 const KEY_DIVISOR: usize = HALF_WORDS as usize;
 
 // The words of the rows of few rules, and of as many as an image can have.
@@ -63,7 +63,7 @@ fn put_pair(out: &mut [u8], at: usize, a: usize, b: usize) -> usize
 }
 
 // A container record.
-pub fn put_container(
+pub fn put_container_record(
     out: &mut [u8],
     at: usize,
     kind: usize,
@@ -145,10 +145,10 @@ fn mixed(words: &[u64]) -> u64
     h
 }
 
-// The key of a rule in a table of n keys.
-fn key(words: &[u64], n: usize) -> usize
-    requires { ⌜ (0 < n) × (n ≤ keyLimit) ⌝ }
-    ensures { λ r. ⌜ (r ≡ keyOf n (now (words .entry))) × (r < n) ⌝ }
+// The hash of a rule in a table of n slots.
+fn hash(words: &[u64], n: usize) -> usize
+    requires { ⌜ (0 < n) × (n ≤ slotLimit) ⌝ }
+    ensures { λ r. ⌜ (r ≡ hashOf n (now (words .entry))) × (r < n) ⌝ }
 {
     let h = mixed(words);
     let folded = (h / HALF_WORDS + h % HALF_WORDS) % HALF_WORDS;
@@ -167,14 +167,14 @@ fn alike(a: &[u64], b: &[u64]) -> bool
     a[OWNER_WORD] == b[OWNER_WORD]
 }
 
-// The place of rule k in the table of keys: that of its key, or the one opposite if a rule is there that is not alike.
-fn slot(forms: &[u64], keys: &[u16], k: usize) -> usize
-    requires { ⌜ (k < length (now forms) / formWidth) × Keyed (now forms) (now keys) k ⌝ }
-    ensures { λ r. ⌜ (r ≡ slotOf (now (forms .entry)) (now (keys .entry)) (wordsAt (now (forms .entry)) k)) × (r < length (now (keys .entry))) ⌝ }
+// The place of rule k in the hash table: that of its hash, or the one opposite if a rule is there that is not alike.
+fn slot(forms: &[u64], slots: &[u16], k: usize) -> usize
+    requires { ⌜ (k < length (now forms) / formWidth) × Hashed (now forms) (now slots) k ⌝ }
+    ensures { λ r. ⌜ (r ≡ slotOf (now (forms .entry)) (now (slots .entry)) (wordsAt (now (forms .entry)) k)) × (r < length (now (slots .entry))) ⌝ }
 {
     let a = k * FORM_WIDTH;
-    let h = key(&forms[a..a + FORM_WIDTH], keys.len());
-    let j = keys[h] as usize;
+    let h = hash(&forms[a..a + FORM_WIDTH], slots.len());
+    let j = slots[h] as usize;
     if j == 0 {
         return h;
     }
@@ -182,19 +182,19 @@ fn slot(forms: &[u64], keys: &[u16], k: usize) -> usize
     if alike(&forms[a..a + FORM_WIDTH], &forms[b..b + FORM_WIDTH]) {
         return h;
     }
-    keys.len() - 1 - h
+    slots.len() - 1 - h
 }
 
 // The class of rule k, given those before it. A rule before it at its place is looked at first; without one it is the first of its class.
-fn class_of(forms: &[u64], classes: &[u16], keys: &mut [u16], k: usize) -> usize
-    requires { ⌜ (k < length (now forms) / formWidth) × Classified (now forms) (now classes) k × Keyed (now forms) (now keys) k ⌝ }
-    ensures { λ r. ⌜ (r ≡ classOf (now (forms .entry)) k) × Keyed (now (forms .entry)) (now (keys .exit)) (k + 1) ⌝ }
+fn class_of(forms: &[u64], classes: &[u16], slots: &mut [u16], k: usize) -> usize
+    requires { ⌜ (k < length (now forms) / formWidth) × Classified (now forms) (now classes) k × Hashed (now forms) (now slots) k ⌝ }
+    ensures { λ r. ⌜ (r ≡ classOf (now (forms .entry)) k) × Hashed (now (forms .entry)) (now (slots .exit)) (k + 1) ⌝ }
 {
     let a = k * FORM_WIDTH;
-    let h = slot(forms, keys, k);
-    let j = keys[h] as usize;
+    let h = slot(forms, slots, k);
+    let j = slots[h] as usize;
     if j == 0 {
-        keys[h] = (k + 1) as u16;
+        slots[h] = (k + 1) as u16;
         return class_by(&forms[a..a + FORM_WIDTH], k);
     }
     let b = (j - 1) * FORM_WIDTH;
@@ -205,14 +205,14 @@ fn class_of(forms: &[u64], classes: &[u16], keys: &mut [u16], k: usize) -> usize
 }
 
 // The class of each rule.
-fn classify(forms: &[u64], classes: &mut [u16], keys: &mut [u16])
-    requires { ⌜ (length (now forms) / formWidth ≤ length (now classes)) × (length (now classes) ≤ useLimit) × Keyed (now forms) (now keys) 0 ⌝ }
+fn classify(forms: &[u64], classes: &mut [u16], slots: &mut [u16])
+    requires { ⌜ (length (now forms) / formWidth ≤ length (now classes)) × (length (now classes) ≤ useLimit) × Hashed (now forms) (now slots) 0 ⌝ }
     ensures { λ _. ⌜ Classified (now (forms .entry)) (now (classes .exit)) (length (now (forms .entry)) / formWidth) ⌝ }
 {
     let n = forms.len() / FORM_WIDTH;
     let mut k: usize = 0;
     while k < n {
-        let v = class_of(forms, classes, keys, k);
+        let v = class_of(forms, classes, slots, k);
         classes[k] = v as u16;
         k += 1;
     }
@@ -221,9 +221,9 @@ fn classify(forms: &[u64], classes: &mut [u16], keys: &mut [u16])
 // ---- classes by first use
 
 // The class of rule number k takes the next place, unless it is the unrestricted one or has a place: how many places are taken.
-fn place(classes: &[u16], order: &mut [u16], places: &mut [u16], m: usize, k: usize) -> usize
-    requires { ⌜ Placeable (now classes) (now order) (now places) m k ⌝ }
-    ensures { λ r. ⌜ (take r (now (order .exit)) ≡ withClass (take m (now (order .entry))) (classAt (now (classes .entry)) k)) × Ordered (now (order .exit)) (now (places .exit)) r ⌝ }
+fn place(classes: &[u16], order: &mut [u16], ranks: &mut [u16], m: usize, k: usize) -> usize
+    requires { ⌜ Placeable (now classes) (now order) (now ranks) m k ⌝ }
+    ensures { λ r. ⌜ (take r (now (order .exit)) ≡ withClass (take m (now (order .entry))) (classAt (now (classes .entry)) k)) × Ordered (now (order .exit)) (now (ranks .exit)) r ⌝ }
 {
     if k == image::UNRESTRICTED_NUMBER {
         return m;
@@ -232,11 +232,11 @@ fn place(classes: &[u16], order: &mut [u16], places: &mut [u16], m: usize, k: us
     if v == image::UNRESTRICTED_NUMBER {
         return m;
     }
-    if places[v] != 0 {
+    if ranks[v] != 0 {
         return m;
     }
     order[m] = v as u16;
-    places[v] = (m + 1) as u16;
+    ranks[v] = (m + 1) as u16;
     m + 1
 }
 
@@ -245,10 +245,10 @@ fn place_containers(
     containers: &[u8],
     classes: &[u16],
     order: &mut [u16],
-    places: &mut [u16],
+    ranks: &mut [u16],
 ) -> usize
-    requires { ⌜ (every (classNamed (now classes) (length (now places))) (containerUses (containersIn (now containers))) ≡ true) × (length (withClasses [] (map (classAt (now classes)) (containerUses (containersIn (now containers))))) ≤ length (now order)) × Ordered (now order) (now places) 0 ⌝ }
-    ensures { λ r. ⌜ (take r (now (order .exit)) ≡ withClasses [] (map (classAt (now (classes .entry))) (containerUses (containersIn (now (containers .entry)))))) × Ordered (now (order .exit)) (now (places .exit)) r ⌝ }
+    requires { ⌜ (every (classNamed (now classes) (length (now ranks))) (containerUses (containersIn (now containers))) ≡ true) × (length (withClasses [] (map (classAt (now classes)) (containerUses (containersIn (now containers))))) ≤ length (now order)) × Ordered (now order) (now ranks) 0 ⌝ }
+    ensures { λ r. ⌜ (take r (now (order .exit)) ≡ withClasses [] (map (classAt (now (classes .entry))) (containerUses (containersIn (now (containers .entry)))))) × Ordered (now (order .exit)) (now (ranks .exit)) r ⌝ }
 {
     let n = containers.len() / image::CONTAINER_SIZE;
     let mut m: usize = 0;
@@ -257,8 +257,8 @@ fn place_containers(
         let at = i * image::CONTAINER_SIZE;
         let permit = fields::read16(containers, at + 2);
         let run = fields::read16(containers, at + 4);
-        let next = place(classes, order, places, m, permit);
-        m = place(classes, order, places, next, run);
+        let next = place(classes, order, ranks, m, permit);
+        m = place(classes, order, ranks, next, run);
         i += 1;
     }
     m
@@ -269,18 +269,18 @@ fn place_users(
     users: &[u8],
     classes: &[u16],
     order: &mut [u16],
-    places: &mut [u16],
+    ranks: &mut [u16],
     m: usize,
 ) -> usize
-    requires { ⌜ (every (classNamed (now classes) (length (now places))) (usersIn (now users)) ≡ true) × (length (withClasses (take m (now order)) (map (classAt (now classes)) (usersIn (now users)))) ≤ length (now order)) × Ordered (now order) (now places) m ⌝ }
-    ensures { λ r. ⌜ (take r (now (order .exit)) ≡ withClasses (take m (now (order .entry))) (map (classAt (now (classes .entry))) (usersIn (now (users .entry))))) × Ordered (now (order .exit)) (now (places .exit)) r ⌝ }
+    requires { ⌜ (every (classNamed (now classes) (length (now ranks))) (usersIn (now users)) ≡ true) × (length (withClasses (take m (now order)) (map (classAt (now classes)) (usersIn (now users)))) ≤ length (now order)) × Ordered (now order) (now ranks) m ⌝ }
+    ensures { λ r. ⌜ (take r (now (order .exit)) ≡ withClasses (take m (now (order .entry))) (map (classAt (now (classes .entry))) (usersIn (now (users .entry))))) × Ordered (now (order .exit)) (now (ranks .exit)) r ⌝ }
 {
     let n = users.len() / image::USER_SIZE;
     let mut k = m;
     let mut i: usize = 0;
     while i < n {
         let rule = fields::read16(users, i * image::USER_SIZE);
-        k = place(classes, order, places, k, rule);
+        k = place(classes, order, ranks, k, rule);
         i += 1;
     }
     k
@@ -289,9 +289,9 @@ fn place_users(
 // ---- new numbers
 
 // The new number of rule k.
-fn number(classes: &[u16], places: &[u16], k: usize) -> usize
-    requires { ⌜ found (now classes) (now places) k ≡ true ⌝ }
-    ensures { λ r. ⌜ r ≡ newNumber (now (classes .entry)) (now (places .entry)) k ⌝ }
+fn number(classes: &[u16], ranks: &[u16], k: usize) -> usize
+    requires { ⌜ found (now classes) (now ranks) k ≡ true ⌝ }
+    ensures { λ r. ⌜ r ≡ newNumber (now (classes .entry)) (now (ranks .entry)) k ⌝ }
 {
     if k == image::UNRESTRICTED_NUMBER {
         return image::UNRESTRICTED_NUMBER;
@@ -300,7 +300,7 @@ fn number(classes: &[u16], places: &[u16], k: usize) -> usize
     if v == image::UNRESTRICTED_NUMBER {
         return image::UNRESTRICTED_NUMBER;
     }
-    (places[v] - 1) as usize
+    (ranks[v] - 1) as usize
 }
 
 // ---- sections
@@ -311,10 +311,10 @@ fn write_containers(
     start: usize,
     containers: &[u8],
     classes: &[u16],
-    places: &[u16],
+    ranks: &[u16],
 ) -> usize
-    requires { ⌜ (start + length (now containers) / containerSize * containerSize ≤ length (now out)) × (every (found (now classes) (now places)) (containerUses (containersIn (now containers))) ≡ true) ⌝ }
-    ensures { λ r. ⌜ Wrote (containerSection (now (containers .entry)) (now (classes .entry)) (now (places .entry))) (now (out .entry)) (now (out .exit)) start r ⌝ }
+    requires { ⌜ (start + length (now containers) / containerSize * containerSize ≤ length (now out)) × (every (found (now classes) (now ranks)) (containerUses (containersIn (now containers))) ≡ true) ⌝ }
+    ensures { λ r. ⌜ Wrote (containerSection (now (containers .entry)) (now (classes .entry)) (now (ranks .entry))) (now (out .entry)) (now (out .exit)) start r ⌝ }
 {
     let n = containers.len() / image::CONTAINER_SIZE;
     let mut at = start;
@@ -323,24 +323,24 @@ fn write_containers(
         let from = i * image::CONTAINER_SIZE;
         let kind = fields::read8(containers, from);
         let atom = fields::read8(containers, from + 1);
-        let permit = number(classes, places, fields::read16(containers, from + 2));
-        let run = number(classes, places, fields::read16(containers, from + 4));
-        at = put_container(out, at, kind, atom, permit, run);
+        let permit = number(classes, ranks, fields::read16(containers, from + 2));
+        let run = number(classes, ranks, fields::read16(containers, from + 4));
+        at = put_container_record(out, at, kind, atom, permit, run);
         i += 1;
     }
     at
 }
 
 // The users with their new rule numbers: the place behind them.
-fn write_users(out: &mut [u8], start: usize, users: &[u8], classes: &[u16], places: &[u16]) -> usize
-    requires { ⌜ (start + length (now users) / userSize * userSize ≤ length (now out)) × (every (found (now classes) (now places)) (usersIn (now users)) ≡ true) ⌝ }
-    ensures { λ r. ⌜ Wrote (userSection (now (users .entry)) (now (classes .entry)) (now (places .entry))) (now (out .entry)) (now (out .exit)) start r ⌝ }
+fn write_users(out: &mut [u8], start: usize, users: &[u8], classes: &[u16], ranks: &[u16]) -> usize
+    requires { ⌜ (start + length (now users) / userSize * userSize ≤ length (now out)) × (every (found (now classes) (now ranks)) (usersIn (now users)) ≡ true) ⌝ }
+    ensures { λ r. ⌜ Wrote (userSection (now (users .entry)) (now (classes .entry)) (now (ranks .entry))) (now (out .entry)) (now (out .exit)) start r ⌝ }
 {
     let n = users.len() / image::USER_SIZE;
     let mut at = start;
     let mut i: usize = 0;
     while i < n {
-        let rule = number(classes, places, fields::read16(users, i * image::USER_SIZE));
+        let rule = number(classes, ranks, fields::read16(users, i * image::USER_SIZE));
         at = fields::put16(out, at, rule);
         i += 1;
     }
@@ -419,42 +419,42 @@ fn write_image(
     users: &[u8],
     forms: &[u64],
     classes: &[u16],
-    places: &[u16],
+    ranks: &[u16],
     order: &[u16],
 ) -> usize
-    requires { ⌜ Writable (now containers) (now users) (now forms) (now classes) (now places) (now order) (now out) ⌝ }
-    ensures { λ r. ⌜ Wrote (framed (containerSection (now (containers .entry)) (now (classes .entry)) (now (places .entry))) (userSection (now (users .entry)) (now (classes .entry)) (now (places .entry))) (ruleSection (now (forms .entry)) (now (order .entry))) (mixtureSection (now (forms .entry)) (now (order .entry)))) (now (out .entry)) (now (out .exit)) 0 r ⌝ }
+    requires { ⌜ Writable (now containers) (now users) (now forms) (now classes) (now ranks) (now order) (now out) ⌝ }
+    ensures { λ r. ⌜ Wrote (framed (containerSection (now (containers .entry)) (now (classes .entry)) (now (ranks .entry))) (userSection (now (users .entry)) (now (classes .entry)) (now (ranks .entry))) (ruleSection (now (forms .entry)) (now (order .entry))) (mixtureSection (now (forms .entry)) (now (order .entry)))) (now (out .entry)) (now (out .exit)) 0 r ⌝ }
 {
     let a = image::HEADER_SIZE;
-    let b = write_containers(out, a, containers, classes, places);
-    let c = write_users(out, b, users, classes, places);
+    let b = write_containers(out, a, containers, classes, ranks);
+    let c = write_users(out, b, users, classes, ranks);
     let d = write_spans(out, c, forms, order);
     let end = write_mixtures(out, d, forms, order);
     write_header(out, b - a, c - b, d - c, end - d);
     end
 }
 
-// The normal image of a policy in tables, by way of tables for classes, keys, order and places.
+// The normal image of a policy in tables, by way of tables for classes, hashes, order and ranks.
 fn write_by(
     classes: &mut [u16],
-    keys: &mut [u16],
+    slots: &mut [u16],
     order: &mut [u16],
-    places: &mut [u16],
+    ranks: &mut [u16],
     containers: &[u8],
     users: &[u8],
     forms: &[u64],
     out: &mut [u8],
 ) -> usize
-    requires { ⌜ Tabled (now containers) (now users) (now forms) × Cleared (now forms) (now classes) (now keys) (now order) (now places) × (outputBound ≤ length (now out)) ⌝ }
+    requires { ⌜ Tabled (now containers) (now users) (now forms) × Cleared (now forms) (now classes) (now slots) (now order) (now ranks) × (outputBound ≤ length (now out)) ⌝ }
     ensures { λ r. ⌜ Answered (policyAt (now (containers .entry)) (now (users .entry)) (now (forms .entry))) (now (out .entry)) (now (out .exit)) r ⌝ }
 {
-    classify(forms, classes, keys);
-    let first = place_containers(containers, classes, order, places);
-    let m = place_users(users, classes, order, places, first);
+    classify(forms, classes, slots);
+    let first = place_containers(containers, classes, order, ranks);
+    let m = place_users(users, classes, order, ranks, first);
     if image::RULE_LIMIT < m {
         return 0;
     }
-    write_image(out, containers, users, forms, classes, places, &order[0..m])
+    write_image(out, containers, users, forms, classes, ranks, &order[0..m])
 }
 
 // The normal image of a policy of few rules, by way of tables that are quick to clear.
@@ -463,14 +463,14 @@ fn write_few(containers: &[u8], users: &[u8], forms: &[u64], out: &mut [u8]) -> 
     ensures { λ r. ⌜ Answered (policyAt (now (containers .entry)) (now (users .entry)) (now (forms .entry))) (now (out .entry)) (now (out .exit)) r ⌝ }
 {
     let mut classes = [0u16; FEW_RULES];
-    let mut keys = [0u16; FEW_KEYS];
+    let mut slots = [0u16; FEW_SLOTS];
     let mut order = [0u16; FEW_RULES];
-    let mut places = [0u16; FEW_RULES];
+    let mut ranks = [0u16; FEW_RULES];
     write_by(
         &mut classes,
-        &mut keys,
+        &mut slots,
         &mut order,
-        &mut places,
+        &mut ranks,
         containers,
         users,
         forms,
@@ -484,14 +484,14 @@ fn write_many(containers: &[u8], users: &[u8], forms: &[u64], out: &mut [u8]) ->
     ensures { λ r. ⌜ Answered (policyAt (now (containers .entry)) (now (users .entry)) (now (forms .entry))) (now (out .entry)) (now (out .exit)) r ⌝ }
 {
     let mut classes = [0u16; USE_LIMIT];
-    let mut keys = [0u16; MANY_KEYS];
+    let mut slots = [0u16; MANY_SLOTS];
     let mut order = [0u16; USE_LIMIT];
-    let mut places = [0u16; USE_LIMIT];
+    let mut ranks = [0u16; USE_LIMIT];
     write_by(
         &mut classes,
-        &mut keys,
+        &mut slots,
         &mut order,
-        &mut places,
+        &mut ranks,
         containers,
         users,
         forms,
@@ -520,7 +520,7 @@ fn put_row(row: &mut [u64], rules: &[u8], mixtures: &[u8], k: usize)
     ensures { λ _. ⌜ now (row .exit) ≡ formRow (normalUse (getD (ownedIn (now (rules .entry)) (now (mixtures .entry))) k freeUse)) ⌝ }
 {
     image::put_own_rule(&mut row[0..OWNER_WORD], rules, mixtures, k);
-    row[OWNER_WORD] = fields::read16(rules, k * image::RULE_SIZE + image::OWNER_FIELD) as u64;
+    row[OWNER_WORD] = fields::read16(rules, k * image::RULE_SIZE + image::RULE_OWNER_AT) as u64;
 }
 
 // The rules of an image's sections, in normal form.

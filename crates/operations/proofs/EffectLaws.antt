@@ -26,14 +26,14 @@ use Rattle.image.specs.Policy.{unrestrictedRule}
 use Rattle.rule_words.specs.Words.{ruleWidth, ruleOf, wordsOf}
 use Rattle.session.specs.Limits.{sessionLength, rowWidth, userWidth, usersAt, kindAt, permitAt, runAt, userRuleAt, nobody}
 use Rattle.session.specs.Rows.{Row, rowOf, rowWords, freeWords, permitWords, runWords, putRow}
-use Rattle.session.proofs.PutLaws.{container-row-length, row-lent, row-returned}
+use Rattle.session.proofs.RowPuts.{container-row-length, row-lent, row-returned}
 use Rattle.chains.specs.History.{Step, read, write, append, exec, fork, newFile, newVolatile, receiver}
 use Rattle.chains.specs.Demand.{judged}
 use Rattle.image.proofs.KindLaws.{process-free, is-process}
 use Rattle.chains.specs.Table.{freeRow, readRow, writeRow, appendRow, execRow, forkRow, newFileRow, newVolatileRow, ruleOr, entry, fits, meetGood, alerts, blocks, verdict}
 use Rattle.operations.specs.View.{view}
 use Rattle.operations.specs.Effects.{madeAnswer, madeEffect}
-use Rattle.operations.specs.Parts.{Ready, UsedAt, Kept, wordsFrom, contentWords, newWords, coverVerdict, coverAnswer, guardsAt, lateAnswer, lateEffect, sharedRun, absorbed, absorbAnswer, absorbEffect, withheldAnswer, launchTag, launchAnswer, launchEffect}
+use Rattle.operations.specs.EarlyTests.{Ready, UsedAt, Kept, wordsFrom, contentWords, newWords, coverVerdict, coverAnswer, guardsAt, lateAnswer, lateEffect, sharedRun, absorbed, absorbAnswer, absorbEffect, withheldAnswer, launchTag, launchAnswer, launchEffect}
 use Rattle.operations.proofs.ViewLaws.{view-row}
 use Rattle.operations.proofs.RefusalTests.{kind-read}
 use Rattle.operations.proofs.ReadyLaws.{process-kind, ready-process, ready-object, ready-user}

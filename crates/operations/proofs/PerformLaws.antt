@@ -7,7 +7,7 @@ use mathlib.Core.List.{List, [], _∷_, _++_}
 use mathlib.Core.Option.{none, some}
 use borrow.Author.Tests.{ne-eqb}
 use Rattle.lists.specs.Lists.{elem, every}
-use Rattle.lists.specs.Conditions.{_orRefuse_, firstFailed, numbersOf, numbersGood}
+use Rattle.lists.specs.Conditions.{_orRefuse_, firstFailed, numbersOf, numbersDistinct}
 use Rattle.lists.proofs.Conditions.{passed, failed, none-left, first-stops, first-passed, given-none}
 use Rattle.lists.proofs.Places.{some-inj, none-some}
 use Rattle.answers.specs.Refusals.{overLimit}
@@ -24,7 +24,7 @@ use Rattle.records.specs.Records.{stepIn}
 use Rattle.records.proofs.CodeLaws.{Entered, entered}
 use Rattle.operations.specs.View.{view}
 use Rattle.operations.specs.Effects.{Named, sessionConditions, sessionRefusal, performAnswer, performEffect}
-use Rattle.operations.specs.Parts.{firstConditions, Ready, lateAnswer, lateEffect}
+use Rattle.operations.specs.EarlyTests.{firstConditions, Ready, lateAnswer, lateEffect}
 use Rattle.operations.proofs.EffectLaws.{Done, left-done}
 
 -- the answer a and the session s₁ afterwards are as the step asks, all refusals counted
@@ -36,8 +36,8 @@ session-split : (s : List ℕ) (t : Step) → sessionConditions s t ≡ firstCon
 unfolding sessionConditions firstConditions tableConditions
 session-split s t = refl
 
-first-numbers : (s : List ℕ) (t : Step) → numbersGood (numbersOf (firstConditions s t)) ≡ true
-unfolding firstConditions earlyConditions numbersOf numbersGood elem
+first-numbers : (s : List ℕ) (t : Step) → numbersDistinct (numbersOf (firstConditions s t)) ≡ true
+unfolding firstConditions earlyConditions numbersOf numbersDistinct elem
 first-numbers s t = refl
 
 pub perform-refused : (s : List ℕ) (t : Step) (n : ℕ) → n ≡ firstFailed (firstConditions s t) → n ≢ 0 → Performed s t (refused n) s

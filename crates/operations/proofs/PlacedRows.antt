@@ -11,12 +11,12 @@ use borrow.Author.Tests.{eqb-true, eqb-false}
 use Rattle.image.specs.Limits.{containerLimit, userLimit}
 use Rattle.session.specs.Limits.{sessionLength, rowWidth}
 use Rattle.session.specs.Rows.{Row, rowOf, rowWords, containerRowGood, isDeclared, userRuleOf, userRowGood, containerRow, userRow, putRow}
-use Rattle.session.proofs.PutLaws.{put-length, put-same, put-other, put-user}
+use Rattle.session.proofs.RowPuts.{put-length, put-same, put-other, put-user}
 use Rattle.chains.specs.Table.{freeRow, placed}
-use Rattle.chains.proofs.TableLaws.{same-state}
+use Rattle.chains.proofs.TableStates.{same-state}
 use Rattle.operations.specs.View.{view}
 use Rattle.operations.proofs.ViewLaws.{view-row}
-use Rattle.operations.proofs.KeptLaws.{Laid}
+use Rattle.operations.proofs.RowsKept.{Laid}
 
 -- the session has its length, and each of its rows is as "Session" says
 pub record Valid (s : List ℕ) : Type 0 where

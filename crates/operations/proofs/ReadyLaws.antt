@@ -6,7 +6,7 @@ use mathlib.Core.List.{List}
 use mathlib.Core.Option.{some, none}
 use Rattle.rules.specs.Sets.{atom}
 use Rattle.lists.specs.Lists.{elem}
-use Rattle.lists.specs.Conditions.{AllHold, firstFailed, numbersOf, numbersGood}
+use Rattle.lists.specs.Conditions.{AllHold, firstFailed, numbersOf, numbersDistinct}
 use Rattle.lists.proofs.Bools.{and-0, and-1, clash}
 use Rattle.lists.proofs.Conditions.{given-none}
 use Rattle.image.specs.Limits.{processKind, isProcess, kindIn, freeKind}
@@ -16,7 +16,7 @@ use Rattle.chains.specs.Table.{State, needsFree, entry, isSome, processGood, ob
 use Rattle.image.proofs.KindLaws.{kind-used, process-used, process-is}
 use Rattle.operations.specs.View.{view}
 use Rattle.operations.specs.Effects.{userNamedGood, rowsGood}
-use Rattle.operations.specs.Parts.{firstConditions, Ready, UsedAt, DeclaredAt}
+use Rattle.operations.specs.EarlyTests.{firstConditions, Ready, UsedAt, DeclaredAt}
 use Rattle.operations.proofs.ViewLaws.{view-row, view-user}
 
 -- ---- the tests one by one
@@ -34,8 +34,8 @@ both false g h k = h
 pub tests : (s : List ℕ) (t : Step) → firstFailed (firstConditions s t) ≡ 0 → Tests s t
 tests s t e = of (given-none (firstConditions s t) numbers .0 e)
   where
-    numbers : numbersGood (numbersOf (firstConditions s t)) ≡ true
-    numbers = unfold firstConditions earlyConditions numbersOf numbersGood elem in refl
+    numbers : numbersDistinct (numbersOf (firstConditions s t)) ≡ true
+    numbers = unfold firstConditions earlyConditions numbersOf numbersDistinct elem in refl
 
     of : AllHold (firstConditions s t) → Tests s t
     of = unfold firstConditions earlyConditions in (λ h. record {

@@ -16,8 +16,8 @@ use Rattle.answers.specs.Refusals.{row, noProcess, wrongKind, notFree, notDecla
 use Rattle.image.specs.Limits.{isProcess, lastKind, containerLimit, userLimit, kindIn, freeKinds}
 use Rattle.session.specs.Limits.{rowWidth, userWidth, usersAt, kindAt, declaredAt, declared, nobody}
 use Rattle.session.specs.Rows.{Row, containerRow, userRow, rowOf, isDeclared, userRuleOf, containerRowGood, userRowGood}
-use Rattle.session.proofs.PutLaws.{row-lent, user-lent}
-use Rattle.session.proofs.RowLaws.{good-kind}
+use Rattle.session.proofs.RowPuts.{row-lent, user-lent}
+use Rattle.session.proofs.RowMeaning.{good-kind}
 use Rattle.chains.specs.Table.{needsFree, entry, isSome, processGood, objectGood, kindGood, freeGood, userGood, behalfFits, earlyConditions}
 use Rattle.records.specs.declared.Code.{Code}
 use Rattle.records.specs.declared.Request.{Request}
@@ -26,7 +26,7 @@ use Rattle.records.specs.Records.{stepIn, Asked}
 use Rattle.records.proofs.CodeLaws.{Entered, entered, behalf-other, behalf-file, unnamed-other}
 use Rattle.operations.specs.View.{view}
 use Rattle.operations.specs.Effects.{Named, userNamedGood, rowsGood}
-use Rattle.operations.specs.Parts.{firstConditions}
+use Rattle.operations.specs.EarlyTests.{firstConditions}
 use Rattle.operations.proofs.ViewLaws.{view-row, view-user}
 
 -- ---- the rows, as they are lent to the test

@@ -25,15 +25,15 @@ use Rattle.rule_words.specs.Words.{ruleWidth, ruleOf, wordsOf}
 use Rattle.session.specs.Rows.{Row, InUse, rowOf, rowWords, permitWords, runWords, containerRow, userRow, userRuleWords, userRuleOf}
 use Rattle.rule_words.proofs.WordLaws.{bounded-words}
 use Rattle.rule_words.proofs.KeptWords.{kept-count, kept-normal, kept-words, rule-length}
-use Rattle.session.proofs.RowLaws.{row-permit, good-counts, good-used, good-words, good-permit, good-run, user-kept, good-declared}
-use Rattle.session.proofs.PutLaws.{container-row-length, user-row-length}
+use Rattle.session.proofs.RowMeaning.{row-permit, good-counts, good-used, good-words, good-permit, good-run, user-kept, good-declared}
+use Rattle.session.proofs.RowPuts.{container-row-length, user-row-length}
 use Rattle.chains.specs.Table.{fits, ruleOr}
 use Rattle.answers.specs.declared.Answer.{Answer}
 use Rattle.answers.specs.declared.Answer.the-variants.{Given}
 use Rattle.answers.specs.declared.Verdict.{Verdict}
 use Rattle.answers.specs.Answers.{received}
 use Rattle.operations.specs.View.{view}
-use Rattle.operations.specs.Parts.{Kept, KeptAt, UsedAt, DeclaredAt, wordsFrom, boundedWords, contentWords, newWords, coverVerdict, coverAnswer}
+use Rattle.operations.specs.EarlyTests.{Kept, KeptAt, UsedAt, DeclaredAt, wordsFrom, boundedWords, contentWords, newWords, coverVerdict, coverAnswer}
 use Rattle.operations.proofs.ViewLaws.{view-row, view-user}
 use Rattle.image.specs.Limits.{containerLimit}
 

@@ -2,4 +2,4 @@
 pub mod View
 pub mod Effects
 -- Private contracts, which nothing public cites: what is tested before a meet is formed, and the parts of an operation.
-pub mod Parts
+pub mod EarlyTests

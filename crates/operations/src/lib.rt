@@ -20,7 +20,7 @@ ghost use Rattle.records.specs.Codes.{codeAt};
 ghost use Rattle.records.specs.Records.{stepIn};
 ghost use Rattle.operations.specs.View.{view};
 ghost use Rattle.operations.specs.Effects.{Named, rowsGood, performAnswer, performEffect};
-ghost use Rattle.operations.specs.Parts.{firstConditions, Ready, lateAnswer, lateEffect, absorbAnswer, absorbEffect, launchAnswer, launchEffect, Kept, KeptAt, UsedAt, wordsFrom, contentWords, newWords, coverVerdict, coverAnswer, guardsAt, withheldAnswer};
+ghost use Rattle.operations.specs.EarlyTests.{firstConditions, Ready, lateAnswer, lateEffect, absorbAnswer, absorbEffect, launchAnswer, launchEffect, Kept, KeptAt, UsedAt, wordsFrom, contentWords, newWords, coverVerdict, coverAnswer, guardsAt, withheldAnswer};
 use answers::Answer;
 use answers::Received;
 use answers::Verdict;
@@ -230,7 +230,7 @@ fn verdict_of(covered: bool) -> Verdict
 }
 
 // Whether the row's permit rule covers its tag, and at which position.
-fn judge(row: &[u64], receiver: usize) -> Answer
+fn cover_answer(row: &[u64], receiver: usize) -> Answer
     requires { ⌜ (length (now row) ≡ rowWidth) × (getD (permitWords (now row)) 0 0 ≤ mixtureLimit) ⌝ }
     ensures { λ r. ⌜ r ≡ coverAnswer receiver (rowOf (now (row .entry)) .permit) (rowOf (now (row .entry)) .tag) ⌝ }
 {
@@ -255,7 +255,7 @@ fn update(row: &mut [u64], receiver: usize, tag: u64, run: Bounded) -> Answer
     ensures { λ r. ⌜ (r ≡ coverAnswer receiver (rowOf (now (row .entry)) .permit) tag) × (now (row .exit) ≡ contentWords (now (row .entry)) tag run) ⌝ }
 {
     set_content(row, tag, run);
-    judge(row, receiver)
+    cover_answer(row, receiver)
 }
 
 // The same where the run rule has one mixture, before and afterwards.
@@ -264,7 +264,7 @@ fn narrow(row: &mut [u64], receiver: usize, tag: u64, mixture: u64) -> Answer
     ensures { λ r. ⌜ (r ≡ coverAnswer receiver (rowOf (now (row .entry)) .permit) tag) × (now (row .exit) ≡ contentWords (now (row .entry)) tag (boundedOf (mixture ∷ []))) ⌝ }
 {
     set_single(row, tag, mixture);
-    judge(row, receiver)
+    cover_answer(row, receiver)
 }
 
 // Makes the receiver's row that of a process, and answers.
@@ -280,7 +280,7 @@ fn replace(
     ensures { λ r. ⌜ (r ≡ coverAnswer receiver (take (permit .count) (permit .mixtures)) tag) × (now (row .exit) ≡ newWords processKind tag permit run behalf) ⌝ }
 {
     session::put_row(row, PROCESS_KIND, tag, permit, run, behalf);
-    judge(row, receiver)
+    cover_answer(row, receiver)
 }
 
 // The container is guarded, and its permit rule does not cover the tag.

@@ -7,7 +7,7 @@ use Rattle.fields.specs.Ascii.{ascii}
 use Rattle.lists.specs.Lists.{every, joined}
 use Rattle.lists.proofs.Bools.{and-in, and-0, and-1, clash}
 use Rattle.lists.proofs.Every.{every-0, every-1, every-nil, every-cons}
-use Rattle.profiles.specs.Profiles.{Mode, Entry, Profile, modeText, modesText, profileWord, profileEnd, modesStart, modesEnd, profileLine, entryLine, endLine, entriesText, textOfOne, textOf, pathGood, modesGood, entryGood, profileGood}
+use Rattle.profiles.specs.Profiles.{Mode, PathEntry, Profile, modeText, modesText, profileWord, profileEnd, modesStart, modesEnd, profileLine, entryLine, endLine, entriesText, textOfOne, textOf, pathGood, modesGood, entryGood, profileGood}
 use Rattle.profiles.specs.Grammar.{Grammar, ModesIn, lastMode, nextMode, EntriesIn, noEntry, nextEntry, ProfilesIn, noProfile, nextProfile}
 
 -- ---- modes
@@ -29,13 +29,13 @@ some-modes-in (m ∷ ms) h = modes-in m ms
 
 -- ---- entries
 
-entry-text : (e : Entry) (t : List ℕ) → entryLine e ++ t ≡ e .path ++ (modesStart ++ (modesText (e .modes) ++ (modesEnd ++ t)))
+entry-text : (e : PathEntry) (t : List ℕ) → entryLine e ++ t ≡ e .path ++ (modesStart ++ (modesText (e .modes) ++ (modesEnd ++ t)))
 unfolding entryLine modesStart ascii
 entry-text e t =
     append-assoc (e .path) (modesStart ++ (modesText (e .modes) ++ modesEnd)) t
     ∙ ap (λ (u : List ℕ). e .path ++ (modesStart ++ u)) (append-assoc (modesText (e .modes)) modesEnd t)
 
-entries-in : (es : List Entry) → every entryGood es ≡ true → EntriesIn (entriesText es) es
+entries-in : (es : List PathEntry) → every entryGood es ≡ true → EntriesIn (entriesText es) es
 unfolding entriesText joined entryGood modesStart modesEnd ascii
 entries-in [] h = noEntry
 entries-in (e ∷ es) h =
@@ -43,13 +43,13 @@ entries-in (e ∷ es) h =
     subst (λ (t : List ℕ). EntriesIn t (e ∷ es)) (sym (entry-text e (entriesText es)))
     (nextEntry (and-0 (pathGood (e .path)) (modesGood (e .modes)) g) (some-modes-in (e .modes) (and-1 (pathGood (e .path)) g)) (entries-in es (every-1 entryGood e es h)))
 
-entries-out : {t : List ℕ} {es : List Entry} → EntriesIn t es → (entriesText es ≡ t) × (every entryGood es ≡ true)
+entries-out : {t : List ℕ} {es : List PathEntry} → EntriesIn t es → (entriesText es ≡ t) × (every entryGood es ≡ true)
 unfolding entriesText joined entryGood modesStart modesEnd ascii
 entries-out noEntry = (refl, every-nil entryGood)
 entries-out (nextEntry {p} {s} {t} {ms} {es} g m d) =
     let a = modes-out m in
     let b = entries-out d in
-    let e : Entry = record { path = p; modes = ms } in (
+    let e : PathEntry = record { path = p; modes = ms } in (
       entry-text e (entriesText es)
           ∙ ap (λ (u : List ℕ). p ++ (modesStart ++ (u ++ (modesEnd ++ entriesText es)))) (a .0)
           ∙ ap (λ (u : List ℕ). p ++ (modesStart ++ (s ++ (modesEnd ++ u)))) (b .0),

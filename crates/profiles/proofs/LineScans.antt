@@ -10,12 +10,12 @@ use lib.ListN.{length, getD, drop, length-append, length-drop}
 use lib.Seq.{getD-drop, drop-drop}
 use Rattle.fields.specs.Ascii.{ascii}
 use Rattle.lists.specs.Lists.{joined}
-use Rattle.profiles.specs.Profiles.{Mode, Entry, modeText, modesText, profileWord, profileEnd, modesStart, modesEnd, profileLine, entryLine, endLine, pathGood, modesGood, entryGood}
+use Rattle.profiles.specs.Profiles.{Mode, PathEntry, modeText, modesText, profileWord, profileEnd, modesStart, modesEnd, profileLine, entryLine, endLine, pathGood, modesGood, entryGood}
 use Rattle.profiles.specs.Tokens.{given, starts, tokens}
 use Rattle.profiles.specs.Reading.{Line, opens, enters, closes, lineText, lineGood, pathIn, modesIn, entryIn, linesToTry, lineAmong, lineIn, linesIn}
 use Rattle.profiles.specs.Scanning.{modeBits, profileKind, entryKind, endKind, lineScan, noScan, lineAt, letterP, closingBrace}
 use Rattle.profiles.proofs.TokenLaws.{starts-split, starts-append, tokens-step}
-use Rattle.profiles.proofs.LineLaws.{and-false, path-front, mode-long, modes-front, line-long, line-passed, no-profile-line, no-entry-line, no-end-line}
+use Rattle.profiles.proofs.ProfileLines.{and-false, path-front, mode-long, modes-front, line-long, line-passed, no-profile-line, no-entry-line, no-end-line}
 
 -- ---- what is scanned ends within the text
 
@@ -136,7 +136,7 @@ module _ (t : List ℕ) (at end next : ℕ) (f : getD t at 0 ≢ letterP) (g : g
       (no-profile-line (pathIn (drop (length profileWord) u)) u (λ q. f (sym (q ∙ first-at t at))))
       ∙ ap (λ (o : Option Line). cond (entryGood (entryIn u) && starts (entryLine (entryIn u)) u) (some (enters (entryIn u))) o)
       (line-passed closes [] u (no-end-line u (λ q. g (sym (q ∙ first-at t at)))))
-      ∙ ap (λ (x : Entry). cond (entryGood x && starts (entryLine x) u) (some (enters x)) none) entry-is
+      ∙ ap (λ (x : PathEntry). cond (entryGood x && starts (entryLine x) u) (some (enters x)) none) entry-is
 
   entry-parts : starts (entryLine (record { path = pathIn (drop at t); modes = modesIn (drop (end + 1) t) })) (drop at t) ≡ (starts modesStart (drop end t) && starts modesEnd (drop next t))
   unfolding entryLine modesStart ascii
@@ -159,7 +159,7 @@ module _ (t : List ℕ) (at end next : ℕ) (f : getD t at 0 ≢ letterP) (g : g
   entry-scan =
       let p = pathIn (drop at t) in
       let ms = modesIn (drop (end + 1) t) in
-      let x : Entry = record { path = p; modes = ms } in
+      let x : PathEntry = record { path = p; modes = ms } in
       ap (λ (o : Option Line). given o noScan (lineScan at)) entry-tried
       ∙ tried ((pathGood p && modesGood ms) && starts (entryLine x) (drop at t)) (enters x) at
       ∙ ap (λ (b : Bool). cond b (lineScan at (enters x)) noScan)

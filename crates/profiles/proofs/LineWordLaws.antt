@@ -9,14 +9,14 @@ use lib.Bits.{bitOr, or-lt}
 use lib.ListN.{length, take, drop, set}
 use lib.Seq.{append-snoc, take-set-le, take-suc-set}
 use Rattle.lists.proofs.Bools.{and-0}
-use Rattle.profiles.specs.Profiles.{Mode, mode-r, mode-w, mode-a, mode-l, mode-m, mode-ix, mode-px, mode-Px, mode-ux, mode-Ux, Entry, pathGood, entryGood, modesGood}
+use Rattle.profiles.specs.Profiles.{Mode, mode-r, mode-w, mode-a, mode-l, mode-m, mode-ix, mode-px, mode-Px, mode-ux, mode-Ux, PathEntry, pathGood, entryGood, modesGood}
 use Rattle.profiles.specs.Reading.{Line, opens, enters, closes, lineText, lineIn, linesIn}
 use Rattle.profiles.specs.Texts.{textLimit}
 use Rattle.profiles.specs.Notes.{lengthLimit}
 use Rattle.profiles.specs.Scanning.{modeBit, withModes, modeBits, lineScan, noScan, lineAt, modesLimit}
 use Rattle.profiles.specs.LineWords.{lineWord, namedPath, lineWords}
 use Rattle.profiles.specs.declared.ScannedLine.{ScannedLine}
-use Rattle.profiles.proofs.PathLaws.{path-parts}
+use Rattle.profiles.proofs.PathBytes.{path-parts}
 use Rattle.profiles.proofs.LineScans.{lines-more}
 use Rattle.profiles.proofs.Walks.{profile-at, entry-at, scanned, unscanned, walk-end}
 
@@ -102,7 +102,7 @@ module _ (t : List ℕ) (at : ℕ) (i : at < length t) (s : ScannedLine) (q : s 
       ∙ ap (λ (x : ScannedLine). lineWord x ∷ lineWords (at + length (lineText (opens p))) (linesIn (drop (at + length (lineText (opens p))) t))) (sym (q ∙ scanned t at (opens p) e))
       ∙ ap (λ (k : ℕ). lineWord s ∷ lineWords k (linesIn (drop k t))) (sym n)
 
-  pub words-entry : (x : Entry) → lineIn (drop at t) ≡ some (enters x) → s .next ≡ at + length (lineText (enters x)) → wordsFrom t at ≡ lineWord s ∷ wordsFrom t (s .next)
+  pub words-entry : (x : PathEntry) → lineIn (drop at t) ≡ some (enters x) → s .next ≡ at + length (lineText (enters x)) → wordsFrom t at ≡ lineWord s ∷ wordsFrom t (s .next)
   unfolding wordsFrom lineWords
   words-entry x e n =
       ap (lineWords at) (lines-more t at (enters x) i e)

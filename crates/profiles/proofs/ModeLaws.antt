@@ -19,8 +19,8 @@ use Rattle.profiles.specs.Reading.{modeAmong, allModes, modeIn, modesIn}
 use Rattle.profiles.specs.Scanning.{modeBit, withModes, modeBits, modeScan, withX, modeAt, modesScan, modesAt}
 use Rattle.profiles.specs.declared.ScannedMode.{ScannedMode}
 use Rattle.profiles.proofs.TokenLaws.{starts-split, tokens-stop, tokens-step}
-use Rattle.profiles.proofs.LineLaws.{mode-long, mode-front}
-use Rattle.profiles.proofs.ScanLaws.{drop-next}
+use Rattle.profiles.proofs.ProfileLines.{mode-long, mode-front}
+use Rattle.profiles.proofs.WordScans.{drop-next}
 
 -- ---- a mode by its first byte
 

@@ -1,4 +1,4 @@
--- Notes of paths: a note has its path's key and place, paths with different keys differ, and a path is found among the notes.
+-- Notes of paths: a note has its path's hash and place, paths with different hashes differ, and a path is found among the notes.
 use Prim.Native.Nat.{ℕ, suc, _+_, _*_, _/_, _%_, _^_, _≤_, _<_}
 use mathlib.Core.Path.{_≡_, refl, sym, ap, ap₂, _∙_}
 use mathlib.Core.Bool.{Bool, true, false, cond, _||_}
@@ -16,66 +16,66 @@ use Rattle.lists.proofs.Same.{same-eq}
 use Rattle.profiles.specs.Profiles.{pathGood}
 use Rattle.profiles.specs.Reading.{pathIn}
 use Rattle.profiles.specs.Texts.{textLimit}
-use Rattle.profiles.specs.Notes.{lengthLimit, keyFrom, pathKey, noteOf, notedPath, noteGood, PathAt, ToNote, notedPaths, notedPlace, withNote, keyFactor, keyLimit}
+use Rattle.profiles.specs.Notes.{lengthLimit, hashFrom, pathHash, noteOf, notedPath, noteGood, PathAt, ToNote, notedPaths, notedPlace, withNote, hashFactor, hashLimit}
 use Rattle.profiles.proofs.TokenLaws.{starts-split}
-use Rattle.profiles.proofs.LineLaws.{path-front}
-use Rattle.profiles.proofs.ScanLaws.{drop-next}
+use Rattle.profiles.proofs.ProfileLines.{path-front}
+use Rattle.profiles.proofs.WordScans.{drop-next}
 use Rattle.profiles.proofs.LineScans.{path-room}
-use Rattle.profiles.proofs.PathLaws.{path-parts}
+use Rattle.profiles.proofs.PathBytes.{path-parts}
 
--- ---- keys
+-- ---- hashes
 
-key-below : (p : List ℕ) (k : ℕ) → k < keyLimit → keyFrom k p < keyLimit
-unfolding keyFrom
-key-below [] k l = l
-key-below (b ∷ p) k l = key-below p ((k * keyFactor + b) % keyLimit) (omega arith)
+hash-below : (p : List ℕ) (k : ℕ) → k < hashLimit → hashFrom k p < hashLimit
+unfolding hashFrom
+hash-below [] k l = l
+hash-below (b ∷ p) k l = hash-below p ((k * hashFactor + b) % hashLimit) (omega arith)
 
-pub key-small : (p : List ℕ) → pathGood p ≡ true → pathKey p * textLimit < 2 ^ 63
-unfolding pathKey
-key-small p h = omega (arith, path-parts p h .2, key-below p 0 (omega arith))
+pub hash-small : (p : List ℕ) → pathGood p ≡ true → pathHash p * textLimit < 2 ^ 63
+unfolding pathHash
+hash-small p h = omega (arith, path-parts p h .2, hash-below p 0 (omega arith))
 
 -- the bytes up to i are in the sum
 pub record Summed (p : List ℕ) (i k : ℕ) : Type 0 where
   pub place : i ≤ length p
-  pub below : k < keyLimit
-  pub rest : keyFrom k (drop i p) ≡ keyFrom 0 p
+  pub below : k < hashLimit
+  pub rest : hashFrom k (drop i p) ≡ hashFrom 0 p
 
 pub sum-start : (p : List ℕ) → Summed p 0 0
 sum-start p = record { place = omega arith; below = omega arith; rest = refl }
 
 module _ (p : List ℕ) (i k : ℕ) (g : Summed p i k) where
-  pub sum-next : i < length p → Summed p (i + 1) ((k * keyFactor + getD p i 0) % keyLimit)
-  unfolding keyFrom
-  sum-next l = record { place = omega arith; below = omega arith; rest = sym (ap (keyFrom k) (drop-next p i l)) ∙ g .rest }
+  pub sum-next : i < length p → Summed p (i + 1) ((k * hashFactor + getD p i 0) % hashLimit)
+  unfolding hashFrom
+  sum-next l = record { place = omega arith; below = omega arith; rest = sym (ap (hashFrom k) (drop-next p i l)) ∙ g .rest }
 
-  pub sum-end : length p ≤ i → length p + lengthLimit * k ≡ pathKey p
-  unfolding keyFrom pathKey
+  pub sum-end : length p ≤ i → length p + lengthLimit * k ≡ pathHash p
+  unfolding hashFrom pathHash
   sum-end l = ap (λ (n : ℕ). length p + lengthLimit * n) (rw (drop-of-length-le p l) at (g .rest))
 
-same-length : (p q : List ℕ) → pathGood p ≡ true → pathGood q ≡ true → pathKey p ≡ pathKey q → length p ≡ length q
-unfolding pathKey
+same-length : (p q : List ℕ) → pathGood p ≡ true → pathGood q ≡ true → pathHash p ≡ pathHash q → length p ≡ length q
+unfolding pathHash
 same-length p q g h e = omega (arith, e, path-parts p g .2, path-parts q h .2)
 
 -- ---- a note and a path
 
-module _ (t : List ℕ) (note at n key : ℕ) (p : PathAt t at n key) (g : noteGood t note ≡ true) where
+module _ (t : List ℕ) (note at n hash : ℕ) (p : PathAt t at n hash) (g : noteGood t note ≡ true) where
   note-path-good : pathGood (notedPath t note) ≡ true
   unfolding noteGood
-  note-path-good = and-0 (pathGood (notedPath t note)) (eqb (note / textLimit) (pathKey (notedPath t note))) g
+  note-path-good = and-0 (pathGood (notedPath t note)) (eqb (note / textLimit) (pathHash (notedPath t note))) g
 
-  note-key : note / textLimit ≡ pathKey (notedPath t note)
+  note-hash : note / textLimit ≡ pathHash (notedPath t note)
   unfolding noteGood
-  note-key = eqb-true (note / textLimit) (pathKey (notedPath t note)) (and-1 (pathGood (notedPath t note)) g)
+  note-hash = eqb-true (note / textLimit) (pathHash (notedPath t note)) (and-1 (pathGood (notedPath t note)) g)
 
-  pub key-differs : (note / textLimit ≡ key → ⊥) → false ≡ sameList (take n (drop at t)) (notedPath t note)
-  key-differs d =
+  pub hash-differs : (note / textLimit ≡ hash → ⊥) → false ≡ sameList (take n (drop at t)) (notedPath t note)
+  hash-differs d =
       sym (refuted (sameList (take n (drop at t)) (notedPath t note))
-      (λ h. d (note-key ∙ ap pathKey (sym (same-eq (take n (drop at t)) (notedPath t note) h)) ∙ sym (p .keyed))))
+      (λ h. d (note-hash ∙ ap pathHash (sym (same-eq (take n (drop at t)) (notedPath t note) h)) ∙ sym (p .hashed))))
 
-  module _ (e : note / textLimit ≡ key) where
+  module _ (e : note / textLimit ≡ hash) where
     size : length (notedPath t note) ≡ n
     size =
-        sym (same-length (take n (drop at t)) (notedPath t note) (p .good) note-path-good (sym (p .keyed) ∙ sym e ∙ note-key))
+        sym (same-length (take n (drop at t)) (notedPath t note) (p .good) note-path-good (sym (p .hashed) ∙ sym e ∙ note-hash))
         ∙ length-take-le n (drop at t) (omega (arith, p .fits, length-drop at t))
 
     inside : note % textLimit < length t
@@ -146,17 +146,17 @@ place-among p (q ∷ qs) = by (sameList p q) (place-among p qs)
 -- ---- one note more
 
 module _ (t notes : List ℕ) (count at n : ℕ) (g : ToNote t notes count at n) where
-  pub noted-small : (key : ℕ) → key ≡ pathKey (take n (drop at t)) → key * textLimit < 2 ^ 63
-  noted-small key k = rw k (key-small (take n (drop at t)) (g .good))
+  pub noted-small : (hash : ℕ) → hash ≡ pathHash (take n (drop at t)) → hash * textLimit < 2 ^ 63
+  noted-small hash k = rw k (hash-small (take n (drop at t)) (g .good))
 
   module _ (r : ℕ) (e : r ≡ notedPlace t notes count at n) where
     pub known-note : r < count → notes ≡ withNote t notes count at n
     unfolding withNote
     known-note l = rw (lt-ltb (notedPlace t notes count at n) count (omega arith))
 
-    pub new-note : count ≤ r → (key : ℕ) → key ≡ pathKey (take n (drop at t)) → set notes count (key * textLimit + at) ≡ withNote t notes count at n
+    pub new-note : count ≤ r → (hash : ℕ) → hash ≡ pathHash (take n (drop at t)) → set notes count (hash * textLimit + at) ≡ withNote t notes count at n
     unfolding withNote noteOf
-    new-note l key k = rw (le-ltb (notedPlace t notes count at n) count (omega arith), k)
+    new-note l hash k = rw (le-ltb (notedPlace t notes count at n) count (omega arith), k)
 
     known-is : ltb r count ≡ known (take n (drop at t)) (notedPaths t notes count)
     unfolding notedPlace notedPaths
@@ -186,18 +186,18 @@ module _ (t notes : List ℕ) (count at n : ℕ) (g : ToNote t notes count at n)
           note-is : notedPath t (noteOf at (take n (drop at t))) ≡ take n (drop at t)
           unfolding notedPath noteOf
           note-is =
-              let z : (pathKey (take n (drop at t)) * textLimit + at) % textLimit ≡ at = omega (arith, g .place) in
+              let z : (pathHash (take n (drop at t)) * textLimit + at) % textLimit ≡ at = omega (arith, g .place) in
               ap (λ (k : ℕ). pathIn (drop k t)) z ∙ f
 
-          note-keyed : noteOf at (take n (drop at t)) / textLimit ≡ pathKey (take n (drop at t))
+          note-hashed : noteOf at (take n (drop at t)) / textLimit ≡ pathHash (take n (drop at t))
           unfolding noteOf
-          note-keyed = omega (arith, g .place)
+          note-hashed = omega (arith, g .place)
 
           note-good : noteGood t (noteOf at (take n (drop at t))) ≡ true
           unfolding noteGood
           note-good =
               let x = noteOf at (take n (drop at t)) in
-              and-in (ap pathGood note-is ∙ g .good) (eq-eqb (x / textLimit) (pathKey (notedPath t x)) (note-keyed ∙ ap pathKey (sym note-is)))
+              and-in (ap pathGood note-is ∙ g .good) (eq-eqb (x / textLimit) (pathHash (notedPath t x)) (note-hashed ∙ ap pathHash (sym note-is)))
 
           pub notes-good : every (noteGood t) (take (count + 1) after) ≡ true
           notes-good =

@@ -12,15 +12,15 @@ use Rattle.lists.specs.Lists.{every, joined}
 use Rattle.lists.proofs.Bools.{and-in, and-0, and-1}
 use Rattle.lists.proofs.Every.{every-0, every-1, every-nil, every-cons}
 use Rattle.lists.proofs.Places.{some-inj, none-some}
-use Rattle.profiles.specs.Profiles.{Entry, Profile, entriesText, textOfOne, textOf, entryGood, profileGood, profileLine, entryLine, endLine, pathGood}
+use Rattle.profiles.specs.Profiles.{PathEntry, Profile, entriesText, textOfOne, textOf, entryGood, profileGood, profileLine, entryLine, endLine, pathGood}
 use Rattle.profiles.specs.Grammar.{Grammar}
 use Rattle.profiles.specs.Reading.{Line, opens, enters, closes, lineText, lineGood, entryLines, linesOf, lineIn, linesIn, linesText, Parsed, outside, inside, broken, behindLine, parsed, profilesOf, readingOf}
 use Rattle.profiles.proofs.TokenLaws.{starts-split}
-use Rattle.profiles.proofs.LineLaws.{lines-front, lines-good, lines-back, line-front, line-long}
+use Rattle.profiles.proofs.ProfileLines.{lines-front, lines-good, lines-back, line-front, line-long}
 
 -- ---- the text by lines
 
-entries-lines : (es : List Entry) (ls : List Line) → entriesText es ++ linesText ls ≡ linesText (entryLines es ls)
+entries-lines : (es : List PathEntry) (ls : List Line) → entriesText es ++ linesText ls ≡ linesText (entryLines es ls)
 unfolding entriesText linesText entryLines joined lineText
 entries-lines [] ls = refl
 entries-lines (e ∷ es) ls =
@@ -38,7 +38,7 @@ text-lines (p ∷ ps) =
 
 -- ---- good profiles have good lines
 
-entry-lines-good : (es : List Entry) (ls : List Line) → every entryGood es ≡ true → every lineGood ls ≡ true → every lineGood (entryLines es ls) ≡ true
+entry-lines-good : (es : List PathEntry) (ls : List Line) → every entryGood es ≡ true → every lineGood ls ≡ true → every lineGood (entryLines es ls) ≡ true
 unfolding entryLines lineGood
 entry-lines-good [] ls h k = k
 entry-lines-good (e ∷ es) ls h k = every-cons lineGood (enters e) (entryLines es ls) (every-0 entryGood e es h) (entry-lines-good es ls (every-1 entryGood e es h) k)
@@ -51,7 +51,7 @@ lines-of-good (p ∷ ps) h =
     every-cons lineGood (opens (p .path)) (entryLines (p .entries) (closes ∷ linesOf ps)) (and-0 (pathGood (p .path)) (every entryGood (p .entries)) g)
     (entry-lines-good (p .entries) (closes ∷ linesOf ps) (and-1 (pathGood (p .path)) g) (every-cons lineGood closes (linesOf ps) refl (lines-of-good ps (every-1 profileGood p ps h))))
 
-entries-good-back : (es : List Entry) (ls : List Line) → every lineGood (entryLines es ls) ≡ true → (every entryGood es ≡ true) × (every lineGood ls ≡ true)
+entries-good-back : (es : List PathEntry) (ls : List Line) → every lineGood (entryLines es ls) ≡ true → (every entryGood es ≡ true) × (every lineGood ls ≡ true)
 unfolding entryLines lineGood
 entries-good-back [] ls h = (every-nil entryGood, h)
 entries-good-back (e ∷ es) ls h =
@@ -68,7 +68,7 @@ profiles-good-back (p ∷ ps) h =
 
 -- ---- lines put together
 
-entries-parsed : (es : List Entry) (ps : List Profile) (ls : List Line) → parsed ls ≡ inside [] ps → parsed (entryLines es ls) ≡ inside es ps
+entries-parsed : (es : List PathEntry) (ps : List Profile) (ls : List Line) → parsed ls ≡ inside [] ps → parsed (entryLines es ls) ≡ inside es ps
 unfolding entryLines parsed behindLine
 entries-parsed [] ps ls h = h
 entries-parsed (e ∷ es) ps ls h = ap (behindLine (enters e)) (entries-parsed es ps ls h)

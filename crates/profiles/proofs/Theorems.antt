@@ -15,7 +15,7 @@ use Rattle.profiles.specs.Profiles.{Profile, textOf, profileGood}
 use Rattle.profiles.specs.Grammar.{Grammar, ProfilesIn}
 use Rattle.profiles.specs.Reading.{readingOf}
 use Rattle.profiles.specs.Texts.{textLimit, Differ, profiledOnce, readsWell, textGood}
-use Rattle.profiles.proofs.RepeatLaws.{repeats-not, differ-once}
+use Rattle.profiles.proofs.PathRepeats.{repeats-not, differ-once}
 use Rattle.profiles.proofs.GrammarLaws.{profiles-in, profiles-out}
 use Rattle.profiles.proofs.ReadingLaws.{print-read, read-print}
 

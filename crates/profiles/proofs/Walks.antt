@@ -11,14 +11,14 @@ use Rattle.fields.specs.Ascii.{ascii}
 use Rattle.lists.specs.Lists.{joined}
 use Rattle.lists.proofs.Bools.{and-0}
 use Rattle.lists.proofs.Every.{append-apart}
-use Rattle.profiles.specs.Profiles.{Entry, Profile, modesText, profileWord, profileEnd, modesStart, modesEnd, profileLine, entryLine, pathGood, modesGood, entryGood}
+use Rattle.profiles.specs.Profiles.{PathEntry, Profile, modesText, profileWord, profileEnd, modesStart, modesEnd, profileLine, entryLine, pathGood, modesGood, entryGood}
 use Rattle.profiles.specs.Grammar.{Grammar}
 use Rattle.profiles.specs.Tokens.{tokens}
 use Rattle.profiles.specs.Reading.{Line, opens, enters, closes, lineText, lineGood, linesOf, pathIn, lineIn, linesIn, linesText}
 use Rattle.profiles.specs.Scanning.{modeBits, noLine, profileKind, entryKind, endKind, lineScan, noScan, lineAt}
 use Rattle.profiles.specs.declared.ScannedLine.{ScannedLine}
 use Rattle.profiles.proofs.TokenLaws.{starts-split, tokens-stop}
-use Rattle.profiles.proofs.LineLaws.{line-front, line-good, line-long, profile-path, entry-path-read}
+use Rattle.profiles.proofs.ProfileLines.{line-front, line-good, line-long, profile-path, entry-path-read}
 use Rattle.profiles.proofs.LineScans.{starts-room, lines-more}
 use Rattle.profiles.proofs.ReadingLaws.{text-lines, lines-read, no-line-left}
 
@@ -47,7 +47,7 @@ pub record ProfileAt (t : List ℕ) (at : ℕ) (s : ScannedLine) : Type 0 where
   pub ahead : s .next ≤ length t
 
 pub record EntryAt (t : List ℕ) (at : ℕ) (s : ScannedLine) : Type 0 where
-  pub entry : Entry
+  pub entry : PathEntry
   pub reads : lineIn (drop at t) ≡ some (enters entry)
   pub good : entryGood entry ≡ true
   pub text : take (s .length) (drop (s .path) t) ≡ entry .path
@@ -96,7 +96,7 @@ module _ (t : List ℕ) (at : ℕ) (l : at ≤ length t) where
         ahead = ahead (opens p) e;
       }
 
-  entry-here : (x : Entry) → lineIn (drop at t) ≡ some (enters x) → EntryAt t at (lineScan at (enters x))
+  entry-here : (x : PathEntry) → lineIn (drop at t) ≡ some (enters x) → EntryAt t at (lineScan at (enters x))
   unfolding lineScan lineGood lineText entryLine entryGood
   entry-here x e =
       let r = drop (at + length (lineText (enters x))) t in

@@ -1,4 +1,4 @@
--- How the code remembers the paths that are profiled: a number for each, from its place in the text and a key. The key only
+-- How the code remembers the paths that are profiled: a number for each, from its place in the text and a hash. The hash only
 -- saves comparisons: no answer depends on it.
 use Prim.Native.Nat.{ℕ, _+_, _*_, _/_, _%_, _^_, _≤_, _<_}
 use mathlib.Core.Path.{_≡_}
@@ -15,25 +15,25 @@ use Rattle.profiles.specs.Texts.{textLimit}
 abbrev pub lengthLimit : ℕ
 lengthLimit = 128
 
--- the factor of the sum of a key, and its limit
-abbrev pub keyFactor : ℕ
-keyFactor = 1000003
+-- the factor of the sum of a hash, and its limit
+abbrev pub hashFactor : ℕ
+hashFactor = 1000003
 
-abbrev pub keyLimit : ℕ
-keyLimit = 2 ^ 42
+abbrev pub hashLimit : ℕ
+hashLimit = 2 ^ 42
 
 -- the sum of the bytes, each times a power of the factor, behind bytes with the sum k
-unfoldable pub keyFrom : ℕ → List ℕ → ℕ
-keyFrom k [] = k
-keyFrom k (b ∷ p) = keyFrom ((k * keyFactor + b) % keyLimit) p
+unfoldable pub hashFrom : ℕ → List ℕ → ℕ
+hashFrom k [] = k
+hashFrom k (b ∷ p) = hashFrom ((k * hashFactor + b) % hashLimit) p
 
 -- the length and the sum of the bytes
-unfoldable pub pathKey : List ℕ → ℕ
-pathKey p = length p + lengthLimit * keyFrom 0 p
+unfoldable pub pathHash : List ℕ → ℕ
+pathHash p = length p + lengthLimit * hashFrom 0 p
 
 -- the note of a path at a place
 unfoldable pub noteOf : ℕ → List ℕ → ℕ
-noteOf at p = pathKey p * textLimit + at
+noteOf at p = pathHash p * textLimit + at
 
 -- the path of a note
 unfoldable pub notedPath : List ℕ → ℕ → List ℕ
@@ -41,15 +41,15 @@ notedPath t n = pathIn (drop (n % textLimit) t)
 
 -- the note is that of its path
 unfoldable pub noteGood : List ℕ → ℕ → Bool
-noteGood t n = pathGood (notedPath t n) && eqb (n / textLimit) (pathKey (notedPath t n))
+noteGood t n = pathGood (notedPath t n) && eqb (n / textLimit) (pathHash (notedPath t n))
 
 -- ---- what the functions take and give
 
--- at the place there is a path of this length and key
-pub record PathAt (t : List ℕ) (at n key : ℕ) : Type 0 where
+-- at the place there is a path of this length and hash
+pub record PathAt (t : List ℕ) (at n hash : ℕ) : Type 0 where
   pub good : pathGood (take n (drop at t)) ≡ true
   pub fits : at + n ≤ length t
-  pub keyed : key ≡ pathKey (take n (drop at t))
+  pub hashed : hash ≡ pathHash (take n (drop at t))
 
 -- the first `count` notes are good, there is room for one more, and the path at the place can be noted
 pub record ToNote (t notes : List ℕ) (count at n : ℕ) : Type 0 where

@@ -15,13 +15,13 @@ pub data Mode : Type 0 where
   mode-r mode-w mode-a mode-l mode-m mode-ix mode-px mode-Px mode-ux mode-Ux : Mode
 
 -- a line `PATH MODES,`
-pub record Entry : Type 0 where
+pub record PathEntry : Type 0 where
   pub path : List ℕ
   pub modes : List Mode
 
 pub record Profile : Type 0 where
   pub path : List ℕ
-  pub entries : List Entry
+  pub entries : List PathEntry
 
 -- ---- their text
 
@@ -63,14 +63,14 @@ unfoldable pub profileLine : List ℕ → List ℕ
 profileLine path = profileWord ++ (path ++ profileEnd)
 
 -- a line "`PATH MODES,`"
-unfoldable pub entryLine : Entry → List ℕ
+unfoldable pub entryLine : PathEntry → List ℕ
 entryLine e = e .path ++ (modesStart ++ (modesText (e .modes) ++ modesEnd))
 
 -- "a line `}`"
 unfoldable pub endLine : List ℕ
 endLine = ascii "}" ++ (newline ∷ [])
 
-unfoldable pub entriesText : List Entry → List ℕ
+unfoldable pub entriesText : List PathEntry → List ℕ
 entriesText es = joined (map entryLine es)
 
 -- one profile
@@ -131,7 +131,7 @@ unfoldable pub modesGood : List Mode → Bool
 modesGood [] = false
 modesGood (m ∷ ms) = true
 
-unfoldable pub entryGood : Entry → Bool
+unfoldable pub entryGood : PathEntry → Bool
 entryGood e = pathGood (e .path) && modesGood (e .modes)
 
 unfoldable pub profileGood : Profile → Bool

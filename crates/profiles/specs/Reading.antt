@@ -7,14 +7,14 @@ use mathlib.Core.Option.{Option, none, some}
 use lib.Dec.{eqb}
 use lib.ListN.{length, drop}
 use Rattle.lists.specs.Lists.{joined}
-use Rattle.profiles.specs.Profiles.{Mode, mode-r, mode-w, mode-a, mode-l, mode-m, mode-ix, mode-px, mode-Px, mode-ux, mode-Ux, Entry, Profile, modeText, profileWord, profileLine, entryLine, endLine, isPathByte, pathGood, entryGood}
+use Rattle.profiles.specs.Profiles.{Mode, mode-r, mode-w, mode-a, mode-l, mode-m, mode-ix, mode-px, mode-Px, mode-ux, mode-Ux, PathEntry, Profile, modeText, profileWord, profileLine, entryLine, endLine, isPathByte, pathGood, entryGood}
 use Rattle.profiles.specs.Tokens.{starts, tokens}
 
 -- ---- lines
 
 pub data Line : Type 0 where
   opens : (path : List ℕ) → Line
-  enters : (e : Entry) → Line
+  enters : (e : PathEntry) → Line
   closes : Line
 
 unfoldable pub lineText : Line → List ℕ
@@ -28,7 +28,7 @@ lineGood (enters e) = entryGood e
 lineGood closes = true
 
 -- the lines of entries, and those behind them
-unfoldable pub entryLines : List Entry → List Line → List Line
+unfoldable pub entryLines : List PathEntry → List Line → List Line
 entryLines [] ls = ls
 entryLines (e ∷ es) ls = enters e ∷ entryLines es ls
 
@@ -66,7 +66,7 @@ unfoldable pub modesIn : List ℕ → List Mode
 modesIn t = tokens modeIn modeText t
 
 -- what the line in front is, if it is one of each sort
-unfoldable pub entryIn : List ℕ → Entry
+unfoldable pub entryIn : List ℕ → PathEntry
 entryIn t = record { path = pathIn t; modes = modesIn (drop (length (pathIn t) + 1) t) }
 
 unfoldable pub linesToTry : List ℕ → List Line
@@ -93,7 +93,7 @@ linesText ls = joined (map lineText ls)
 -- what lines are: profiles; entries, the end of their profile and profiles; or neither
 pub data Parsed : Type 0 where
   outside : (ps : List Profile) → Parsed
-  inside : (es : List Entry) (ps : List Profile) → Parsed
+  inside : (es : List PathEntry) (ps : List Profile) → Parsed
   broken : Parsed
 
 -- with one more line in front

@@ -17,7 +17,7 @@ use Rattle.fields.specs.Bytes.{numberIn, field}
 use Rattle.records.specs.declared.Request.{Request}
 use Rattle.chains.specs.Table.{entry}
 use Rattle.records.specs.Codes.{readCode, writeCode, appendCode, execCode, forkCode, newFileCode, newVolatileCode, endCode, deleteCode, codeCount, stepWith, noRows, codeAt, noCode, isCode}
-use Rattle.records.specs.Records.{recordLength, zeroPlace, codeSize, noUser, requestIn, stepIn, userFits, ownObject, numbersGood, recordGood, needIn, stepOf, Asked}
+use Rattle.records.specs.Records.{recordLength, recordZeroAt, codeSize, noUser, requestIn, stepIn, userFits, ownObject, numbersGood, recordGood, needIn, stepOf, Asked}
 use Rattle.records.proofs.CodeLaws.{request, by-code, needed}
 
 -- "Code 8 .., with o equal to p"
@@ -29,8 +29,13 @@ own-set q = by (ℕ-discrete (q .code) endCode)
     by (yes e) = rw (eq-eqb (q .code) endCode e) (λ h z. eqb-true (q .o) (q .p) h, λ k. eq-eqb (q .o) (q .p) (k e))
     by (no n) = rw (ne-eqb (q .code) endCode n) (λ h z. absurd (n z), λ k. refl)
 
+-- bytes that are not 8 are no record
+pub record-short : (r : List ℕ) → (length r ≡ recordLength → ⊥) → recordGood r ≡ false
+unfolding recordGood
+record-short r h = simp (ne-eqb (length r) recordLength h)
+
 module _ (r : List ℕ) (h : recordGood r ≡ true) where
-  behind-length : (isCode (requestIn r .code) && (eqb (field r zeroPlace codeSize) 0 && numbersGood (requestIn r))) ≡ true
+  behind-length : (isCode (requestIn r .code) && (eqb (field r recordZeroAt codeSize) 0 && numbersGood (requestIn r))) ≡ true
   unfolding recordGood
   behind-length = and-1 (eqb (length r) recordLength) h
 
@@ -39,7 +44,7 @@ module _ (r : List ℕ) (h : recordGood r ≡ true) where
 
   behind-zero : (userFits (requestIn r) && (ltb (requestIn r .p) containerLimit && (ltb (requestIn r .o) containerLimit && ownObject (requestIn r)))) ≡ true
   unfolding numbersGood
-  behind-zero = and-1 (eqb (field r zeroPlace codeSize) 0) (and-1 (isCode (requestIn r .code)) behind-length)
+  behind-zero = and-1 (eqb (field r recordZeroAt codeSize) 0) (and-1 (isCode (requestIn r .code)) behind-length)
 
   behind-user : (ltb (requestIn r .p) containerLimit && (ltb (requestIn r .o) containerLimit && ownObject (requestIn r))) ≡ true
   behind-user = and-1 (userFits (requestIn r)) behind-zero
@@ -117,7 +122,7 @@ record Spells (r : List ℕ) : Type 0 where
   pub eight : length r ≡ recordLength
   pub codeLow : readCode ≤ requestIn r .code
   pub codeHigh : requestIn r .code ≤ deleteCode
-  pub zeroByte : field r zeroPlace codeSize ≡ 0
+  pub zeroByte : field r recordZeroAt codeSize ≡ 0
   pub user : UserSet (requestIn r)
   pub process : requestIn r .p < containerLimit
   pub object : requestIn r .o < containerLimit
@@ -132,7 +137,7 @@ record-spells r = (to, back)
       eight = record-long r h;
       codeLow = asked r h .codeLow;
       codeHigh = le-of-suc-le-suc (asked r h .codeHigh);
-      zeroByte = eqb-true (field r zeroPlace codeSize) 0 (and-0 (eqb (field r zeroPlace codeSize) 0) _ (and-1 (isCode (requestIn r .code)) (behind-length r h)));
+      zeroByte = eqb-true (field r recordZeroAt codeSize) 0 (and-0 (eqb (field r recordZeroAt codeSize) 0) _ (and-1 (isCode (requestIn r .code)) (behind-length r h)));
       user = user-set (requestIn r) (asked r h .codeLow) (asked r h .codeHigh) .0 (and-0 (userFits (requestIn r)) _ (behind-zero r h));
       process = asked r h .process;
       object = asked r h .object;
@@ -144,13 +149,13 @@ record-spells r = (to, back)
         let c : isCode (requestIn r .code) ≡ true = and-in (lt-ltb 0 (requestIn r .code) (k .codeLow)) (lt-ltb (requestIn r .code) codeCount (suc-le-suc (k .codeHigh))) in
         and-in (eq-eqb (length r) recordLength (k .eight))
         (and-in c
-        (and-in (eq-eqb (field r zeroPlace codeSize) 0 (k .zeroByte))
+        (and-in (eq-eqb (field r recordZeroAt codeSize) 0 (k .zeroByte))
         (and-in (user-set (requestIn r) (k .codeLow) (suc-le-suc (k .codeHigh)) .1 (k .user))
         (and-in (lt-ltb (requestIn r .p) containerLimit (k .process))
         (and-in (lt-ltb (requestIn r .o) containerLimit (k .object)) (own-set (requestIn r) .1 (k .own)))))))
 
 pub record-spelling : (r : List ℕ) → (recordGood r ≡ true)
-    ↔ ((length r ≡ 8) × (1 ≤ requestIn r .code) × (requestIn r .code ≤ 9) × (field r zeroPlace codeSize ≡ 0)
+    ↔ ((length r ≡ 8) × (1 ≤ requestIn r .code) × (requestIn r .code ≤ 9) × (field r recordZeroAt codeSize ≡ 0)
     × ((requestIn r .code ≡ execCode) ⊎ (requestIn r .code ≡ newFileCode) → requestIn r .u ≤ 15)
     × (requestIn r .code ≢ execCode → requestIn r .code ≢ newFileCode → requestIn r .u ≡ noUser)
     × (requestIn r .p ≤ 255) × (requestIn r .o ≤ 255) × (requestIn r .code ≡ endCode → requestIn r .o ≡ requestIn r .p))

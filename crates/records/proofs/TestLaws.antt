@@ -14,11 +14,11 @@ use Rattle.fields.specs.Bytes.{field}
 use Rattle.records.specs.declared.Code.{Code}
 use Rattle.records.specs.declared.Request.{Request}
 use Rattle.records.specs.Codes.{codeCount, isCode, codeAt, noCode}
-use Rattle.records.specs.Records.{recordLength, codePlace, zeroPlace, processPlace, objectPlace, userPlace, codeSize, numberSize, noUser, requestIn, userFits, ownObject, numbersGood, recordGood, needIn}
+use Rattle.records.specs.Records.{recordLength, recordCodeAt, recordZeroAt, recordProcessAt, recordObjectAt, recordUserAt, codeSize, numberSize, noUser, requestIn, userFits, ownObject, numbersGood, recordGood, needIn}
 
 -- ---- the four fields
 
-pub request-is : (r : List ℕ) (c p o u : ℕ) → c ≡ field r codePlace codeSize → p ≡ field r processPlace numberSize → o ≡ field r objectPlace numberSize → u ≡ field r userPlace numberSize
+pub request-is : (r : List ℕ) (c p o u : ℕ) → c ≡ field r recordCodeAt codeSize → p ≡ field r recordProcessAt numberSize → o ≡ field r recordObjectAt numberSize → u ≡ field r recordUserAt numberSize
     → _≡_ {A = Request} (record { code = c; p = p; o = o; u = u }) (requestIn r)
 unfolding requestIn
 request-is r c p o u ec ep eo eu = λ i. record { code = ec i; p = ep i; o = eo i; u = eu i }
@@ -64,12 +64,8 @@ none-needed : (r : List ℕ) → recordGood r ≡ false → noCode ≡ needIn r
 unfolding needIn
 none-needed r h = rw h
 
-pub not-eight : (r : List ℕ) → (length r ≡ recordLength → ⊥) → noCode ≡ needIn r
-unfolding recordGood
-not-eight r h = none-needed r (simp (ne-eqb (length r) recordLength h))
-
 module _ (r : List ℕ) (q : Request) (e : q ≡ requestIn r) (eight : length r ≡ recordLength) where
-  opened : recordGood r ≡ (isCode (q .code) && (eqb (field r zeroPlace codeSize) 0 && numbersGood q))
+  opened : recordGood r ≡ (isCode (q .code) && (eqb (field r recordZeroAt codeSize) 0 && numbersGood q))
   unfolding recordGood
   opened = rw e (simp (eq-eqb (length r) recordLength eight))
 
@@ -89,12 +85,12 @@ module _ (r : List ℕ) (q : Request) (e : q ≡ requestIn r) (eight : length r 
     unfolding isCode
     code-good = simp (code-some low, lt-ltb (q .code) codeCount high)
 
-    pub byte-set : (field r zeroPlace codeSize ≡ 0 → ⊥) → noCode ≡ needIn r
-    byte-set h = none-needed r (opened ∙ simp (code-good, ne-eqb (field r zeroPlace codeSize) 0 h))
+    pub byte-set : (field r recordZeroAt codeSize ≡ 0 → ⊥) → noCode ≡ needIn r
+    byte-set h = none-needed r (opened ∙ simp (code-good, ne-eqb (field r recordZeroAt codeSize) 0 h))
 
-    module _ (z : field r zeroPlace codeSize ≡ 0) where
+    module _ (z : field r recordZeroAt codeSize ≡ 0) where
       by-numbers : recordGood r ≡ numbersGood q
-      by-numbers = opened ∙ simp (code-good, eq-eqb (field r zeroPlace codeSize) 0 z)
+      by-numbers = opened ∙ simp (code-good, eq-eqb (field r recordZeroAt codeSize) 0 z)
 
       pub numbers-wrong : numbersGood q ≡ false → noCode ≡ needIn r
       numbers-wrong h = none-needed r (by-numbers ∙ h)

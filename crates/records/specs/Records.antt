@@ -18,20 +18,20 @@ use Rattle.records.specs.Codes.{endCode, isCode, codeCount, codeAt, noCo
 abbrev pub recordLength : ℕ
 recordLength = 8
 
-abbrev pub codePlace : ℕ
-codePlace = 0
+abbrev pub recordCodeAt : ℕ
+recordCodeAt = 0
 
-abbrev pub zeroPlace : ℕ
-zeroPlace = 1
+abbrev pub recordZeroAt : ℕ
+recordZeroAt = 1
 
-abbrev pub processPlace : ℕ
-processPlace = 2
+abbrev pub recordProcessAt : ℕ
+recordProcessAt = 2
 
-abbrev pub objectPlace : ℕ
-objectPlace = 4
+abbrev pub recordObjectAt : ℕ
+recordObjectAt = 4
 
-abbrev pub userPlace : ℕ
-userPlace = 6
+abbrev pub recordUserAt : ℕ
+recordUserAt = 6
 
 -- "8 bits"
 abbrev pub codeSize : ℕ
@@ -50,10 +50,10 @@ noUser = 65535
 unfoldable pub requestIn : List ℕ → Request
 requestIn r =
     record {
-      code = field r codePlace codeSize;
-      p = field r processPlace numberSize;
-      o = field r objectPlace numberSize;
-      u = field r userPlace numberSize;
+      code = field r recordCodeAt codeSize;
+      p = field r recordProcessAt numberSize;
+      o = field r recordObjectAt numberSize;
+      u = field r recordUserAt numberSize;
     }
 
 unfoldable pub stepIn : Request → Step
@@ -73,7 +73,7 @@ numbersGood q = userFits q && (ltb (q .p) containerLimit && (ltb (q .o) containe
 
 -- "7 operation record (not 8 bytes, code, zero byte, u set wrongly, container over 255, user over 15)"
 unfoldable pub recordGood : List ℕ → Bool
-recordGood r = eqb (length r) recordLength && (isCode (requestIn r .code) && (eqb (field r zeroPlace codeSize) 0 && numbersGood (requestIn r)))
+recordGood r = eqb (length r) recordLength && (isCode (requestIn r .code) && (eqb (field r recordZeroAt codeSize) 0 && numbersGood (requestIn r)))
 
 -- what the code of a record needs, and what no code needs if it is no record
 unfoldable pub needIn : List ℕ → Code

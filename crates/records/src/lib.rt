@@ -23,7 +23,7 @@ pub const NEW_FILE_CODE: usize = 6;
 
 pub const NEW_VOLATILE_CODE: usize = 7;
 
-const END_CODE: usize = 8;
+pub const END_CODE: usize = 8;
 
 // The places of the table: one for each code, the last being delete, and place 0, which is no code.
 pub const CODE_COUNT: usize = 10;
@@ -98,15 +98,15 @@ fn no_code() -> Code
 // The bytes of a record, and the places of its fields.
 pub const RECORD_LENGTH: usize = 8;
 
-const CODE_PLACE: usize = 0;
+const RECORD_CODE_AT: usize = 0;
 
-const ZERO_PLACE: usize = 1;
+const RECORD_ZERO_AT: usize = 1;
 
-const PROCESS_PLACE: usize = 2;
+const RECORD_PROCESS_AT: usize = 2;
 
-const OBJECT_PLACE: usize = 4;
+const RECORD_OBJECT_AT: usize = 4;
 
-const USER_PLACE: usize = 6;
+const RECORD_USER_AT: usize = 6;
 
 // The user field of a record whose code names no user.
 const NO_USER: usize = 65535;
@@ -125,10 +125,10 @@ pub fn request_of(bytes: &[u8]) -> Request
     ensures { λ r. ⌜ r ≡ requestIn (now (bytes .entry)) ⌝ }
 {
     Request {
-        code: fields::read8(bytes, CODE_PLACE),
-        p: fields::read16(bytes, PROCESS_PLACE),
-        o: fields::read16(bytes, OBJECT_PLACE),
-        u: fields::read16(bytes, USER_PLACE),
+        code: fields::read8(bytes, RECORD_CODE_AT),
+        p: fields::read16(bytes, RECORD_PROCESS_AT),
+        o: fields::read16(bytes, RECORD_OBJECT_AT),
+        u: fields::read16(bytes, RECORD_USER_AT),
     }
 }
 
@@ -167,21 +167,19 @@ fn numbers_good(q: Request, need: Code) -> bool
     own_object(q)
 }
 
-// What the code of a record needs. Where the bytes are no operation record, it is what no code needs: the refusal 7.
-pub fn need_of(bytes: &[u8]) -> Code
+// What the code of a record needs, q being what its bytes ask for. Where they are no operation record, it is what no code needs: the
+// refusal 7.
+pub fn need_of(bytes: &[u8], q: Request) -> Code
+    requires { ⌜ (length (now bytes) ≡ recordLength) × (q ≡ requestIn (now bytes)) ⌝ }
     ensures { λ r. ⌜ r ≡ needIn (now (bytes .entry)) ⌝ }
 {
-    if bytes.len() != RECORD_LENGTH {
-        return no_code();
-    }
-    let q = request_of(bytes);
     if q.code == 0 {
         return no_code();
     }
     if CODE_COUNT <= q.code {
         return no_code();
     }
-    if bytes[ZERO_PLACE] != 0 {
+    if bytes[RECORD_ZERO_AT] != 0 {
         return no_code();
     }
     let need = code_at(q.code);

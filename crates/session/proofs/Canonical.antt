@@ -15,7 +15,7 @@ use Rattle.image.proofs.OwnerLaws.{owned-parts}
 use Rattle.session.specs.Limits.{sessionLength}
 use Rattle.session.specs.Session.{sessionOf, startOf, startAnswer, startEffect}
 use Rattle.session.proofs.StartRefusals.{length-good, given-by-image}
-use Rattle.session.proofs.SessionLaws.{session-apart}
+use Rattle.session.proofs.StartedSession.{session-apart}
 
 module _ (p : Policy) (h : Sound p) where
   encodable : Encodable (meaning p)

@@ -11,7 +11,7 @@ use Rattle.lists.proofs.Bools.{decide}
 use Rattle.image.specs.Limits.{isFree}
 use Rattle.session.specs.Limits.{rowWidth, userWidth, kindAt}
 use Rattle.session.specs.Rows.{Row, rowWords, rowOf, freeWords, containerRowGood, InUse, userWords, undeclaredWords, isDeclared, userRuleOf, userRowGood}
-use Rattle.session.proofs.RowLaws.{row-good, free-good, good-free, good-used, good-words, user-good, undeclared-good, good-undeclared, good-declared, good-user-words}
+use Rattle.session.proofs.RowMeaning.{row-good, free-good, good-free, good-used, good-words, user-good, undeclared-good, good-undeclared, good-declared, good-user-words}
 
 pub row-says : (ws : List ℕ) → length ws ≡ rowWidth → containerRowGood ws ≡ true → (ws ≡ freeWords) ⊎ ((w : Row) × InUse w × (ws ≡ rowWords w))
 row-says ws l g = by (decide (isFree (getD ws kindAt 0)))

@@ -11,7 +11,7 @@ use borrow.Author.Tests.{eq-eqb, le-leb, leb-true}
 use borrow.Rule.Slice.PartMut.{putMid}
 use Rattle.rules.specs.Answers.{dataWidth, mixtureLimit}
 use Rattle.rule_words.specs.Words.{wordsOf}
-use Rattle.image.specs.Limits.{containerLimit, userLimit, noAtom, containerSize, userSize, ruleSize, size8, size16, kindField, atomField, permitField, runField}
+use Rattle.image.specs.Limits.{containerLimit, userLimit, noAtom, containerSize, userSize, ruleSize, size8, size16, containerKindAt, containerAtomAt, containerPermitAt, containerRunAt}
 use Rattle.fields.specs.Bytes.{field, numberIn}
 use Rattle.lists.specs.Lists.{every}
 use Rattle.image.specs.Policy.{Container, named, containerGood}
@@ -19,14 +19,14 @@ use Rattle.image.specs.Image.{containerIn, containersIn, usersIn, rulesIn, rule
 use Rattle.image.specs.Normal.{Place, normalAt, placeOf}
 use Rattle.lists.proofs.Every.{every-map, every-getD}
 use Rattle.image.proofs.WrittenMeaning.{container-named, container-atom}
-use Rattle.fields.proofs.RecordLaws.{record-at}
+use Rattle.fields.proofs.SectionRecords.{record-at}
 use Rattle.lists.proofs.Places.{map-at}
 use Rattle.image.proofs.RecordsByPlace.{users-count, containers-count}
 use Rattle.image.proofs.RulesByNumber.{normal-short}
 use Rattle.session.specs.Limits.{rowWidth, userWidth, nobody}
 use Rattle.session.specs.Rows.{rowWords, userWords}
 use Rattle.session.specs.Session.{filled, startTag, startRow, placeWords}
-use Rattle.session.proofs.RowLaws.{row-length, user-length}
+use Rattle.session.proofs.RowMeaning.{row-length, user-length}
 use Rattle.session.proofs.RowsOfOneWidth.{wide, Rowed, rowed-next, rowed-end}
 
 -- ---- users
@@ -71,23 +71,23 @@ module _ (users rules m : List ℕ) (good : every (named (length rules / ruleSiz
 -- ---- one container
 
 module _ (r rules m : List ℕ) (good : containerGood (length rules / ruleSize) (containerIn r) ≡ true) (spans : ruleRecordsGood rules m ≡ true) where
-  pub permit-named : named (length rules / ruleSize) (field r permitField size16) ≡ true
+  pub permit-named : named (length rules / ruleSize) (field r containerPermitAt size16) ≡ true
   unfolding containerIn
   permit-named = container-named (length rules / ruleSize) (containerIn r) good .0
 
-  pub run-named : named (length rules / ruleSize) (field r runField size16) ≡ true
+  pub run-named : named (length rules / ruleSize) (field r containerRunAt size16) ≡ true
   unfolding containerIn
   run-named = container-named (length rules / ruleSize) (containerIn r) good .1
 
-  pub atom-good : (ltb (field r atomField size8) dataWidth || eqb (field r atomField size8) noAtom) ≡ true
+  pub atom-good : (ltb (field r containerAtomAt size8) dataWidth || eqb (field r containerAtomAt size8) noAtom) ≡ true
   unfolding containerIn
   atom-good = container-atom (length rules / ruleSize) (containerIn r) good
 
-  pub container-row : (k t : ℕ) (p q : List ℕ) → k ≡ field r kindField size8 → t ≡ startTag (field r atomField size8) → p ≡ wordsOf (normalAt (rulesIn rules m) (field r permitField size16)) → q ≡ wordsOf (normalAt (rulesIn rules m) (field r runField size16))
+  pub container-row : (k t : ℕ) (p q : List ℕ) → k ≡ field r containerKindAt size8 → t ≡ startTag (field r containerAtomAt size8) → p ≡ wordsOf (normalAt (rulesIn rules m) (field r containerPermitAt size16)) → q ≡ wordsOf (normalAt (rulesIn rules m) (field r containerRunAt size16))
       → k ∷ t ∷ (p ++ (q ++ (nobody ∷ []))) ≡ placeWords (placeOf (rulesIn rules m) (containerIn r))
   unfolding placeWords rowWords startRow placeOf containerIn
   container-row k t p q e f g h =
-      ap₂ (λ (x y : ℕ). x ∷ y ∷ (p ++ (q ++ (nobody ∷ [])))) e f ∙ ap₂ (λ (x y : List ℕ). field r kindField size8 ∷ startTag (field r atomField size8) ∷ (x ++ (y ++ (nobody ∷ [])))) g h
+      ap₂ (λ (x y : ℕ). x ∷ y ∷ (p ++ (q ++ (nobody ∷ [])))) e f ∙ ap₂ (λ (x y : List ℕ). field r containerKindAt size8 ∷ startTag (field r containerAtomAt size8) ∷ (x ++ (y ++ (nobody ∷ [])))) g h
 
 -- ---- containers
 

@@ -8,7 +8,7 @@ use mathlib.Core.Logic.{_⊎_, inl, inr, _↔_, _≢_}
 use lib.ListN.{length}
 use borrow.Author.Tests.{eq-eqb, eqb-true}
 use Rattle.lists.specs.Lists.{elem}
-use Rattle.lists.specs.Conditions.{_orRefuse_, numbersOf, numberAt, numbersGood}
+use Rattle.lists.specs.Conditions.{_orRefuse_, numbersOf, numberAt, numbersDistinct}
 use Rattle.lists.proofs.Bools.{decide}
 use Rattle.lists.proofs.Conditions as conditions
 use Rattle.answers.specs.Refusals.{lentLength}
@@ -21,8 +21,8 @@ unfolding sessionLengthGood
 length-good s = (eqb-true (length s) sessionLength, eq-eqb (length s) sessionLength)
 
 module _ (i s : List ℕ) where
-  start-numbers : numbersGood (numbersOf (startConditions i s)) ≡ true
-  unfolding startConditions imageConditions numbersOf numbersGood elem
+  start-numbers : numbersDistinct (numbersOf (startConditions i s)) ≡ true
+  unfolding startConditions imageConditions numbersOf numbersDistinct elem
   start-numbers = refl
 
   pub refused-9 : (startAnswer i s ≡ lentLength) ↔ (sessionLengthGood s ≡ false)

@@ -24,7 +24,7 @@ use Rattle.session.proofs.GoodRows.{row-says, says-row, user-says, says
 use Rattle.image.proofs.Decode.{accepted-sound}
 use Rattle.session.proofs.Canonical.{normal-check, normal-same-start, normal-same-owners, same-start, same-owners, same-image, started-effect}
 use Rattle.session.proofs.StartRefusals.{refused-9, given-by-image}
-use Rattle.session.proofs.StartLaws.{start-length, start-rows-good, start-users-good}
+use Rattle.session.proofs.StartRows.{start-length, start-rows-good, start-users-good}
 
 -- ---- REFUSALS: 9 exactly for a session of the wrong length; every other number, 0 too, exactly as the image's check gives it
 

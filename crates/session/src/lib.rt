@@ -139,7 +139,7 @@ fn fill_users(out: &mut [u64], users: &[u8], rules: &[u8], m: &[u8])
 }
 
 // What a container that names the atom holds.
-fn tag_of(atom: usize) -> u64
+fn start_tag(atom: usize) -> u64
     requires { ⌜ (ltb atom dataWidth || eqb atom noAtom) ≡ true ⌝ }
     ensures { λ r. ⌜ r ≡ startTag atom ⌝ }
 {
@@ -165,25 +165,25 @@ pub fn put_row(row: &mut [u64], kind: u64, tag: u64, permit: Bounded, run: Bound
 }
 
 // The row of a container record.
-fn put_container(row: &mut [u64], r: &[u8], rules: &[u8], m: &[u8])
+fn put_container_row(row: &mut [u64], r: &[u8], rules: &[u8], m: &[u8])
     requires { ⌜ (length (now row) ≡ rowWidth) × (length (now r) ≡ containerSize) × (containerGood (length (now rules) / ruleSize) (containerIn (now r)) ≡ true)
         × (ruleRecordsGood (now rules) (now m) ≡ true) ⌝ }
     ensures { λ _. ⌜ now (row .exit) ≡ placeWords (placeOf (rulesIn (now (rules .entry)) (now (m .entry))) (containerIn (now (r .entry)))) ⌝ }
 {
     row[BEHALF_AT] = NOBODY;
-    row[KIND_AT] = fields::read8(r, image::KIND_FIELD) as u64;
-    row[TAG_AT] = tag_of(fields::read8(r, image::ATOM_FIELD));
+    row[KIND_AT] = fields::read8(r, image::CONTAINER_KIND_AT) as u64;
+    row[TAG_AT] = start_tag(fields::read8(r, image::CONTAINER_ATOM_AT));
     image::put_rule_at(
         &mut row[PERMIT_AT..PERMIT_AT + rule_words::RULE_WIDTH],
         rules,
         m,
-        fields::read16(r, image::PERMIT_FIELD),
+        fields::read16(r, image::CONTAINER_PERMIT_AT),
     );
     image::put_rule_at(
         &mut row[RUN_AT..RUN_AT + rule_words::RULE_WIDTH],
         rules,
         m,
-        fields::read16(r, image::RUN_FIELD),
+        fields::read16(r, image::CONTAINER_RUN_AT),
     );
 }
 
@@ -199,7 +199,7 @@ fn fill_containers(out: &mut [u64], cs: &[u8], rules: &[u8], m: &[u8])
     while i < n {
         let at = i * ROW_WIDTH;
         let r = i * image::CONTAINER_SIZE;
-        put_container(
+        put_container_row(
             &mut out[at..at + ROW_WIDTH],
             &cs[r..r + image::CONTAINER_SIZE],
             rules,

@@ -21,7 +21,7 @@ use Rattle.image.specs.Normal.{Place, meaning}
 use Rattle.session.specs.Rows.{rowWords, freeWords, permitWords, runWords, rowOf, behalfGood, containerRowGood, userWords, isDeclared, userRuleWords, userRuleOf, userRowGood, containerRow, userRow, putRow}
 use Rattle.rule_words.specs.Words.{allZero, keptWell, ruleOf, wordsOf, isNormal}
 use Rattle.session.specs.Session.{startTag, startRow, placeWords, filled, sessionOf, startOf, sessionLengthGood}
-use Rattle.matrix.specs.Flows.{rowsWithin, counted, matrixGood, has, subjectCarries, granted, within, composed}
+use Rattle.matrix.specs.Flows.{rowsWithin, countGood, matrixGood, has, subjectCarries, granted, within, composed}
 use Rattle.matrix.specs.Rows.{bitsOf}
 use Rattle.matrix.specs.Verdicts.{ungranted, ungrantedFrom, consistent, matrixConditions}
 use Rattle.derivation.specs.Derived.{writerMixtures, orAlone, permitOf, derivedImage}
@@ -55,7 +55,7 @@ use Rattle.monitor.specs.Steps.{stepAsked, stepConditions, refusalOf, stepAnswe
 use Rattle.monitor.specs.Runs.{stepOn, runAnswers}
 use Rattle.silence.specs.Silent.{sourcesOf, quietObject, silent, silenceOf, unlessRefused, matrixSilence}
 use Rattle.silence.specs.Sessions.{mayRead, mayAppend, AllAllowed}
-use Rattle.silence.proofs.RecordLaws.{lowRecord, read-spelled, append-spelled}
+use Rattle.silence.proofs.AllowedRecords.{lowRecord, read-spelled, append-spelled}
 
 pub record Checked : Type 0 where
   -- "Consistent is too weak, since two permitted writers can mix": 0 and 2 go into 1 by two writers, of which none reads both
@@ -74,7 +74,7 @@ pub record Checked : Type 0 where
 
 pub checked : Checked
 unfolding matrixSilence matrixConditions firstFailed unlessRefused silenceOf silent allBelow quietObject sourcesOf bitsOf permitOf writerMixtures orAlone covers holds
-    matrixGood rowsWithin every counted has atom consistent someBelow ungrantedFrom ungranted composed within granted subjectCarries
+    matrixGood rowsWithin every countGood has atom consistent someBelow ungrantedFrom ungranted composed within granted subjectCarries
 checked = record {
   two-writers = (refl, refl);
   document-000 = refl;
@@ -114,7 +114,7 @@ two-writers-allowed = (
 )
 
 good : matrixGood reads writes 3 ≡ true
-unfolding matrixGood rowsWithin every counted
+unfolding matrixGood rowsWithin every countGood
 good = refl
 
 -- what the derived policy means

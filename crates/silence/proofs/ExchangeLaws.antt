@@ -14,10 +14,10 @@ use Rattle.rules.specs.Rules.{covers}
 use Rattle.derivation.specs.Derived.{permitOf}
 use Rattle.matrix.specs.Flows.{has, subjectCarries, granted, within, composed, matrixGood}
 use Rattle.matrix.specs.Rows.{bitAt, bitsOf, spelling, Closed}
-use Rattle.matrix.proofs.BitLaws.{has-ext, bits-has, bits-above}
-use Rattle.matrix.proofs.PathLaws.{within-none}
+use Rattle.matrix.proofs.RowBits.{has-ext, bits-has, bits-above}
+use Rattle.matrix.proofs.PathTest.{within-none}
 use Rattle.matrix.proofs.GoodLaws.{Good, good-parts, parts-good}
-use Rattle.matrix.proofs.VerdictLaws.{granted-beyond, closed}
+use Rattle.matrix.proofs.VerdictLoops.{granted-beyond, closed}
 use Rattle.silence.specs.Silent.{sourcesOf, quietObject}
 use Rattle.silence.specs.Tables.{SourceTable}
 

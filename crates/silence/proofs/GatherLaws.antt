@@ -20,20 +20,20 @@ use Rattle.rules.proofs.RuleLaws.{covers-normal, covers-part}
 use Rattle.session.specs.Rows.{Row}
 use Rattle.matrix.specs.Rows.{bitsOf}
 use Rattle.matrix.specs.Flows.{has, subjectCarries, granted, step, onward, Composed, composed}
-use Rattle.matrix.proofs.PathLaws.{path-source, path-target}
-use Rattle.matrix.proofs.FlowLaws.{composed-path}
-use Rattle.matrix.proofs.BitLaws.{atom-has, bits-has, bits-above}
+use Rattle.matrix.proofs.PathTest.{path-source, path-target}
+use Rattle.matrix.proofs.PathFlows.{composed-path}
+use Rattle.matrix.proofs.RowBits.{atom-has, bits-has, bits-above}
 use Rattle.derivation.specs.Derived.{writerMixtures, orAlone, permitOf}
 use Rattle.chains.specs.History.{Step, read, append, receiver}
 use Rattle.chains.specs.Demand.{after}
 use Rattle.chains.specs.Table.{State, readRow, appendRow, entry, alerts, placed, operate}
-use Rattle.chains.proofs.TableLaws.{operate-done}
-use Rattle.chains.proofs.VerdictLaws.{left-put}
+use Rattle.chains.proofs.TableStates.{operate-done}
+use Rattle.chains.proofs.ThreeAnswers.{left-put}
 use Rattle.answers.specs.declared.Answer.{Answer}
 use Rattle.matrix.proofs.CarrierLaws.{carried}
 use Rattle.silence.specs.Silent.{sourcesOf, quietObject}
 use Rattle.silence.specs.Sessions.{Allowed, mayRead, mayAppend, AllAllowed}
-use Rattle.silence.proofs.SourceLaws.{Holding, passes, never-blocks, holds-on}
+use Rattle.silence.proofs.HeldSources.{Holding, passes, never-blocks, holds-on}
 
 -- whatever a container held, it holds
 abbrev pub Grown : State → State → Type 0

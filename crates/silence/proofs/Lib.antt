@@ -1,12 +1,12 @@
-pub mod SourceLaws
+pub mod HeldSources
 pub mod GatherLaws
 pub mod MonitorLaws
-pub mod StartLaws
-pub mod RecordLaws
-pub mod WriterLaws
+pub mod DerivedStart
+pub mod AllowedRecords
+pub mod OneWriter
 pub mod ExchangeLaws
 pub mod PermitLaws
 pub mod SilenceLaws
-pub mod SessionLaws
+pub mod DerivedSession
 pub mod Theorems
 pub mod Examples

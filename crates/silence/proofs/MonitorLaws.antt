@@ -18,11 +18,11 @@ use Rattle.answers.specs.Answers.{accepted, isAlert, isRefused}
 use Rattle.chains.specs.History.{Step}
 use Rattle.chains.specs.Demand.{answers, after}
 use Rattle.chains.specs.Table.{State, entry, tableConditions, alerts, operate, Faithful}
-use Rattle.chains.proofs.TableLaws.{operate-done}
-use Rattle.chains.proofs.VerdictLaws.{verdict-alert, verdict-quiet, verdict-accepted}
+use Rattle.chains.proofs.TableStates.{operate-done}
+use Rattle.chains.proofs.ThreeAnswers.{verdict-alert, verdict-quiet, verdict-accepted}
 use Rattle.silence.specs.Silent.{quietObject, silent}
 use Rattle.silence.specs.Sessions.{Allowed, AllAllowed, noAlert}
-use Rattle.silence.proofs.SourceLaws.{Holding, passes, never-blocks, stays-quiet}
+use Rattle.silence.proofs.HeldSources.{Holding, passes, never-blocks, stays-quiet}
 use Rattle.silence.proofs.GatherLaws.{Owning, next, firstSteps, lastStep, last-allowed, all-allowed, gathered-holding, last-alerts}
 
 module _ {S R : Type 0} (op : S → R → S × Answer) (stepOf : R → Option Step) (view : S → State) (Valid : S → Type 0) (F : Faithful op stepOf view Valid)

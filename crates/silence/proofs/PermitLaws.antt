@@ -16,9 +16,9 @@ use Rattle.rules.specs.Sets.{holds}
 use Rattle.rules.specs.Rules.{covers}
 use Rattle.rules.proofs.SetLaws.{atom-or, atoms-holds, holds-trans, holds-is, holds-not}
 use Rattle.matrix.specs.Flows.{has}
-use Rattle.matrix.proofs.BitLaws.{has-is, has-not}
+use Rattle.matrix.proofs.RowBits.{has-is, has-not}
 use Rattle.derivation.specs.Derived.{writerMixtures, orAlone, permitOf}
-use Rattle.silence.proofs.WriterLaws.{writer-mixed}
+use Rattle.silence.proofs.OneWriter.{writer-mixed}
 
 -- a mixture with an object holds the object alone
 or-holds : (r b : ℕ) → holds (bitOr r (2 ^ b)) (2 ^ b) ≡ true

@@ -39,10 +39,10 @@ use Rattle.monitor.proofs.DemandLaws.{alert-last}
 use Rattle.monitor.proofs.Theorems.{length-good}
 use Rattle.silence.specs.Silent.{quietObject, silent, matrixSilence}
 use Rattle.silence.specs.Sessions.{Allowed, mayRead, mayWrite, mayAppend, AllAllowed, noAlert}
-use Rattle.silence.proofs.RecordLaws.{accepts, spelled-good}
-use Rattle.silence.proofs.SessionLaws.{g, valid, holding, owning, begun-holding, begun-owning, derived-demand, spell, table-gives, allowed-last, allowed-rights, right-of, allowed-judged}
+use Rattle.silence.proofs.AllowedRecords.{accepts, spelled-good}
+use Rattle.silence.proofs.DerivedSession.{g, valid, holding, owning, begun-holding, begun-owning, derived-demand, spell, table-gives, allowed-last, allowed-rights, right-of, allowed-judged}
 use Rattle.silence.proofs.MonitorLaws as monitors
-use Rattle.silence.proofs.WriterLaws as writers
+use Rattle.silence.proofs.OneWriter as writers
 use Rattle.silence.proofs.SilenceLaws as numbers
 
 -- ---- which accesses the matrix allows subject s, container objects + s, to object k: for writes and appends it is the write right

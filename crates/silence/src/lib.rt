@@ -59,7 +59,7 @@ pub fn silent(reads: &[u32], writes: &[u32], objects: u32) -> Silence
     }
     let n = objects as usize;
     let mut sources = [0u32; matrix::OBJECT_LIMIT];
-    matrix::compose(writes, reads, &mut sources, n);
+    matrix::compose_flows(writes, reads, &mut sources, n);
     if all_quiet(reads, writes, &sources, n) {
         return Silence::Silent;
     }

@@ -6,21 +6,21 @@ use borrow.Author.Tests.{eq-eqb}
 use Rattle.fields.specs.Ascii.{ascii}
 use Rattle.fields.specs.Bytes.{numberIn, field, cut}
 use Rattle.answers.specs.Answers.{quiet, alert, refused}
-use Rattle.answers.specs.Tallies.{noTally, counted, countedAll}
+use Rattle.answers.specs.Tallies.{noTally, tallied, talliedAll}
 use Rattle.image.specs.Image.{checkOf}
 use Rattle.session.specs.Limits.{sessionLength}
 use Rattle.session.proofs.Canonical.{effect-start}
 use Rattle.records.specs.Records.{requestIn}
 use Rattle.records.specs.Traces.{traceRecords}
-use Rattle.monitor.proofs.PaperListing.{image, read-image, traceBytes, given, answered}
+use Rattle.monitor.proofs.PaperTrace.{image, read-image, traceBytes, given, answered}
 use Rattle.listing.specs.Text.{digit, digits, decimalIn, decimal, hexadecimal}
 use Rattle.listing.specs.Lines.{line, operationWord, verdictWord, answerWord, answerFields, heading, stepLine, totalLine, totalOf}
-use Rattle.monitor.specs.Parts.{partTally}
+use Rattle.monitor.specs.PartSessions.{partTally}
 use Rattle.trace_listing.specs.Listings.{recordLine, linesOf, partText, listingOf}
 
-spelled : heading ++ (linesOf noTally (traceRecords traceBytes) given ++ totalOf (countedAll noTally given))
+spelled : heading ++ (linesOf noTally (traceRecords traceBytes) given ++ totalOf (talliedAll noTally given))
     ≡ ascii "step op p o verdict at tag pos\n1 read 4 2 quiet 4 0000000000000004 0\n2 append 4 0 quiet 0 0000000000000005 0\n3 read 5 0 quiet 5 0000000000000005 0\n4 append 5 1 alert 1 0000000000000007 255\n5 write 6 1 quiet 1 0000000000000000 0\n6 read 6 9 refused 12\ntotal 6 alerts 1 refused 1\n"
-unfolding traceRecords cut requestIn numberIn field counted countedAll recordLine linesOf totalOf heading stepLine totalLine operationWord answerWord answerFields verdictWord line decimal decimalIn hexadecimal digits digit ascii
+unfolding traceRecords cut requestIn numberIn field tallied talliedAll recordLine linesOf totalOf heading stepLine totalLine operationWord answerWord answerFields verdictWord line decimal decimalIn hexadecimal digits digit ascii
 spelled = refl
 
 pub listing : listingOf image traceBytes

@@ -2,5 +2,5 @@
 -- prove it.
 pub mod Theorems
 pub mod Examples
-pub mod CutLaws
-pub mod PartLaws
+pub mod CutListings
+pub mod ListedParts

@@ -9,21 +9,21 @@ use mathlib.Core.List.{List, _∷_, _++_}
 use lib.ListN.{length}
 use borrow.Author.Tests.{eq-eqb, ne-eqb}
 use Rattle.answers.specs.declared.Tally.{Tally}
-use Rattle.answers.specs.Tallies.{more, noTally, counted, countedAll}
+use Rattle.answers.specs.Tallies.{more, noTally, tallied, talliedAll}
 use Rattle.answers.proofs.Theorems.{tally-counts}
 use Rattle.image.specs.Image.{checkOf, policyIn}
 use Rattle.session.specs.Session.{startOf}
 use Rattle.records.specs.Records.{recordLength}
 use Rattle.monitor.specs.Steps.{stepAnswer, stepEffect}
 use Rattle.monitor.specs.Runs.{stepOn, runAnswers, runEffect}
-use Rattle.monitor.specs.Parts.{partTally, partSession, WholeRecords, together, partsTally, partsSession}
+use Rattle.monitor.specs.PartSessions.{partTally, partSession, WholeRecords, together, partsTally, partsSession}
 use Rattle.monitor.proofs.TraceCuts as cuts
 use Rattle.monitor.proofs.TraceCuts.{answers-length, tally-parts, session-parts}
 use Rattle.listing.specs.Lines.{heading, totalOf, policyLine}
 use Rattle.trace_listing.specs.Listings.{recordLine, linesOf, partText, listingOf}
-use Rattle.trace_listing.specs.Parts.{partLimit, partsText}
-use Rattle.trace_listing.proofs.CutLaws as cut
-use Rattle.trace_listing.proofs.CutLaws.{run-lines, text-parts}
+use Rattle.trace_listing.specs.PartListings.{partLimit, partsText}
+use Rattle.trace_listing.proofs.CutListings as cut
+use Rattle.trace_listing.proofs.CutListings.{run-lines, text-parts}
 
 -- ---- a trace in parts
 
@@ -67,9 +67,9 @@ pub record-listed : (s : List ℕ) (rs : List (List ℕ)) (r : List ℕ) (qs : L
     → linesOf noTally (rs ++ (r ∷ qs)) (runAnswers s (rs ++ (r ∷ qs)))
     ≡ linesOf noTally rs (runAnswers s rs)
     ++ (recordLine (suc (length rs)) r (stepAnswer (runEffect s rs) r)
-    ++ linesOf (counted (countedAll noTally (runAnswers s rs)) (stepAnswer (runEffect s rs) r)) qs (runAnswers (stepEffect (runEffect s rs) r) qs))
+    ++ linesOf (tallied (talliedAll noTally (runAnswers s rs)) (stepAnswer (runEffect s rs) r)) qs (runAnswers (stepEffect (runEffect s rs) r) qs))
 unfolding linesOf runAnswers stepOn
 record-listed s rs r qs h =
-    let e : more (countedAll noTally (runAnswers s rs) .records) ≡ suc (length rs) =
+    let e : more (talliedAll noTally (runAnswers s rs) .records) ≡ suc (length rs) =
     omega (arith, tally-counts (runAnswers s rs) (omega (arith, answers-length s rs)), answers-length s rs) in
     rw (← e) (run-lines noTally s rs (r ∷ qs))

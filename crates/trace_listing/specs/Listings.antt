@@ -6,13 +6,13 @@ use lib.Dec.{eqb}
 use lib.ListN.{length}
 use Rattle.answers.specs.declared.Answer.{Answer}
 use Rattle.answers.specs.declared.Tally.{Tally}
-use Rattle.answers.specs.Tallies.{more, noTally, counted}
+use Rattle.answers.specs.Tallies.{more, noTally, tallied}
 use Rattle.image.specs.Image.{checkOf, policyIn}
 use Rattle.session.specs.Session.{startOf}
 use Rattle.records.specs.Records.{recordLength, requestIn}
 use Rattle.records.specs.Traces.{traceRecords}
 use Rattle.monitor.specs.Runs.{runAnswers}
-use Rattle.monitor.specs.Parts.{partTally}
+use Rattle.monitor.specs.PartSessions.{partTally}
 use Rattle.listing.specs.Lines.{heading, stepLine, shortLine, totalOf, policyLine}
 
 -- ---- the line of a record
@@ -29,7 +29,7 @@ recordLine step bytes answer =
 unfoldable pub linesOf : Tally → List (List ℕ) → List Answer → List ℕ
 linesOf t [] given = []
 linesOf t (r ∷ rs) [] = []
-linesOf t (r ∷ rs) (a ∷ given) = recordLine (more (t .records)) r a ++ linesOf (counted t a) rs given
+linesOf t (r ∷ rs) (a ∷ given) = recordLine (more (t .records)) r a ++ linesOf (tallied t a) rs given
 
 -- ---- a part of a trace, which finds this session and this tally
 

@@ -6,7 +6,7 @@ ghost use Rattle.fields.specs.Writing.{Wrote};
 ghost use Rattle.listing.specs.Buffer.{lineLimit, bufferSize, ListedText};
 ghost use Rattle.listing.specs.Lines.{heading, totalOf, policyLine};
 ghost use Rattle.trace_listing.specs.Listings.{recordLine};
-ghost use Rattle.trace_listing.specs.Parts.{partLimit, ListedRecord, ListedPart};
+ghost use Rattle.trace_listing.specs.PartListings.{partLimit, ListedRecord, ListedPart};
 use answers::Answer;
 use answers::Tally;
 use listing::BUFFER_SIZE;
@@ -43,9 +43,9 @@ fn list_record(out: &mut [u8], run: Listed, bytes: &[u8], answer: Answer) -> Lis
     let tally = run.tally;
     let step = answers::more(tally.records);
     let end = put_record(out, run.end, step, bytes, answer);
-    let counted = answers::count(tally, answer);
+    let tallied = answers::count(tally, answer);
     Listed {
-        tally: counted,
+        tally: tallied,
         end: end,
     }
 }

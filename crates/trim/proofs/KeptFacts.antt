@@ -14,7 +14,7 @@ use lib.Seq.{drop-drop, take-at, drop-at}
 use borrow.Author.Tests.{lt-ltb, ltb-true, le-leb, leb-true, eq-eqb, ne-eqb}
 use Rattle.lists.specs.Lists.{every, elem}
 use Rattle.lists.specs.Counting.{countFrom}
-use Rattle.lists.specs.Conditions.{numbersOf, numbersGood}
+use Rattle.lists.specs.Conditions.{numbersOf, numbersDistinct}
 use Rattle.lists.proofs.Bools.{and-in, and-0, and-1, clash, decide}
 use Rattle.lists.proofs.Every.{every-0, every-1, every-nil, every-cons, every-append, every-imp, every-left}
 use Rattle.lists.proofs.Counting.{count-length}
@@ -35,15 +35,15 @@ use Rattle.operations.specs.View.{view}
 use Rattle.monitor.specs.Steps.{stepAsked, stepAnswer}
 use Rattle.monitor.specs.Runs.{stepOn, runAnswers, runEffect, historyIn}
 use Rattle.monitor.proofs.StepLaws.{made-answer, accepted-zero}
-use Rattle.monitor.proofs.AnswerLaws.{new-quiet}
-use Rattle.monitor.proofs.RunLaws.{runAnswers-append}
+use Rattle.monitor.proofs.AnswerNumbers.{new-quiet}
+use Rattle.monitor.proofs.RunHistories.{runAnswers-append}
 use Rattle.monitor.proofs.DemandLaws.{alert-last}
 use Rattle.monitor.proofs.Theorems.{demand3}
 use Rattle.trim.specs.Cuts.{pass, Cut, none, keep, drop}
 use Rattle.trim.specs.Trims.{trimLimit, recordAt, recordsAt, cutCounts, lastOf, frontOf, keptFront, keptOf, traceGood, trimConditions, trimRefusal, positionsOf, trimAnswer, trimEffect}
-use Rattle.trim.proofs.CutLaws.{cut-every, trim-fixed, trim-minimal, trim-counts, trim-cut}
+use Rattle.trim.proofs.MinimalTraces.{cut-every, trim-fixed, trim-minimal, trim-counts, trim-cut}
 use Rattle.trim.proofs.ReplayLaws.{records-append}
-use Rattle.trim.proofs.TraceLaws.{records-count, every-between, short-counts}
+use Rattle.trim.proofs.WholeTraces.{records-count, every-between, short-counts}
 use Rattle.trim.proofs.TrimCases.{refusal-9, refusal-image, refusal-trace, refusal-good}
 
 -- ---- lists that rise
@@ -246,8 +246,8 @@ forbidden image t bytes ok g =
 -- ---- the refusals
 
 module _ (i t out : List ℕ) where
-  pub numbers : numbersGood (numbersOf (trimConditions i t out)) ≡ true
-  unfolding trimConditions imageConditions numbersOf numbersGood elem
+  pub numbers : numbersDistinct (numbersOf (trimConditions i t out)) ≡ true
+  unfolding trimConditions imageConditions numbersOf numbersDistinct elem
   numbers = refl
 
   -- the three tests one after the other

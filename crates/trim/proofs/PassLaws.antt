@@ -11,7 +11,7 @@ use Rattle.lists.specs.Lists.{every}
 use Rattle.lists.proofs.Every.{every-0, every-1}
 use Rattle.monitor.specs.Steps.{stepEffect}
 use Rattle.monitor.specs.Runs.{runEffect, stepOn}
-use Rattle.monitor.proofs.RunLaws.{runEffect-append}
+use Rattle.monitor.proofs.RunHistories.{runEffect-append}
 use Rattle.trim.specs.Cuts.{passFrom, pass}
 use Rattle.trim.specs.Trims.{trimLimit, recordAt, recordsAt, cutCounts}
 use Rattle.trim.specs.Replays.{inTrace, Paired, Passable, Passed}

@@ -16,7 +16,7 @@ use Rattle.answers.specs.declared.Answer.{Answer}
 use Rattle.answers.specs.Answers.{accepted, isAlert}
 use Rattle.monitor.specs.Steps.{stepAnswer, stepEffect}
 use Rattle.monitor.specs.Runs.{stepOn, runAnswers, runEffect}
-use Rattle.monitor.proofs.RunLaws.{runAnswers-append, runEffect-append}
+use Rattle.monitor.proofs.RunHistories.{runAnswers-append, runEffect-append}
 use Rattle.trim.specs.Trims.{recordAt, recordsAt, cutCounts}
 use Rattle.trim.specs.Replays.{inTrace, Leaves, Replayed, Tried}
 

@@ -24,7 +24,7 @@ use Rattle.monitor.specs.Steps.{stepAsked, stepAnswer}
 use Rattle.monitor.specs.Runs.{runAnswers, runEffect, historyIn}
 use Rattle.trim.specs.Cuts.{pass, trimIn, Minimal}
 use Rattle.trim.specs.Trims.{trimLimit, recordAt, recordsAt, cutCounts, lastOf, frontOf, keptFront, keptOf, traceGood, trimConditions, trimRefusal, positionsOf, trimAnswer, trimEffect}
-use Rattle.trim.proofs.CutLaws as cuts
+use Rattle.trim.proofs.MinimalTraces as cuts
 use Rattle.trim.proofs.KeptFacts as facts
 
 -- ---- the passes, whatever the test of a cut

@@ -10,7 +10,7 @@ use lib.ListN.{length, take, drop}
 use lib.Seq.{length-take-le}
 use borrow.Author.Tests.{eq-eqb, ne-eqb, le-leb, leb-true}
 use Rattle.lists.specs.Lists.{elem}
-use Rattle.lists.specs.Conditions.{Condition, _orRefuse_, firstFailed, AllHold, numbersOf, numbersGood}
+use Rattle.lists.specs.Conditions.{Condition, _orRefuse_, firstFailed, AllHold, numbersOf, numbersDistinct}
 use Rattle.lists.proofs.Bools.{refuted}
 use Rattle.lists.proofs.Conditions.{passed, failed, none-left, first-stops, first-passed, given-none}
 use Rattle.answers.specs.Refusals.{lentLength, trimTrace}
@@ -20,14 +20,14 @@ use Rattle.session.specs.Session.{startOf}
 use Rattle.trim.specs.declared.Trimmed.{Trimmed}
 use Rattle.trim.specs.Trims.{trimLimit, cutCounts, lastOf, frontOf, keptOf, traceGood, trimConditions, trimRefusal, positionsOf, trimAnswer, trimEffect}
 use Rattle.trim.specs.Replays.{wholeTrace, Found}
-use Rattle.trim.proofs.TraceLaws.{whole-good, part-refused}
+use Rattle.trim.proofs.WholeTraces.{whole-good, part-refused}
 
 image-held : (i : List ℕ) → checkOf i ≡ 0 → AllHold (imageConditions i)
 unfolding checkOf
 image-held i e = given-none (imageConditions i) numbers .0 e
   where
-    numbers : numbersGood (numbersOf (imageConditions i)) ≡ true
-    numbers = unfold numbersGood numbersOf imageConditions elem in refl
+    numbers : numbersDistinct (numbersOf (imageConditions i)) ≡ true
+    numbers = unfold numbersDistinct numbersOf imageConditions elem in refl
 
 module _ (i t out : List ℕ) where
   abbrev traceTest : Condition

@@ -15,8 +15,8 @@ use Rattle.session.proofs.Canonical.{started-effect}
 use Rattle.trim.specs.Cuts.{pass, trimIn}
 use Rattle.trim.specs.Trims.{trimLimit, cutCounts, keptFront}
 use Rattle.trim.specs.Replays.{inTrace, Leaves, Passable, Passed, Trimmable, Kept}
-use Rattle.trim.proofs.CutLaws.{cut-every, pass-cut, pass-counts, pass-shorter, trim-next, trim-still}
-use Rattle.trim.proofs.TraceLaws.{front-fits}
+use Rattle.trim.proofs.MinimalTraces.{cut-every, pass-cut, pass-counts, pass-shorter, trim-next, trim-still}
+use Rattle.trim.proofs.WholeTraces.{front-fits}
 
 -- so many positions are kept at the front; the pass before it, over n of them, has been made unless n is over the last
 pub record Trimming (image t : List ℕ) (last m : ℕ) (before work ps : List ℕ) (n kept : ℕ) : Type 0 where

@@ -8,7 +8,7 @@ use Rattle.answers.specs.Tallies.{noTally}
 use Rattle.image.specs.Limits.{imageLimit}
 use Rattle.image.specs.Image.{checkOf}
 use Rattle.listing.specs.Lines.{heading}
-use Rattle.monitor.specs.Parts.{partTally, partSession}
+use Rattle.monitor.specs.PartSessions.{partTally, partSession}
 use Rattle.listing.specs.Lines.{totalOf}
 use Rattle.trace_listing.specs.Listings.{partText, listingOf}
 use Rattle.files.specs.Calls.{Handed, FileIs, FileLoaded}

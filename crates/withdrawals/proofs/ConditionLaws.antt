@@ -14,14 +14,14 @@ use Rattle.matrix.specs.Flows.{has, rowsWithin, Matrix, wellFormed}
 use Rattle.lists.specs.Counting.{someBelow, leastBelow}
 use Rattle.matrix.specs.Verdicts.{consistent, firstSource, firstTarget, ConsistencyValues, matrixVerdict}
 use Rattle.matrix.specs.Rows.{bitAt}
-use Rattle.matrix.proofs.BitLaws.{has-above}
+use Rattle.matrix.proofs.RowBits.{has-above}
 use Rattle.lists.proofs.Below.{Least, none-at, least-some, Miss, all-at, all-in, all-miss}
 use Rattle.matrix.proofs.GoodLaws.{good-parts}
-use Rattle.matrix.proofs.VerdictLaws.{verdict-consistent, verdict-inconsistent}
-use Rattle.matrix.proofs.FlowLaws.{rows-exact, pair-flow, flow-inconsistent, consistent-granted}
+use Rattle.matrix.proofs.VerdictLoops.{verdict-consistent, verdict-inconsistent}
+use Rattle.matrix.proofs.PathFlows.{rows-exact, pair-flow, flow-inconsistent, consistent-granted}
 use Rattle.withdrawals.specs.Judgements.{rowsHeld, noneAdded, allKept, staysConsistent, withdrawn, withRight, readNeeded, writeNeeded, subjectNeeded, minimal}
 use Rattle.withdrawals.specs.Rights.{Comparable, Among, SomeBeyond, NoneAdded, SomeAdded, AllKept, SomeLost, AllGranted, SomeUngranted, EachNeeded, SomeReturns}
-use Rattle.withdrawals.proofs.RightLaws.{holds-bits}
+use Rattle.withdrawals.proofs.ReturnedRights.{holds-bits}
 
 -- ---- which rights there are
 

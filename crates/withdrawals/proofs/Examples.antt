@@ -5,7 +5,7 @@ use mathlib.Core.List.{[], _∷_}
 use Rattle.rules.specs.Sets.{atom, holds}
 use Rattle.lists.specs.Conditions.{firstFailed}
 use Rattle.lists.specs.Lists.{every}
-use Rattle.matrix.specs.Flows.{rowsWithin, counted, matrixGood, has, subjectCarries, granted, within, composed, Matrix, matrixOf, wellFormed}
+use Rattle.matrix.specs.Flows.{rowsWithin, countGood, matrixGood, has, subjectCarries, granted, within, composed, Matrix, matrixOf, wellFormed}
 use Rattle.lists.specs.Counting.{someBelow, allBelow}
 use Rattle.matrix.specs.Verdicts.{ungranted, ungrantedFrom, consistent}
 use Rattle.matrix.specs.Rows.{bitAt}
@@ -24,7 +24,7 @@ unfolding consistent someBelow ungrantedFrom ungranted composed within granted s
 old-consistent = refl
 
 pub smaller-accepted : judgementOf old nothing (matrixOf (3 ∷ 5 ∷ []) (7 ∷ 4 ∷ []) 3) ≡ 0
-unfolding judgementOf judgementConditions firstFailed comparable wellFormed sameCounts matrixGood rowsWithin every counted has atom noneAdded allKept rowsHeld allBelow holds staysConsistent consistent someBelow ungrantedFrom ungranted composed within granted subjectCarries minimal subjectNeeded readNeeded writeNeeded withdrawn withRight bitAt
+unfolding judgementOf judgementConditions firstFailed comparable wellFormed sameCounts matrixGood rowsWithin every countGood has atom noneAdded allKept rowsHeld allBelow holds staysConsistent consistent someBelow ungrantedFrom ungranted composed within granted subjectCarries minimal subjectNeeded readNeeded writeNeeded withdrawn withRight bitAt
 smaller-accepted = refl
 
 -- ---- document 004's Table 1: five subjects, seven objects
@@ -37,25 +37,25 @@ nothingOfIt = matrixOf (0 ∷ 0 ∷ 0 ∷ 0 ∷ 0 ∷ []) (0 ∷ 0 ∷ 0 ∷ 0 �
 
 -- nothing withdrawn: it is not consistent
 pub table-itself : judgementOf table nothingOfIt table ≡ 3
-unfolding judgementOf judgementConditions firstFailed comparable wellFormed sameCounts matrixGood rowsWithin every counted has atom noneAdded allKept rowsHeld allBelow holds staysConsistent consistent someBelow ungrantedFrom ungranted composed within granted subjectCarries minimal subjectNeeded readNeeded writeNeeded withdrawn withRight bitAt
+unfolding judgementOf judgementConditions firstFailed comparable wellFormed sameCounts matrixGood rowsWithin every countGood has atom noneAdded allKept rowsHeld allBelow holds staysConsistent consistent someBelow ungrantedFrom ungranted composed within granted subjectCarries minimal subjectNeeded readNeeded writeNeeded withdrawn withRight bitAt
 table-itself = refl
 
 -- its solution: the six rights to read that s3 and s4 have
 pub six-withdrawn : judgementOf table nothingOfIt (matrixOf (3 ∷ 3 ∷ 0 ∷ 0 ∷ 32 ∷ []) (28 ∷ 28 ∷ 96 ∷ 96 ∷ 0 ∷ []) 7) ≡ 0
-unfolding judgementOf judgementConditions firstFailed comparable wellFormed sameCounts matrixGood rowsWithin every counted has atom noneAdded allKept rowsHeld allBelow holds staysConsistent consistent someBelow ungrantedFrom ungranted composed within granted subjectCarries minimal subjectNeeded readNeeded writeNeeded withdrawn withRight bitAt
+unfolding judgementOf judgementConditions firstFailed comparable wellFormed sameCounts matrixGood rowsWithin every countGood has atom noneAdded allKept rowsHeld allBelow holds staysConsistent consistent someBelow ungrantedFrom ungranted composed within granted subjectCarries minimal subjectNeeded readNeeded writeNeeded withdrawn withRight bitAt
 six-withdrawn = refl
 
 -- against confidentiality vulnerabilities alone: the rights to read that s1, s2 and s5 have; that of s5 may return
 pub five-withdrawn : judgementOf table nothingOfIt (matrixOf (0 ∷ 0 ∷ 28 ∷ 28 ∷ 0 ∷ []) (28 ∷ 28 ∷ 96 ∷ 96 ∷ 0 ∷ []) 7) ≡ 4
-unfolding judgementOf judgementConditions firstFailed comparable wellFormed sameCounts matrixGood rowsWithin every counted has atom noneAdded allKept rowsHeld allBelow holds staysConsistent consistent someBelow ungrantedFrom ungranted composed within granted subjectCarries minimal subjectNeeded readNeeded writeNeeded withdrawn withRight bitAt
+unfolding judgementOf judgementConditions firstFailed comparable wellFormed sameCounts matrixGood rowsWithin every countGood has atom noneAdded allKept rowsHeld allBelow holds staysConsistent consistent someBelow ungrantedFrom ungranted composed within granted subjectCarries minimal subjectNeeded readNeeded writeNeeded withdrawn withRight bitAt
 five-withdrawn = refl
 
 -- against integrity vulnerabilities alone: the rights to write that s3 and s4 have
 pub four-withdrawn : judgementOf table nothingOfIt (matrixOf (3 ∷ 3 ∷ 28 ∷ 28 ∷ 32 ∷ []) (28 ∷ 28 ∷ 0 ∷ 0 ∷ 0 ∷ []) 7) ≡ 0
-unfolding judgementOf judgementConditions firstFailed comparable wellFormed sameCounts matrixGood rowsWithin every counted has atom noneAdded allKept rowsHeld allBelow holds staysConsistent consistent someBelow ungrantedFrom ungranted composed within granted subjectCarries minimal subjectNeeded readNeeded writeNeeded withdrawn withRight bitAt
+unfolding judgementOf judgementConditions firstFailed comparable wellFormed sameCounts matrixGood rowsWithin every countGood has atom noneAdded allKept rowsHeld allBelow holds staysConsistent consistent someBelow ungrantedFrom ungranted composed within granted subjectCarries minimal subjectNeeded readNeeded writeNeeded withdrawn withRight bitAt
 four-withdrawn = refl
 
 -- one after the other, all nine
 pub nine-withdrawn : judgementOf table nothingOfIt (matrixOf (0 ∷ 0 ∷ 28 ∷ 28 ∷ 0 ∷ []) (28 ∷ 28 ∷ 0 ∷ 0 ∷ 0 ∷ []) 7) ≡ 4
-unfolding judgementOf judgementConditions firstFailed comparable wellFormed sameCounts matrixGood rowsWithin every counted has atom noneAdded allKept rowsHeld allBelow holds staysConsistent consistent someBelow ungrantedFrom ungranted composed within granted subjectCarries minimal subjectNeeded readNeeded writeNeeded withdrawn withRight bitAt
+unfolding judgementOf judgementConditions firstFailed comparable wellFormed sameCounts matrixGood rowsWithin every countGood has atom noneAdded allKept rowsHeld allBelow holds staysConsistent consistent someBelow ungrantedFrom ungranted composed within granted subjectCarries minimal subjectNeeded readNeeded writeNeeded withdrawn withRight bitAt
 nine-withdrawn = refl

@@ -16,10 +16,10 @@ use Rattle.lists.proofs.Bools.{decide, clash, same-test, or-none}
 use Rattle.matrix.specs.Flows.{has}
 use Rattle.lists.specs.Counting.{someBelow, leastBelow, allBelow}
 use Rattle.matrix.specs.Rows.{bitAt}
-use Rattle.matrix.proofs.BitLaws.{has-is, has-not, has-and, has-or, has-above, has-ext}
+use Rattle.matrix.proofs.RowBits.{has-is, has-not, has-and, has-or, has-above, has-ext}
 use Rattle.lists.proofs.Below.{Least, some-none, none-at, least-some, all-at, all-in, some-next}
 use Rattle.withdrawals.specs.Returns.{FlowTable, reachedFrom, rowClosed, leadsTo, withFlows, sourceFits, rowFits}
-use Rattle.withdrawals.proofs.RightLaws.{holds-bits}
+use Rattle.withdrawals.proofs.ReturnedRights.{holds-bits}
 
 -- no row has bit b of 0
 none-in-zero : (b : ℕ) → has 0 b ≡ false

@@ -2,8 +2,8 @@
 pub mod Theorems
 pub mod Examples
 pub mod TransitiveLaws
-pub mod RightLaws
+pub mod ReturnedRights
 pub mod FitLaws
 pub mod NeedLaws
-pub mod JudgeLaws
+pub mod JudgementTests
 pub mod ConditionLaws

@@ -14,14 +14,14 @@ use Rattle.matrix.specs.Limits.{objectLimit}
 use Rattle.matrix.specs.Flows.{has, subjectCarries, granted, matrixOf}
 use Rattle.matrix.specs.Verdicts.{consistent}
 use Rattle.matrix.specs.Rows.{bitAt, spelling}
-use Rattle.matrix.proofs.BitLaws.{one-bit, has-without}
-use Rattle.matrix.proofs.RowLaws.{spelling-fits, spelling-bits, spelling-above}
-use Rattle.matrix.proofs.VerdictLaws.{granted-beyond}
+use Rattle.matrix.proofs.RowBits.{one-bit, has-without}
+use Rattle.matrix.proofs.RowLoops.{spelling-fits, spelling-bits, spelling-above}
+use Rattle.matrix.proofs.VerdictLoops.{granted-beyond}
 use Rattle.withdrawals.specs.Judgements.{withdrawn, withRight, readNeeded, writeNeeded, subjectNeeded}
 use Rattle.withdrawals.specs.Returns.{FlowTable, tableClosed, withFlows, staysClosed, lossNeeded, objectNeeded, lossesNeeded, Proposed, Judging}
 use Rattle.lists.proofs.Below.{all-same}
 use Rattle.withdrawals.proofs.TransitiveLaws.{Transitive, transitive-same, consistent-transitive, table-transitive, stays-transitive}
-use Rattle.withdrawals.proofs.RightLaws.{granted-read, granted-write}
+use Rattle.withdrawals.proofs.ReturnedRights.{granted-read, granted-write}
 
 -- ---- the rights to object k, one after the other
 

@@ -8,7 +8,7 @@ use mathlib.Core.Logic.{inl, inr, _↔_, _≢_}
 use lib.Dec.{eqb}
 use lib.ListN.{length}
 use Rattle.lists.specs.Lists.{elem}
-use Rattle.lists.specs.Conditions.{Condition, numbersOf, numberAt, numbersGood}
+use Rattle.lists.specs.Conditions.{Condition, numbersOf, numberAt, numbersDistinct}
 use Rattle.lists.proofs.Conditions.{given-exactly, given-none, given-among}
 use Rattle.lists.proofs.Bools.{refuted, clash}
 use Rattle.answers.specs.Refusals.{matrix}
@@ -20,9 +20,9 @@ use Rattle.withdrawals.specs.declared.Judgement.{Judgement}
 use Rattle.withdrawals.specs.Rights.{Comparable, SomeBeyond, NoneAdded, SomeAdded, AllKept, SomeLost, AllGranted, SomeUngranted, EachNeeded, SomeReturns}
 use Rattle.withdrawals.specs.Returns.{withFlows, staysClosed}
 use Rattle.withdrawals.proofs.TransitiveLaws as transitive
-use Rattle.withdrawals.proofs.RightLaws as rights
-use Rattle.withdrawals.proofs.JudgeLaws.{comparable-parts, parts-comparable}
-use Rattle.withdrawals.proofs.JudgeLaws as judgements
+use Rattle.withdrawals.proofs.ReturnedRights as rights
+use Rattle.withdrawals.proofs.JudgementTests.{comparable-parts, parts-comparable}
+use Rattle.withdrawals.proofs.JudgementTests as judgements
 use Rattle.withdrawals.proofs.ConditionLaws.{none-added, some-added, all-kept, some-lost, stays-consistent, stays-verdict, not-consistent, each-needed, some-returns}
 
 -- ---- consistency without a closure
@@ -84,7 +84,7 @@ module _ (old required proposed : Matrix) where
       × (NoneAdded old proposed
       × (AllKept required proposed
       × (AllGranted (proposed .reads) (proposed .writes) (proposed .objects) × EachNeeded old proposed))))
-  unfolding judgementOf judgementConditions numbersGood numbersOf elem
+  unfolding judgementOf judgementConditions numbersDistinct numbersOf elem
   accepted =
       through (given-none cs refl)
       (under comparable-same
@@ -93,13 +93,13 @@ module _ (old required proposed : Matrix) where
 
   -- 1 exactly if a right is new
   pub fails-1 : (judgementOf old required proposed ≡ 1) ↔ (Comparable old required proposed × SomeAdded old proposed)
-  unfolding judgementOf judgementConditions numbersGood numbersOf numberAt elem
+  unfolding judgementOf judgementConditions numbersDistinct numbersOf numberAt elem
   fails-1 = through (given-exactly cs refl 1 (omega arith)) (under comparable-same (λ c. some-added old required proposed c))
 
   -- 2 exactly if none is new, and something that must stay is not kept
   pub fails-2 : (judgementOf old required proposed ≡ 2)
       ↔ (Comparable old required proposed × (NoneAdded old proposed × SomeLost required proposed))
-  unfolding judgementOf judgementConditions numbersGood numbersOf numberAt elem
+  unfolding judgementOf judgementConditions numbersDistinct numbersOf numberAt elem
   fails-2 =
       through (given-exactly cs refl 2 (omega arith))
       (under comparable-same (λ c. under (none-added old proposed) (λ _. some-lost old required proposed c)))
@@ -108,7 +108,7 @@ module _ (old required proposed : Matrix) where
   pub fails-3 : (judgementOf old required proposed ≡ 3)
       ↔ (Comparable old required proposed
       × (NoneAdded old proposed × (AllKept required proposed × SomeUngranted (proposed .reads) (proposed .writes) (proposed .objects))))
-  unfolding judgementOf judgementConditions numbersGood numbersOf numberAt elem
+  unfolding judgementOf judgementConditions numbersDistinct numbersOf numberAt elem
   fails-3 =
       through (given-exactly cs refl 3 (omega arith))
       (under comparable-same (λ _. under (none-added old proposed) (λ _. under (all-kept required proposed) (λ _. not-consistent proposed))))
@@ -119,7 +119,7 @@ module _ (old required proposed : Matrix) where
       × (NoneAdded old proposed
       × (AllKept required proposed
       × (AllGranted (proposed .reads) (proposed .writes) (proposed .objects) × SomeReturns old proposed))))
-  unfolding judgementOf judgementConditions numbersGood numbersOf numberAt elem
+  unfolding judgementOf judgementConditions numbersDistinct numbersOf numberAt elem
   fails-4 =
       through (given-exactly cs refl 4 (omega arith))
       (under comparable-same
@@ -128,7 +128,7 @@ module _ (old required proposed : Matrix) where
 
   -- 8 exactly if one of the three is malformed or counts differ
   pub refused-8 : (judgementOf old required proposed ≡ matrix) ↔ (Comparable old required proposed → ⊥)
-  unfolding judgementOf judgementConditions numbersGood numbersOf numberAt elem
+  unfolding judgementOf judgementConditions numbersDistinct numbersOf numberAt elem
   refused-8 = through (given-exactly cs refl 0 (omega arith)) (fails comparable-same)
 
   -- and no other number

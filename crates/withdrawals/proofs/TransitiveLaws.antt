@@ -10,9 +10,9 @@ use Rattle.matrix.specs.Flows.{has, granted, Path, step, onward}
 use Rattle.lists.specs.Counting.{leastBelow, allBelow}
 use Rattle.matrix.specs.Verdicts.{consistent}
 use Rattle.matrix.specs.Rows.{bitAt}
-use Rattle.matrix.proofs.PathLaws.{path-source, path-target}
+use Rattle.matrix.proofs.PathTest.{path-source, path-target}
 use Rattle.lists.proofs.Below.{Least, some-at, least-some, all-at, all-in}
-use Rattle.matrix.proofs.FlowLaws.{consistent-granted}
+use Rattle.matrix.proofs.PathFlows.{consistent-granted}
 use Rattle.withdrawals.specs.Returns.{reachedFrom, rowClosed, tableClosed, leadsTo, withFlows, sourceFits, staysClosed}
 
 abbrev pub Transitive : (ℕ → ℕ → Bool) → ℕ → Type 0

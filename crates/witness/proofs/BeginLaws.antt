@@ -14,9 +14,9 @@ use Rattle.lists.specs.Lists.{sameList, every}
 use Rattle.lists.proofs.Bools.{and-1}
 use Rattle.lists.proofs.Places.{every-at, none-some}
 use Rattle.fields.specs.Bytes.{field, records}
-use Rattle.fields.proofs.RecordLaws.{records-count, record-at}
+use Rattle.fields.proofs.SectionRecords.{records-count, record-at}
 use Rattle.rules.specs.Answers.{dataWidth}
-use Rattle.image.specs.Limits.{containerLimit, containerSize, kindField, atomField, permitField, runField, size8, size16, isFile, noAtom}
+use Rattle.image.specs.Limits.{containerLimit, containerSize, containerKindAt, containerAtomAt, containerPermitAt, containerRunAt, size8, size16, isFile, noAtom}
 use Rattle.image.specs.Policy.{Container, Policy, named, containerGood, ruleAt}
 use Rattle.image.specs.Image.{containerIn, containersIn}
 use Rattle.chains.specs.History.{start}
@@ -190,8 +190,8 @@ begun-atom containers rules d held B =
 
 -- ---- the record of a container
 
-module _ (r : List ℕ) (kind : ℕ) (b : Bool) (ek : kind ≡ field r kindField size8) (eb : b ≡ isFile kind) where
-  kept-kind : isFile (field r kindField size8) ≡ b
+module _ (r : List ℕ) (kind : ℕ) (b : Bool) (ek : kind ≡ field r containerKindAt size8) (eb : b ≡ isFile kind) where
+  kept-kind : isFile (field r containerKindAt size8) ≡ b
   kept-kind = ap isFile (sym ek) ∙ sym eb
 
   pub no-file : (rules : List (List ℕ)) (d : ℕ) → not b ≡ true → false ≡ startsAs rules (dataAtom d) (containerIn r)
@@ -202,7 +202,7 @@ module _ (r : List ℕ) (kind : ℕ) (b : Bool) (ek : kind ≡ field r kindField
   unfolding startsAs containerIn
   no-rule-file rules q t = rw (kept-kind, not-true b t)
 
-  pub file-atom : (rules : List (List ℕ)) (d atom : ℕ) → d < dataWidth → atom ≡ field r atomField size8 → not b ≡ false
+  pub file-atom : (rules : List (List ℕ)) (d atom : ℕ) → d < dataWidth → atom ≡ field r containerAtomAt size8 → not b ≡ false
       → eqb atom d ≡ startsAs rules (dataAtom d) (containerIn r)
   unfolding startsAs containerIn
   file-atom rules d atom l ea t = rw (kept-kind, not-false b t, sym ea, ne-eqb d noAtom (λ e. absurd (omega (arith, e, l)))) (by (eqb atom d))
@@ -211,15 +211,15 @@ module _ (r : List ℕ) (kind : ℕ) (b : Bool) (ek : kind ≡ field r kindField
       by true = refl
       by false = refl
 
-  pub file-rule : (rules : List (List ℕ)) (q : List ℕ) (run : ℕ) (x : Bool) → run ≡ field r runField size16 → x ≡ sameList (ruleAt rules run) q → not b ≡ false
+  pub file-rule : (rules : List (List ℕ)) (q : List ℕ) (run : ℕ) (x : Bool) → run ≡ field r containerRunAt size16 → x ≡ sameList (ruleAt rules run) q → not b ≡ false
       → x ≡ startsAs rules (runRule q) (containerIn r)
   unfolding startsAs containerIn
   file-rule rules q run x er ex t = rw (kept-kind, not-false b t, sym er) ex
 
   -- a file names a rule of the image
-  pub run-named : (n run : ℕ) → containerGood n (containerIn r) ≡ true → run ≡ field r runField size16 → not b ≡ false → named n run ≡ true
+  pub run-named : (n run : ℕ) → containerGood n (containerIn r) ≡ true → run ≡ field r containerRunAt size16 → not b ≡ false → named n run ≡ true
   unfolding containerGood containerIn
   run-named n run g er t =
-      let h : ((ltb (field r atomField size8) dataWidth || eqb (field r atomField size8) noAtom) &&
-      (named n (field r permitField size16) && named n (field r runField size16))) ≡ true = rw (kept-kind, not-false b t) at g in
-      rw er (and-1 (named n (field r permitField size16)) (and-1 (ltb (field r atomField size8) dataWidth || eqb (field r atomField size8) noAtom) h))
+      let h : ((ltb (field r containerAtomAt size8) dataWidth || eqb (field r containerAtomAt size8) noAtom) &&
+      (named n (field r containerPermitAt size16) && named n (field r containerRunAt size16))) ≡ true = rw (kept-kind, not-false b t) at g in
+      rw er (and-1 (named n (field r containerPermitAt size16)) (and-1 (ltb (field r containerAtomAt size8) dataWidth || eqb (field r containerAtomAt size8) noAtom) h))

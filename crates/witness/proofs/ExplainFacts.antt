@@ -9,7 +9,7 @@ use lib.ListN.{length, take, drop, length-take}
 use lib.Seq.{take-at, drop-at}
 use borrow.Author.Tests.{eq-eqb, ne-eqb}
 use Rattle.lists.specs.Lists.{elem}
-use Rattle.lists.specs.Conditions.{numbersOf, numbersGood}
+use Rattle.lists.specs.Conditions.{numbersOf, numbersDistinct}
 use Rattle.lists.proofs.Bools.{clash, decide}
 use Rattle.lists.proofs.Conditions.{zero-or-not, given-among}
 use Rattle.answers.specs.Refusals.{lentLength, explainBounds}
@@ -28,7 +28,7 @@ use Rattle.witness.specs.Explains.{atomSteps, lentGood, askedGood, expla
 use Rattle.witness.specs.Tells.{ChainTold}
 use Rattle.witness.proofs.WitnessLaws.{right}
 use Rattle.witness.proofs.BeginLaws.{containers-count, at-inside}
-use Rattle.witness.proofs.TellLaws.{accepted-told, explained-told, chain-told}
+use Rattle.witness.proofs.ToldRecords.{accepted-told, explained-told, chain-told}
 use Rattle.witness.proofs.ExplainLaws as laws
 
 -- ---- the numbers at the end of the buffer
@@ -72,8 +72,8 @@ atom-told image trace c k steps ok =
     (right (policyIn image) (toldHistory (startOf (policyIn image)) (traceRecords trace)) (itemOf k) c))
 
 module _ (i t : List ℕ) (c k : ℕ) (links steps : List ℕ) where
-  pub numbers : numbersGood (numbersOf (explainConditions i t c k links steps)) ≡ true
-  unfolding explainConditions imageConditions numbersOf numbersGood elem
+  pub numbers : numbersDistinct (numbersOf (explainConditions i t c k links steps)) ≡ true
+  unfolding explainConditions imageConditions numbersOf numbersDistinct elem
   numbers = refl
 
   -- the three tests one after the other

@@ -10,7 +10,7 @@ use lib.Dec.{leb, ltb}
 use lib.ListN.{length, getD}
 use borrow.Author.Tests.{eq-eqb, ne-eqb, le-leb, leb-true, lt-ltb, le-ltb}
 use Rattle.lists.specs.Lists.{elem}
-use Rattle.lists.specs.Conditions.{Condition, _orRefuse_, firstFailed, AllHold, numbersOf, numbersGood}
+use Rattle.lists.specs.Conditions.{Condition, _orRefuse_, firstFailed, AllHold, numbersOf, numbersDistinct}
 use Rattle.lists.proofs.Bools.{refuted, and-in, and-0, and-1}
 use Rattle.lists.proofs.Conditions.{passed, failed, none-left, first-stops, first-passed, given-none}
 use Rattle.answers.specs.Refusals.{lentLength, explainBounds}
@@ -114,8 +114,8 @@ image-held : (i : List ℕ) → checkOf i ≡ 0 → AllHold (imageConditions i)
 unfolding checkOf
 image-held i e = given-none (imageConditions i) numbers .0 e
   where
-    numbers : numbersGood (numbersOf (imageConditions i)) ≡ true
-    numbers = unfold numbersGood numbersOf imageConditions elem in refl
+    numbers : numbersDistinct (numbersOf (imageConditions i)) ≡ true
+    numbers = unfold numbersDistinct numbersOf imageConditions elem in refl
 
 module _ (i t : List ℕ) (c k : ℕ) (links steps : List ℕ) where
   abbrev askedTest : Condition

@@ -4,16 +4,16 @@ use native.Mathlib.Omega.{arith}
 use mathlib.Core.Path.{refl, sym, subst}
 use mathlib.Core.List.{List, [], _∷_, _++_}
 use mathlib.Core.Logic.{inl, inr}
-use Rattle.chains.specs.History.{Step, History, _▸_, size}
+use Rattle.chains.specs.History.{Step, History, _▸_, stepCount}
 use Rattle.chains.specs.Chains.{Item, Carries, Ends, Stands, Leads}
 use Rattle.chains.proofs.ChainLaws.{at-lt}
 
 module _ (h : History) (t : Step) where
-  stands-more : (lo hi a : ℕ) (k : Item) → hi ≤ size h → Stands h lo hi a k → Stands (h ▸ t) lo hi a k
+  stands-more : (lo hi a : ℕ) (k : Item) → hi ≤ stepCount h → Stands h lo hi a k → Stands (h ▸ t) lo hi a k
   stands-more lo hi a k le st j s l g (inl e) = absurd (omega arith)
   stands-more lo hi a k le st j s l g (inr e) = st j s l g e
 
-  stands-last : (lo a : ℕ) (k : Item) → Stands h lo (size h) a k → ¬ Ends t a k → Stands (h ▸ t) lo (suc (size h)) a k
+  stands-last : (lo a : ℕ) (k : Item) → Stands h lo (stepCount h) a k → ¬ Ends t a k → Stands (h ▸ t) lo (suc (stepCount h)) a k
   stands-last lo a k st ne j s l g (inl e) = subst (λ (x : Step). ¬ Ends x a k) (e .1) ne
   stands-last lo a k st ne j s l g (inr e) = st j s l (at-lt h j s e) e
 
@@ -27,15 +27,15 @@ module _ (h : History) (t : Step) where
   leads-stay lo a k (i ∷ is) c l (s, b, m, li, e, st, ca, w) ne =
       (s, b, m, li, inr e, stands-more lo i a k (omega (arith, at-lt h i s e)) st, ca, leads-stay (suc i) b m is c l w ne)
 
-  pub leads-carry : (lo a : ℕ) (k : Item) (is : List ℕ) (b : ℕ) (m : Item) (c : ℕ) (l : Item) → lo ≤ size h → Leads h lo a k is b m → Carries t b m c l
-      → Leads (h ▸ t) lo a k (is ++ (size h ∷ [])) c l
+  pub leads-carry : (lo a : ℕ) (k : Item) (is : List ℕ) (b : ℕ) (m : Item) (c : ℕ) (l : Item) → lo ≤ stepCount h → Leads h lo a k is b m → Carries t b m c l
+      → Leads (h ▸ t) lo a k (is ++ (stepCount h ∷ [])) c l
   leads-carry lo a k [] b m c l le (ea, ek, st) ca = (
     t,
     c,
     l,
     le,
     inl (refl, refl),
-    stands-more lo (size h) a k (omega arith) st,
+    stands-more lo (stepCount h) a k (omega arith) st,
     subst (λ (x : ℕ). Carries t x k c l) (sym ea) (subst (λ (x : Item). Carries t b x c l) (sym ek) ca),
     (refl, refl, λ j s l g e. absurd (omega arith)),
   )

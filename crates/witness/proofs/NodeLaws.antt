@@ -13,7 +13,7 @@ use lib.Seq.{getD-set-same, getD-set-other}
 use borrow.Author.Tests.{eq-eqb, ne-eqb}
 use Rattle.image.specs.Limits.{containerLimit}
 use Rattle.image.specs.Policy.{Policy}
-use Rattle.chains.specs.History.{Step, read, write, append, exec, fork, newFile, newVolatile, end, delete, History, _▸_, size, receiver}
+use Rattle.chains.specs.History.{Step, read, write, append, exec, fork, newFile, newVolatile, end, delete, History, _▸_, stepCount, receiver}
 use Rattle.chains.specs.Chains.{Item, dataAtom, runningAtom, runRule}
 use Rattle.lists.proofs.Places.{some-inj, none-some}
 use Rattle.witness.specs.Witness.{Source, takesUp, endsItem, Witness, stays, further, carriedOn, firstOf, witness}
@@ -196,12 +196,12 @@ takes-family F (delete p o) y t a m = absurd (none-some m)
 -- ---- the whole table
 
 -- the numbers that a step names are containers of the session
-pub record Within (s : Step) : Type 0 where
+pub record StepWithin (s : Step) : Type 0 where
   pub to : receiver s < containerLimit
   pub from : (y : Item) (t : Source) → takesUp s y ≡ some t → t .at < containerLimit
 
 -- what is taken up is held by the node of its chain
-source-named : (P : Policy) (F : Family) (ns : List ℕ) (h : History) (n : ℕ) (held links : List ℕ) → Tracked P F ns h n held links → (s : Step) → Within s
+source-named : (P : Policy) (F : Family) (ns : List ℕ) (h : History) (n : ℕ) (held links : List ℕ) → Tracked P F ns h n held links → (s : Step) → StepWithin s
     → (y : Item) → OfFamily F y → (m : Option Source) → takesUp s y ≡ m → sourceNode held m ≡ takenLink P ns h m
 source-named P F ns h n held links T s W y a none em = refl
 source-named P F ns h n held links T s W y a (some t) em = T .named (t .item) (takes-family F s y t a em) (t .at) (W .from y t em)
@@ -211,7 +211,7 @@ module _ (P : Policy) (F : Family) (ns : List ℕ) where
   pub tracked-skip : (h : History) (n : ℕ) (held links : List ℕ) → Tracked P F ns h n held links → Tracked P F ns h (suc n) held links
   tracked-skip h n held links t = record { long = t .long; low = λ k. omega (arith, t .low k); named = t .named; shown = t .shown }
 
-  module _ (h : History) (n : ℕ) (held links : List ℕ) (T : Tracked P F ns h n held links) (s : Step) (W : Within s) (en : n ≡ getD ns (size h) 0)
+  module _ (h : History) (n : ℕ) (held links : List ℕ) (T : Tracked P F ns h n held links) (s : Step) (W : StepWithin s) (en : n ≡ getD ns (stepCount h) 0)
       (room : nodeOf n + 2 ≤ length links) where
     same : (v : ℕ) → v < nodeOf n → getD (linksAfter (isRule F) held links n s) v 0 ≡ getD links v 0
     unfolding linksAfter
@@ -234,38 +234,38 @@ module _ (P : Policy) (F : Family) (ns : List ℕ) where
     -- what is taken up, by its node
     taken-shown : (N : ℕ) → firstNode ≤ N → (N - firstNode) / 2 ≡ n → (y : Item) → OfFamily F y
         → (m : Option Source) → takesUp s y ≡ m → getD (linksAfter (isRule F) held links n s) N 0 ≡ sourceNode held m
-        → Stored ns (linksAfter (isRule F) held links n s) (takenNode (sourceNode held m) N) (carriedOn (λ x b. witness P h x b) (size h) m)
+        → Stored ns (linksAfter (isRule F) held links n s) (takenNode (sourceNode held m) N) (carriedOn (λ x b. witness P h x b) (stepCount h) m)
     unfolding takenNode
     taken-shown N lo own y a none em e = refl
     taken-shown N lo own y a (some t) em e =
-        taken-stored ns links (linksAfter (isRule F) held links n s) n (nodeOf n) N same lo (omega arith) own (size h) en
+        taken-stored ns links (linksAfter (isRule F) held links n s) n (nodeOf n) N same lo (omega arith) own (stepCount h) en
         (getD held (placeOf (t .item) (t .at)) 0) (witness P h (t .item) (t .at)) (T .low (placeOf (t .item) (t .at))) e
         (T .shown (t .item) (takes-family F s y t a em) (t .at) (W .from y t em))
 
     taken-node : (N : ℕ) (y : Item) → N ≡ nodeOf n + formOf y → (m : Option Source)
-        → takenNode (takenLink P ns h m) N ≡ chainNode ns y (carriedOn (λ x b. witness P h x b) (size h) m)
+        → takenNode (takenLink P ns h m) N ≡ chainNode ns y (carriedOn (λ x b. witness P h x b) (stepCount h) m)
     unfolding takenNode
     taken-node N y eN none = refl
-    taken-node N y eN (some t) = taken-named ns (size h) n N y (t .item) en eN (witness P h (t .item) (t .at))
+    taken-node N y eN (some t) = taken-named ns (stepCount h) n N y (t .item) en eN (witness P h (t .item) (t .at))
 
     -- the receiver's node for y
     receiver-shown : (N : ℕ) → firstNode ≤ N → (N - firstNode) / 2 ≡ n → (y : Item) → OfFamily F y
         → getD (linksAfter (isRule F) held links n s) N 0 ≡ sourceNode held (takesUp s y)
         → Stored ns (linksAfter (isRule F) held links n s)
         (nextNode (getD held (placeOf y (receiver s)) 0) (sourceNode held (takesUp s y)) (endsItem s y) N)
-        (firstOf (stays (endsItem s y) (witness P h y (receiver s))) (carriedOn (λ x b. witness P h x b) (size h) (takesUp s y)))
+        (firstOf (stays (endsItem s y) (witness P h y (receiver s))) (carriedOn (λ x b. witness P h x b) (stepCount h) (takesUp s y)))
     receiver-shown N lo own y a e =
         next-stored ns links (linksAfter (isRule F) held links n s) n (nodeOf n) N same lo (omega arith) own
         (getD held (placeOf y (receiver s)) 0) (witness P h y (receiver s)) (T .low (placeOf y (receiver s))) (T .shown y a (receiver s) (W .to))
-        (sourceNode held (takesUp s y)) (carriedOn (λ x b. witness P h x b) (size h) (takesUp s y)) (taken-shown N lo own y a (takesUp s y) refl e)
+        (sourceNode held (takesUp s y)) (carriedOn (λ x b. witness P h x b) (stepCount h) (takesUp s y)) (taken-shown N lo own y a (takesUp s y) refl e)
         (endsItem s y)
 
     receiver-named : (N : ℕ) (y : Item) → OfFamily F y → N ≡ nodeOf n + formOf y
         → nextNode (getD held (placeOf y (receiver s)) 0) (sourceNode held (takesUp s y)) (endsItem s y) N
-        ≡ chainNode ns y (firstOf (stays (endsItem s y) (witness P h y (receiver s))) (carriedOn (λ x b. witness P h x b) (size h) (takesUp s y)))
+        ≡ chainNode ns y (firstOf (stays (endsItem s y) (witness P h y (receiver s))) (carriedOn (λ x b. witness P h x b) (stepCount h) (takesUp s y)))
     receiver-named N y a eN =
         ap₂ (λ (v x : ℕ). nextNode v x (endsItem s y) N) (T .named y a (receiver s) (W .to)) (source-named P F ns h n held links T s W y a (takesUp s y) refl)
-        ∙ next-named ns N (takenLink P ns h (takesUp s y)) y (witness P h y (receiver s)) (carriedOn (λ x b. witness P h x b) (size h) (takesUp s y))
+        ∙ next-named ns N (takenLink P ns h (takesUp s y)) y (witness P h y (receiver s)) (carriedOn (λ x b. witness P h x b) (stepCount h) (takesUp s y))
         (taken-node N y eN (takesUp s y)) (endsItem s y)
 
     -- the node at each place afterwards
@@ -292,16 +292,16 @@ module _ (P : Policy) (F : Family) (ns : List ℕ) where
         (omega (arith, T .long, W .to, length-set held (receiver s) (nextNode (getD held (receiver s) 0) (mainSource (isRule F) held s) (endsMain (isRule F) s) (nodeOf n))))
 
     witness-receiver : (y : Item) → witness P (h ▸ s) y (receiver s)
-        ≡ firstOf (stays (endsItem s y) (witness P h y (receiver s))) (carriedOn (λ x b. witness P h x b) (size h) (takesUp s y))
+        ≡ firstOf (stays (endsItem s y) (witness P h y (receiver s))) (carriedOn (λ x b. witness P h x b) (stepCount h) (takesUp s y))
     unfolding witness
     witness-receiver y =
-        ap (λ (b : Bool). cond b (firstOf (stays (endsItem s y) (witness P h y (receiver s))) (carriedOn (λ x b. witness P h x b) (size h) (takesUp s y))) (witness P h y (receiver s)))
+        ap (λ (b : Bool). cond b (firstOf (stays (endsItem s y) (witness P h y (receiver s))) (carriedOn (λ x b. witness P h x b) (stepCount h) (takesUp s y))) (witness P h y (receiver s)))
         (eq-eqb (receiver s) (receiver s) refl)
 
     witness-other : (y : Item) (c : ℕ) → c ≢ receiver s → witness P (h ▸ s) y c ≡ witness P h y c
     unfolding witness
     witness-other y c ne =
-        ap (λ (b : Bool). cond b (firstOf (stays (endsItem s y) (witness P h y c)) (carriedOn (λ x b. witness P h x b) (size h) (takesUp s y))) (witness P h y c))
+        ap (λ (b : Bool). cond b (firstOf (stays (endsItem s y) (witness P h y c)) (carriedOn (λ x b. witness P h x b) (stepCount h) (takesUp s y))) (witness P h y c))
         (ne-eqb c (receiver s) ne)
 
     next-low : (own from N B : ℕ) (b : Bool) → own < B → N < B → nextNode own from b N < B
@@ -382,8 +382,8 @@ module _ (P : Policy) (F : Family) (ns : List ℕ) where
         ∙ length-set held (receiver s) (nextNode (getD held (receiver s) 0) (mainSource (isRule F) held s) (endsMain (isRule F) s) (nodeOf n)) ∙ T .long
 
 -- an item of the family after one more step
-next-item : (P : Policy) (F : Family) (ns : List ℕ) (h : History) (n : ℕ) (held links : List ℕ) (T : Tracked P F ns h n held links) (s : Step) (W : Within s)
-    (en : n ≡ getD ns (size h) 0) (room : nodeOf n + 2 ≤ length links) (y : Item) → OfFamily F y → (c : ℕ) → c < containerLimit
+next-item : (P : Policy) (F : Family) (ns : List ℕ) (h : History) (n : ℕ) (held links : List ℕ) (T : Tracked P F ns h n held links) (s : Step) (W : StepWithin s)
+    (en : n ≡ getD ns (stepCount h) 0) (room : nodeOf n + 2 ≤ length links) (y : Item) → OfFamily F y → (c : ℕ) → c < containerLimit
     → Next P F ns h n held links T s W en room y c
 next-item P (ofAtom d) ns h n held links T s W en room (dataAtom e) a c lc =
     next-main P (ofAtom d) ns h n held links T s W en room (dataAtom e) a (λ x. refl) refl (main-atom held s e) (ends-atom s e) c lc (ℕ-discrete c (receiver s))
@@ -395,8 +395,8 @@ next-item P (ofRule r) ns h n held links T s W en room (runningAtom e) a c lc = 
 next-item P (ofRule r) ns h n held links T s W en room (runRule q) a c lc =
     next-main P (ofRule r) ns h n held links T s W en room (runRule q) a (λ x. refl) refl (main-rule held s q) (ends-rule s q) c lc (ℕ-discrete c (receiver s))
 
-module _ (P : Policy) (F : Family) (ns : List ℕ) (h : History) (n : ℕ) (held links : List ℕ) (T : Tracked P F ns h n held links) (s : Step) (W : Within s)
-    (en : n ≡ getD ns (size h) 0) (room : nodeOf n + 2 ≤ length links) where
+module _ (P : Policy) (F : Family) (ns : List ℕ) (h : History) (n : ℕ) (held links : List ℕ) (T : Tracked P F ns h n held links) (s : Step) (W : StepWithin s)
+    (en : n ≡ getD ns (stepCount h) 0) (room : nodeOf n + 2 ≤ length links) where
   -- a record that is a step
   pub tracked-next : Tracked P F ns (h ▸ s) (suc n) (heldAfter (isRule F) held n s) (linksAfter (isRule F) held links n s)
   tracked-next =
@@ -408,7 +408,7 @@ module _ (P : Policy) (F : Family) (ns : List ℕ) (h : History) (n : ℕ) (held
       }
 
 -- the links that are set are the nodes of the chains that are taken up
-links-named : (P : Policy) (F : Family) (ns : List ℕ) (h : History) (n : ℕ) (held links : List ℕ) → Tracked P F ns h n held links → (s : Step) → Within s
+links-named : (P : Policy) (F : Family) (ns : List ℕ) (h : History) (n : ℕ) (held links : List ℕ) → Tracked P F ns h n held links → (s : Step) → StepWithin s
     → (mainSource (isRule F) held s ≡ mainLink P ns F h s) × (runningSource (isRule F) held s ≡ runningLink P ns F h s)
 links-named P (ofAtom d) ns h n held links T s W = (
   sym (main-atom held s d) ∙ source-named P (ofAtom d) ns h n held links T s W (dataAtom d) refl (takesUp s (dataAtom d)) refl,
@@ -419,7 +419,7 @@ links-named P (ofRule r) ns h n held links T s W = (
   unfold runningSource in refl,
 )
 
-pub links-next : (P : Policy) (F : Family) (ns : List ℕ) (h : History) (n : ℕ) (held links : List ℕ) → Tracked P F ns h n held links → (s : Step) → Within s
+pub links-next : (P : Policy) (F : Family) (ns : List ℕ) (h : History) (n : ℕ) (held links : List ℕ) → Tracked P F ns h n held links → (s : Step) → StepWithin s
     → linksAfter (isRule F) held links n s ≡ linksAt P ns F h n s links
 unfolding linksAfter linksAt
 links-next P F ns h n held links T s W =

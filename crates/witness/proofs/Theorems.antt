@@ -29,7 +29,7 @@ use Rattle.witness.specs.Told.{toldHistory, itemOf}
 use Rattle.witness.specs.Explains.{ruleFound, ruleSteps, lentGood, askedGood, explainConditions, explainRefusal, explainAnswer, explainSteps, explainLinks}
 use Rattle.witness.specs.Tells.{Right, First, ChainTold}
 use Rattle.witness.proofs.WitnessLaws as chains
-use Rattle.witness.proofs.FirstLaws.{first-arrival}
+use Rattle.witness.proofs.FirstChains.{first-arrival}
 use Rattle.witness.proofs.LowLaws.{reaches-item}
 use Rattle.witness.proofs.HistoryLaws as histories
 use Rattle.witness.proofs.ExplainFacts as facts

@@ -7,10 +7,10 @@ use mathlib.Core.List.{List}
 use lib.Dec.{eqb}
 use lib.ListN.{length, drop}
 use borrow.Author.Tests.{eq-eqb, ne-eqb}
-use Rattle.fields.proofs.RecordLaws.{cut-count}
+use Rattle.fields.proofs.SectionRecords.{cut-count}
 use Rattle.records.specs.Records.{recordLength}
 use Rattle.records.specs.Traces.{traceRecords}
-use Rattle.records.proofs.TraceLaws.{next-record, no-record}
+use Rattle.records.proofs.TraceRecords.{next-record, no-record}
 use Rattle.witness.specs.Nodes.{isNone}
 
 pub records-count : (t : List ℕ) → length (traceRecords t) ≡ (length t + (recordLength - 1)) / recordLength

@@ -12,13 +12,13 @@ use Rattle.answers.specs.declared.Answer.{Answer}
 use Rattle.answers.specs.Answers.{accepted, isRefused}
 use Rattle.answers.proofs.Cases.{accepted-given}
 use Rattle.image.specs.Policy.{Policy}
-use Rattle.chains.specs.History.{Step, History, start, size}
+use Rattle.chains.specs.History.{Step, History, start, stepCount}
 use Rattle.chains.specs.Demand.{extend, historyFrom, historyOf}
 use Rattle.records.specs.Records.{recordLength, requestIn, stepIn, stepOf, Asked}
 use Rattle.records.specs.Traces.{traceRecords}
 use Rattle.records.proofs.RecordLaws.{asked, record-spelling}
 use Rattle.records.specs.declared.Request.{Request}
-use Rattle.records.proofs.TraceLaws.{next-record, no-record, record-length}
+use Rattle.records.proofs.TraceRecords.{next-record, no-record, record-length}
 use Rattle.monitor.specs.Steps.{stepAsked, stepAnswer, stepEffect}
 use Rattle.monitor.specs.Runs.{stepOn, runEffect}
 use Rattle.monitor.proofs.StepLaws.{step-record, answered-zero}
@@ -26,8 +26,8 @@ use Rattle.monitor.proofs.Theorems.{given-spelled}
 use Rattle.witness.specs.Told.{frontOf, lastOf, withLast, toldHistory, numbersFrom, acceptedNumbers, lastNumber, toldNumbers}
 use Rattle.witness.specs.Links.{nodeOf, Family, ofAtom, linksAt, linksFrom, linksLast, linksLeft, toldLinks}
 use Rattle.witness.specs.Nodes.{heldLength, isRule, heldAfter, linksAfter, isStep, Tracks, tracks, tracksOn, isLast, tracksAll, Tracked}
-use Rattle.witness.proofs.NodeLaws.{Within, tracked-skip, tracked-next, links-next}
-use Rattle.witness.proofs.SourceLaws.{within}
+use Rattle.witness.proofs.NodeLaws.{StepWithin, tracked-skip, tracked-next, links-next}
+use Rattle.witness.proofs.StepSources.{within}
 
 -- a step of the history is not refused
 pub step-given : (told : Bool) (a : Answer) → isStep told a ≡ true → isRefused a ≡ false
@@ -39,7 +39,7 @@ step-given false a e = accepted-given a e
 pub given-asked : (s r : List ℕ) → isRefused (stepAnswer s r) ≡ false → Asked (requestIn r)
 given-asked s r a = asked r (step-record s r (answered-zero s r a))
 
-asked-within : (s r : List ℕ) → isRefused (stepAnswer s r) ≡ false → Within (stepAsked r)
+asked-within : (s r : List ℕ) → isRefused (stepAnswer s r) ≡ false → StepWithin (stepAsked r)
 unfolding stepAsked
 asked-within s r a = within (requestIn r) (given-asked s r a)
 
@@ -84,7 +84,7 @@ module _ (P : Policy) (F : Family) (ns : List ℕ) where
   pub record Reached (h : History) (n : ℕ) (t : Tracks) (links : List ℕ) (rest : List ℕ) : Type 0 where
     pub tracked : Tracked P F ns h n (t .held) (t .links)
     pub left : t .links ≡ links
-    pub numbers : drop (size h) ns ≡ rest
+    pub numbers : drop (stepCount h) ns ≡ rest
 
   -- one record
   reached-on : (told : Bool) (h : History) (n : ℕ) (t : Tracks) (links : List ℕ) (s r tail : List ℕ) → nodeOf n + 2 ≤ length (t .links)
@@ -101,8 +101,8 @@ module _ (P : Policy) (F : Family) (ns : List ℕ) where
       on false e R = rw (skipped h (stepOf r)) (record { tracked = tracked-skip P F ns h n (t .held) (t .links) (R .tracked); left = R .left; numbers = R .numbers })
       on true e R =
           let g : isRefused (stepAnswer s r) ≡ false = step-given told (stepAnswer s r) e in
-          let w : Within (stepAsked r) = asked-within s r g in
-          let d : (n ≡ getD ns (size h) 0) × (drop (suc (size h)) ns ≡ tail) = drop-cons ns (size h) n tail (R .numbers) in
+          let w : StepWithin (stepAsked r) = asked-within s r g in
+          let d : (n ≡ getD ns (stepCount h) 0) × (drop (suc (stepCount h)) ns ≡ tail) = drop-cons ns (stepCount h) n tail (R .numbers) in
           rw (given-spelled s r g)
           (record {
             tracked = tracked-next P F ns h n (t .held) (t .links) (R .tracked) (stepAsked r) w (d .0) room;

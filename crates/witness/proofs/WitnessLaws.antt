@@ -15,7 +15,7 @@ use Rattle.lists.proofs.Places.{some-inj, none-some}
 use Rattle.lists.proofs.Same.{same-refl, same-eq}
 use Rattle.image.specs.Limits.{isFile, noAtom}
 use Rattle.image.specs.Policy.{Container, Policy, ruleAt}
-use Rattle.chains.specs.History.{Step, read, write, append, exec, fork, newFile, newVolatile, end, delete, History, start, _▸_, size, receiver}
+use Rattle.chains.specs.History.{Step, read, write, append, exec, fork, newFile, newVolatile, end, delete, History, start, _▸_, stepCount, receiver}
 use Rattle.chains.specs.Chains.{Item, dataAtom, runningAtom, runRule, Starts, Carries, readAtom, readRule, writeAny, appendAny}
 use Rattle.chains.specs.Chains.{execAtom, execRule, forkAny, Ends, writeEnds, execEndsAtom, execEndsRule, endEnds, deleteEnds, Chain}
 use Rattle.chains.proofs.ChainLaws.{chain-snoc, chain-none}
@@ -112,7 +112,7 @@ module _ (P : Policy) where
 
     -- nothing stays there: what the step carries on
     right-carried : c ≡ receiver s → ¬ (Chain P h y c × ¬ Ends s c y) → (m : Option Source) → takesUp s y ≡ m
-        → (held : Item → ℕ → Option Witness) → ((x : Item) (b : ℕ) → Right P h x b (held x b)) → Right P (h ▸ s) y c (carriedOn held (size h) m)
+        → (held : Item → ℕ → Option Witness) → ((x : Item) (b : ℕ) → Right P h x b (held x b)) → Right P (h ▸ s) y c (carriedOn held (stepCount h) m)
     right-carried ec gone none em held ih = λ ch. on (chain-snoc P h s y c ch)
       where
         on : (Chain P h y c × ¬ Ends s c y) ⊎ ((b : ℕ) × (x : Item) × Chain P h x b × Carries s b x c y) → ⊥
@@ -120,7 +120,7 @@ module _ (P : Policy) where
         on (inr (b, x, k, ca)) = none-some (sym em ∙ carries-takes ca .1)
     right-carried ec gone (some t) em held ih = by (held (t .item) (t .at)) (ih (t .item) (t .at))
       where
-        by : (v : Option Witness) → Right P h (t .item) (t .at) v → Right P (h ▸ s) y c (further (size h) v)
+        by : (v : Option Witness) → Right P h (t .item) (t .at) v → Right P (h ▸ s) y c (further (stepCount h) v)
         by none r = λ ch. on (chain-snoc P h s y c ch)
           where
             on : (Chain P h y c × ¬ Ends s c y) ⊎ ((b : ℕ) × (x : Item) × Chain P h x b × Carries s b x c y) → ⊥
@@ -135,7 +135,7 @@ module _ (P : Policy) where
 
     right-receiver : c ≡ receiver s → (own : Option Witness) → Right P h y c own → (b : Bool) → endsItem s y ≡ b
         → (held : Item → ℕ → Option Witness) → ((x : Item) (b : ℕ) → Right P h x b (held x b))
-        → Right P (h ▸ s) y c (firstOf (stays b own) (carriedOn held (size h) (takesUp s y)))
+        → Right P (h ▸ s) y c (firstOf (stays b own) (carriedOn held (stepCount h) (takesUp s y)))
     right-receiver ec own r true e held ih =
         right-carried ec (λ k. k .1 (subst (λ (z : ℕ). Ends s z y) (sym ec) (told-ends s y e))) (takesUp s y) refl held ih
     right-receiver ec none r false e held ih = right-carried ec (λ k. r (k .0)) (takesUp s y) refl held ih
@@ -148,6 +148,6 @@ module _ (P : Policy) where
   right (h ▸ s) y c = on (eqb c (receiver s)) refl (right h y c) (λ x b. right h x b)
     where
       on : (b : Bool) → eqb c (receiver s) ≡ b → Right P h y c (witness P h y c) → ((x : Item) (b : ℕ) → Right P h x b (witness P h x b))
-          → Right P (h ▸ s) y c (cond b (firstOf (stays (endsItem s y) (witness P h y c)) (carriedOn (λ x b. witness P h x b) (size h) (takesUp s y))) (witness P h y c))
+          → Right P (h ▸ s) y c (cond b (firstOf (stays (endsItem s y) (witness P h y c)) (carriedOn (λ x b. witness P h x b) (stepCount h) (takesUp s y))) (witness P h y c))
       on true e r ih = right-receiver h s y c (eqb-true c (receiver s) e) (witness P h y c) r (endsItem s y) refl (λ x b. witness P h x b) ih
       on false e r ih = right-other h s y c (eqb-false c (receiver s) e) (witness P h y c) r

@@ -32,15 +32,6 @@ const HELD_LENGTH: usize = 512;
 // The first node of the first record.
 pub const FIRST_NODE: usize = 258;
 
-// All atoms, data and running.
-const TAG_WIDTH: usize = 64;
-
-// The codes from here on end what their receiver held.
-const END_CODE: usize = 8;
-
-// Where the count stands in a rule record.
-const COUNT_FIELD: usize = 2;
-
 // A chain: the number of the file where it begins, 256 if there is none, and where the numbers of its records stand in the buffer, from
 // there to its end.
 pub struct Found {
@@ -158,7 +149,7 @@ fn ends_main(rule: bool, q: Request) -> bool
     if q.code == records::EXEC_CODE {
         return rule;
     }
-    END_CODE <= q.code
+    records::END_CODE <= q.code
 }
 
 // Record number n, which is a step and asks for q: the nodes held, and the links of its own nodes.
@@ -284,10 +275,10 @@ fn starts_atom(r: &[u8], d: usize) -> bool
     requires { ⌜ (length (now r) ≡ containerSize) × (d < dataWidth) ⌝ }
     ensures { λ x. ⌜ x ≡ startsAs [] (dataAtom d) (containerIn (now (r .entry))) ⌝ }
 {
-    if !image::is_file(fields::read8(r, image::KIND_FIELD) as u64) {
+    if !image::is_file(fields::read8(r, image::CONTAINER_KIND_AT) as u64) {
         return false;
     }
-    fields::read8(r, image::ATOM_FIELD) == d
+    fields::read8(r, image::CONTAINER_ATOM_AT) == d
 }
 
 // The mixtures from `first` on are those of the rule.
@@ -315,7 +306,7 @@ fn is_rule(rules: &[u8], m: &[u8], n: usize, rule: &[u64]) -> bool
         return rules::same(&all, rule);
     }
     let first = fields::read16(rules, n * image::RULE_SIZE);
-    let count = fields::read16(rules, n * image::RULE_SIZE + COUNT_FIELD);
+    let count = fields::read16(rules, n * image::RULE_SIZE + image::RULE_COUNT_AT);
     if count != rule.len() {
         return false;
     }
@@ -330,10 +321,10 @@ fn starts_rule(r: &[u8], rules: &[u8], m: &[u8], rule: &[u64]) -> bool
         × (ruleRecordsGood (now rules) (now m) ≡ true) ⌝ }
     ensures { λ x. ⌜ x ≡ startsAs (rulesIn (now (rules .entry)) (now (m .entry))) (runRule (now (rule .entry))) (containerIn (now (r .entry))) ⌝ }
 {
-    if !image::is_file(fields::read8(r, image::KIND_FIELD) as u64) {
+    if !image::is_file(fields::read8(r, image::CONTAINER_KIND_AT) as u64) {
         return false;
     }
-    is_rule(rules, m, fields::read16(r, image::RUN_FIELD), rule)
+    is_rule(rules, m, fields::read16(r, image::CONTAINER_RUN_AT), rule)
 }
 
 // The node of container number c of the section, for the data atom d.
@@ -540,7 +531,7 @@ pub fn explain(
     if CONTAINER_LIMIT <= container {
         return refused(answers::EXPLAIN_BOUNDS);
     }
-    if TAG_WIDTH <= atom {
+    if rules::TAG_WIDTH <= atom {
         return refused(answers::EXPLAIN_BOUNDS);
     }
     let found = find_atom(image, trace, container, atom, links, steps);

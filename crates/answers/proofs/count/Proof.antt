@@ -1,11 +1,11 @@
 -- `answers::count`. Each count by its test.
 use borrow.Author.Needs.{needs}
-use Rattle.answers.specs.Tallies.{counted}
+use Rattle.answers.specs.Tallies.{tallied}
 use Rattle.answers.proofs.count.Statement.{statement}
 use Rattle.answers.proofs.count.Tie as tie
 
 returns : tie.Need-returns
-unfolding counted
+unfolding tallied
 returns c = rw (c .before .before .before .before .more .ensures, c .before .before .counted-if .ensures, c .before .before .before .is-alert .ensures, c .counted-if2 .ensures, c .before .is-refused .ensures)
 
 pub count-spec : {M : Type 1} → statement M

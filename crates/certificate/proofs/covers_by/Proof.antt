@@ -1,6 +1,6 @@
 -- The mixtures of the rule are tested as they stand.
 use native.Mathlib.Omega.{arith}
-use Rattle.certificate.proofs.ReadLaws.{read-count, read-places, read-short, read-covers}
+use Rattle.certificate.proofs.ImageRules.{read-count, read-places, read-short, read-covers}
 use borrow.Author.Needs.{needs}
 use Rattle.certificate.proofs.covers_by.Statement.{statement}
 use Rattle.certificate.proofs.covers_by.Tie as tie

@@ -1,6 +1,6 @@
 -- The mixtures of the rule are handed on as they stand.
 use native.Mathlib.Omega.{arith}
-use Rattle.certificate.proofs.ReadLaws.{read-count, read-places}
+use Rattle.certificate.proofs.ImageRules.{read-count, read-places}
 use Rattle.certificate.proofs.SearchLaws.{file-found}
 use borrow.Author.Needs.{needs}
 use Rattle.certificate.proofs.find_file.Statement.{statement}

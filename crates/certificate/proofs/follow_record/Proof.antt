@@ -1,5 +1,5 @@
 -- An accepted record leaves its mark, another leaves the marks as they were.
-use Rattle.certificate.proofs.FollowLaws.{took, left, took-long, took-asked, took-marks}
+use Rattle.certificate.proofs.FollowedMarks.{took, left, took-long, took-asked, took-marks}
 use borrow.Author.Needs.{needs}
 use Rattle.certificate.proofs.follow_record.Statement.{statement}
 use Rattle.certificate.proofs.follow_record.Tie as tie

@@ -2,8 +2,8 @@
 use Prim.Native.Nat.{_-_}
 use native.Mathlib.Omega.{arith}
 use lib.ListN.{length}
-use Rattle.records.proofs.TraceLaws.{record-length}
-use Rattle.certificate.proofs.FollowLaws.{Following, following-start, following-next, following-end}
+use Rattle.records.proofs.TraceRecords.{record-length}
+use Rattle.certificate.proofs.FollowedMarks.{Following, following-start, following-next, following-end}
 use borrow.Author.Needs.{needs}
 use Rattle.certificate.proofs.follow_trace.Statement.{statement}
 use Rattle.certificate.proofs.follow_trace.Tie as tie

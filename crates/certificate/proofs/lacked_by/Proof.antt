@@ -4,7 +4,7 @@ use mathlib.Core.Path.{sym, _∙_}
 use Rattle.lists.proofs.Below.{Failing, failing-start, failing-next}
 use Rattle.rules.specs.Answers.{tagWidth}
 use Rattle.certificate.specs.Origins.{lacksAt}
-use Rattle.certificate.proofs.FollowLaws.{lacked-here, lacked-none}
+use Rattle.certificate.proofs.FollowedMarks.{lacked-here, lacked-none}
 use borrow.Author.Needs.{needs}
 use Rattle.certificate.proofs.lacked_by.Statement.{statement}
 use Rattle.certificate.proofs.lacked_by.Tie as tie

@@ -1,5 +1,5 @@
 -- The atom is looked at in the tag, then in the mixture.
-use Rattle.certificate.proofs.FollowLaws.{lacks-none, lacks-one}
+use Rattle.certificate.proofs.FollowedMarks.{lacks-none, lacks-one}
 use borrow.Author.Needs.{needs}
 use Rattle.certificate.proofs.lacks.Statement.{statement}
 use Rattle.certificate.proofs.lacks.Tie as tie

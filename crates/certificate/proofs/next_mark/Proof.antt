@@ -1,5 +1,5 @@
 -- Code by code.
-use Rattle.certificate.proofs.FollowLaws.{mark-exec, mark-file, mark-fork, mark-leaves, mark-stays}
+use Rattle.certificate.proofs.FollowedMarks.{mark-exec, mark-file, mark-fork, mark-leaves, mark-stays}
 use borrow.Author.Needs.{needs}
 use Rattle.certificate.proofs.next_mark.Statement.{statement}
 use Rattle.certificate.proofs.next_mark.Tie as tie

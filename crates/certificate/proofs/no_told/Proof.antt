@@ -1,5 +1,5 @@
 -- No chain is told.
-use Rattle.certificate.proofs.TellLaws.{told-nothing}
+use Rattle.certificate.proofs.ToldReasons.{told-nothing}
 use Rattle.certificate.proofs.no_told.Statement.{statement}
 use Rattle.certificate.proofs.no_told.Tie as tie
 

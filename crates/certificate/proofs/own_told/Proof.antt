@@ -1,6 +1,6 @@
 -- The number of its permit rule.
 use Rattle.image.specs.Image.{policyIn}
-use Rattle.certificate.proofs.TellLaws.{told-own}
+use Rattle.certificate.proofs.ToldReasons.{told-own}
 use borrow.Author.Needs.{needs}
 use Rattle.certificate.proofs.own_told.Statement.{statement}
 use Rattle.certificate.proofs.own_told.Tie as tie

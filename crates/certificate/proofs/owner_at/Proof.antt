@@ -1,7 +1,7 @@
 -- Nobody, or the field of the rule record.
 use native.Mathlib.Omega.{arith}
 use Rattle.image.proofs.AcceptedImage.{accepted-section}
-use Rattle.certificate.proofs.ReadLaws.{owner-nobody, owner-missed, owner-there}
+use Rattle.certificate.proofs.ImageRules.{owner-nobody, owner-missed, owner-there}
 use borrow.Author.Needs.{needs}
 use Rattle.certificate.proofs.owner_at.Statement.{statement}
 use Rattle.certificate.proofs.owner_at.Tie as tie

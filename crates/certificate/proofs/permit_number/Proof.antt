@@ -1,7 +1,7 @@
 -- The number of the unrestricted rule, or the field of the record.
 use native.Mathlib.Omega.{arith}
 use Rattle.image.proofs.AcceptedImage.{accepted-section}
-use Rattle.certificate.proofs.ReadLaws.{permit-missed, permit-there}
+use Rattle.certificate.proofs.ImageRules.{permit-missed, permit-there}
 use borrow.Author.Needs.{needs}
 use Rattle.certificate.proofs.permit_number.Statement.{statement}
 use Rattle.certificate.proofs.permit_number.Tie as tie

@@ -1,7 +1,7 @@
 -- The seventeen numbers are those of what is told.
 use native.Mathlib.Omega.{arith}
-use Rattle.certificate.proofs.ReadLaws.{read-count, read-places, read-short}
-use Rattle.certificate.proofs.PutLaws.{told-put}
+use Rattle.certificate.proofs.ImageRules.{read-count, read-places, read-short}
+use Rattle.certificate.proofs.ToldNumbers.{told-put}
 use borrow.Author.Needs.{needs}
 use Rattle.certificate.proofs.put_told.Statement.{statement}
 use Rattle.certificate.proofs.put_told.Tie as tie

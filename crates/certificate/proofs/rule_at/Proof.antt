@@ -1,7 +1,7 @@
 -- The unrestricted rule, none, or the mixtures of the record.
 use native.Mathlib.Omega.{arith}
 use Rattle.image.proofs.AcceptedImage.{accepted-section}
-use Rattle.certificate.proofs.ReadLaws.{told-all, told-none, told-room, told-some}
+use Rattle.certificate.proofs.ImageRules.{told-all, told-none, told-room, told-some}
 use borrow.Author.Needs.{needs}
 use Rattle.certificate.proofs.rule_at.Statement.{statement}
 use Rattle.certificate.proofs.rule_at.Tie as tie

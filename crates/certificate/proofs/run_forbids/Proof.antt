@@ -1,7 +1,7 @@
 -- No container, no file, or a file whose run rule is tested.
 use native.Mathlib.Omega.{arith}
 use Rattle.image.proofs.AcceptedImage.{accepted-section}
-use Rattle.certificate.proofs.ReadLaws.{forbids-missed, forbids-no-file, forbids-file}
+use Rattle.certificate.proofs.ImageRules.{forbids-missed, forbids-no-file, forbids-file}
 use borrow.Author.Needs.{needs}
 use Rattle.certificate.proofs.run_forbids.Statement.{statement}
 use Rattle.certificate.proofs.run_forbids.Tie as tie

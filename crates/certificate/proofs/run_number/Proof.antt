@@ -1,7 +1,7 @@
 -- The number of the unrestricted rule, or the field of the record.
 use native.Mathlib.Omega.{arith}
 use Rattle.image.proofs.AcceptedImage.{accepted-section}
-use Rattle.certificate.proofs.ReadLaws.{run-missed, run-there}
+use Rattle.certificate.proofs.ImageRules.{run-missed, run-there}
 use borrow.Author.Needs.{needs}
 use Rattle.certificate.proofs.run_number.Statement.{statement}
 use Rattle.certificate.proofs.run_number.Tie as tie

@@ -1,5 +1,5 @@
 -- Where there is no chain, no rule; else the number of the file's run rule.
-use Rattle.certificate.proofs.TellLaws.{found-none, found-file}
+use Rattle.certificate.proofs.ToldReasons.{found-none, found-file}
 use borrow.Author.Needs.{needs}
 use Rattle.certificate.proofs.run_told.Statement.{statement}
 use Rattle.certificate.proofs.run_told.Tie as tie

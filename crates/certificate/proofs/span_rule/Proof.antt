@@ -8,7 +8,7 @@ use Rattle.image.specs.Image.{mixturesIn}
 use Rattle.image.proofs.RecordsByPlace.{mixture-at}
 use Rattle.image.proofs.RulesByNumber.{from-length, from-at}
 use Rattle.certificate.proofs.NumbersLaws.{padded-start}
-use Rattle.certificate.proofs.ReadLaws.{span-end}
+use Rattle.certificate.proofs.ImageRules.{span-end}
 use borrow.Author.Needs.{needs}
 use Rattle.certificate.proofs.span_rule.Statement.{statement}
 use Rattle.certificate.proofs.span_rule.Tie as tie

@@ -1,5 +1,5 @@
 -- The number of the user's rule.
-use Rattle.certificate.proofs.TellLaws.{told-user}
+use Rattle.certificate.proofs.ToldReasons.{told-user}
 use borrow.Author.Needs.{needs}
 use Rattle.certificate.proofs.user_told.Statement.{statement}
 use Rattle.certificate.proofs.user_told.Tie as tie

@@ -51,11 +51,11 @@ returns-4 c =
     (out-long _ _ _ _ (b7 .lent-good .ensures) (b6 .if1 .left)
     (b5 .if2 .left))
     (sym (b4 .check .ensures) ∙ b3 .if3 .left)
-    (judged-quiet _ _ (b2 .judge .ensures) (c .if4 .taken)))
+    (judged-quiet _ _ (b2 .judgement-of .ensures) (c .if4 .taken)))
     (λ z. omega (arith, z))
 
-judge-requires : tie.Need-judge-requires
-judge-requires c κs = sym (c .before .check .ensures) ∙ c .if3 .left
+judgement-of-requires : tie.Need-judgement-of-requires
+judgement-of-requires c κs = sym (c .before .check .ensures) ∙ c .if3 .left
 
 tell-requires : tie.Need-tell-requires
 tell-requires c κs =
@@ -67,7 +67,7 @@ tell-requires c κs =
     let b9 = b8 .before in
     let a = b9 .before .before .before .before .before .before .before .before in (
       sym (b6 .check .ensures) ∙ b5 .if3 .left,
-      judged-good _ _ (b4 .judge .ensures),
+      judged-good _ _ (b4 .judgement-of .ensures),
       roomy _ _ _ (a .args .out .now)
           (out-long _ _ _ _ (b9 .lent-good .ensures) (b8 .if1 .left)
           (b7 .if2 .left)),
@@ -92,7 +92,7 @@ returns-5 c =
     let b17 = b16 .before in
     let b18 = b17 .before in
     let w = b8 .tell .ensures in
-    left-told _ _ (b13 .judge .ensures) (b11 .if4 .left) _ _ _
+    left-told _ _ (b13 .judgement-of .ensures) (b11 .if4 .left) _ _ _
     (out-long _ _ _ _ (b18 .lent-good .ensures) (b17 .if1 .left)
     (b16 .if2 .left))
     (sym (b15 .check .ensures) ∙ b14 .if3 .left) (w .0) (w .1) (w .2) (b2 .put-told .ensures)
@@ -112,7 +112,7 @@ why-spec =
     (λ c. search needs)
     (λ c. search needs)
     returns-3
-    judge-requires
+    judgement-of-requires
     (λ c. search needs)
     (λ c. search needs)
     returns-4

@@ -3,7 +3,7 @@ use borrow.Author.Needs.{needs}
 use native.Mathlib.Omega.{arith}
 use mathlib.Core.Path.{sym, _∙_}
 use Rattle.lists.proofs.Bools.{passes-test, fails-test}
-use Rattle.composition.proofs.RepeatLaws.{repeated, repeat-is}
+use Rattle.composition.proofs.SelfComposition.{repeated, repeat-is}
 use Rattle.composition.proofs.ComposeCases.{paired, consent-given, case-short, case-first, case-second, case-input, case-limit, case-written}
 use Rattle.composition.proofs.compose.Statement.{statement}
 use Rattle.composition.proofs.compose.Tie as tie

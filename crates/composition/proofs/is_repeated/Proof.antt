@@ -1,7 +1,7 @@
 -- The consent decides, then the bytes.
 use borrow.Author.Needs.{needs}
 use Rattle.lists.proofs.Bools.{passes-test, fails-test}
-use Rattle.composition.proofs.RepeatLaws.{not-repeated, repeated-if}
+use Rattle.composition.proofs.SelfComposition.{not-repeated, repeated-if}
 use Rattle.composition.proofs.is_repeated.Statement.{statement}
 use Rattle.composition.proofs.is_repeated.Tie as tie
 

@@ -4,7 +4,7 @@ use Prim.Native.Nat.{_/_}
 use lib.ListN.{length}
 use Rattle.image.specs.Limits.{ruleSize}
 use Rattle.image.proofs.RulesByNumber.{named-own}
-use Rattle.composition.proofs.RowLaws.{owner-none, owner-own}
+use Rattle.composition.proofs.UseRows.{owner-none, owner-own}
 use Rattle.composition.proofs.owner_at.Statement.{statement}
 use Rattle.composition.proofs.owner_at.Tie as tie
 

@@ -3,7 +3,7 @@ use borrow.Author.Needs.{needs}
 use native.Mathlib.Omega.{arith}
 use Rattle.image.specs.Normal.{useAt}
 use Rattle.image.specs.Image.{policyIn}
-use Rattle.composition.proofs.RowLaws.{use-short, use-is-normal, set-long, put-long, row-lent, set-lent, rows-composed}
+use Rattle.composition.proofs.UseRows.{use-short, use-is-normal, set-long, put-long, row-lent, set-lent, rows-composed}
 use mathlib.Core.Path.{sym, _∙_}
 use Rattle.composition.proofs.put_composed.Statement.{statement}
 use Rattle.composition.proofs.put_composed.Tie as tie

@@ -15,11 +15,11 @@ abbrev μ-loop : tie.MeasureT-loop
 loop-holds : tie.Need-loop-holds Inv-loop μ-loop
 loop-holds c = let start = c .before .before in own-start _ _ (start .pre .0) (start .pre .1)
 
-put-container-requires : tie.Need-put-container-requires Inv-loop μ-loop
-put-container-requires c κs = own-room _ _ (c .before .before .before .loop-test .taken) (c .before .before .read8 .ensures .0) (c .before .read82 .ensures .0) (c .before .before .before .before .loop .inv)
+put-container-record-requires : tie.Need-put-container-record-requires Inv-loop μ-loop
+put-container-record-requires c κs = own-room _ _ (c .before .before .before .loop-test .taken) (c .before .before .read8 .ensures .0) (c .before .read82 .ensures .0) (c .before .before .before .before .loop .inv)
 
 loop-again : tie.Need-loop-again Inv-loop μ-loop
-loop-again c = own-next _ _ (c .before .before .before .before .before .before .loop-test .taken) (c .before .before .before .before .before .read8 .ensures .0) (c .before .before .before .before .read82 .ensures .0) (c .before .before .before .before .before .before .before .loop .inv) (c .before .before .put-container .ensures)
+loop-again c = own-next _ _ (c .before .before .before .before .before .before .loop-test .taken) (c .before .before .before .before .before .read8 .ensures .0) (c .before .before .before .before .read82 .ensures .0) (c .before .before .before .before .before .before .before .loop .inv) (c .before .before .put-container-record .ensures)
 
 same-length : tie.Need-same-length Inv-loop μ-loop
 same-length c = c .before .loop .inv .long
@@ -42,7 +42,7 @@ put-places-spec =
     (λ c. search needs)
     (λ c. search needs)
     (λ c. search needs)
-    put-container-requires
+    put-container-record-requires
     (λ c. search needs)
     (λ c. search needs)
     loop-again

@@ -4,7 +4,7 @@ use native.Mathlib.Omega.{arith}
 use Rattle.rule_words.specs.Words.{ruleWidth}
 use Rattle.image.proofs.AcceptedImage.{accepted-section, accepted-spans}
 use Rattle.normaliser.proofs.FormRows.{front-long}
-use Rattle.composition.proofs.RowLaws.{named-in, use-row}
+use Rattle.composition.proofs.UseRows.{named-in, use-row}
 use Rattle.composition.proofs.put_use.Statement.{statement}
 use Rattle.composition.proofs.put_use.Tie as tie
 

@@ -1,6 +1,6 @@
 -- The answer of the normaliser, a refusal or a length.
 use borrow.Author.Needs.{needs}
-use Rattle.composition.proofs.RepeatLaws.{repeat-refused, repeat-written}
+use Rattle.composition.proofs.SelfComposition.{repeat-refused, repeat-written}
 use Rattle.composition.proofs.repeat.Statement.{statement}
 use Rattle.composition.proofs.repeat.Tie as tie
 

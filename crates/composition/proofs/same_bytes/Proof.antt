@@ -4,7 +4,7 @@ use Prim.Native.Nat.{_-_}
 use lib.ListN.{length}
 use native.Mathlib.Omega.{arith}
 use Rattle.lists.proofs.Same.{same-unlike}
-use Rattle.composition.proofs.RepeatLaws.{Uniting, uniting-start, uniting-next, uniting-end}
+use Rattle.composition.proofs.SelfComposition.{Uniting, uniting-start, uniting-next, uniting-end}
 use Rattle.composition.proofs.same_bytes.Statement.{statement}
 use Rattle.composition.proofs.same_bytes.Tie as tie
 

@@ -3,7 +3,7 @@ use borrow.Author.Needs.{needs}
 use borrow.Author.Tests.{not-false}
 use mathlib.Core.Path.{refl}
 use Rattle.lists.proofs.Bools.{passes-test, fails-test}
-use Rattle.profiles.proofs.TableLaws.{judged-of}
+use Rattle.profiles.proofs.NumberTable.{judged-of}
 use Rattle.confinement.specs.Images.{profilesIn}
 use Rattle.confinement.proofs.DeriveLaws.{derive-short, derive-broken, derive-many, derive-done, tabulated, words-lent}
 use Rattle.confinement.proofs.derive.Statement.{statement}

@@ -2,7 +2,7 @@
 use borrow.Author.Needs.{needs}
 use Prim.Native.Nat.{_-_}
 use Rattle.fields.proofs.RowWriting.{RowsWritten}
-use Rattle.confinement.proofs.FormLaws.{fileRows, files-start, files-room, files-next, files-end}
+use Rattle.confinement.proofs.PathRuleRows.{fileRows, files-start, files-room, files-next, files-end}
 use Rattle.confinement.proofs.put_files.Statement.{statement}
 use Rattle.confinement.proofs.put_files.Tie as tie
 
@@ -15,11 +15,11 @@ abbrev μ-loop : tie.MeasureT-loop
 loop-holds : tie.Need-loop-holds Inv-loop μ-loop
 loop-holds c = files-start _ _ (c .before .pre .1)
 
-put-container-requires : tie.Need-put-container-requires Inv-loop μ-loop
-put-container-requires c κs = files-room (c .before .before .loop .inv) (c .before .loop-test .taken)
+put-container-record-requires : tie.Need-put-container-record-requires Inv-loop μ-loop
+put-container-record-requires c κs = files-room (c .before .before .loop .inv) (c .before .loop-test .taken)
 
 loop-again : tie.Need-loop-again Inv-loop μ-loop
-loop-again c = files-next (c .before .before .before .before .before .loop .inv) (c .before .before .before .before .loop-test .taken) (c .before .before .put-container .ensures)
+loop-again c = files-next (c .before .before .before .before .before .loop .inv) (c .before .before .before .before .loop-test .taken) (c .before .before .put-container-record .ensures)
 
 same-length : tie.Need-same-length Inv-loop μ-loop
 same-length c = c .before .loop .inv .long
@@ -37,7 +37,7 @@ put-files-spec =
     (λ c. search needs)
     (λ c. search needs)
     (λ c. search needs)
-    put-container-requires
+    put-container-record-requires
     (λ c. search needs)
     (λ c. search needs)
     loop-again

@@ -8,7 +8,7 @@ use borrow.Author.Tests.{not-true, not-false}
 use Rattle.fields.proofs.RowWriting.{part-long}
 use Rattle.rules.specs.Answers.{dataWidth}
 use Rattle.confinement.specs.Tables.{ruleFrom}
-use Rattle.confinement.proofs.FormLaws.{Forming, forming-start, form-room, forming-over, forming-next, forming-end, forming-stop}
+use Rattle.confinement.proofs.PathRuleRows.{Forming, forming-start, form-room, forming-over, forming-next, forming-end, forming-stop}
 use Rattle.confinement.proofs.put_rules.Statement.{statement}
 use Rattle.confinement.proofs.put_rules.Tie as tie
 

@@ -18,8 +18,8 @@ returns c =
     (start .args .n) (start .args .m) (c .before .before .before .before .before .before .before .before .before .before .put-mixtures .ensures))
     (c .before .before .before .put-rules .ensures)) (not-true _ (c .if1 .taken)) _
 
-put-container-requires : tie.Need-put-container-requires
-put-container-requires c κs =
+put-container-record-requires : tie.Need-put-container-record-requires
+put-container-record-requires c κs =
     let start = c .before .before .before .before .before .before .before .before .before .before .before .before .before .before .before .before .before .before .before in
     omega (
       arith,
@@ -39,7 +39,7 @@ part-write-policy-end c =
       arith,
       start .pre .0 .tables .few,
       containers-end (start .pre .0 .profiles) (start .args .own .now) (start .args .modes .now) (start .args .n) (start .args .m)
-          (start .pre .0 .tables) (c .before .before .before .before .before .before .before .before .put-files .ensures) (c .before .before .before .before .before .put-container .ensures),
+          (start .pre .0 .tables) (c .before .before .before .before .before .before .before .before .put-files .ensures) (c .before .before .before .before .before .put-container-record .ensures),
     )
 
 part-write-policy-end-2 : tie.Need-part-write-policy-end-2
@@ -51,7 +51,7 @@ write-policy-requires c κs =
     let start = c .before .before .before .before .before .before .before .before .before .before .before .before .before .before .before .before .before .before .before .before .before .before .before .before .before .before .before .before .before .before in (
       tables-tabled (start .pre .0 .profiles) (start .args .own .now) (start .args .modes .now) (start .args .n) (start .args .m) (start .pre .0 .tables)
           (c .before .before .before .before .before .before .before .before .before .before .before .before .before .put-files .ensures)
-          (c .before .before .before .before .before .before .before .before .before .before .put-container .ensures) (c .before .before .before .before .before .before .before .put16 .ensures)
+          (c .before .before .before .before .before .before .before .before .before .before .put-container-record .ensures) (c .before .before .before .before .before .before .before .put16 .ensures)
           (search needs) (forms-as (rule-lent (start .args .own .now) (start .args .modes .now) _ (start .args .n) (start .args .m)
           (c .before .before .before .before .before .before .before .before .before .before .before .before .before .before .before .before .before .before .before .before .before .before .before .before .before .put-mixtures .ensures))
           (c .before .before .before .before .before .before .before .before .before .before .before .before .before .before .before .before .before .before .put-rules .ensures)) (not-false _
@@ -67,7 +67,7 @@ cast-result c =
       arith,
       tables-small (start .pre .0 .profiles) (start .args .own .now) (start .args .modes .now) (start .args .n) (start .args .m) (start .pre .0 .tables)
           (c .before .before .before .before .before .before .before .before .before .before .before .before .before .before .before .before .put-files .ensures)
-          (c .before .before .before .before .before .before .before .before .before .before .before .before .before .put-container .ensures)
+          (c .before .before .before .before .before .before .before .before .before .before .before .before .before .put-container-record .ensures)
           (c .before .before .before .before .before .before .before .before .before .before .put16 .ensures) (search needs) (forms-as (rule-lent (start .args .own .now)
           (start .args .modes .now) _ (start .args .n) (start .args .m)
           (c .before .before .before .before .before .before .before .before .before .before .before .before .before .before .before .before .before .before .before .before .before .before .before .before .before .before .before .before .put-mixtures .ensures))
@@ -82,7 +82,7 @@ returns-2 c =
     let start = c .before .before .before .before .before .before .before .before .before .before .before .before .before .before .before .before .before .before .before .before .before .before .before .before .before .before .before .before .before .before .before .before .before in
     tables-written (start .pre .0 .profiles) (start .args .own .now) (start .args .modes .now) (start .args .n) (start .args .m) (start .pre .0 .tables)
     (c .before .before .before .before .before .before .before .before .before .before .before .before .before .before .before .before .put-files .ensures)
-    (c .before .before .before .before .before .before .before .before .before .before .before .before .before .put-container .ensures)
+    (c .before .before .before .before .before .before .before .before .before .before .before .before .before .put-container-record .ensures)
     (c .before .before .before .before .before .before .before .before .before .before .put16 .ensures) (search needs) (forms-as (rule-lent (start .args .own .now)
     (start .args .modes .now) _ (start .args .n) (start .args .m)
     (c .before .before .before .before .before .before .before .before .before .before .before .before .before .before .before .before .before .before .before .before .before .before .before .before .before .before .before .before .put-mixtures .ensures))
@@ -110,7 +110,7 @@ write-tables-spec =
     (λ c. search needs)
     (λ c κs. search needs)
     (λ c. search needs)
-    put-container-requires
+    put-container-record-requires
     (λ c. search needs)
     (λ c κs. search needs)
     mul-w

@@ -20,8 +20,8 @@ loop-holds c =
     let start = c .before in
     rows-start _ _ _ (omega (arith, start .pre .1, containers-size (objectFiles (start .args .n)), objects-count (start .args .n)))
 
-put-container-requires : tie.Need-put-container-requires Inv-loop μ-loop
-put-container-requires c κs =
+put-container-record-requires : tie.Need-put-container-record-requires Inv-loop μ-loop
+put-container-record-requires c κs =
     let start = c .before .before .before .before in
     let loop = c .before .before .loop in
     let taken = c .before .loop-test .taken in
@@ -32,7 +32,7 @@ loop-again c =
     let start = c .before .before .before .before .before .before .before in
     let loop = c .before .before .before .before .before .loop in
     let taken = c .before .before .before .before .loop-test .taken in
-    container-next (objectFiles (start .args .n)) (loop .inv) (omega (arith, objects-count (start .args .n))) _ (object-row (start .args .n) (loop .b) taken) (c .before .before .put-container .ensures)
+    container-next (objectFiles (start .args .n)) (loop .inv) (omega (arith, objects-count (start .args .n))) _ (object-row (start .args .n) (loop .b) taken) (c .before .before .put-container-record .ensures)
 
 same-length : tie.Need-same-length Inv-loop μ-loop
 same-length c = c .before .loop .inv .long
@@ -49,7 +49,7 @@ put-objects-spec =
     Inv-loop
     μ-loop
     loop-holds
-    put-container-requires
+    put-container-record-requires
     (λ c. search needs)
     (λ c. search needs)
     loop-again

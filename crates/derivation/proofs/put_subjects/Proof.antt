@@ -22,8 +22,8 @@ loop-holds c =
     let start = c .before in
     rows-start _ _ _ (omega (arith, start .pre .1, containers-size (replicate (start .args .n) subjectProcess), length-replicate {A = Container} (start .args .n) subjectProcess))
 
-put-container-requires : tie.Need-put-container-requires Inv-loop μ-loop
-put-container-requires c κs =
+put-container-record-requires : tie.Need-put-container-record-requires Inv-loop μ-loop
+put-container-record-requires c κs =
     let start = c .before .before .before .before in
     let loop = c .before .before .loop in
     let taken = c .before .loop-test .taken in
@@ -34,7 +34,7 @@ loop-again c =
     let start = c .before .before .before .before .before .before .before in
     let loop = c .before .before .before .before .before .loop in
     let taken = c .before .before .before .before .loop-test .taken in
-    container-next (replicate (start .args .n) subjectProcess) (loop .inv) (omega (arith, length-replicate {A = Container} (start .args .n) subjectProcess)) _ (subject-row (start .args .n) (loop .s) taken) (c .before .before .put-container .ensures)
+    container-next (replicate (start .args .n) subjectProcess) (loop .inv) (omega (arith, length-replicate {A = Container} (start .args .n) subjectProcess)) _ (subject-row (start .args .n) (loop .s) taken) (c .before .before .put-container-record .ensures)
 
 same-length : tie.Need-same-length Inv-loop μ-loop
 same-length c = c .before .loop .inv .long
@@ -51,7 +51,7 @@ put-subjects-spec =
     Inv-loop
     μ-loop
     loop-holds
-    put-container-requires
+    put-container-record-requires
     (λ c. search needs)
     (λ c. search needs)
     loop-again

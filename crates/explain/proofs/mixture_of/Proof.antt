@@ -1,7 +1,7 @@
 -- `explain::mixture_of`. The rule as it stands in the image (`mixture-is`).
 use native.Mathlib.Omega.{arith}
-use Rattle.certificate.proofs.ReadLaws.{rule-short}
-use Rattle.explain.proofs.MixtureLaws.{mixture-is}
+use Rattle.certificate.proofs.ImageRules.{rule-short}
+use Rattle.explain.proofs.LackedMixtures.{mixture-is}
 use borrow.Author.Needs.{needs}
 use Rattle.explain.proofs.mixture_of.Statement.{statement}
 use Rattle.explain.proofs.mixture_of.Tie as tie

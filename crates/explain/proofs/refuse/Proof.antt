@@ -1,7 +1,7 @@
 -- `explain::refuse`. The line handed on.
 use Rattle.files.specs.Calls.{handed-as}
 use Rattle.files.proofs.CallLaws.{done-as}
-use Rattle.explanations.proofs.LineLaws.{wrote-front}
+use Rattle.explanations.proofs.ExplanationLines.{wrote-front}
 use borrow.Author.Needs.{needs}
 use Rattle.explain.proofs.refuse.Statement.{statement}
 use Rattle.explain.proofs.refuse.Tie as tie

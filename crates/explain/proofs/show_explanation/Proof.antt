@@ -4,9 +4,9 @@ use native.Mathlib.Omega.{arith}
 use lib.ListN.{length}
 use borrow.Author.Tests.{not-true, not-false}
 use Rattle.files.proofs.CallLaws.{failed, done-as}
-use Rattle.explanations.proofs.LineLaws.{wrote-front}
+use Rattle.explanations.proofs.ExplanationLines.{wrote-front}
 use Rattle.explain.specs.Runs.{recordLimit}
-use Rattle.explain.proofs.AnswerLaws.{linksLength, why-first, why-told, why-chain, explained}
+use Rattle.explain.proofs.WhyAnswers.{linksLength, why-first, why-told, why-chain, explained}
 use borrow.Author.Needs.{needs}
 use Rattle.explain.proofs.show_explanation.Statement.{statement}
 use Rattle.explain.proofs.show_explanation.Tie as tie

@@ -5,7 +5,7 @@ use lib.ListN.{length-take}
 use borrow.Author.Tests.{not-true, not-false}
 use Rattle.fields.specs.Ascii.{ascii}
 use Rattle.files.proofs.CallLaws.{failed, done-as}
-use Rattle.explain.proofs.RunLaws.{trace-shown}
+use Rattle.explain.proofs.WholeText.{trace-shown}
 use borrow.Author.Needs.{needs}
 use Rattle.explain.proofs.show_file.Statement.{statement}
 use Rattle.explain.proofs.show_file.Tie as tie

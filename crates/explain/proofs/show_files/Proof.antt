@@ -7,7 +7,7 @@ use Rattle.explain.specs.Runs.{traceLimit}
 use borrow.Author.Tests.{not-true, not-false}
 use Rattle.fields.specs.Ascii.{ascii}
 use Rattle.files.proofs.CallLaws.{failed, done-as}
-use Rattle.explain.proofs.RunLaws.{started, shown-refused, shown-explained}
+use Rattle.explain.proofs.WholeText.{started, shown-refused, shown-explained}
 use borrow.Author.Needs.{needs}
 use Rattle.explain.proofs.show_files.Statement.{statement}
 use Rattle.explain.proofs.show_files.Tie as tie

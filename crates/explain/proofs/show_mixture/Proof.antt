@@ -4,8 +4,8 @@ use native.Mathlib.Omega.{arith}
 use borrow.Author.Tests.{not-true, not-false}
 use Rattle.files.specs.Calls.{handed-as}
 use Rattle.files.proofs.CallLaws.{went, failed, done-as}
-use Rattle.explanations.proofs.LineLaws.{wrote-front}
-use Rattle.explain.proofs.MixtureLaws.{few-mixtures, mixture-there, mixture-told, container-low, atom-low, came-is, mixture-known, mixture-new}
+use Rattle.explanations.proofs.ExplanationLines.{wrote-front}
+use Rattle.explain.proofs.LackedMixtures.{few-mixtures, mixture-there, mixture-told, container-low, atom-low, came-is, mixture-known, mixture-new}
 use borrow.Author.Needs.{needs}
 use Rattle.explain.proofs.show_mixture.Statement.{statement}
 use Rattle.explain.proofs.show_mixture.Tie as tie

@@ -3,7 +3,7 @@ use Prim.Native.Nat.{_-_}
 use native.Mathlib.Omega.{arith}
 use borrow.Author.Tests.{not-true, not-false}
 use Rattle.files.proofs.CallLaws.{went, failed}
-use Rattle.explain.proofs.MixtureLaws.{few-mixtures, Mixing, mixing-start, mixing-next, mixing-end}
+use Rattle.explain.proofs.LackedMixtures.{few-mixtures, Mixing, mixing-start, mixing-next, mixing-end}
 use borrow.Author.Needs.{needs}
 use Rattle.explain.proofs.show_mixtures.Statement.{statement}
 use Rattle.explain.proofs.show_mixtures.Tie as tie

@@ -5,7 +5,7 @@ use Rattle.answers.specs.declared.Answer.{Answer}
 use Rattle.answers.specs.Answers.{isBlocked}
 use Rattle.files.proofs.CallLaws.{went, done-as}
 use Rattle.explain.specs.Texts.{explanationText}
-use Rattle.explain.proofs.RecordLaws.{asked, record-quiet, record-found}
+use Rattle.explain.proofs.ExplainedRecords.{asked, record-quiet, record-found}
 use borrow.Author.Needs.{needs}
 use Rattle.explain.proofs.show_record.Statement.{statement}
 use Rattle.explain.proofs.show_record.Tie as tie

@@ -3,9 +3,9 @@ use Prim.Native.Nat.{_-_}
 use native.Mathlib.Omega.{arith}
 use lib.ListN.{length, length-take}
 use borrow.Author.Tests.{not-true, not-false}
-use Rattle.records.proofs.TraceLaws.{record-length}
+use Rattle.records.proofs.TraceRecords.{record-length}
 use Rattle.files.proofs.CallLaws.{went, failed}
-use Rattle.explain.proofs.RecordLaws.{Explaining, explaining-start, few, found-few, answer-is, explaining-next, explaining-end}
+use Rattle.explain.proofs.ExplainedRecords.{Explaining, explaining-start, few, found-few, answer-is, explaining-next, explaining-end}
 use borrow.Author.Needs.{needs}
 use Rattle.explain.proofs.show_records.Statement.{statement}
 use Rattle.explain.proofs.show_records.Tie as tie
@@ -44,8 +44,8 @@ show-record-requires c κs =
 returns : tie.Need-returns Inv-loop μ-loop
 returns c = failed (c .before .show-record .ensures .told (not-true _ (c .if1 .taken)))
 
-counted-requires : tie.Need-counted-requires Inv-loop μ-loop
-counted-requires c κs =
+explained-with-requires : tie.Need-explained-with-requires Inv-loop μ-loop
+explained-with-requires c κs =
     let back10 = c .before .before .before .before .before .before .before .before .before .before in
     let back11 = back10 .before in
     let start = back11 .before .before .before in
@@ -72,7 +72,7 @@ loop-again c =
     let back12 = back11 .before in
     let start = back12 .before .before .before in
     explaining-next _ _ _ _ _ _ _ _ (back12 .loop .inv) (back11 .loop-test .taken) (start .pre .1) _ _ _ (back10 .record-at .ensures) (back8 .step .ensures .0) (back8 .step .ensures .1) _ _
-    (c .counted .ensures) (c .before .before .show-record .ensures .done (not-false _ (c .before .if1 .left)))
+    (c .explained-with .ensures) (c .before .before .show-record .ensures .done (not-false _ (c .before .if1 .left)))
 
 returns-2 : tie.Need-returns-2 Inv-loop μ-loop
 returns-2 c = went (explaining-end _ _ _ _ _ _ _ _ (c .before .loop .inv) (c .loop-test .left))
@@ -90,7 +90,7 @@ show-records-spec =
     slice-aggregate-show-record
     show-record-requires
     returns
-    counted-requires
+    explained-with-requires
     add-records
     loop-less
     loop-again

@@ -1,8 +1,8 @@
 -- `explain::show_rule`. The line, as the numbers say it.
 use Rattle.files.specs.Calls.{handed-as}
 use Rattle.files.proofs.CallLaws.{done-as}
-use Rattle.explanations.proofs.LineLaws.{wrote-front}
-use Rattle.explain.proofs.AnswerLaws.{rule-shown}
+use Rattle.explanations.proofs.ExplanationLines.{wrote-front}
+use Rattle.explain.proofs.WhyAnswers.{rule-shown}
 use borrow.Author.Needs.{needs}
 use Rattle.explain.proofs.show_rule.Statement.{statement}
 use Rattle.explain.proofs.show_rule.Tie as tie

@@ -2,8 +2,8 @@
 use borrow.Author.Tests.{not-true, not-false}
 use Rattle.files.specs.Calls.{handed-as}
 use Rattle.files.proofs.CallLaws.{failed, done-as}
-use Rattle.explanations.proofs.LineLaws.{wrote-front}
-use Rattle.explain.proofs.RecordLaws.{trace-handed}
+use Rattle.explanations.proofs.ExplanationLines.{wrote-front}
+use Rattle.explain.proofs.ExplainedRecords.{trace-handed}
 use borrow.Author.Needs.{needs}
 use Rattle.explain.proofs.show_trace.Statement.{statement}
 use Rattle.explain.proofs.show_trace.Tie as tie

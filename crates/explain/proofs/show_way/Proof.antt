@@ -4,9 +4,9 @@ use native.Mathlib.Omega.{arith}
 use lib.ListN.{length}
 use Rattle.files.specs.Calls.{handed-as}
 use Rattle.files.proofs.CallLaws.{done-as}
-use Rattle.explanations.proofs.LineLaws.{wrote-front}
+use Rattle.explanations.proofs.ExplanationLines.{wrote-front}
 use Rattle.explain.specs.Runs.{recordLimit}
-use Rattle.explain.proofs.AnswerLaws.{linksLength, way-first, way-shown}
+use Rattle.explain.proofs.WhyAnswers.{linksLength, way-first, way-shown}
 use borrow.Author.Needs.{needs}
 use Rattle.explain.proofs.show_way.Statement.{statement}
 use Rattle.explain.proofs.show_way.Tie as tie

@@ -4,7 +4,7 @@ use mathlib.Core.Path.{_≡_, refl}
 use native.Mathlib.Omega.{arith}
 use lib.ListN.{length, drop}
 use Rattle.lists.specs.Lists.{elem}
-use Rattle.explanations.proofs.LineLaws.{among-here, among-next, among-end}
+use Rattle.explanations.proofs.ExplanationLines.{among-here, among-next, among-end}
 use borrow.Author.Needs.{needs}
 use Rattle.explanations.proofs.is_among.Statement.{statement}
 use Rattle.explanations.proofs.is_among.Tie as tie

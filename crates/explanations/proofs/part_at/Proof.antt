@@ -1,5 +1,5 @@
 -- `explanations::part_at`. A whole part is left, or fewer.
-use Rattle.explanations.proofs.LineLaws.{short-part, whole-part}
+use Rattle.explanations.proofs.ExplanationLines.{short-part, whole-part}
 use borrow.Author.Needs.{needs}
 use Rattle.explanations.proofs.part_at.Statement.{statement}
 use Rattle.explanations.proofs.part_at.Tie as tie

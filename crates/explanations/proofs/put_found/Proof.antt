@@ -8,8 +8,8 @@ use Rattle.fields.specs.Ascii.{ascii}
 use Rattle.fields.proofs.WritingLaws.{wrote-join, wrote-as}
 use Rattle.listing.specs.Text.{decimal}
 use Rattle.listing.specs.Lines.{space}
-use Rattle.listing.proofs.LineLaws.{number-length}
-use Rattle.explanations.proofs.LineLaws.{blocked-text, alert-text}
+use Rattle.listing.proofs.ListingLines.{number-length}
+use Rattle.explanations.proofs.ExplanationLines.{blocked-text, alert-text}
 use borrow.Author.Needs.{needs}
 use Rattle.explanations.proofs.put_found.Statement.{statement}
 use Rattle.explanations.proofs.put_found.Tie as tie

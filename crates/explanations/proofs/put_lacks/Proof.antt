@@ -5,8 +5,8 @@ use lib.ListN.{length}
 use Rattle.fields.specs.Ascii.{ascii}
 use Rattle.fields.proofs.WritingLaws.{wrote-join, wrote-as}
 use Rattle.listing.specs.Lines.{space}
-use Rattle.listing.proofs.LineLaws.{tag-length}
-use Rattle.explanations.proofs.LineLaws.{lacks-text}
+use Rattle.listing.proofs.ListingLines.{tag-length}
+use Rattle.explanations.proofs.ExplanationLines.{lacks-text}
 use borrow.Author.Needs.{needs}
 use Rattle.explanations.proofs.put_lacks.Statement.{statement}
 use Rattle.explanations.proofs.put_lacks.Tie as tie

@@ -2,7 +2,7 @@
 use mathlib.Core.Path.{sym}
 use Rattle.fields.specs.Ascii.{ascii}
 use Rattle.fields.proofs.WritingLaws.{wrote-as}
-use Rattle.explanations.proofs.LineLaws.{own-word, made-word, user-word, run-word}
+use Rattle.explanations.proofs.ExplanationLines.{own-word, made-word, user-word, run-word}
 use borrow.Author.Needs.{needs}
 use Rattle.explanations.proofs.put_origin.Statement.{statement}
 use Rattle.explanations.proofs.put_origin.Tie as tie

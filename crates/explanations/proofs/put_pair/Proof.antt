@@ -3,8 +3,8 @@ use Prim.Native.Nat.{_≤_}
 use native.Mathlib.Omega.{arith}
 use lib.ListN.{length}
 use Rattle.fields.proofs.WritingLaws.{wrote-join, wrote-as}
-use Rattle.listing.proofs.LineLaws.{field-length}
-use Rattle.explanations.proofs.LineLaws.{pair-text}
+use Rattle.listing.proofs.ListingLines.{field-length}
+use Rattle.explanations.proofs.ExplanationLines.{pair-text}
 use borrow.Author.Needs.{needs}
 use Rattle.explanations.proofs.put_pair.Statement.{statement}
 use Rattle.explanations.proofs.put_pair.Tie as tie

@@ -7,7 +7,7 @@ use lib.ListN.{length}
 use Rattle.fields.proofs.WritingLaws.{wrote-join, wrote-as}
 use Rattle.listing.specs.Text.{decimal}
 use Rattle.listing.specs.Lines.{leading}
-use Rattle.explanations.proofs.LineLaws.{pair-length, word-length, own-fields, other-fields}
+use Rattle.explanations.proofs.ExplanationLines.{pair-length, word-length, own-fields, other-fields}
 use borrow.Author.Needs.{needs}
 use Rattle.explanations.proofs.put_rule.Statement.{statement}
 use Rattle.explanations.proofs.put_rule.Tie as tie

@@ -1,7 +1,7 @@
 -- `explanations::put_steps`. Invariant: the steps of the first i numbers are written (`Stepping`).
 use Prim.Native.Nat.{_-_}
 use lib.ListN.{length}
-use Rattle.explanations.proofs.LineLaws.{Stepping, stepping-start, step-room, stepping-next, stepping-end}
+use Rattle.explanations.proofs.ExplanationLines.{Stepping, stepping-start, step-room, stepping-next, stepping-end}
 use borrow.Author.Needs.{needs}
 use Rattle.explanations.proofs.put_steps.Statement.{statement}
 use Rattle.explanations.proofs.put_steps.Tie as tie

@@ -5,8 +5,8 @@ use lib.ListN.{length}
 use Rattle.fields.specs.Ascii.{ascii}
 use Rattle.fields.proofs.WritingLaws.{wrote-join, wrote-as}
 use Rattle.listing.specs.Lines.{space}
-use Rattle.listing.proofs.LineLaws.{number-length}
-use Rattle.explanations.proofs.LineLaws.{total-text}
+use Rattle.listing.proofs.ListingLines.{number-length}
+use Rattle.explanations.proofs.ExplanationLines.{total-text}
 use borrow.Author.Needs.{needs}
 use Rattle.explanations.proofs.put_total.Statement.{statement}
 use Rattle.explanations.proofs.put_total.Tie as tie

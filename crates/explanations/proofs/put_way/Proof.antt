@@ -4,7 +4,7 @@ use native.Mathlib.Omega.{arith}
 use lib.ListN.{length}
 use Rattle.fields.specs.Ascii.{ascii}
 use Rattle.fields.proofs.WritingLaws.{wrote-join, wrote-as}
-use Rattle.explanations.proofs.LineLaws.{way-fields}
+use Rattle.explanations.proofs.ExplanationLines.{way-fields}
 use borrow.Author.Needs.{needs}
 use Rattle.explanations.proofs.put_way.Statement.{statement}
 use Rattle.explanations.proofs.put_way.Tie as tie

@@ -4,17 +4,17 @@ use mathlib.Core.Bool.{true}
 use borrow.Author.Tests.{not-true, not-false}
 use Rattle.answers.specs.declared.Answer.{Answer}
 use Rattle.answers.specs.Answers.{isAlert, receiverOf}
-use Rattle.figures.specs.Counters.{oneAdded, placesWith}
+use Rattle.figures.specs.Counters.{oneAdded, alertedWith}
 use borrow.Author.Needs.{needs}
 use Rattle.figures.proofs.add_alert.Statement.{statement}
 use Rattle.figures.proofs.add_alert.Tie as tie
 
 returns : tie.Need-returns
-unfolding placesWith
+unfolding alertedWith
 returns c = rw (sym (c .before .is-alert .ensures) ∙ not-true _ (c .if1 .taken))
 
 returns-2 : tie.Need-returns-2
-unfolding placesWith
+unfolding alertedWith
 returns-2 c =
     let a = c .before .before .before .before .before .before .before .before .before .before .args in
     let e : isAlert (a .answer) ≡ true =
@@ -22,10 +22,10 @@ returns-2 c =
     ∙ not-false _ (c .before .before .before .before .before .before .before .if1 .left) in
     rw e
     (c .before .before .add-one .ensures
-    ∙ ap (λ (x : Answer). oneAdded (a .places .now) (receiverOf x)) (sym (c .before .before .before .before .before .answer .given .1)))
+    ∙ ap (λ (x : Answer). oneAdded (a .alerted .now) (receiverOf x)) (sym (c .before .before .before .before .before .answer .given .1)))
 
 returns-3 : tie.Need-returns-3
-unfolding placesWith
+unfolding alertedWith
 returns-3 c = rw (c .enum-told .given .1)
 
 pub add-alert-spec : {M : Type 1} → statement M

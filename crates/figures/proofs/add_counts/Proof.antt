@@ -4,7 +4,7 @@ use mathlib.Core.Path.{sym, _∙_}
 use mathlib.Core.Bool.{cond}
 use Rattle.figures.specs.Figures.{countLimit, testAt}
 use Rattle.figures.specs.Counters.{oneMore, countsWith}
-use Rattle.figures.proofs.PartLaws.{Changing, changing-start, counts-next, changing-end}
+use Rattle.figures.proofs.CountedParts.{Changing, changing-start, counts-next, changing-end}
 use borrow.Author.Needs.{needs}
 use Rattle.figures.proofs.add_counts.Statement.{statement}
 use Rattle.figures.proofs.add_counts.Tie as tie

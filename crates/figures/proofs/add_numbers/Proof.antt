@@ -2,7 +2,7 @@
 use Prim.Native.Nat.{_+_, _-_, _%_, _^_}
 use mathlib.Core.Path.{sym, _∙_}
 use lib.ListN.{length, getD}
-use Rattle.figures.proofs.PartLaws.{Changing, changing-start, changing-next, changing-end}
+use Rattle.figures.proofs.CountedParts.{Changing, changing-start, changing-next, changing-end}
 use borrow.Author.Needs.{needs}
 use Rattle.figures.proofs.add_numbers.Statement.{statement}
 use Rattle.figures.proofs.add_numbers.Tie as tie

@@ -2,18 +2,18 @@
 use Prim.Native.Nat.{_-_}
 use native.Mathlib.Omega.{arith}
 use lib.ListN.{length}
-use Rattle.records.proofs.TraceLaws.{record-length}
+use Rattle.records.proofs.TraceRecords.{record-length}
 use Rattle.figures.specs.Counters.{counters}
-use Rattle.figures.proofs.PartLaws.{Counting, counting-start, counting-next, counting-end}
+use Rattle.figures.proofs.CountedParts.{Counting, counting-start, counting-next, counting-end}
 use borrow.Author.Needs.{needs}
 use Rattle.figures.proofs.add_part.Statement.{statement}
 use Rattle.figures.proofs.add_part.Tie as tie
 
 abbrev Inv-loop : tie.InvT-loop
-Inv-loop part session₀ counts₀ places₀ begun records₀ at₀ session counts places records at = Counting part (counters records₀ counts₀ places₀) session₀ session (counters records counts places) at
+Inv-loop part session₀ counts₀ alerted₀ begun records₀ at₀ session counts alerted records at = Counting part (counters records₀ counts₀ alerted₀) session₀ session (counters records counts alerted) at
 
 abbrev μ-loop : tie.MeasureT-loop
-μ-loop part session₀ counts₀ places₀ begun records₀ at₀ session counts places records at = length part - at
+μ-loop part session₀ counts₀ alerted₀ begun records₀ at₀ session counts alerted records at = length part - at
 
 loop-holds : tie.Need-loop-holds Inv-loop μ-loop
 loop-holds c = counting-start _ _ _

@@ -18,11 +18,11 @@ unfolding totalWith countersOf sumOf figuresIn
 returns-2 c =
     let a = c .before .before .before .before .before .before .before .before .before .args in
     let k : length (a .counts .now) ≡ countLimit = search needs in
-    let l : length (a .places .now) ≡ containerLimit = search needs in
+    let l : length (a .alerted .now) ≡ containerLimit = search needs in
     rw (
       sym (c .before .before .before .before .before .before .before .before .too-long .ensures) ∙ c .before .before .before .before .before .before .before .if1 .left,
       c .before .before .before .before .add-numbers .ensures ∙ ap (valuesBelow (λ i. (getD (a .totals .now) i 0 + getD (a .counts .now) i 0) % 2 ^ 32)) k,
-      c .before .add-numbers2 .ensures ∙ ap (valuesBelow (λ i. (getD (a .sums .now) i 0 + getD (a .places .now) i 0) % 2 ^ 32)) l,
+      c .before .add-numbers2 .ensures ∙ ap (valuesBelow (λ i. (getD (a .sums .now) i 0 + getD (a .alerted .now) i 0) % 2 ^ 32)) l,
       c .wrapping-add-u64 .ensures,
     )
 

@@ -6,9 +6,9 @@ use Rattle.listing.specs.Text.{decimal}
 use Rattle.figures.specs.Figures.{countLimit}
 use Rattle.figures.specs.Lines.{countFields}
 use Rattle.listing.specs.Buffer.{fieldLimit}
-use Rattle.listing.proofs.LineLaws.{field-length}
+use Rattle.listing.proofs.ListingLines.{field-length}
 use Rattle.figures.specs.Buffer.{countsText}
-use Rattle.figures.proofs.LineLaws.{Placing, placing-start, fields-room, placing-next, placing-end}
+use Rattle.figures.proofs.FigureLines.{Placing, placing-start, fields-room, placing-next, placing-end}
 use borrow.Author.Needs.{needs}
 use Rattle.figures.proofs.put_counts.Statement.{statement}
 use Rattle.figures.proofs.put_counts.Tie as tie

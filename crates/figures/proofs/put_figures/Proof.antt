@@ -5,7 +5,7 @@ use lib.ListN.{length, getD, length-set}
 use Rattle.listing.specs.Lines.{newline}
 use Rattle.fields.proofs.WritingLaws.{wrote-join, wrote-byte, wrote-as}
 use Rattle.figures.specs.Counters.{counters}
-use Rattle.figures.proofs.LineLaws.{counts-text-length, rate-length, places-text-length, figures-text}
+use Rattle.figures.proofs.FigureLines.{counts-text-length, rate-length, alerted-text-length, figures-text}
 use borrow.Author.Needs.{needs}
 use Rattle.figures.proofs.put_figures.Statement.{statement}
 use Rattle.figures.proofs.put_figures.Tie as tie
@@ -13,8 +13,8 @@ use Rattle.figures.proofs.put_figures.Tie as tie
 put-rate-requires : tie.Need-put-rate-requires
 put-rate-requires c κs = omega (arith, counts-text-length (c .before .before .before .before .before .before .before .before .args .counts .now), c .before .before .before .before .before .put-counts .ensures .ends)
 
-put-places-requires : tie.Need-put-places-requires
-put-places-requires c κs =
+put-alerted-requires : tie.Need-put-alerted-requires
+put-alerted-requires c κs =
     let n = c .before .before .before .before .before .before .before .before .before .before .before .before .args .counts .now in
     omega (
       arith,
@@ -25,7 +25,7 @@ put-places-requires c κs =
     )
 
 -- there is room for byte 10
-room : (c : tie.After-slice-known4) → c .before .before .put-places .result < length (c .before .before .put-places .last .0)
+room : (c : tie.After-slice-known4) → c .before .before .put-alerted .result < length (c .before .before .put-alerted .last .0)
 room c =
     let a = c .before .before .before .before .before .before .before .before .before .before .before .before .before .before .before .args in
     let n = a .counts .now in
@@ -33,10 +33,10 @@ room c =
       arith,
       counts-text-length n,
       rate-length (getD n 1 0) (getD n 0 0),
-      places-text-length (a .places .now),
+      alerted-text-length (a .alerted .now),
       c .before .before .before .before .before .before .before .before .before .before .before .before .put-counts .ensures .ends,
       c .before .before .before .before .before .before .put-rate .ensures .ends,
-      c .before .before .put-places .ensures .ends,
+      c .before .before .put-alerted .ensures .ends,
     )
 
 slice-write-out : tie.Need-slice-write-out
@@ -46,14 +46,14 @@ add-result : tie.Need-add-result
 add-result c = let h = room c in omega (arith, h)
 
 same-length : tie.Need-same-length
-same-length c = let p = c .before .before .put-places in omega (arith, length-set (p .last .0) (p .result) newline)
+same-length c = let p = c .before .before .put-alerted in omega (arith, length-set (p .last .0) (p .result) newline)
 
 returns : tie.Need-returns
 returns c records =
     let a = c .before .before .before .before .before .before .before .before .before .before .before .before .before .before .before .args in
-    let p = c .before .before .put-places in
+    let p = c .before .before .put-alerted in
     let h : a .at ≤ length (a .out .now) = omega arith in
-    wrote-as (figures-text (counters records (a .counts .now) (a .places .now)))
+    wrote-as (figures-text (counters records (a .counts .now) (a .alerted .now)))
     (wrote-join h (wrote-join h (wrote-join h (c .before .before .before .before .before .before .before .before .before .before .before .before .put-counts .ensures) (c .before .before .before .before .before .before .put-rate .ensures)) (p .ensures)) (wrote-byte newline (p .result) (p .last .0) (room c)))
 
 pub put-figures-spec : {M : Type 1} → statement M
@@ -64,7 +64,7 @@ put-figures-spec =
     (λ c. search needs)
     (λ c. search needs)
     put-rate-requires
-    put-places-requires
+    put-alerted-requires
     slice-write-out
     add-result
     same-length

@@ -3,8 +3,8 @@ use Prim.Native.Nat.{_*_, _/_, _≤_}
 use native.Mathlib.Omega.{arith}
 use lib.ListN.{length}
 use Rattle.fields.specs.Ascii.{ascii}
-use Rattle.listing.proofs.LineLaws.{field-length}
-use Rattle.figures.proofs.LineLaws.{rate-none, rate-some}
+use Rattle.listing.proofs.ListingLines.{field-length}
+use Rattle.figures.proofs.FigureLines.{rate-none, rate-some}
 use borrow.Author.Needs.{needs}
 use Rattle.figures.proofs.put_rate.Statement.{statement}
 use Rattle.figures.proofs.put_rate.Tie as tie

@@ -5,7 +5,7 @@ use lib.ListN.{length}
 use Rattle.answers.specs.Refusals.{traceLength}
 use Rattle.listing.specs.Lines.{newline}
 use Rattle.fields.proofs.WritingLaws.{wrote-join, wrote-byte}
-use Rattle.listing.proofs.LineLaws.{field-length}
+use Rattle.listing.proofs.ListingLines.{field-length}
 use borrow.Author.Needs.{needs}
 use Rattle.figures.proofs.put_too_long.Statement.{statement}
 use Rattle.figures.proofs.put_too_long.Tie as tie

@@ -1,5 +1,5 @@
 -- `figures::trace_name`. The two last digits, and a text (`name-text`).
-use Rattle.figures.proofs.LineLaws.{name-text}
+use Rattle.figures.proofs.FigureLines.{name-text}
 use borrow.Author.Needs.{needs}
 use Rattle.figures.proofs.trace_name.Statement.{statement}
 use Rattle.figures.proofs.trace_name.Tie as tie

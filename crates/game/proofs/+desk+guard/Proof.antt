@@ -11,7 +11,7 @@ use Rattle.lists.proofs.Bools.{passes-test, fails-test}
 use Rattle.lists.proofs.Below.{Passing, passing-start, passing-next, Failing, failing-start, failing-next}
 use Rattle.game.specs.Limits.{rightCount}
 use Rattle.game.specs.Search.{additionWins, Searched}
-use Rattle.game.proofs.PositionLaws.{left-searched, withdrawn-searched}
+use Rattle.game.proofs.GamePositions.{left-searched, withdrawn-searched}
 use Rattle.game.proofs.MoveSetLaws.{set-has, set-lacks}
 use Rattle.game.proofs.Turns.{replyLoses, guard-over, guard-passes, guard-spent, guard-found, guard-none, reply-barred, reply-judged}
 use Rattle.game.proofs.DeskLaws.{set-reaches, last-round, set-searched, addition-judged, addition-barred, desk-found, desk-none}

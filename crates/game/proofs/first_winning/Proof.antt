@@ -5,7 +5,7 @@ use borrow.Author.Needs.{needs}
 use Rattle.lists.proofs.Below.{Failing, failing-start, failing-next}
 use Rattle.game.specs.Limits.{moveCount}
 use Rattle.game.specs.Games.{moveWins}
-use Rattle.game.proofs.FirstLaws.{first-found, first-none}
+use Rattle.game.proofs.FirstMoves.{first-found, first-none}
 use Rattle.game.proofs.first_winning.Statement.{statement}
 use Rattle.game.proofs.first_winning.Tie as tie
 

@@ -1,6 +1,6 @@
 -- The bit of the right, or the pass.
 use borrow.Author.Needs.{needs}
-use Rattle.game.proofs.PositionLaws.{legal-right, legal-pass}
+use Rattle.game.proofs.GamePositions.{legal-right, legal-pass}
 use Rattle.game.proofs.legal.Statement.{statement}
 use Rattle.game.proofs.legal.Tie as tie
 

@@ -1,6 +1,6 @@
 -- A move that adds no holder wins as an idle one, any other through the guard's replies.
 use borrow.Author.Needs.{needs}
-use Rattle.game.proofs.FirstLaws.{set-below, set-adds, first-barred, first-idle, first-reaches, first-searched, first-judged}
+use Rattle.game.proofs.FirstMoves.{set-below, set-adds, first-barred, first-idle, first-reaches, first-searched, first-judged}
 use Rattle.game.proofs.move_wins.Statement.{statement}
 use Rattle.game.proofs.move_wins.Tie as tie
 

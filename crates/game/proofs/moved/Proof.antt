@@ -1,6 +1,6 @@
 -- A move that adds a holder sets its bit.
 use borrow.Author.Needs.{needs}
-use Rattle.game.proofs.PositionLaws.{read-made, append-made}
+use Rattle.game.proofs.GamePositions.{read-made, append-made}
 use Rattle.game.proofs.moved.Statement.{statement}
 use Rattle.game.proofs.moved.Tie as tie
 

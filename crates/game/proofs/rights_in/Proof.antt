@@ -3,7 +3,7 @@ use Prim.Native.Nat.{_-_}
 use native.Mathlib.Omega.{arith}
 use lib.ListN.{length}
 use borrow.Author.Needs.{needs}
-use Rattle.game.proofs.RightLaws.{Gathering, gathering-start, gathering-next, gathering-end}
+use Rattle.game.proofs.RightSets.{Gathering, gathering-start, gathering-next, gathering-end}
 use Rattle.game.proofs.rights_in.Statement.{statement}
 use Rattle.game.proofs.rights_in.Tie as tie
 

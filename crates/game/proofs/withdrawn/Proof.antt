@@ -1,6 +1,6 @@
 -- A withdrawal takes off one bit.
 use borrow.Author.Needs.{needs}
-use Rattle.game.proofs.PositionLaws.{right-off}
+use Rattle.game.proofs.GamePositions.{right-off}
 use Rattle.game.proofs.withdrawn.Statement.{statement}
 use Rattle.game.proofs.withdrawn.Tie as tie
 

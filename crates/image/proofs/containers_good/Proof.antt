@@ -1,5 +1,5 @@
 -- The records passed are good.
-use Rattle.fields.proofs.RecordLaws.{Scanned, scan-start, scan-next, scan-stop, scan-end}
+use Rattle.fields.proofs.SectionRecords.{Scanned, scan-start, scan-next, scan-stop, scan-end}
 use Rattle.lists.proofs.Bools.{passes-test, fails-test}
 use Rattle.image.specs.Policy.{containerGood}
 use Rattle.image.specs.Limits.{containerSize}

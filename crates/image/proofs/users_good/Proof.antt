@@ -1,5 +1,5 @@
 -- The numbers passed name a rule.
-use Rattle.fields.proofs.RecordLaws.{Scanned, scan-start, scan-next, scan-stop, scan-end}
+use Rattle.fields.proofs.SectionRecords.{Scanned, scan-start, scan-next, scan-stop, scan-end}
 use Rattle.lists.proofs.Bools.{passes-test, fails-test}
 use Rattle.image.specs.Policy.{named}
 use Rattle.fields.specs.Bytes.{numberIn, field}

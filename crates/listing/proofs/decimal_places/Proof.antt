@@ -4,7 +4,7 @@ use native.Mathlib.Omega.{arith}
 use mathlib.Core.Path.{_≡_, refl, ap}
 use lib.ListN.{length}
 use Rattle.listing.specs.Text.{decimalLimit, decimal}
-use Rattle.listing.proofs.TextLaws.{decimal-below, decimal-length, decimal-longer}
+use Rattle.listing.proofs.NumberTexts.{decimal-below, decimal-length, decimal-longer}
 use borrow.Author.Needs.{needs}
 use Rattle.listing.proofs.decimal_places.Statement.{statement}
 use Rattle.listing.proofs.decimal_places.Tie as tie

@@ -3,7 +3,7 @@ use mathlib.Core.Path.{refl}
 use Rattle.fields.specs.Ascii.{ascii}
 use Rattle.fields.specs.Bytes.{bytesOf}
 use Rattle.listing.specs.Lines.{operationWord}
-use Rattle.listing.proofs.LineLaws.{other-word}
+use Rattle.listing.proofs.ListingLines.{other-word}
 use borrow.Author.Needs.{needs}
 use Rattle.listing.proofs.operation_word.Statement.{statement}
 use Rattle.listing.proofs.operation_word.Tie as tie

@@ -6,7 +6,7 @@ use lib.ListN.{length}
 use Rattle.listing.specs.Text.{decimal}
 use Rattle.listing.specs.Lines.{space, operationWord}
 use Rattle.listing.proofs.BufferLaws.{spare-join, spare-as}
-use Rattle.listing.proofs.LineLaws.{access-text, number-length, number-least, operation-length}
+use Rattle.listing.proofs.ListingLines.{access-text, number-length, number-least, operation-length}
 use borrow.Author.Needs.{needs}
 use Rattle.listing.proofs.put_access.Statement.{statement}
 use Rattle.listing.proofs.put_access.Tie as tie

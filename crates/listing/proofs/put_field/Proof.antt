@@ -4,7 +4,7 @@ use native.Mathlib.Omega.{arith}
 use lib.ListN.{length, length-set}
 use Rattle.listing.specs.Lines.{space}
 use Rattle.fields.proofs.WritingLaws.{wrote-join, wrote-byte, wrote-as}
-use Rattle.listing.proofs.LineLaws.{field-text}
+use Rattle.listing.proofs.ListingLines.{field-text}
 use borrow.Author.Needs.{needs}
 use Rattle.listing.proofs.put_field.Statement.{statement}
 use Rattle.listing.proofs.put_field.Tie as tie

@@ -5,7 +5,7 @@ use mathlib.Core.Path.{_≡_, ap, _∙_}
 use lib.ListN.{length, take}
 use Rattle.listing.specs.Text.{digits}
 use Rattle.fields.specs.Bytes.{bytesOf}
-use Rattle.listing.proofs.TextLaws.{digits-length, group-digits}
+use Rattle.listing.proofs.NumberTexts.{digits-length, group-digits}
 use Rattle.fields.proofs.ByteLaws.{bytes-length, bytes-first}
 use Rattle.listing.proofs.BufferLaws.{spare-front}
 use borrow.Author.Needs.{needs}

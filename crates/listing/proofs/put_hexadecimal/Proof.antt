@@ -5,7 +5,7 @@ use mathlib.Core.Path.{ap₂, _∙_}
 use mathlib.Core.List.{List, _++_}
 use lib.ListN.{length}
 use Rattle.fields.proofs.ByteLaws.{bytes-length}
-use Rattle.listing.proofs.TextLaws.{hexadecimal-halves}
+use Rattle.listing.proofs.NumberTexts.{hexadecimal-halves}
 use Rattle.fields.proofs.WritingLaws.{wrote-join, wrote-as}
 use borrow.Author.Needs.{needs}
 use Rattle.listing.proofs.put_hexadecimal.Statement.{statement}

@@ -7,7 +7,7 @@ use lib.ListN.{length, set, length-set}
 use Rattle.fields.specs.Writing.{Wrote}
 use Rattle.fields.proofs.WritingLaws.{wrote-join, wrote-byte, wrote-as}
 use Rattle.listing.specs.Lines.{newline}
-use Rattle.listing.proofs.TextLaws.{zeroCode, low-digit}
+use Rattle.listing.proofs.NumberTexts.{zeroCode, low-digit}
 use borrow.Author.Needs.{needs}
 use Rattle.listing.proofs.put_last_digit.Statement.{statement}
 use Rattle.listing.proofs.put_last_digit.Tie as tie

@@ -4,7 +4,7 @@ use native.Mathlib.Omega.{arith}
 use mathlib.Core.Path.{_≡_, sym, ap, _∙_}
 use lib.ListN.{length}
 use Rattle.listing.specs.Text.{digits}
-use Rattle.listing.proofs.TextLaws.{digit-low, decimal-length, decimal-digits}
+use Rattle.listing.proofs.NumberTexts.{digit-low, decimal-length, decimal-digits}
 use Rattle.fields.proofs.WritingLaws.{wrote-as}
 use Rattle.listing.proofs.Spelling.{Spelling, spelling-start, spelling-next, spelling-end}
 use borrow.Author.Needs.{needs}

@@ -2,7 +2,7 @@
 use Prim.Native.Nat.{_≤_, _<_}
 use native.Mathlib.Omega.{arith}
 use lib.ListN.{length}
-use Rattle.listing.proofs.TextLaws.{decimal-length}
+use Rattle.listing.proofs.NumberTexts.{decimal-length}
 use Rattle.fields.proofs.WritingLaws.{wrote-join, wrote-byte}
 use borrow.Author.Needs.{needs}
 use Rattle.listing.proofs.put_number.Statement.{statement}

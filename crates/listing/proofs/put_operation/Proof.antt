@@ -5,7 +5,7 @@ use mathlib.Core.List.{List, [], _∷_, _++_}
 use Prim.Native.Nat.{ℕ}
 use Rattle.listing.specs.Lines.{space}
 use Rattle.listing.proofs.BufferLaws.{spare-as}
-use Rattle.listing.proofs.LineLaws.{operation-bounds}
+use Rattle.listing.proofs.ListingLines.{operation-bounds}
 use borrow.Author.Needs.{needs}
 use Rattle.listing.proofs.put_operation.Statement.{statement}
 use Rattle.listing.proofs.put_operation.Tie as tie

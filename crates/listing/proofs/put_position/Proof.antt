@@ -7,7 +7,7 @@ use lib.ListN.{length, set, length-set}
 use Rattle.fields.proofs.WritingLaws.{wrote-join, wrote-byte, wrote-as, wrote-length}
 use Rattle.listing.specs.Text.{digit}
 use Rattle.listing.specs.Lines.{newline}
-use Rattle.listing.proofs.TextLaws.{zeroCode, digit-low, digits-length, decimal-below, decimal-two, decimal-three}
+use Rattle.listing.proofs.NumberTexts.{zeroCode, digit-low, digits-length, decimal-below, decimal-two, decimal-three}
 use Rattle.listing.proofs.BufferLaws.{spare-none, spare-byte, spare-as}
 use borrow.Author.Needs.{needs}
 use Rattle.listing.proofs.put_position.Statement.{statement}

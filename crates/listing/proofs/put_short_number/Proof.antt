@@ -4,7 +4,7 @@ use native.Mathlib.Omega.{arith}
 use lib.ListN.{length}
 use Rattle.listing.specs.Text.{decimal}
 use Rattle.fields.specs.Bytes.{bytesOf}
-use Rattle.listing.proofs.TextLaws.{decimal-some, short-number}
+use Rattle.listing.proofs.NumberTexts.{decimal-some, short-number}
 use Rattle.fields.proofs.ByteLaws.{bytes-length}
 use Rattle.listing.proofs.BufferLaws.{spare-front}
 use borrow.Author.Needs.{needs}

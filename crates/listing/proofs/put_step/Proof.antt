@@ -6,7 +6,7 @@ use lib.ListN.{length}
 use Rattle.listing.specs.Text.{decimal}
 use Rattle.listing.specs.Lines.{spaced, operationWord}
 use Rattle.listing.proofs.BufferLaws.{wrote-spare, spare-none, spare-join, spare-as}
-use Rattle.listing.proofs.LineLaws.{step-text, access-length, answer-least}
+use Rattle.listing.proofs.ListingLines.{step-text, access-length, answer-least}
 use borrow.Author.Needs.{needs}
 use Rattle.listing.proofs.put_step.Statement.{statement}
 use Rattle.listing.proofs.put_step.Tie as tie

@@ -3,7 +3,7 @@ use Prim.Native.Nat.{_<_}
 use native.Mathlib.Omega.{arith}
 use lib.ListN.{length}
 use Rattle.listing.specs.Lines.{space}
-use Rattle.listing.proofs.TextLaws.{decimal-length}
+use Rattle.listing.proofs.NumberTexts.{decimal-length}
 use Rattle.listing.proofs.BufferLaws.{spare-byte}
 use borrow.Author.Needs.{needs}
 use Rattle.listing.proofs.put_step_number.Statement.{statement}

@@ -3,7 +3,7 @@ use Prim.Native.Nat.{_≤_, _<_}
 use native.Mathlib.Omega.{arith}
 use lib.ListN.{length}
 use Rattle.listing.specs.Lines.{space}
-use Rattle.listing.proofs.TextLaws.{hexadecimal-length}
+use Rattle.listing.proofs.NumberTexts.{hexadecimal-length}
 use Rattle.fields.proofs.WritingLaws.{wrote-join, wrote-byte}
 use borrow.Author.Needs.{needs}
 use Rattle.listing.proofs.put_tag.Statement.{statement}

@@ -2,7 +2,7 @@
 use Prim.Native.Nat.{_/_, _^_, _≤_, _<_}
 use native.Mathlib.Omega.{arith}
 use Rattle.listing.specs.Text.{decimalLimit}
-use Rattle.listing.proofs.TextLaws.{digits-length, decimal-few, decimal-thousands}
+use Rattle.listing.proofs.NumberTexts.{digits-length, decimal-few, decimal-thousands}
 use Rattle.listing.proofs.BufferLaws.{spare-join, spare-as}
 use borrow.Author.Needs.{needs}
 use Rattle.listing.proofs.put_thousands.Statement.{statement}

@@ -5,7 +5,7 @@ use lib.ListN.{length}
 use Rattle.fields.specs.Ascii.{ascii}
 use Rattle.listing.specs.Lines.{space}
 use Rattle.fields.proofs.WritingLaws.{wrote-join, wrote-as}
-use Rattle.listing.proofs.LineLaws.{total-text, number-length}
+use Rattle.listing.proofs.ListingLines.{total-text, number-length}
 use borrow.Author.Needs.{needs}
 use Rattle.listing.proofs.put_total.Statement.{statement}
 use Rattle.listing.proofs.put_total.Tie as tie

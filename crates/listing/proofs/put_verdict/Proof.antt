@@ -8,7 +8,7 @@ use Rattle.listing.specs.Text.{decimal, hexadecimal}
 use Rattle.listing.specs.Lines.{space, verdictWord, answerWord, answerFields}
 use Rattle.listing.specs.Buffer.{WroteWithSpare}
 use Rattle.listing.proofs.BufferLaws.{wrote-spare, spare-none, spare-join, spare-as}
-use Rattle.listing.proofs.LineLaws.{verdict-bounds, verdict-length, verdict-text, number-length, number-least, tag-length}
+use Rattle.listing.proofs.ListingLines.{verdict-bounds, verdict-length, verdict-text, number-length, number-least, tag-length}
 use borrow.Author.Needs.{needs}
 use Rattle.listing.proofs.put_verdict.Statement.{statement}
 use Rattle.listing.proofs.put_verdict.Tie as tie

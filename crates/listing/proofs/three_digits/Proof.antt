@@ -1,5 +1,5 @@
 -- The law of three digits is the contract.
-use Rattle.listing.proofs.TextLaws.{three-digits}
+use Rattle.listing.proofs.NumberTexts.{three-digits}
 use borrow.Author.Needs.{needs}
 use Rattle.listing.proofs.three_digits.Statement.{statement}
 use Rattle.listing.proofs.three_digits.Tie as tie

@@ -1,6 +1,6 @@
 -- By the number's size.
 use native.Mathlib.Omega.{arith}
-use Rattle.listing.proofs.TextLaws.{length-one, length-two, length-three}
+use Rattle.listing.proofs.NumberTexts.{length-one, length-two, length-three}
 use Rattle.listing.proofs.unused_digits.Statement.{statement}
 use Rattle.listing.proofs.unused_digits.Tie as tie
 

@@ -2,7 +2,7 @@
 use borrow.Author.Needs.{needs}
 use Prim.Native.Nat.{_-_}
 use native.Mathlib.Omega.{arith}
-use Rattle.matrix.proofs.RowLaws.{Closing, closing-start, closing-next, closing-end}
+use Rattle.matrix.proofs.RowLoops.{Closing, closing-start, closing-next, closing-end}
 use Rattle.matrix.proofs.close.Statement.{statement}
 use Rattle.matrix.proofs.close.Tie as tie
 

@@ -3,7 +3,7 @@ use borrow.Author.Needs.{needs}
 use Prim.Native.Nat.{_-_}
 use native.Mathlib.Omega.{arith}
 use lib.Count.{ones-le}
-use Rattle.matrix.proofs.VerdictLaws.{Counting, counting-start, counting-next, counting-end}
+use Rattle.matrix.proofs.VerdictLoops.{Counting, counting-start, counting-next, counting-end}
 use Rattle.matrix.proofs.count_flows.Statement.{statement}
 use Rattle.matrix.proofs.count_flows.Tie as tie
 

@@ -1,7 +1,7 @@
 -- The invariant: the rows before a spell the granted flows.
 use borrow.Author.Needs.{needs}
 use Prim.Native.Nat.{_-_}
-use Rattle.matrix.proofs.RowLaws.{Stored, GrantedAt, stored-start, stored-next, granted-is, granted-end}
+use Rattle.matrix.proofs.RowLoops.{Stored, GrantedAt, stored-start, stored-next, granted-is, granted-end}
 use Rattle.matrix.proofs.fill_granted.Statement.{statement}
 use Rattle.matrix.proofs.fill_granted.Tie as tie
 

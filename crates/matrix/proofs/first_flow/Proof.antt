@@ -1,7 +1,7 @@
 -- The invariants: no source before a, and no target before b, has a flow that is not granted.
 use borrow.Author.Needs.{needs}
 use Prim.Native.Nat.{_-_}
-use Rattle.matrix.proofs.VerdictLaws.{Searching, SearchingRow, searching-start, row-start, row-next, searching-next, searching-end, searching-found}
+use Rattle.matrix.proofs.VerdictLoops.{Searching, SearchingRow, searching-start, row-start, row-next, searching-next, searching-end, searching-found}
 use Rattle.matrix.proofs.first_flow.Statement.{statement}
 use Rattle.matrix.proofs.first_flow.Tie as tie
 

@@ -2,7 +2,7 @@
 use borrow.Author.Needs.{needs}
 use Prim.Native.Nat.{_-_}
 use lib.ListN.{length}
-use Rattle.matrix.proofs.RowLaws.{Granting, granting-start, granting-take, granting-skip, granting-end}
+use Rattle.matrix.proofs.RowLoops.{Granting, granting-start, granting-take, granting-skip, granting-end}
 use Rattle.matrix.proofs.granted_row.Statement.{statement}
 use Rattle.matrix.proofs.granted_row.Tie as tie
 

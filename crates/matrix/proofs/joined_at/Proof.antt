@@ -1,6 +1,6 @@
 -- The test is bit k of the row.
 use Rattle.matrix.specs.Rows.{joinedAt}
-use Rattle.matrix.proofs.BitLaws.{has-is, has-not}
+use Rattle.matrix.proofs.RowBits.{has-is, has-not}
 use borrow.Author.Needs.{needs}
 use Rattle.matrix.proofs.joined_at.Statement.{statement}
 use Rattle.matrix.proofs.joined_at.Tie as tie

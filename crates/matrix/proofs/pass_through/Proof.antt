@@ -1,7 +1,7 @@
 -- The invariant: the rows before a have taken in row k.
 use borrow.Author.Needs.{needs}
 use Prim.Native.Nat.{_-_}
-use Rattle.matrix.proofs.RowLaws.{Stored, JoinedAt, stored-start, joined-next, joined-end}
+use Rattle.matrix.proofs.RowLoops.{Stored, JoinedAt, stored-start, joined-next, joined-end}
 use Rattle.matrix.proofs.pass_through.Statement.{statement}
 use Rattle.matrix.proofs.pass_through.Tie as tie
 

@@ -3,7 +3,7 @@ use borrow.Author.Needs.{needs}
 use Prim.Native.Nat.{_-_}
 use lib.ListN.{length}
 use native.Mathlib.Omega.{arith}
-use Rattle.matrix.proofs.RowLaws.{Checking, checking-start, checking-next, checking-bad, checking-end}
+use Rattle.matrix.proofs.RowLoops.{Checking, checking-start, checking-next, checking-bad, checking-end}
 use Rattle.matrix.proofs.rows_within.Statement.{statement}
 use Rattle.matrix.proofs.rows_within.Tie as tie
 

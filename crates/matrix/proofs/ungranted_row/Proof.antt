@@ -2,7 +2,7 @@
 use Prim.Native.Nat.{_<_, _^_}
 use native.Mathlib.Omega.{arith}
 use lib.ListN.{getD}
-use Rattle.matrix.proofs.VerdictLaws.{row-without}
+use Rattle.matrix.proofs.VerdictLoops.{row-without}
 use borrow.Author.Needs.{needs}
 use Rattle.matrix.proofs.ungranted_row.Statement.{statement}
 use Rattle.matrix.proofs.ungranted_row.Tie as tie

@@ -5,7 +5,7 @@ use mathlib.Core.Path.{refl}
 use lib.ListN.{length}
 use borrow.Author.Needs.{needs}
 use Rattle.lists.proofs.Bools.{passes-test, fails-test}
-use Rattle.records.proofs.TraceLaws.{record-length}
+use Rattle.records.proofs.TraceRecords.{record-length}
 use Rattle.monitor.proofs.StopLoop.{Running, run-9, run-start, run-next, run-stops, run-end}
 use Rattle.monitor.proofs.run.Statement.{statement}
 use Rattle.monitor.proofs.run.Tie as tie

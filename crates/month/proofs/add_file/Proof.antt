@@ -1,5 +1,5 @@
 -- `month::add_file`. Invariant: what is read is counted and not too long (`Counting`); the turns count down.
-use Rattle.month.proofs.RunLaws.{Counting, counting-start, counting-next, counted-all, counted-front}
+use Rattle.month.proofs.CountedMonth.{Counting, counting-start, counting-next, counted-all, counted-front}
 use Rattle.files.proofs.CallLaws.{went, failed}
 use mathlib.Core.Path.{refl, sym, _∙_}
 use lib.ListN.{length-take}
@@ -9,11 +9,11 @@ use Rattle.month.proofs.add_file.Statement.{statement}
 use Rattle.month.proofs.add_file.Tie as tie
 
 abbrev Inv-loop : tie.InvT-loop
-Inv-loop fd name session₀ counts₀ places₀ part₀ records₀ place₀ turns₀ session counts places part records place turns =
-    Counting name session₀ places₀ session part records counts places place
+Inv-loop fd name session₀ counts₀ alerted₀ part₀ records₀ place₀ turns₀ session counts alerted part records place turns =
+    Counting name session₀ alerted₀ session part records counts alerted place
 
 abbrev μ-loop : tie.MeasureT-loop
-μ-loop fd name session₀ counts₀ places₀ part₀ records₀ place₀ turns₀ session counts places part records place turns = turns
+μ-loop fd name session₀ counts₀ alerted₀ part₀ records₀ place₀ turns₀ session counts alerted part records place turns = turns
 
 loop-holds : tie.Need-loop-holds Inv-loop μ-loop
 loop-holds c = counting-start _ _ _ _ _ (c .before .before .before .pre .1) (c .before .before .before .pre .2) refl

@@ -1,5 +1,5 @@
 -- `month::show_all`. The policy is the bytes that were read.
-use Rattle.month.proofs.RunLaws.{shown-refused, shown-month}
+use Rattle.month.proofs.CountedMonth.{shown-refused, shown-month}
 use Rattle.files.proofs.CallLaws.{failed, done-as}
 use Rattle.fields.specs.Ascii.{ascii}
 use borrow.Author.Tests.{not-true, not-false}

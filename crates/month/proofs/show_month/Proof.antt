@@ -1,5 +1,5 @@
 -- `month::show_month`. The lines and the total, one behind the other.
-use Rattle.month.proofs.RunLaws.{month-of}
+use Rattle.month.proofs.CountedMonth.{month-of}
 use Rattle.files.specs.Calls.{handed-as}
 use Rattle.files.proofs.CallLaws.{failed, done-as}
 use Rattle.listing.proofs.Theorems.{listed-front}

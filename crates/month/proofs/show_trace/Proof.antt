@@ -1,5 +1,5 @@
 -- `month::show_trace`. A new session, its counts, its line, its sum.
-use Rattle.month.proofs.RunLaws.{trace-shown}
+use Rattle.month.proofs.CountedMonth.{trace-shown}
 use Rattle.files.specs.Calls.{handed-as}
 use Rattle.files.proofs.CallLaws.{told-as, done-as}
 use Rattle.listing.proofs.Theorems.{listed-front}

@@ -1,5 +1,5 @@
 -- `month::show_traces`. Invariant: so many traces are shown (`Showing`); the names count up.
-use Rattle.month.proofs.RunLaws.{Showing, showing-start, showing-next, shown-missing, shown-limit}
+use Rattle.month.proofs.CountedMonth.{Showing, showing-start, showing-next, shown-missing, shown-limit}
 use Rattle.files.proofs.CallLaws.{went, failed, told-as, opened-as, missing-as, failed-open}
 use Rattle.figures.specs.Counters.{counters}
 use Rattle.figures.specs.Months.{traceLimit}

@@ -1,5 +1,5 @@
 -- The two tests, one after the other, are those of `alike`.
-use Rattle.normaliser.specs.Keys.{alike}
+use Rattle.normaliser.specs.Hashes.{alike}
 use borrow.Author.Tests.{eq-eqb, ne-eqb}
 use borrow.Author.Needs.{needs}
 use Rattle.normaliser.proofs.alike.Statement.{statement}

@@ -4,7 +4,7 @@ use native.Mathlib.Omega.{arith}
 use mathlib.Core.Path.{sym, _∙_}
 use lib.ListN.{getD}
 use Rattle.normaliser.proofs.FirstEqual.{words-part}
-use Rattle.normaliser.proofs.KeyLaws.{keyed-new, keyed-old, class-new, class-old, class-sought}
+use Rattle.normaliser.proofs.HashLaws.{hashed-new, hashed-old, class-new, class-old, class-sought}
 use borrow.Author.Needs.{needs}
 use Rattle.normaliser.proofs.class_of.Statement.{statement}
 use Rattle.normaliser.proofs.class_of.Tie as tie
@@ -19,10 +19,10 @@ returns : tie.Need-returns
 returns c =
     let start = c .before .before .before .before .before .before .before .before .before in
     let slot = c .before .before .before .before .slot in (
-      class-new (start .args .forms .now) (start .args .keys .now) (start .args .k) (slot .result) (start .pre .2) (slot .ensures .0)
+      class-new (start .args .forms .now) (start .args .slots .now) (start .args .k) (slot .result) (start .pre .2) (slot .ensures .0)
           (slot .ensures .1) (c .before .before .if1 .taken) (start .pre .0) _ (rw (words-part (start .args .forms .now) (start .args .k)) at (c .class-by .ensures)),
-      keyed-new
-          (start .args .forms .now) (start .args .keys .now) (start .args .k) (slot .result) (start .pre .2) (slot .ensures .0)
+      hashed-new
+          (start .args .forms .now) (start .args .slots .now) (start .args .k) (slot .result) (start .pre .2) (slot .ensures .0)
           (slot .ensures .1) (c .before .before .if1 .taken),
     )
 
@@ -63,14 +63,14 @@ cast-result : tie.Need-cast-result
 cast-result c =
     let start = c .before .before .before .before .before .before .before .before .before .before .before .before in
     let slot = c .before .before .before .before .before .before .before .slot in
-    omega (arith, c .shared-slice-known3 .given (getD (start .args .keys .now) (slot .result) 0 - 1))
+    omega (arith, c .shared-slice-known3 .given (getD (start .args .slots .now) (slot .result) 0 - 1))
 
 returns-2 : tie.Need-returns-2
 returns-2 c =
     let start = c .before .before .before .before .before .before .before .before .before .before .before .before in
     let slot = c .before .before .before .before .before .before .before .slot in
     let if1 = c .before .before .before .before .before .if1 in (
-      class-old (start .args .forms .now) (start .args .classes .now) (getD (start .args .keys .now) (slot .result) 0 - 1) (start .args .k) (start .pre .1) (omega (
+      class-old (start .args .forms .now) (start .args .classes .now) (getD (start .args .slots .now) (slot .result) 0 - 1) (start .args .k) (start .pre .1) (omega (
         arith,
         start .pre .2 .inside
             (slot .result),
@@ -78,10 +78,10 @@ returns-2 c =
         if1 .left,
       )) (sym (rw (
         words-part (start .args .forms .now) (start .args .k),
-        words-part (start .args .forms .now) (getD (start .args .keys .now)
+        words-part (start .args .forms .now) (getD (start .args .slots .now)
             (slot .result) 0 - 1),
       ) at (sym (c .before .before .same .ensures) ∙ c .before .if2 .taken))),
-      keyed-old (start .args .forms .now) (start .args .keys .now) (start .args .k)
+      hashed-old (start .args .forms .now) (start .args .slots .now) (start .args .k)
           (slot .result) (start .pre .2) (slot .ensures .0) (if1 .left),
     )
 
@@ -91,8 +91,8 @@ returns-3 c =
     let slot = c .before .before .before .before .before .before .before .before .before .slot in
     let if1 = c .before .before .before .before .before .before .before .if1 in (
       class-sought (start .args .forms .now) (start .args .k) _ _ (rw (words-part (start .args .forms .now) (start .args .k)) at (c .class-by2 .ensures)) (c .before .first-same .ensures),
-      keyed-old
-          (start .args .forms .now) (start .args .keys .now) (start .args .k) (slot .result) (start .pre .2) (slot .ensures .0)
+      hashed-old
+          (start .args .forms .now) (start .args .slots .now) (start .args .k) (slot .result) (start .pre .2) (slot .ensures .0)
           (if1 .left),
     )
 

@@ -1,20 +1,20 @@
--- The invariant: the table has the classes of the first k rules, and each of them has its key.
+-- The invariant: the table has the classes of the first k rules, and each of them has its slot.
 use native.Mathlib.Omega.{arith}
 use Prim.Native.Nat.{_-_}
 use mathlib.Core.Path.{_≡_, refl}
 use lib.ListN.{length}
-use Rattle.normaliser.specs.Keys.{Keyed}
-use Rattle.normaliser.proofs.KeyLaws.{class-fits}
+use Rattle.normaliser.specs.Hashes.{Hashed}
+use Rattle.normaliser.proofs.HashLaws.{class-fits}
 use Rattle.normaliser.proofs.SectionRows.{Classing, classing-start, classing-next, classing-end}
 use borrow.Author.Needs.{needs}
 use Rattle.normaliser.proofs.classify.Statement.{statement}
 use Rattle.normaliser.proofs.classify.Tie as tie
 
 abbrev Inv-loop : tie.InvT-loop
-Inv-loop forms classes₀ keys₀ n k₀ classes keys k = Classing forms classes₀ classes n k × Keyed forms keys k × (length keys ≡ length keys₀)
+Inv-loop forms classes₀ slots₀ n k₀ classes slots k = Classing forms classes₀ classes n k × Hashed forms slots k × (length slots ≡ length slots₀)
 
 abbrev μ-loop : tie.MeasureT-loop
-μ-loop forms classes₀ keys₀ n k₀ classes keys k = n - k
+μ-loop forms classes₀ slots₀ n k₀ classes slots k = n - k
 
 loop-holds : tie.Need-loop-holds Inv-loop μ-loop
 loop-holds c =
@@ -47,7 +47,7 @@ loop-again : tie.Need-loop-again Inv-loop μ-loop
 loop-again c =
     let inv = c .before .before .before .before .before .before .loop .inv in
     let told = c .before .before .class-of .ensures in
-    (classing-next (inv .0) (c .before .before .before .before .before .loop-test .taken) (told .0), told .1, omega (arith, c .before .keys .given, inv .2))
+    (classing-next (inv .0) (c .before .before .before .before .before .loop-test .taken) (told .0), told .1, omega (arith, c .before .slots .given, inv .2))
 
 same-length : tie.Need-same-length Inv-loop μ-loop
 same-length c = c .before .loop .inv .0 .long

@@ -4,8 +4,8 @@ use Prim.Native.Nat.{_-_, _≤_}
 use native.Mathlib.Omega.{arith}
 use mathlib.Core.Path.{_≡_, refl}
 use lib.ListN.{length, drop}
-use Rattle.normaliser.proofs.KeyLaws.{mixed-next, mixed-end}
-use Rattle.normaliser.specs.Keys.{mixed}
+use Rattle.normaliser.proofs.HashLaws.{mixed-next, mixed-end}
+use Rattle.normaliser.specs.Hashes.{mixed}
 use Rattle.normaliser.proofs.mixed.Statement.{statement}
 use Rattle.normaliser.proofs.mixed.Tie as tie
 

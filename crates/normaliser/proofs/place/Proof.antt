@@ -38,18 +38,18 @@ slice-write-order : tie.Need-slice-write-order
 slice-write-order c =
     place-room (c .before .before .before .before .before .pre) (c .before .before .before .before .if1 .left) (c .before .before .if2 .left) (c .if3 .left)
 
-cast-places : tie.Need-cast-places
-cast-places c =
+cast-ranks : tie.Need-cast-ranks
+cast-ranks c =
     omega (
       arith,
       place-fits (c .before .before .before .before .before .pre) (c .before .before .before .before .if1 .left) (c .before .before .if2 .left) (c .if3 .left),
     )
 
-mul-places : tie.Need-mul-places
-mul-places c = omega (arith, class-small (c .before .before .before .before .before .pre) (c .before .before .before .before .if1 .left) (c .before .before .if2 .left))
+mul-ranks : tie.Need-mul-ranks
+mul-ranks c = omega (arith, class-small (c .before .before .before .before .before .pre) (c .before .before .before .before .if1 .left) (c .before .before .if2 .left))
 
-slice-write-places : tie.Need-slice-write-places
-slice-write-places c = class-small (c .before .before .before .before .before .pre) (c .before .before .before .before .if1 .left) (c .before .before .if2 .left)
+slice-write-ranks : tie.Need-slice-write-ranks
+slice-write-ranks c = class-small (c .before .before .before .before .before .pre) (c .before .before .before .before .if1 .left) (c .before .before .if2 .left)
 
 returns-4 : tie.Need-returns-4
 returns-4 c =
@@ -74,9 +74,9 @@ place-spec =
     (λ c. search needs)
     slice-write-order
     (λ c. search needs)
-    cast-places
-    mul-places
-    slice-write-places
+    cast-ranks
+    mul-ranks
+    slice-write-ranks
     (λ c. search needs)
     (λ c. search needs)
     (λ c. search needs)

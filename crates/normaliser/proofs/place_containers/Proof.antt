@@ -11,15 +11,15 @@ use Rattle.normaliser.proofs.place_containers.Statement.{statement}
 use Rattle.normaliser.proofs.place_containers.Tie as tie
 
 abbrev Inv-loop : tie.InvT-loop
-Inv-loop containers classes order₀ places₀ n m₀ i₀ order places m i = Containing containers classes (withClasses [] (map (classAt classes) (containerUses (containersIn containers)))) order₀ places₀ order places n m i
+Inv-loop containers classes order₀ ranks₀ n m₀ i₀ order ranks m i = Containing containers classes (withClasses [] (map (classAt classes) (containerUses (containersIn containers)))) order₀ ranks₀ order ranks n m i
 
 abbrev μ-loop : tie.MeasureT-loop
-μ-loop containers classes order₀ places₀ n m₀ i₀ order places m i = n - i
+μ-loop containers classes order₀ ranks₀ n m₀ i₀ order ranks m i = n - i
 
 loop-holds : tie.Need-loop-holds Inv-loop μ-loop
 loop-holds c =
     let start = c .before .before .before .before in
-    containing-start (start .args .containers .now) (start .args .classes .now) (start .args .order .now) (start .args .places .now) (start .pre .2) (start .pre .1)
+    containing-start (start .args .containers .now) (start .args .classes .now) (start .args .order .now) (start .args .ranks .now) (start .pre .2) (start .pre .1)
 
 place-requires : tie.Need-place-requires Inv-loop μ-loop
 place-requires c κs =
@@ -35,7 +35,7 @@ place-requires-2 c κs =
     let taken = c .before .before .before .before .before .before .before .before .before .before .before .loop-test .taken in
     let permit = c .before .before .before .before .before .before .place .ensures in
     let left = placing-next (containing-first (loop .inv) taken) (permit .1) (rw (c .before .before .before .before .before .before .before .before .before .before .read16 .ensures .0) at (permit .0))
-    (c .before .before .before .before .before .order .given) (c .before .before .before .places .given) in
+    (c .before .before .before .before .before .order .given) (c .before .before .before .ranks .given) in
     let read162 = c .before .before .before .before .before .before .before .before .before .read162 in
     rw (read162 .ensures .0) (placing-asks (start .args .classes .now) _ (both-at _ (start .args .containers .now) (loop .i) taken (start .pre .0) .1) left)
 
@@ -46,16 +46,16 @@ loop-again c =
     let permit = c .before .before .before .before .before .before .before .before .before .before .before .place .ensures in
     let run = c .before .before .before .before .place2 .ensures in
     let left = placing-next (containing-first inv taken) (permit .1) (rw (c .before .before .before .before .before .before .before .before .before .before .before .before .before .before .before .read16 .ensures .0) at (permit .0))
-    (c .before .before .before .before .before .before .before .before .before .before .order .given) (c .before .before .before .before .before .before .before .before .places .given) in
+    (c .before .before .before .before .before .before .before .before .before .before .order .given) (c .before .before .before .before .before .before .before .before .ranks .given) in
     let read162 = c .before .before .before .before .before .before .before .before .before .before .before .before .before .before .read162 in
     let order2 = c .before .before .before .order2 in
-    containing-next inv taken (placing-next left (run .1) (rw (read162 .ensures .0) at (run .0)) (order2 .given) (c .before .places2 .given))
+    containing-next inv taken (placing-next left (run .1) (rw (read162 .ensures .0) at (run .0)) (order2 .given) (c .before .ranks2 .given))
 
 same-length : tie.Need-same-length Inv-loop μ-loop
 same-length c = c .before .loop .inv .placing .longOrder
 
 same-length-2 : tie.Need-same-length-2 Inv-loop μ-loop
-same-length-2 c = c .before .loop .inv .placing .longPlaces
+same-length-2 c = c .before .loop .inv .placing .longRanks
 
 returns : tie.Need-returns Inv-loop μ-loop
 returns c = (containing-end (c .before .loop .inv) (c .loop-test .left), c .before .loop .inv .placing .ordered)

@@ -11,15 +11,15 @@ use Rattle.normaliser.proofs.place_users.Statement.{statement}
 use Rattle.normaliser.proofs.place_users.Tie as tie
 
 abbrev Inv-loop : tie.InvT-loop
-Inv-loop users classes order₀ places₀ m n k₀ i₀ order places k i = Using users classes (withClasses (take m order₀) (map (classAt classes) (usersIn users))) order₀ places₀ order places n k i
+Inv-loop users classes order₀ ranks₀ m n k₀ i₀ order ranks k i = Using users classes (withClasses (take m order₀) (map (classAt classes) (usersIn users))) order₀ ranks₀ order ranks n k i
 
 abbrev μ-loop : tie.MeasureT-loop
-μ-loop users classes order₀ places₀ m n k₀ i₀ order places k i = n - i
+μ-loop users classes order₀ ranks₀ m n k₀ i₀ order ranks k i = n - i
 
 loop-holds : tie.Need-loop-holds Inv-loop μ-loop
 loop-holds c =
     let start = c .before .before .before .before in
-    using-start (start .args .users .now) (start .args .classes .now) (start .args .order .now) (start .args .places .now) (start .args .m) (start .pre .2) (start .pre .1)
+    using-start (start .args .users .now) (start .args .classes .now) (start .args .order .now) (start .args .ranks .now) (start .args .m) (start .pre .2) (start .pre .1)
 
 place-requires : tie.Need-place-requires Inv-loop μ-loop
 place-requires c κs =
@@ -34,13 +34,13 @@ loop-again c =
     let taken = c .before .before .before .before .before .before .before .before .loop-test .taken in
     let noted = c .before .before .before .before .place .ensures in
     using-next inv taken
-    (placing-next (using-first inv taken) (noted .1) (rw (c .before .before .before .before .before .before .before .read16 .ensures .0) at (noted .0)) (c .before .before .before .order .given) (c .before .places .given))
+    (placing-next (using-first inv taken) (noted .1) (rw (c .before .before .before .before .before .before .before .read16 .ensures .0) at (noted .0)) (c .before .before .before .order .given) (c .before .ranks .given))
 
 same-length : tie.Need-same-length Inv-loop μ-loop
 same-length c = c .before .loop .inv .placing .longOrder
 
 same-length-2 : tie.Need-same-length-2 Inv-loop μ-loop
-same-length-2 c = c .before .loop .inv .placing .longPlaces
+same-length-2 c = c .before .loop .inv .placing .longRanks
 
 returns : tie.Need-returns Inv-loop μ-loop
 returns c = (using-end (c .before .loop .inv) (c .loop-test .left), c .before .loop .inv .placing .ordered)

@@ -1,53 +1,53 @@
--- The place of the key is free, has a rule that is alike, or another one: then the place opposite is taken.
+-- The place of the hash is free, has a rule that is alike, or another one: then the place opposite is taken.
 use Prim.Native.Nat.{_-_}
 use native.Mathlib.Omega.{arith}
 use mathlib.Core.Path.{sym, _∙_}
 use lib.ListN.{getD}
 use Rattle.normaliser.proofs.FirstEqual.{words-part}
-use Rattle.normaliser.proofs.KeyLaws.{slot-free, slot-alike, slot-opposite}
+use Rattle.normaliser.proofs.HashLaws.{slot-free, slot-alike, slot-opposite}
 use borrow.Author.Needs.{needs}
 use Rattle.normaliser.proofs.slot.Statement.{statement}
 use Rattle.normaliser.proofs.slot.Tie as tie
 
 cast-j : tie.Need-cast-j
-cast-j c = omega (arith, c .shared-slice-known3 .given (c .before .key .result))
+cast-j c = omega (arith, c .shared-slice-known3 .given (c .before .hash .result))
 
 returns : tie.Need-returns
 returns c =
     let start = c .before .before .before .before .before .before in
-    let key = c .before .before .key in (
-      slot-free (start .args .forms .now) (start .args .keys .now) _ (key .result) (rw (words-part (start .args .forms .now) (start .args .k)) at (key .ensures .0)) (c .if1 .taken),
-      key .ensures .1,
+    let hash = c .before .before .hash in (
+      slot-free (start .args .forms .now) (start .args .slots .now) _ (hash .result) (rw (words-part (start .args .forms .now) (start .args .k)) at (hash .ensures .0)) (c .if1 .taken),
+      hash .ensures .1,
     )
 
 mul-b : tie.Need-mul-b
-mul-b c = omega (arith, c .before .before .before .before .before .before .pre .1 .inside (c .before .before .key .result), c .before .before .before .before .before .before .pre .0)
+mul-b c = omega (arith, c .before .before .before .before .before .before .pre .1 .inside (c .before .before .hash .result), c .before .before .before .before .before .before .pre .0)
 
 add-alike-2 : tie.Need-add-alike-2
-add-alike-2 c = omega (arith, c .before .before .before .before .before .before .before .pre .1 .inside (c .before .before .before .key .result), c .before .before .before .before .before .before .before .pre .0)
+add-alike-2 c = omega (arith, c .before .before .before .before .before .before .before .pre .1 .inside (c .before .before .before .hash .result), c .before .before .before .before .before .before .before .pre .0)
 
 mul-alike-2 : tie.Need-mul-alike-2
-mul-alike-2 c = omega (arith, c .before .before .before .before .before .before .before .pre .1 .inside (c .before .before .before .key .result), c .before .before .before .before .before .before .before .pre .0)
+mul-alike-2 c = omega (arith, c .before .before .before .before .before .before .before .pre .1 .inside (c .before .before .before .hash .result), c .before .before .before .before .before .before .before .pre .0)
 
 part-alike-end-2 : tie.Need-part-alike-end-2
-part-alike-end-2 c = omega (arith, c .before .before .before .before .before .before .before .pre .1 .inside (c .before .before .before .key .result), c .before .before .before .before .before .before .before .pre .0)
+part-alike-end-2 c = omega (arith, c .before .before .before .before .before .before .before .pre .1 .inside (c .before .before .before .hash .result), c .before .before .before .before .before .before .before .pre .0)
 
 returns-2 : tie.Need-returns-2
 returns-2 c =
     let start = c .before .before .before .before .before .before .before .before .before .before in
-    let key = c .before .before .before .before .before .before .key in (
-      slot-alike (start .args .forms .now) (start .args .keys .now) _ (key .result) (rw (words-part (start .args .forms .now) (start .args .k)) at (key .ensures .0)) (c .before .before .before .before .if1 .left)
-          (rw (words-part (start .args .forms .now) (start .args .k), words-part (start .args .forms .now) (getD (start .args .keys .now) (key .result) 0 - 1)) at (sym (c .before .alike .ensures) ∙ c .if2 .taken)),
-      key .ensures .1,
+    let hash = c .before .before .before .before .before .before .hash in (
+      slot-alike (start .args .forms .now) (start .args .slots .now) _ (hash .result) (rw (words-part (start .args .forms .now) (start .args .k)) at (hash .ensures .0)) (c .before .before .before .before .if1 .left)
+          (rw (words-part (start .args .forms .now) (start .args .k), words-part (start .args .forms .now) (getD (start .args .slots .now) (hash .result) 0 - 1)) at (sym (c .before .alike .ensures) ∙ c .if2 .taken)),
+      hash .ensures .1,
     )
 
 returns-3 : tie.Need-returns-3
 returns-3 c =
     let start = c .before .before .before .before .before .before .before .before .before .before in
-    let key = c .before .before .before .before .before .before .key in (
-      slot-opposite (start .args .forms .now) (start .args .keys .now) _ (key .result) (rw (words-part (start .args .forms .now) (start .args .k)) at (key .ensures .0)) (c .before .before .before .before .if1 .left)
-          (rw (words-part (start .args .forms .now) (start .args .k), words-part (start .args .forms .now) (getD (start .args .keys .now) (key .result) 0 - 1)) at (sym (c .before .alike .ensures) ∙ c .if2 .left)),
-      omega (arith, key .ensures .1),
+    let hash = c .before .before .before .before .before .before .hash in (
+      slot-opposite (start .args .forms .now) (start .args .slots .now) _ (hash .result) (rw (words-part (start .args .forms .now) (start .args .k)) at (hash .ensures .0)) (c .before .before .before .before .if1 .left)
+          (rw (words-part (start .args .forms .now) (start .args .k), words-part (start .args .forms .now) (getD (start .args .slots .now) (hash .result) 0 - 1)) at (sym (c .before .alike .ensures) ∙ c .if2 .left)),
+      omega (arith, hash .ensures .1),
     )
 
 pub slot-spec : {M : Type 1} → statement M

@@ -11,13 +11,13 @@ use Rattle.normaliser.proofs.write_by.Tie as tie
 classify-requires : tie.Need-classify-requires
 classify-requires c κs =
     let start = c .before .before .before .before .before .before .before .before .before .before in
-    (start .pre .1 .classesRoom, start .pre .1 .classesFew, start .pre .1 .keyed)
+    (start .pre .1 .classesRoom, start .pre .1 .classesFew, start .pre .1 .hashed)
 
 place-containers-requires : tie.Need-place-containers-requires
 place-containers-requires c κs =
     let start = c .before .before .before .before .before .before .before .before .before .before .before .before .before .before .before .before .before .before in
     let told = c .before .before .before .before .before .before .before .classify .ensures in (
-      containers-classed (start .args .containers .now) (start .args .users .now) (start .args .forms .now) (start .pre .0) _ told _ (start .pre .1 .placesRoom),
+      containers-classed (start .args .containers .now) (start .args .users .now) (start .args .forms .now) (start .pre .0) _ told _ (start .pre .1 .ranksRoom),
       omega (arith, first-fits (start .args .containers .now) (start .args .users .now) (start .args .forms .now) (start .pre .0) _ told, start .pre .1 .orderRoom),
       ordered-empty _ _ (start .pre .1 .orderFew) (start .pre .1 .zero),
     )
@@ -28,10 +28,10 @@ place-users-requires c κs =
     let told = c .before .before .before .before .before .before .before .before .before .before .before .before .before .before .before .classify .ensures in
     let place-containers = c .before .before .before .before .before .before .before .place-containers in
     let order = c .before .before .before .before .before .before .order in
-    let places = c .before .before .before .before .places in
+    let ranks = c .before .before .before .before .ranks in
     let first = place-containers .ensures in (
       users-classed (start .args .containers .now) (start .args .users .now) (start .args .forms .now) (start .pre .0) _ told _
-          (omega (arith, start .pre .1 .placesRoom, places .given)),
+          (omega (arith, start .pre .1 .ranksRoom, ranks .given)),
       rw (first .0) (omega (
         arith,
         both-fit (start .args .containers .now) (start .args .users .now) (start .args .forms .now)
@@ -47,10 +47,10 @@ returns c =
     let start = c .before .before .before .before .before .before .before .before .before .before .before .before .before .before .before .before .before .before .before .before .before .before .before .before .before .before .before .before .before .before .before .before in
     let classify = c .before .before .before .before .before .before .before .before .before .before .before .before .before .before .before .before .before .before .before .before .before .classify in
     let place-containers = c .before .before .before .before .before .before .before .before .before .before .before .before .before .place-containers in
-    let places = c .before .before .before .before .before .before .before .before .before .before .places in
+    let ranks = c .before .before .before .before .before .before .before .before .before .before .ranks in
     let place-users = c .before .before .before .before .before .place-users in
     let done = noted (start .args .containers .now) (start .args .users .now) (start .args .forms .now) (start .pre .0) (classify .ensures) (place-containers .ensures .0)
-    (place-users .ensures .0) (place-users .ensures .1) (omega (arith, start .pre .1 .placesRoom, places .given, c .before .before .places2 .given)) in over-limit (start .args .containers .now)
+    (place-users .ensures .0) (place-users .ensures .1) (omega (arith, start .pre .1 .ranksRoom, ranks .given, c .before .before .ranks2 .given)) in over-limit (start .args .containers .now)
     (start .args .users .now) (start .args .forms .now) (start .pre .0) done _ (c .if1 .taken)
 
 part-write-image-end : tie.Need-part-write-image-end
@@ -61,12 +61,12 @@ write-image-requires c κs =
     let start = c .before .before .before .before .before .before .before .before .before .before .before .before .before .before .before .before .before .before .before .before .before .before .before .before .before .before .before .before .before .before .before .before .before .before .before .before .before in
     let classify = c .before .before .before .before .before .before .before .before .before .before .before .before .before .before .before .before .before .before .before .before .before .before .before .before .before .before .classify in
     let place-containers = c .before .before .before .before .before .before .before .before .before .before .before .before .before .before .before .before .before .before .place-containers in
-    let places = c .before .before .before .before .before .before .before .before .before .before .before .before .before .before .before .places in
+    let ranks = c .before .before .before .before .before .before .before .before .before .before .before .before .before .before .before .ranks in
     let place-users = c .before .before .before .before .before .before .before .before .before .before .place-users in
-    let places2 = c .before .before .before .before .before .before .before .places2 in
+    let ranks2 = c .before .before .before .before .before .before .before .ranks2 in
     let if1 = c .before .before .before .before .before .if1 in
     let done = noted (start .args .containers .now) (start .args .users .now) (start .args .forms .now) (start .pre .0) (classify .ensures) (place-containers .ensures .0)
-    (place-users .ensures .0) (place-users .ensures .1) (omega (arith, start .pre .1 .placesRoom, places .given, places2 .given)) in let z : place-users .result - 0 ≡ place-users .result = omega arith in rw z
+    (place-users .ensures .0) (place-users .ensures .1) (omega (arith, start .pre .1 .ranksRoom, ranks .given, ranks2 .given)) in let z : place-users .result - 0 ≡ place-users .result = omega arith in rw z
     (tables-writable (start .args .containers .now) (start .args .users .now) (start .args .forms .now) (start .pre .0) done _ (if1 .left) (start .pre .2))
 
 returns-2 : tie.Need-returns-2
@@ -74,12 +74,12 @@ returns-2 c =
     let start = c .before .before .before .before .before .before .before .before .before .before .before .before .before .before .before .before .before .before .before .before .before .before .before .before .before .before .before .before .before .before .before .before .before .before .before .before .before .before .before .before in
     let classify = c .before .before .before .before .before .before .before .before .before .before .before .before .before .before .before .before .before .before .before .before .before .before .before .before .before .before .before .before .before .classify in
     let place-containers = c .before .before .before .before .before .before .before .before .before .before .before .before .before .before .before .before .before .before .before .before .before .place-containers in
-    let places = c .before .before .before .before .before .before .before .before .before .before .before .before .before .before .before .before .before .before .places in
+    let ranks = c .before .before .before .before .before .before .before .before .before .before .before .before .before .before .before .before .before .before .ranks in
     let place-users = c .before .before .before .before .before .before .before .before .before .before .before .before .before .place-users in
-    let places2 = c .before .before .before .before .before .before .before .before .before .before .places2 in
+    let ranks2 = c .before .before .before .before .before .before .before .before .before .before .ranks2 in
     let if1 = c .before .before .before .before .before .before .before .before .if1 in
     let done = noted (start .args .containers .now) (start .args .users .now) (start .args .forms .now) (start .pre .0) (classify .ensures) (place-containers .ensures .0)
-    (place-users .ensures .0) (place-users .ensures .1) (omega (arith, start .pre .1 .placesRoom, places .given, places2 .given)) in let z : place-users .result - 0 ≡ place-users .result = omega arith in answered
+    (place-users .ensures .0) (place-users .ensures .1) (omega (arith, start .pre .1 .ranksRoom, ranks .given, ranks2 .given)) in let z : place-users .result - 0 ≡ place-users .result = omega arith in answered
     (start .args .containers .now) (start .args .users .now) (start .args .forms .now) (start .pre .0) done (if1 .left) (rw z at (c .before .before .write-image .ensures))
 
 pub write-by-spec : {M : Type 1} → statement M

@@ -9,15 +9,15 @@ use Rattle.normaliser.proofs.write_containers.Statement.{statement}
 use Rattle.normaliser.proofs.write_containers.Tie as tie
 
 abbrev Inv-loop : tie.InvT-loop
-Inv-loop out₀ start containers classes places n at₀ i₀ out at i = RowsWritten (containerRows containers classes places) out₀ start out at i
+Inv-loop out₀ start containers classes ranks n at₀ i₀ out at i = RowsWritten (containerRows containers classes ranks) out₀ start out at i
 
 abbrev μ-loop : tie.MeasureT-loop
-μ-loop out₀ start containers classes places n at₀ i₀ out at i = n - i
+μ-loop out₀ start containers classes ranks n at₀ i₀ out at i = n - i
 
 loop-holds : tie.Need-loop-holds Inv-loop μ-loop
 loop-holds c =
     let start = c .before .before .before .before in
-    rows-start _ _ _ (omega (arith, start .pre .0, containers-size (start .args .containers .now) (start .args .classes .now) (start .args .places .now)))
+    rows-start _ _ _ (omega (arith, start .pre .0, containers-size (start .args .containers .now) (start .args .classes .now) (start .args .ranks .now)))
 
 number-requires : tie.Need-number-requires Inv-loop μ-loop
 number-requires c κs =
@@ -29,18 +29,18 @@ number-requires-2 c κs =
     let start = c .before .before .before .before .before .before .before .before .before .before .before in
     rw (c .read162 .ensures .0) (both-at _ (start .args .containers .now) (c .before .before .before .before .before .before .loop .i) (c .before .before .before .before .before .loop-test .taken) (start .pre .1) .1)
 
-put-container-requires : tie.Need-put-container-requires Inv-loop μ-loop
-put-container-requires c κs =
+put-container-record-requires : tie.Need-put-container-record-requires Inv-loop μ-loop
+put-container-record-requires c κs =
     let start = c .before .before .before .before .before .before .before .before .before .before .before .before .before in
-    container-room (start .args .containers .now) (start .args .classes .now) (start .args .places .now) (c .before .before .before .before .before .before .before .before .loop .inv) (c .before .before .before .before .before .before .before .loop-test .taken)
+    container-room (start .args .containers .now) (start .args .classes .now) (start .args .ranks .now) (c .before .before .before .before .before .before .before .before .loop .inv) (c .before .before .before .before .before .before .before .loop-test .taken)
 
 loop-again : tie.Need-loop-again Inv-loop μ-loop
 loop-again c =
     let start = c .before .before .before .before .before .before .before .before .before .before .before .before .before .before .before .before in
     let permit = rw (c .before .before .before .before .before .before .before .read16 .ensures .0) at (c .before .before .before .before .before .before .number .ensures) in
     let run = rw (c .before .before .before .before .before .read162 .ensures .0) at (c .before .before .before .before .number2 .ensures) in
-    container-next (start .args .containers .now) (start .args .classes .now) (start .args .places .now) (c .before .before .before .before .before .before .before .before .before .before .before .loop .inv) (c .before .before .before .before .before .before .before .before .before .before .loop-test .taken) permit run
-    (rw (c .before .before .before .before .before .before .before .before .before .read8 .ensures .0, c .before .before .before .before .before .before .before .before .read82 .ensures .0) at (c .before .before .put-container .ensures))
+    container-next (start .args .containers .now) (start .args .classes .now) (start .args .ranks .now) (c .before .before .before .before .before .before .before .before .before .before .before .loop .inv) (c .before .before .before .before .before .before .before .before .before .before .loop-test .taken) permit run
+    (rw (c .before .before .before .before .before .before .before .before .before .read8 .ensures .0, c .before .before .before .before .before .before .before .before .read82 .ensures .0) at (c .before .before .put-container-record .ensures))
 
 same-length : tie.Need-same-length Inv-loop μ-loop
 same-length c = c .before .loop .inv .long
@@ -49,7 +49,7 @@ returns : tie.Need-returns Inv-loop μ-loop
 unfolding containerSection
 returns c =
     let start = c .before .before .before .before .before .before in
-    rows-end (c .before .loop .inv) (omega (arith, c .loop-test .left, container-rows (start .args .containers .now) (start .args .classes .now) (start .args .places .now)))
+    rows-end (c .before .loop .inv) (omega (arith, c .loop-test .left, container-rows (start .args .containers .now) (start .args .classes .now) (start .args .ranks .now)))
 
 pub write-containers-spec : {M : Type 1} → statement M
 write-containers-spec =
@@ -68,7 +68,7 @@ write-containers-spec =
     (λ c. search needs)
     (λ c κs. search needs)
     number-requires-2
-    put-container-requires
+    put-container-record-requires
     (λ c. search needs)
     (λ c. search needs)
     loop-again

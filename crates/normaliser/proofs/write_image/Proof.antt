@@ -15,16 +15,16 @@ write-users-requires : tie.Need-write-users-requires
 write-users-requires c κs =
     let start = c .before .before .before .before .before .before .before .before .before .before .before .before in
     let one = c .before .before .before .write-containers .ensures in
-    (omega (arith, start .pre .room, one .ends, container-section-size (start .args .containers .now) (start .args .classes .now) (start .args .places .now), wrote-length (omega (arith, start .pre .room, container-section-size (start .args .containers .now) (start .args .classes .now) (start .args .places .now))) one), start .pre .usersFound)
+    (omega (arith, start .pre .room, one .ends, container-section-size (start .args .containers .now) (start .args .classes .now) (start .args .ranks .now), wrote-length (omega (arith, start .pre .room, container-section-size (start .args .containers .now) (start .args .classes .now) (start .args .ranks .now))) one), start .pre .usersFound)
 
 write-spans-requires : tie.Need-write-spans-requires
 write-spans-requires c κs =
     let start = c .before .before .before .before .before .before .before .before .before .before .before .before .before .before .before .before in
     let one = c .before .before .before .before .before .before .before .write-containers .ensures in
     let two = c .before .before .before .write-users .ensures in
-    let l1 = wrote-length (omega (arith, start .pre .room, container-section-size (start .args .containers .now) (start .args .classes .now) (start .args .places .now))) one in
-    let l2 = wrote-length (omega (arith, start .pre .room, l1, one .ends, container-section-size (start .args .containers .now) (start .args .classes .now) (start .args .places .now), user-section-size (start .args .users .now) (start .args .classes .now) (start .args .places .now))) two in
-    (omega (arith, start .pre .room, l1, l2, one .ends, two .ends, container-section-size (start .args .containers .now) (start .args .classes .now) (start .args .places .now), user-section-size (start .args .users .now) (start .args .classes .now) (start .args .places .now)), start .pre .formsGood)
+    let l1 = wrote-length (omega (arith, start .pre .room, container-section-size (start .args .containers .now) (start .args .classes .now) (start .args .ranks .now))) one in
+    let l2 = wrote-length (omega (arith, start .pre .room, l1, one .ends, container-section-size (start .args .containers .now) (start .args .classes .now) (start .args .ranks .now), user-section-size (start .args .users .now) (start .args .classes .now) (start .args .ranks .now))) two in
+    (omega (arith, start .pre .room, l1, l2, one .ends, two .ends, container-section-size (start .args .containers .now) (start .args .classes .now) (start .args .ranks .now), user-section-size (start .args .users .now) (start .args .classes .now) (start .args .ranks .now)), start .pre .formsGood)
 
 write-mixtures-requires : tie.Need-write-mixtures-requires
 write-mixtures-requires c κs =
@@ -32,10 +32,10 @@ write-mixtures-requires c κs =
     let one = c .before .before .before .before .before .before .before .before .before .before .before .write-containers .ensures in
     let two = c .before .before .before .before .before .before .before .write-users .ensures in
     let three = c .before .before .before .write-spans .ensures in
-    let l1 = wrote-length (omega (arith, start .pre .room, container-section-size (start .args .containers .now) (start .args .classes .now) (start .args .places .now))) one in
-    let l2 = wrote-length (omega (arith, start .pre .room, l1, one .ends, container-section-size (start .args .containers .now) (start .args .classes .now) (start .args .places .now), user-section-size (start .args .users .now) (start .args .classes .now) (start .args .places .now))) two in
-    let l3 = wrote-length (omega (arith, start .pre .room, l1, l2, one .ends, two .ends, container-section-size (start .args .containers .now) (start .args .classes .now) (start .args .places .now), user-section-size (start .args .users .now) (start .args .classes .now) (start .args .places .now), rule-section-size (start .args .forms .now) (start .args .order .now))) three in
-    (omega (arith, start .pre .room, l1, l2, l3, one .ends, two .ends, three .ends, container-section-size (start .args .containers .now) (start .args .classes .now) (start .args .places .now), user-section-size (start .args .users .now) (start .args .classes .now) (start .args .places .now), rule-section-size (start .args .forms .now) (start .args .order .now)), start .pre .formsGood)
+    let l1 = wrote-length (omega (arith, start .pre .room, container-section-size (start .args .containers .now) (start .args .classes .now) (start .args .ranks .now))) one in
+    let l2 = wrote-length (omega (arith, start .pre .room, l1, one .ends, container-section-size (start .args .containers .now) (start .args .classes .now) (start .args .ranks .now), user-section-size (start .args .users .now) (start .args .classes .now) (start .args .ranks .now))) two in
+    let l3 = wrote-length (omega (arith, start .pre .room, l1, l2, one .ends, two .ends, container-section-size (start .args .containers .now) (start .args .classes .now) (start .args .ranks .now), user-section-size (start .args .users .now) (start .args .classes .now) (start .args .ranks .now), rule-section-size (start .args .forms .now) (start .args .order .now))) three in
+    (omega (arith, start .pre .room, l1, l2, l3, one .ends, two .ends, three .ends, container-section-size (start .args .containers .now) (start .args .classes .now) (start .args .ranks .now), user-section-size (start .args .users .now) (start .args .classes .now) (start .args .ranks .now), rule-section-size (start .args .forms .now) (start .args .order .now)), start .pre .formsGood)
 
 write-header-requires : tie.Need-write-header-requires
 write-header-requires c κs =

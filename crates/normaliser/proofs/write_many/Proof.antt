@@ -1,8 +1,8 @@
 -- Tables of zeros for so many rules.
 use native.Mathlib.Omega.{arith}
-use Rattle.normaliser.proofs.KeyLaws.{zeros-at, keyed-start}
-use Rattle.normaliser.proofs.FormLaws.{forms-few}
-use Rattle.normaliser.specs.Keys.{manyKeys}
+use Rattle.normaliser.proofs.HashLaws.{zeros-at, hashed-start}
+use Rattle.normaliser.proofs.RuleForms.{forms-few}
+use Rattle.normaliser.specs.Hashes.{manySlots}
 use Rattle.normaliser.specs.Writer.{useLimit}
 use borrow.Author.Needs.{needs}
 use Rattle.normaliser.proofs.write_many.Statement.{statement}
@@ -15,10 +15,10 @@ write-by-requires c κs =
       record {
         classesRoom = omega (arith, forms-few (start .pre .0));
         classesFew = search needs;
-        keyed = keyed-start _ manyKeys (omega arith) (omega arith);
+        hashed = hashed-start _ manySlots (omega arith) (omega arith);
         orderRoom = omega (arith, forms-few (start .pre .0));
         orderFew = search needs;
-        placesRoom = omega (arith, forms-few (start .pre .0));
+        ranksRoom = omega (arith, forms-few (start .pre .0));
         zero = λ v. zeros-at useLimit v;
       },
       start .pre .1,

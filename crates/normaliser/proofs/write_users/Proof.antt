@@ -9,15 +9,15 @@ use Rattle.normaliser.proofs.write_users.Statement.{statement}
 use Rattle.normaliser.proofs.write_users.Tie as tie
 
 abbrev Inv-loop : tie.InvT-loop
-Inv-loop out₀ start users classes places n at₀ i₀ out at i = RowsWritten (userRows users classes places) out₀ start out at i
+Inv-loop out₀ start users classes ranks n at₀ i₀ out at i = RowsWritten (userRows users classes ranks) out₀ start out at i
 
 abbrev μ-loop : tie.MeasureT-loop
-μ-loop out₀ start users classes places n at₀ i₀ out at i = n - i
+μ-loop out₀ start users classes ranks n at₀ i₀ out at i = n - i
 
 loop-holds : tie.Need-loop-holds Inv-loop μ-loop
 loop-holds c =
     let start = c .before .before .before .before in
-    rows-start _ _ _ (omega (arith, start .pre .0, users-size (start .args .users .now) (start .args .classes .now) (start .args .places .now)))
+    rows-start _ _ _ (omega (arith, start .pre .0, users-size (start .args .users .now) (start .args .classes .now) (start .args .ranks .now)))
 
 number-requires : tie.Need-number-requires Inv-loop μ-loop
 number-requires c κs =
@@ -27,14 +27,14 @@ number-requires c κs =
 put16-requires : tie.Need-put16-requires Inv-loop μ-loop
 put16-requires c κs =
     let start = c .before .before .before .before .before .before .before .before .before in
-    user-room (start .args .users .now) (start .args .classes .now) (start .args .places .now) (c .before .before .before .before .loop .inv) (c .before .before .before .loop-test .taken)
+    user-room (start .args .users .now) (start .args .classes .now) (start .args .ranks .now) (c .before .before .before .before .loop .inv) (c .before .before .before .loop-test .taken)
 
 loop-again : tie.Need-loop-again Inv-loop μ-loop
 loop-again c =
     let start = c .before .before .before .before .before .before .before .before .before .before .before .before in
     let number = c .before .before .before .before .number in
     let told = rw (c .before .before .before .before .before .read16 .ensures .0) at (number .ensures) in
-    user-next (start .args .users .now) (start .args .classes .now) (start .args .places .now) (c .before .before .before .before .before .before .before .loop .inv) (c .before .before .before .before .before .before .loop-test .taken) _ told (c .before .before .put16 .ensures)
+    user-next (start .args .users .now) (start .args .classes .now) (start .args .ranks .now) (c .before .before .before .before .before .before .before .loop .inv) (c .before .before .before .before .before .before .loop-test .taken) _ told (c .before .before .put16 .ensures)
 
 same-length : tie.Need-same-length Inv-loop μ-loop
 same-length c = c .before .loop .inv .long
@@ -43,7 +43,7 @@ returns : tie.Need-returns Inv-loop μ-loop
 unfolding userSection
 returns c =
     let start = c .before .before .before .before .before .before in
-    rows-end (c .before .loop .inv) (omega (arith, c .loop-test .left, user-rows (start .args .users .now) (start .args .classes .now) (start .args .places .now)))
+    rows-end (c .before .loop .inv) (omega (arith, c .loop-test .left, user-rows (start .args .users .now) (start .args .classes .now) (start .args .ranks .now)))
 
 pub write-users-spec : {M : Type 1} → statement M
 write-users-spec =

@@ -7,9 +7,9 @@ use borrow.Author.Needs.{needs}
 use Rattle.operations.proofs.narrow.Statement.{statement}
 use Rattle.operations.proofs.narrow.Tie as tie
 
-judge-requires : tie.Need-judge-requires
+cover-answer-requires : tie.Need-cover-answer-requires
 unfolding boundedOf padded
-judge-requires c κs =
+cover-answer-requires c κs =
     let start = c .before .before .before .before .before .before in
     content-judged (start .args .row .now) (start .args .tag) (start .pre .0) (boundedOf (start .args .mixture ∷ [])) _
     (c .before .before .before .set-single .ensures) refl (start .pre .1)
@@ -18,7 +18,7 @@ returns : tie.Need-returns
 returns c =
     let start = c .before .before .before .before .before .before .before in (
       content-answer (start .args .row .now) (start .args .tag) (start .pre .0) (boundedOf (start .args .mixture ∷ []))
-          _ (c .before .before .before .before .set-single .ensures) (start .args .receiver) _ (c .judge .ensures),
+          _ (c .before .before .before .before .set-single .ensures) (start .args .receiver) _ (c .cover-answer .ensures),
       c .before
           .before .before .before .set-single .ensures,
     )
@@ -28,6 +28,6 @@ narrow-spec =
     tie.close
     (tie.spec
     (λ c κs. search needs)
-    judge-requires
+    cover-answer-requires
     (λ c. search needs)
     returns)

@@ -4,7 +4,7 @@ use Rattle.operations.proofs.RowSteps.{user-kept-as, copied}
 use Rattle.operations.proofs.EffectLaws.{file-done}
 use native.Mathlib.Omega.{arith}
 use mathlib.Core.Path.{refl}
-use Rattle.operations.specs.Parts.{newWords, boundedWords}
+use Rattle.operations.specs.EarlyTests.{newWords, boundedWords}
 use Rattle.chains.specs.History.{newFile}
 use Rattle.chains.specs.Table.{entry}
 use borrow.Author.Needs.{needs}

@@ -1,6 +1,6 @@
 -- `operations::new_volatile`. The row is made new, and a new volatile is not judged (`volatile-done`).
 use Rattle.operations.proofs.EffectLaws.{volatile-done}
-use Rattle.operations.specs.Parts.{newWords, boundedWords}
+use Rattle.operations.specs.EarlyTests.{newWords, boundedWords}
 use Rattle.chains.specs.Table.{entry}
 use borrow.Author.Needs.{needs}
 use Rattle.operations.proofs.new_volatile.Statement.{statement}

@@ -4,8 +4,8 @@ use borrow.Author.Needs.{needs}
 use Rattle.operations.proofs.update.Statement.{statement}
 use Rattle.operations.proofs.update.Tie as tie
 
-judge-requires : tie.Need-judge-requires
-judge-requires c κs =
+cover-answer-requires : tie.Need-cover-answer-requires
+cover-answer-requires c κs =
     let start = c .before .before .before .before .before .before in
     content-judged (start .args .row .now) (start .args .tag) (start .pre .0) (start .args .run) _
     (c .before .before .before .set-content .ensures) (search needs) (start .pre .1)
@@ -15,9 +15,9 @@ returns c =
     let start = c .before .before .before .before .before .before .before in (
       content-answer (start .args .row .now) (start .args .tag) (start .pre .0) (start .args .run) _
           (c .before .before .before .before .set-content .ensures) (start .args .receiver) _
-          (c .judge .ensures),
+          (c .cover-answer .ensures),
       c .before .before .before .before .set-content .ensures,
     )
 
 pub update-spec : {M : Type 1} → statement M
-update-spec = tie.close (tie.spec (λ c κs. search needs) judge-requires (λ c. search needs) returns)
+update-spec = tie.close (tie.spec (λ c κs. search needs) cover-answer-requires (λ c. search needs) returns)

@@ -1,5 +1,5 @@
 -- The two tests of the definition.
-use Rattle.profiles.proofs.TextScan.{no-text, long-text, short-text}
+use Rattle.profiles.proofs.TextScans.{no-text, long-text, short-text}
 use borrow.Author.Needs.{needs}
 use Rattle.profiles.proofs.judge_text.Statement.{statement}
 use Rattle.profiles.proofs.judge_text.Tie as tie

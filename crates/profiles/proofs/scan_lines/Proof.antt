@@ -3,7 +3,7 @@ use Prim.Native.Nat.{_-_}
 use native.Mathlib.Omega.{arith}
 use lib.ListN.{length}
 use Rattle.profiles.proofs.LineWordLaws.{Small}
-use Rattle.profiles.proofs.TextScan.{
+use Rattle.profiles.proofs.TextScans.{
   TextScanned,
   text-start,
   no-text,

@@ -1,14 +1,14 @@
 -- What is judged, with zeros behind the numbers, or zeros alone.
 use native.Mathlib.Omega.{arith}
-use Rattle.profiles.proofs.TableLaws.{refused-table, good-table, good-room}
+use Rattle.profiles.proofs.NumberTable.{refused-table, good-table, good-room}
 use borrow.Author.Needs.{needs}
 use Rattle.profiles.proofs.scan_table.Statement.{statement}
 use Rattle.profiles.proofs.scan_table.Tie as tie
 
 returns : tie.Need-returns
 returns c =
-    let judged = c .before .before .before .before .before .before .before .before .before in
-    refused-table _ _ _ (judged .judge-text .ensures) (search needs) _ (c .no-text .ensures) (c .before .before .before .before .before .if1 .taken) _ (c .before .before .before .clear .ensures)
+    let linesJudged = c .before .before .before .before .before .before .before .before .before in
+    refused-table _ _ _ (linesJudged .judge-text .ensures) (search needs) _ (c .no-text .ensures) (c .before .before .before .before .before .if1 .taken) _ (c .before .before .before .clear .ensures)
 
 mul-clear : tie.Need-mul-clear
 mul-clear c = omega (arith, good-room _ _ _ (c .before .before .before .before .judge-text .ensures) (search needs) (c .if1 .left))
@@ -21,8 +21,8 @@ part-clear-start c = omega (arith, good-room _ _ _ (c .before .before .before .b
 
 returns-2 : tie.Need-returns-2
 returns-2 c =
-    let judged = c .before .before .before .before .before .before .before .before in
-    good-table _ _ _ (judged .judge-text .ensures) (search needs) (c .before .before .before .before .if1 .left) _ (c .before .before .clear2 .ensures)
+    let linesJudged = c .before .before .before .before .before .before .before .before in
+    good-table _ _ _ (linesJudged .judge-text .ensures) (search needs) (c .before .before .before .before .if1 .left) _ (c .before .before .clear2 .ensures)
 
 pub scan-table-spec : {M : Type 1} → statement M
 scan-table-spec =

@@ -1,5 +1,5 @@
 -- `records::record_at`. Eight bytes are left, or fewer.
-use Rattle.records.proofs.TraceLaws.{short-record, whole-record}
+use Rattle.records.proofs.TraceRecords.{short-record, whole-record}
 use borrow.Author.Needs.{needs}
 use Rattle.records.proofs.record_at.Statement.{statement}
 use Rattle.records.proofs.record_at.Tie as tie

@@ -24,8 +24,8 @@ loop-holds c =
     rowed-start rowWidth containerLimit (containerRows (start .args .cs .now) (start .args .rules .now) (start .args .m .now)) (start .args .out .now)
     (ap length (start .pre .0) ∙ length-replicate {A = ℕ} (containerLimit * rowWidth) 0)
 
-put-container-requires : tie.Need-put-container-requires Inv-loop μ-loop
-put-container-requires c κs =
+put-container-row-requires : tie.Need-put-container-row-requires Inv-loop μ-loop
+put-container-row-requires c κs =
     let start = c .before .before .before .before .before .before .before .before in (
       simp (length-take, length-drop, add-sub-cancel-left) (omega (arith, c .before .before .before .loop .inv .long, start .pre .1)),
       simp (length-take, length-drop, add-sub-cancel-left) (omega arith),
@@ -42,7 +42,7 @@ loop-again c =
     (c .before .before .before .before .before .before .loop .out) (c .before .before .before .before .before .before .loop .i)
     (c .before .before .before .before .before .before .loop .inv)
     (omega (arith, c .before .before .before .before .before .loop-test .taken, start .pre .1))
-    (c .before .before .before .before .before .loop-test .taken) _ (rw add-sub-cancel-left at (c .before .before .put-container .ensures))
+    (c .before .before .before .before .before .loop-test .taken) _ (rw add-sub-cancel-left at (c .before .before .put-container-row .ensures))
 
 same-length : tie.Need-same-length Inv-loop μ-loop
 same-length c = c .before .loop .inv .same
@@ -71,7 +71,7 @@ fill-containers-spec =
     (λ c. search needs)
     (λ c. search needs)
     (λ c. search needs)
-    put-container-requires
+    put-container-row-requires
     (λ c. search needs)
     (λ c. search needs)
     loop-again

@@ -2,7 +2,7 @@
 use borrow.Author.Needs.{needs}
 use Prim.Native.Nat.{_-_}
 use lib.ListN.{length}
-use Rattle.matrix.proofs.BitLaws.{one-bit}
+use Rattle.matrix.proofs.RowBits.{one-bit}
 use Rattle.silence.proofs.PermitLaws.{Permitting, permitting-start, permitting-skip, permitting-miss, permitting-found, permitting-end}
 use Rattle.silence.proofs.permits.Statement.{statement}
 use Rattle.silence.proofs.permits.Tie as tie

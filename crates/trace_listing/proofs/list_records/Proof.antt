@@ -4,8 +4,8 @@ use native.Mathlib.Omega.{arith}
 use mathlib.Core.Path.{refl}
 use lib.ListN.{length}
 use borrow.Author.Needs.{needs}
-use Rattle.records.proofs.TraceLaws.{record-length}
-use Rattle.trace_listing.proofs.PartLaws.{Listing, listing-start, line-room, listing-next, listing-end}
+use Rattle.records.proofs.TraceRecords.{record-length}
+use Rattle.trace_listing.proofs.ListedParts.{Listing, listing-start, line-room, listing-next, listing-end}
 use Rattle.trace_listing.proofs.list_records.Statement.{statement}
 use Rattle.trace_listing.proofs.list_records.Tie as tie
 

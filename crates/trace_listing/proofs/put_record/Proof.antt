@@ -1,6 +1,6 @@
 -- `trace_listing::put_record`. A whole record has the line of a step (`whole-line`), any other that of a short one (`short-line`).
 use borrow.Author.Needs.{needs}
-use Rattle.trace_listing.proofs.PartLaws.{whole-line, short-line}
+use Rattle.trace_listing.proofs.ListedParts.{whole-line, short-line}
 use Rattle.trace_listing.proofs.put_record.Statement.{statement}
 use Rattle.trace_listing.proofs.put_record.Tie as tie
 

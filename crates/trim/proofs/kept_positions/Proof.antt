@@ -3,8 +3,8 @@ use native.Mathlib.Omega.{arith}
 use mathlib.Core.Path.{refl}
 use lib.ListN.{length-set}
 use borrow.Author.Tests.{not-true, not-false}
-use Rattle.trim.proofs.TraceLaws.{whole-is}
-use Rattle.trim.proofs.KeptLaws.{last-small, last-fits, part-fits, found-none, trimmable, found-some}
+use Rattle.trim.proofs.WholeTraces.{whole-is}
+use Rattle.trim.proofs.TrimmedTraces.{last-small, last-fits, part-fits, found-none, trimmable, found-some}
 use borrow.Author.Needs.{needs}
 use Rattle.trim.proofs.kept_positions.Statement.{statement}
 use Rattle.trim.proofs.kept_positions.Tie as tie

@@ -2,7 +2,7 @@
 use Rattle.files.proofs.CallLaws.{failed}
 use borrow.Author.Tests.{not-true, not-false}
 use mathlib.Core.Path.{refl}
-use Rattle.watch.proofs.RunLaws.{Between, between-start, between-next, trace-listed}
+use Rattle.watch.proofs.ListedTrace.{Between, between-start, between-next, trace-listed}
 use borrow.Author.Needs.{needs}
 use Rattle.watch.proofs.list_file.Statement.{statement}
 use Rattle.watch.proofs.list_file.Tie as tie

@@ -1,5 +1,5 @@
 -- `watch::list_trace`. A missing trace has no record.
-use Rattle.watch.proofs.RunLaws.{trace-missing}
+use Rattle.watch.proofs.ListedTrace.{trace-missing}
 use Rattle.files.proofs.CallLaws.{went, failed, opened-as, missing-as, failed-open}
 use borrow.Author.Needs.{needs}
 use Rattle.watch.proofs.list_trace.Statement.{statement}

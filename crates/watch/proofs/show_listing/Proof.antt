@@ -1,5 +1,5 @@
 -- `watch::show_listing`. The policy is the bytes that were read.
-use Rattle.watch.proofs.RunLaws.{shown-refused, shown-listing}
+use Rattle.watch.proofs.ListedTrace.{shown-refused, shown-listing}
 use Rattle.files.proofs.CallLaws.{failed, done-as}
 use Rattle.fields.specs.Ascii.{ascii}
 use borrow.Author.Tests.{not-true, not-false}

@@ -1,5 +1,5 @@
 -- `watch::watch`. Heading, lines, total, one behind the other.
-use Rattle.watch.proofs.RunLaws.{all-watched}
+use Rattle.watch.proofs.ListedTrace.{all-watched}
 use Rattle.files.specs.Calls.{handed-as}
 use Rattle.listing.proofs.Theorems.{listed-front}
 use Rattle.files.proofs.CallLaws.{failed, done-as}

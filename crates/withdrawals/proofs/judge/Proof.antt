@@ -2,7 +2,7 @@
 use mathlib.Core.Path.{_∙_}
 use Rattle.lists.proofs.Bools.{passes-test, fails-test}
 use borrow.Author.Needs.{needs}
-use Rattle.withdrawals.proofs.JudgeLaws.{old-even, required-even, proposed-is, judged-8, judged-1, judged-2, judged-flows}
+use Rattle.withdrawals.proofs.JudgementTests.{old-even, required-even, proposed-is, judged-8, judged-1, judged-2, judged-flows}
 use Rattle.withdrawals.proofs.judge.Statement.{statement}
 use Rattle.withdrawals.proofs.judge.Tie as tie
 

@@ -3,7 +3,7 @@ use mathlib.Core.Path.{sym, _∙_}
 use Rattle.lists.proofs.Bools.{passes-test, fails-test}
 use borrow.Author.Needs.{needs}
 use Rattle.withdrawals.proofs.NeedLaws.{flow-table, table-consistent, judging}
-use Rattle.withdrawals.proofs.JudgeLaws.{flows-3, flows-4, flows-0}
+use Rattle.withdrawals.proofs.JudgementTests.{flows-3, flows-4, flows-0}
 use Rattle.withdrawals.proofs.judge_flows.Statement.{statement}
 use Rattle.withdrawals.proofs.judge_flows.Tie as tie
 

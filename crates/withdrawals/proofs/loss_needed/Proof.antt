@@ -1,7 +1,7 @@
 -- The test is bit k of the lost rights.
 use mathlib.Core.Path.{ap}
 use mathlib.Core.Bool.{not}
-use Rattle.matrix.proofs.BitLaws.{has-is, has-not}
+use Rattle.matrix.proofs.RowBits.{has-is, has-not}
 use borrow.Author.Needs.{needs}
 use Rattle.withdrawals.specs.Returns.{lossNeeded}
 use Rattle.withdrawals.proofs.loss_needed.Statement.{statement}

@@ -2,7 +2,7 @@
 use borrow.Author.Needs.{needs}
 use borrow.Author.Tests.{eq-eqb, ne-eqb}
 use Rattle.rules.specs.Sets.{holds}
-use Rattle.matrix.proofs.BitLaws.{has-is, has-not}
+use Rattle.matrix.proofs.RowBits.{has-is, has-not}
 use Rattle.withdrawals.specs.Returns.{rowFits}
 use Rattle.withdrawals.proofs.row_fits.Statement.{statement}
 use Rattle.withdrawals.proofs.row_fits.Tie as tie

@@ -1,5 +1,5 @@
 -- Code by code.
-use Rattle.witness.proofs.SourceLaws.{ends-write, ends-exec, ends-late}
+use Rattle.witness.proofs.StepSources.{ends-write, ends-exec, ends-late}
 use Rattle.witness.proofs.ends_main.Statement.{statement}
 use Rattle.witness.proofs.ends_main.Tie as tie
 

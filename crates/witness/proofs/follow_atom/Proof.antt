@@ -3,7 +3,7 @@ use native.Mathlib.Omega.{arith}
 use mathlib.Core.Path.{_∙_}
 use Rattle.image.proofs.AcceptedImage.{accepted-section}
 use Rattle.session.proofs.Canonical.{started-effect}
-use Rattle.witness.proofs.FollowLaws.{atom-followed}
+use Rattle.witness.proofs.FollowedNodes.{atom-followed}
 use borrow.Author.Needs.{needs}
 use Rattle.witness.proofs.follow_atom.Statement.{statement}
 use Rattle.witness.proofs.follow_atom.Tie as tie

@@ -3,7 +3,7 @@ use native.Mathlib.Omega.{arith}
 use mathlib.Core.Path.{_∙_}
 use Rattle.image.proofs.AcceptedImage.{accepted-section}
 use Rattle.session.proofs.Canonical.{started-effect}
-use Rattle.witness.proofs.FollowLaws.{rule-ready, rule-followed}
+use Rattle.witness.proofs.FollowedNodes.{rule-ready, rule-followed}
 use borrow.Author.Needs.{needs}
 use Rattle.witness.proofs.follow_rule.Statement.{statement}
 use Rattle.witness.proofs.follow_rule.Tie as tie

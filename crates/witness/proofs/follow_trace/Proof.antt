@@ -2,7 +2,7 @@
 use Prim.Native.Nat.{_-_}
 use native.Mathlib.Omega.{arith}
 use lib.ListN.{length}
-use Rattle.records.proofs.TraceLaws.{record-length}
+use Rattle.records.proofs.TraceRecords.{record-length}
 use Rattle.witness.specs.Nodes.{tracks}
 use Rattle.witness.proofs.TraceParts.{records-count}
 use Rattle.witness.proofs.TrackLaws.{Tracking, tracking-start, tracking-next, tracking-end}

@@ -1,7 +1,7 @@
 -- The unrestricted rule, or one of the section.
 use native.Mathlib.Omega.{arith}
 use Rattle.image.proofs.RulesByNumber.{named-own}
-use Rattle.witness.proofs.MixtureLaws.{all-same, own-fits, own-unlike, own-same}
+use Rattle.witness.proofs.MixturesInPlace.{all-same, own-fits, own-unlike, own-same}
 use borrow.Author.Needs.{needs}
 use Rattle.witness.proofs.is_rule.Statement.{statement}
 use Rattle.witness.proofs.is_rule.Tie as tie

@@ -1,6 +1,6 @@
 -- Code by code.
 use borrow.Author.Tests.{not-true, not-false}
-use Rattle.witness.proofs.SourceLaws.{main-read, main-write, main-append, main-fork, main-exec-atom, main-exec-rule, main-none}
+use Rattle.witness.proofs.StepSources.{main-read, main-write, main-append, main-fork, main-exec-atom, main-exec-rule, main-none}
 use borrow.Author.Needs.{needs}
 use Rattle.witness.proofs.main_source.Statement.{statement}
 use Rattle.witness.proofs.main_source.Tie as tie

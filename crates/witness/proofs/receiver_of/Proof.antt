@@ -1,5 +1,5 @@
 -- Code by code.
-use Rattle.witness.proofs.SourceLaws.{receiver-read, receiver-exec, receiver-other}
+use Rattle.witness.proofs.StepSources.{receiver-read, receiver-exec, receiver-other}
 use Rattle.witness.proofs.receiver_of.Statement.{statement}
 use Rattle.witness.proofs.receiver_of.Tie as tie
 

@@ -1,5 +1,5 @@
 -- Code by code.
-use Rattle.witness.proofs.SourceLaws.{running-rule, running-exec, running-write, running-append, running-fork, running-none}
+use Rattle.witness.proofs.StepSources.{running-rule, running-exec, running-write, running-append, running-fork, running-none}
 use borrow.Author.Needs.{needs}
 use Rattle.witness.proofs.running_source.Statement.{statement}
 use Rattle.witness.proofs.running_source.Tie as tie

@@ -5,7 +5,7 @@ use mathlib.Core.Path.{_≡_, refl}
 use lib.ListN.{length, take, drop}
 use Rattle.lists.specs.Lists.{sameList}
 use Rattle.image.specs.Image.{mixturesIn}
-use Rattle.witness.proofs.MixtureLaws.{mixture-passed, mixture-stopped, mixture-ended}
+use Rattle.witness.proofs.MixturesInPlace.{mixture-passed, mixture-stopped, mixture-ended}
 use borrow.Author.Needs.{needs}
 use Rattle.witness.proofs.same_mixtures.Statement.{statement}
 use Rattle.witness.proofs.same_mixtures.Tie as tie

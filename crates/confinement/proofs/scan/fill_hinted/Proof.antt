@@ -4,7 +4,7 @@ use native.Mathlib.Omega.{arith}
 use mathlib.Core.Path.{_≡_, ap}
 use lib.ListN.{length}
 use Rattle.confinement.specs.Scans.{hintCount}
-use Rattle.confinement.proofs.TextScan.{
+use Rattle.confinement.proofs.FilledTables.{
   TextScan,
   scan-start,
   scan-end,
@@ -36,7 +36,7 @@ loop-holds c =
 
 place-requires : tie.Need-place-requires Inv-loop μ-loop
 place-requires c κs = (
-  c .before .before .before .before .before .before .loop .inv .0 .places,
+  c .before .before .before .before .before .before .loop .inv .0 .spans,
   named-fits _ _ _ _ _ _ _ _ _ (c .before .before .before .before .before .before .loop .inv .0) _ (c .before .before .before .named-path .ensures)
       (c .before .before .before .before .before .loop-test .taken),
   c .before .before .before .before .before .before .loop .inv .1,
@@ -238,11 +238,11 @@ loop-again-2 c = (
 
 same-length-11 : tie.Need-same-length-11 Inv-loop μ-loop
 same-length-11 c =
-    omega (arith, c .before .loop .inv .0 .places .startsLong, c .before .before .before .before .before .before .before .before .before .pre .2)
+    omega (arith, c .before .loop .inv .0 .spans .startsLong, c .before .before .before .before .before .before .before .before .before .pre .2)
 
 same-length-12 : tie.Need-same-length-12 Inv-loop μ-loop
 same-length-12 c =
-    omega (arith, c .before .loop .inv .0 .places .sizesLong, c .before .before .before .before .before .before .before .before .before .pre .3)
+    omega (arith, c .before .loop .inv .0 .spans .sizesLong, c .before .before .before .before .before .before .before .before .before .pre .3)
 
 same-length-13 : tie.Need-same-length-13 Inv-loop μ-loop
 same-length-13 c =

@@ -2,7 +2,7 @@
 use Prim.Native.Nat.{_-_}
 use native.Mathlib.Omega.{arith}
 use Rattle.confinement.specs.Tables.{pathAt}
-use Rattle.confinement.proofs.ScanLaws.{Searched, search-start, search-hit, search-next, search-end}
+use Rattle.confinement.proofs.PathSearch.{Searched, search-start, search-hit, search-next, search-end}
 use borrow.Author.Needs.{needs}
 use Rattle.confinement.proofs.scan.find.Statement.{statement}
 use Rattle.confinement.proofs.scan.find.Tie as tie
@@ -19,14 +19,14 @@ loop-holds c =
     search-start (start .args .text .now) (pathAt (start .args .text .now) (start .args .start) (start .args .size)) (start .args .starts .now) (start .args .sizes .now) (start .args .n) (start .pre .0)
 
 shared-slice-read-same-path : tie.Need-shared-slice-read-same-path Inv-loop μ-loop
-shared-slice-read-same-path c = omega (arith, c .before .before .loop .inv .places .startsLong, c .before .before .loop .inv .places .few)
+shared-slice-read-same-path c = omega (arith, c .before .before .loop .inv .spans .startsLong, c .before .before .loop .inv .spans .few)
 
 shared-slice-read-same-path-2 : tie.Need-shared-slice-read-same-path-2 Inv-loop μ-loop
-shared-slice-read-same-path-2 c = omega (arith, c .before .before .before .loop .inv .places .sizesLong, c .before .before .before .loop .inv .places .few)
+shared-slice-read-same-path-2 c = omega (arith, c .before .before .before .loop .inv .spans .sizesLong, c .before .before .before .loop .inv .spans .few)
 
 same-path-requires : tie.Need-same-path-requires Inv-loop μ-loop
 same-path-requires c κs =
-    (c .before .before .before .before .before .before .before .pre .1, c .before .before .before .loop .inv .places .within _ (c .before .before .loop-test .taken))
+    (c .before .before .before .before .before .before .before .pre .1, c .before .before .before .loop .inv .spans .within _ (c .before .before .loop-test .taken))
 
 returns : tie.Need-returns Inv-loop μ-loop
 returns c =

@@ -1,5 +1,5 @@
 -- The hint is right if the path there is the same.
-use Rattle.confinement.proofs.ScanLaws.{no-hint, hinted}
+use Rattle.confinement.proofs.PathSearch.{no-hint, hinted}
 use borrow.Author.Needs.{needs}
 use Rattle.confinement.proofs.scan.is_hinted.Statement.{statement}
 use Rattle.confinement.proofs.scan.is_hinted.Tie as tie

@@ -1,7 +1,7 @@
 -- A path that is found has its number; another takes the next one.
 use mathlib.Core.Path.{_∙_}
 use lib.ListN.{length-set}
-use Rattle.confinement.proofs.TextScan.{place-old, place-full, place-new}
+use Rattle.confinement.proofs.FilledTables.{place-old, place-full, place-new}
 use borrow.Author.Needs.{needs}
 use Rattle.confinement.proofs.scan.place.Statement.{statement}
 use Rattle.confinement.proofs.scan.place.Tie as tie

@@ -1,6 +1,6 @@
 -- Byte by byte it is told whether the bytes so far are the same.
 use Prim.Native.Nat.{_-_}
-use Rattle.confinement.proofs.ScanLaws.{SameHead, head-start, head-same, head-differs, head-end}
+use Rattle.confinement.proofs.PathSearch.{SameHead, head-start, head-same, head-differs, head-end}
 use borrow.Author.Needs.{needs}
 use Rattle.confinement.proofs.scan.same_bytes.Statement.{statement}
 use Rattle.confinement.proofs.scan.same_bytes.Tie as tie

@@ -3,7 +3,7 @@ use mathlib.Core.Path.{ap, _∙_}
 use Prim.Native.Nat.{ℕ}
 use Rattle.lists.specs.Lists.{sameList}
 use Rattle.confinement.specs.Tables.{pathAt}
-use Rattle.confinement.proofs.ScanLaws.{sizes-differ}
+use Rattle.confinement.proofs.PathSearch.{sizes-differ}
 use borrow.Author.Needs.{needs}
 use Rattle.confinement.proofs.scan.same_path.Statement.{statement}
 use Rattle.confinement.proofs.scan.same_path.Tie as tie

@@ -10,10 +10,10 @@ use Rattle.profiles.proofs.notes.find_path.Statement.{statement}
 use Rattle.profiles.proofs.notes.find_path.Tie as tie
 
 abbrev Inv-loop : tie.InvT-loop
-Inv-loop text notes at n key j₀ j = NotesPassed text notes (take n (drop at text)) j
+Inv-loop text notes at n hash j₀ j = NotesPassed text notes (take n (drop at text)) j
 
 abbrev μ-loop : tie.MeasureT-loop
-μ-loop text notes at n key j₀ j = length notes - j
+μ-loop text notes at n hash j₀ j = length notes - j
 
 loop-holds : tie.Need-loop-holds Inv-loop μ-loop
 loop-holds c = notes-start (c .before .before .args .text .now) (c .before .before .args .notes .now) (take (c .before .before .args .length) (drop (c .before .before .args .at) (c .before .before .args .text .now)))

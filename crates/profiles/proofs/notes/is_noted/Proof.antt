@@ -1,17 +1,17 @@
--- Paths with different keys differ; those with the same key have the same length.
+-- Paths with different hashes differ; those with the same hash have the same length.
 use Prim.Native.Nat.{ℕ, _+_, _-_, _%_}
 use mathlib.Core.Path.{_≡_, ap, ap₂, _∙_}
 use Rattle.profiles.specs.Texts.{textLimit}
 use lib.ListN.{take, drop}
 use native.Mathlib.Nat.{add-sub-cancel-left}
 use Rattle.lists.specs.Lists.{sameList}
-use Rattle.profiles.proofs.NoteLaws.{key-differs, note-fits, note-text}
+use Rattle.profiles.proofs.NoteLaws.{hash-differs, note-fits, note-text}
 use borrow.Author.Needs.{needs}
 use Rattle.profiles.proofs.notes.is_noted.Statement.{statement}
 use Rattle.profiles.proofs.notes.is_noted.Tie as tie
 
 returns : tie.Need-returns
-returns c = key-differs (c .before .before .args .text .now) (c .before .before .args .note) (c .before .before .args .at) (c .before .before .args .length)
+returns c = hash-differs (c .before .before .args .text .now) (c .before .before .args .note) (c .before .before .args .at) (c .before .before .args .length)
     _ (c .before .before .pre .0) (c .before .before .pre .1) (c .if1 .taken)
 
 part-same-end-2 : tie.Need-part-same-end-2

@@ -4,14 +4,14 @@ use mathlib.Core.Path.{_≡_}
 use lib.ListN.{take, drop}
 use native.Mathlib.Omega.{arith}
 use native.Mathlib.Nat.{add-sub-cancel-left}
-use Rattle.profiles.specs.Notes.{pathKey, notedPaths, notedPlace}
+use Rattle.profiles.specs.Notes.{pathHash, notedPaths, notedPlace}
 use Rattle.profiles.proofs.NoteLaws.{noted-small, known-note, new-note}
 use borrow.Author.Needs.{needs}
 use Rattle.profiles.proofs.notes.note_path.Statement.{statement}
 use Rattle.profiles.proofs.notes.note_path.Tie as tie
 
-key-is : (c : tie.After-path-key) → c .path-key .result ≡ pathKey (take (c .before .before .before .before .args .length) (drop (c .before .before .before .before .args .at) (c .before .before .before .before .args .text .now)))
-key-is c = rw add-sub-cancel-left at (c .path-key .ensures)
+hash-is : (c : tie.After-path-hash) → c .path-hash .result ≡ pathHash (take (c .before .before .before .before .args .length) (drop (c .before .before .before .before .args .at) (c .before .before .before .before .args .text .now)))
+hash-is c = rw add-sub-cancel-left at (c .path-hash .ensures)
 
 place-is : (c : tie.After-find-path) → c .find-path .result ≡ notedPlace (c .before .before .before .before .before .before .before .args .text .now) (c .before .before .before .before .before .before .before .args .notes .now)
     (c .before .before .before .before .before .before .before .args .count) (c .before .before .before .before .before .before .before .args .at) (c .before .before .before .before .before .before .before .args .length)
@@ -23,7 +23,7 @@ find-path-requires : tie.Need-find-path-requires
 find-path-requires c κs =
     let start = c .before .before .before .before .before .before in
     let z : start .args .count - 0 ≡ start .args .count = omega arith in
-    (record { good = start .pre .good; fits = start .pre .fits; keyed = key-is (c .before .before) }, rw z (start .pre .noted))
+    (record { good = start .pre .good; fits = start .pre .fits; hashed = hash-is (c .before .before) }, rw z (start .pre .noted))
 
 returns : tie.Need-returns
 returns c =
@@ -33,17 +33,17 @@ returns c =
 mul-notes : tie.Need-mul-notes
 mul-notes c =
     let start = c .before .before .before .before .before .before .before .before in
-    omega (arith, noted-small (start .args .text .now) (start .args .notes .now) (start .args .count) (start .args .at) (start .args .length) (start .pre) _ (key-is (c .before .before .before .before)))
+    omega (arith, noted-small (start .args .text .now) (start .args .notes .now) (start .args .count) (start .args .at) (start .args .length) (start .pre) _ (hash-is (c .before .before .before .before)))
 
 add-notes : tie.Need-add-notes
 add-notes c =
     let start = c .before .before .before .before .before .before .before .before in
-    omega (arith, start .pre .place, noted-small (start .args .text .now) (start .args .notes .now) (start .args .count) (start .args .at) (start .args .length) (start .pre) _ (key-is (c .before .before .before .before)))
+    omega (arith, start .pre .place, noted-small (start .args .text .now) (start .args .notes .now) (start .args .count) (start .args .at) (start .args .length) (start .pre) _ (hash-is (c .before .before .before .before)))
 
 returns-2 : tie.Need-returns-2
 returns-2 c =
     let start = c .before .before .before .before .before .before .before .before in
-    (place-is (c .before), new-note (start .args .text .now) (start .args .notes .now) (start .args .count) (start .args .at) (start .args .length) (start .pre) _ (place-is (c .before)) (c .if1 .left) _ (key-is (c .before .before .before .before)))
+    (place-is (c .before), new-note (start .args .text .now) (start .args .notes .now) (start .args .count) (start .args .at) (start .args .length) (start .pre) _ (place-is (c .before)) (c .if1 .left) _ (hash-is (c .before .before .before .before)))
 
 pub note-path-spec : {M : Type 1} → statement M
 note-path-spec =

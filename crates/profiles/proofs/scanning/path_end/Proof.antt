@@ -2,7 +2,7 @@
 use Prim.Native.Nat.{_-_}
 use lib.ListN.{length}
 use Rattle.lists.proofs.Bools.{passes-test, fails-test}
-use Rattle.profiles.proofs.ScanLaws.{PathScanned, path-start, path-next, path-stop, path-end}
+use Rattle.profiles.proofs.WordScans.{PathScanned, path-start, path-next, path-stop, path-end}
 use borrow.Author.Needs.{needs}
 use Rattle.profiles.proofs.scanning.path_end.Statement.{statement}
 use Rattle.profiles.proofs.scanning.path_end.Tie as tie

@@ -5,7 +5,7 @@ use lib.Dec.{leb}
 use lib.ListN.{length, drop}
 use native.Mathlib.Omega.{arith}
 use Rattle.profiles.specs.Reading.{pathIn}
-use Rattle.profiles.proofs.PathLaws.{path-no-slash, path-short, path-fits}
+use Rattle.profiles.proofs.PathBytes.{path-no-slash, path-short, path-fits}
 use borrow.Author.Needs.{needs}
 use Rattle.profiles.proofs.scanning.path_good.Statement.{statement}
 use Rattle.profiles.proofs.scanning.path_good.Tie as tie

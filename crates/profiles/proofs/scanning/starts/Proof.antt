@@ -2,7 +2,7 @@
 use Prim.Native.Nat.{_-_}
 use lib.ListN.{length, length-drop}
 use native.Mathlib.Omega.{arith}
-use Rattle.profiles.proofs.ScanLaws.{starts-short, Matched, match-start, match-next, match-stop, match-end}
+use Rattle.profiles.proofs.WordScans.{starts-short, Matched, match-start, match-next, match-stop, match-end}
 use borrow.Author.Needs.{needs}
 use Rattle.profiles.proofs.scanning.starts.Statement.{statement}
 use Rattle.profiles.proofs.scanning.starts.Tie as tie
