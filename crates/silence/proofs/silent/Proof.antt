@@ -11,8 +11,8 @@ use Rattle.silence.proofs.silent.Tie as tie
 returns : tie.Need-returns
 returns c = sym (silence-refused _ _ _ (fails-test (c .before .matrix-good .ensures) (c .if1 .taken)))
 
-compose-requires : tie.Need-compose-requires
-compose-requires c κs =
+compose-flows-requires : tie.Need-compose-flows-requires
+compose-flows-requires c κs =
     let good = passes-test (c .before .before .matrix-good .ensures) (c .before .if1 .left) in
     (exchanged-good _ _ _ good, good-parts _ _ _ good .few)
 
@@ -20,7 +20,7 @@ all-quiet-requires : tie.Need-all-quiet-requires
 all-quiet-requires c κs =
     let test = c .before .before .before .before in
     let good = passes-test (test .before .matrix-good .ensures) (test .if1 .left) in
-    source-table _ _ _ good _ _ (good-parts _ _ _ good .few) (c .before .before .compose .ensures)
+    source-table _ _ _ good _ _ (good-parts _ _ _ good .few) (c .before .before .compose-flows .ensures)
 
 returns-2 : tie.Need-returns-2
 returns-2 c =
@@ -39,7 +39,7 @@ silent-spec =
     (λ c κs. search needs)
     returns
     (λ c. search needs)
-    compose-requires
+    compose-flows-requires
     (λ c. search needs)
     all-quiet-requires
     returns-2
