@@ -135,3 +135,35 @@ impl Reader for Explanations {
         Outcome { alerts: self.explained > 0, policy_refused: self.refused_policy, ..Outcome::default() }
     }
 }
+
+#[cfg(test)]
+mod tests {
+    use super::*;
+
+    #[test]
+    fn damaged_lines_are_none() {
+        for lines in [
+            vec![""],
+            vec!["rule own 1 65535"],
+            vec!["alert 12"],
+            vec!["alert 12 8", "alert 13 8"],
+            vec!["alert 12 8", "total 12 explained 1"],
+            vec!["alert 12 8", "rule own 1"],
+            vec!["alert 12 8", "rule own 1 65535 3"],
+            vec!["alert 12 8", "rule owner 1 65535"],
+            vec!["alert 12 8", "rule made 1 65535 6"],
+            vec!["alert 12 8", "rule own 1 65535", "rule own 1 65535"],
+            vec!["alert 12 8", "rule own 1 65535", "lacks 06 0"],
+            vec!["alert 12 8", "rule own 1 65535", "way 0"],
+            vec!["alert 12 8", "rule own 1 65535", "way 0 0 x"],
+            vec!["alert 12 8", "rule own 1 65535", "total 12 explained 2"],
+            vec!["alert 12 8", "rule own 1 65535", "policy refused 1"],
+            vec!["total 0 explained 0", "total 0 explained 0"],
+        ] {
+            let mut explanations = Explanations::default();
+            let (last, front) = lines.split_last().expect("there is a line");
+            assert!(front.iter().all(|line| explanations.take(line).is_ok()), "{lines:?}");
+            assert!(explanations.take(last).is_err(), "{lines:?}");
+        }
+    }
+}

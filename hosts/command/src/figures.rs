@@ -130,3 +130,34 @@ impl Reader for Figures {
         Outcome { alerts, gaps, policy_refused: self.refused_policy, own: None }
     }
 }
+
+#[cfg(test)]
+mod tests {
+    use super::*;
+
+    #[test]
+    fn damaged_lines_are_none() {
+        for line in [
+            "",
+            "00.bin",
+            "01.bin 0 0 0 0 none",
+            "00.bin 0 0 0 none",
+            "00.bin 0 0 0 0 nothing",
+            "00.bin 0 0 0 0 0",
+            "00.bin 1 1 0 0 1000 0 3",
+            "00.bin 1 1 0 0 1000 0 3 x",
+            "total 0 0 0 0 none",
+            "policy refused x",
+        ] {
+            let mut figures = Figures::new(vec!["a".into()]);
+            assert!(figures.take(line).is_err(), "{line}");
+            assert!(!figures.complete(), "{line}");
+        }
+        let mut figures = Figures::new(vec!["a".into()]);
+        assert!(figures.take("00.bin 1 1 0 0 1000 0 3 1").is_ok());
+        assert!(figures.take("01.bin 0 0 0 0 none").is_err());
+        assert!(figures.take("policy refused 1").is_err());
+        assert!(figures.take("total 1 0 0 0 0 0").is_err());
+        assert!(figures.take("total 1 1 0 0 1000 0 3 1").is_ok() && figures.complete());
+    }
+}

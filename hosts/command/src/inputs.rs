@@ -131,6 +131,13 @@ impl Inputs {
         self.all().any(|input| input.file.is_none())
     }
 
+    /// What the program calls its inputs, and what the arguments call them.
+    pub fn names(&self) -> Vec<(String, String)> {
+        let called =
+            |path: &Path| if path.as_os_str() == "-" { "standard input".into() } else { path.display().to_string() };
+        self.all().map(|input| (input.name.clone(), called(&input.path))).collect()
+    }
+
     /// What the arguments call the traces.
     pub fn traces(&self) -> Vec<String> {
         self.traces.iter().map(|trace| trace.path.display().to_string()).collect()

@@ -99,3 +99,37 @@ impl Reader for Listing {
         Outcome { alerts, gaps, policy_refused: self.refused_policy, own: None }
     }
 }
+
+#[cfg(test)]
+mod tests {
+    use super::*;
+
+    #[test]
+    fn damaged_lines_are_none() {
+        for line in [
+            "",
+            "1",
+            "2 read 4 2 quiet 4 0000000000000004 0",
+            "1 read 4 2 quiet 4 0000000000000004",
+            "1 read 4 2 quiet 4 0000000000000004 0 0",
+            "1 read 4 2 quiet 4 000000000000000g 0",
+            "1 read 4 2 quiet 4 000000000000004 0",
+            "1  read 4 2 quiet 4 0000000000000004 0",
+            "1 read 4 +2 quiet 4 0000000000000004 0",
+            "1 read 4 2 loud 4 0000000000000004 0",
+            "1 read 4 2 refused",
+            "1 read 4 2 refused 12 12",
+            "total 0 alerts 0",
+            "total 0 alerts 0 refused 1",
+            "policy refused 2",
+        ] {
+            let mut listing = Listing::default();
+            assert_eq!(listing.take(HEADING), Ok(Vec::new()));
+            assert!(listing.take(line).is_err(), "{line}");
+            assert!(!listing.complete(), "{line}");
+        }
+        for line in ["policy refused", "policy refused x", "policy refused 2 2", "total 0 alerts 0 refused 0"] {
+            assert!(Listing::default().take(line).is_err(), "{line}");
+        }
+    }
+}

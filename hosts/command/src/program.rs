@@ -4,13 +4,13 @@ use std::env;
 use std::io::{self, BufRead, BufReader, BufWriter, Read, Write};
 use std::os::unix::process::ExitStatusExt;
 use std::path::{Path, PathBuf};
-use std::process::{Child, ChildStdin, ChildStdout, Command, ExitStatus, Stdio};
+use std::process::{Child, ChildStderr, ChildStdin, ChildStdout, Command, ExitStatus, Stdio};
 use std::sync::{Arc, Mutex};
 use std::thread;
 
 use crate::inputs::Inputs;
 use crate::line::Reader;
-use crate::status::Failure;
+use crate::status::{tell, Failure};
 
 /// How much of standard input is handed on at once.
 const PIECE: usize = 1 << 16;
@@ -67,6 +67,18 @@ fn hand_on(mut to: ChildStdin, fault: &InputFault) {
     }
 }
 
+/// Tells what a program says on standard error, with the inputs called as the arguments call them.
+fn tell_lines(said: ChildStderr, names: &[(String, String)]) {
+    for line in BufReader::new(said).split(b'\n').map_while(Result::ok) {
+        let line = String::from_utf8_lossy(&line);
+        let (name, rest) = line.split_once(':').unwrap_or((&line, ""));
+        match names.iter().find(|(known, _)| known == name) {
+            Some((_, path)) => tell(&format!("{path}:{rest}")),
+            None => tell(&line),
+        }
+    }
+}
+
 /// Ends a program whose lines are of no more use.
 fn stop(child: &mut Child) {
     let _ = child.kill();
@@ -80,6 +92,7 @@ pub fn run(name: &str, program: &Path, inputs: &Inputs, reader: &mut dyn Reader,
         .current_dir(inputs.folder())
         .stdin(if piped { Stdio::piped() } else { Stdio::null() })
         .stdout(Stdio::piped())
+        .stderr(Stdio::piped())
         .spawn()
         .map_err(|error| Failure::file(program, error))?;
     let fault = InputFault::default();
@@ -87,12 +100,16 @@ pub fn run(name: &str, program: &Path, inputs: &Inputs, reader: &mut dyn Reader,
         let fault = Arc::clone(&fault);
         thread::spawn(move || hand_on(to, &fault));
     }
+    let (said, names) = (child.stderr.take().expect("it is piped"), inputs.names());
+    let teller = thread::spawn(move || tell_lines(said, &names));
     let lines = BufReader::with_capacity(PIECE, child.stdout.take().expect("it is piped"));
     if let Err(failure) = print_lines(name, lines, reader, json) {
         stop(&mut child);
         return Err(failure);
     }
     let status = child.wait().map_err(|error| Failure::file(program, error))?;
+    // What it has told comes before what is told of it.
+    let _ = teller.join();
     if let Some(failure) = ended_badly(name, status) {
         return Err(failure);
     }
