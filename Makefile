@@ -5,6 +5,7 @@
 #   make policy            builds the program `policy`, which makes, checks and shows policies and explains alerts, and prints
 #                          where it is
 #   make record            builds the program `record`, which watches real programs, and prints where it is
+#   make command           builds the one command `yaslaurel` with all its programs (docs/COMMAND.md), and prints where it is
 #   make night             watches eight commands of a shell script, and explains the alert
 #   make profiles-demo     turns the profiles in demo/profiles into a policy, and explains the alerts of a session from it
 #   make vendor-demo       composes a vendor's policy with a house's, one source consenting
@@ -15,6 +16,9 @@
 #                          LIBDIR=PREFIX/lib, staged under DESTDIR
 #   make install-programs  the programs `policy` and `record`, in PREFIX/bin
 #   make uninstall         removes all these, under the same names
+#   make dist              the release in target/dist, for makers without the prover: a tarball with libraries, programs, manual,
+#                          documents and examples, and its SHA256SUMS
+#   make deb               the same as Debian's packages
 #
 # Change it (contributors)
 #   make setup             installs what is missing by apt, as root: tools/needed.txt lists it
@@ -27,7 +31,7 @@
 #   make generated         the tables and pictures that documents have from the sources
 
 .DEFAULT_GOAL = help
-.PHONY: help try demo month policy record night profiles-demo vendor-demo lib install install-programs uninstall setup test soak bench covering mutants generated
+.PHONY: help try demo month policy record command night profiles-demo vendor-demo lib install install-programs uninstall dist deb setup test soak bench covering mutants generated
 
 PREFIX = /usr/local
 BINDIR = $(PREFIX)/bin
@@ -64,6 +68,11 @@ policy:
 
 record:
 	@hosts/build record
+
+command: lib
+	@for program in watch month explain; do tools/prove $$program >&2 || exit 1; done
+	@hosts/command/assemble target/command
+	@echo $(CURDIR)/target/command/bin/yaslaurel
 
 night:
 	@demo/night/run
@@ -112,6 +121,12 @@ uninstall:
 	rm -f $(DESTDIR)$(DOCDIR)/FORMATS.md $(addprefix $(DESTDIR)$(DOCDIR)/examples/,host.c guard.c)
 	rm -f $(addprefix $(DESTDIR)$(CRATEDIR)/,Cargo.toml build.rs $(CRATE_SOURCES))
 	-rmdir --ignore-fail-on-non-empty $(addprefix $(DESTDIR),$(DOCDIR)/examples $(DOCDIR) $(CRATEDIR)/src $(CRATEDIR) $(dir $(CRATEDIR)))
+
+dist:
+	@packaging/dist target/dist
+
+deb: dist
+	@packaging/deb target/dist
 
 setup:
 	@tools/setup
