@@ -128,6 +128,11 @@ impl Ledger {
         }
     }
 
+    /// Whether the process of a task holds something of a source.
+    pub fn holds_something(&self, task: TaskId) -> bool {
+        self.recorder.processes.of(task).and_then(|process| self.recorder.held_by(process)) != Some(0)
+    }
+
     /// Whether an object is a guarded file.
     pub fn guards(&self, object: ObjectId) -> bool {
         self.file(object).is_some_and(|file| self.recorder.is_guarded(file))
@@ -235,6 +240,11 @@ impl Ledger {
     pub fn mapped_by(&self, task: TaskId) -> Vec<ObjectId> {
         let list = self.recorder.processes.of(task).and_then(|process| self.mappings.get(&process));
         list.into_iter().flatten().filter(|mapping| mapping.writable).map(|mapping| mapping.object).collect()
+    }
+
+    /// Whether somebody has an object mapped, shared and writable.
+    pub fn is_mapped_to_write(&self, object: ObjectId) -> bool {
+        self.mappings.values().flatten().any(|mapping| mapping.writable && mapping.object == object)
     }
 
     /// The next write is the first of an empty file, unless others are just writing to it.

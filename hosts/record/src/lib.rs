@@ -29,6 +29,7 @@ mod plan;
 mod process;
 mod recorder;
 mod report;
+mod resolve;
 mod save;
 mod sockets;
 mod state;
