@@ -17,6 +17,7 @@ mod line;
 mod lines;
 mod look;
 mod meaning;
+mod memory;
 mod monitor;
 mod names;
 mod numbers;

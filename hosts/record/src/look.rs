@@ -367,12 +367,21 @@ pub fn shown(task: Tid, folder: i32, name: &[u8]) -> Vec<u8> {
 
 /// A file of the system, which makes its text anew for each call: as few calls as can be.
 fn read(path: &str) -> io::Result<Vec<u8>> {
-    let mut text = Vec::with_capacity(1 << 14);
-    fs::File::open(path)?.read_to_end(&mut text)?;
+    let (mut file, mut text, mut length) = (fs::File::open(path)?, vec![0; 1 << 14], 0);
+    loop {
+        match file.read(&mut text[length..])? {
+            0 => break,
+            more => length += more,
+        }
+        if length == text.len() {
+            text.resize(2 * length, 0);
+        }
+    }
+    text.truncate(length);
     Ok(text)
 }
 
-/// The program that a task runs, and the other files that the kernel has mapped for it.
+/// The program that a task runs, and the other files that the kernel has mapped for it. Their names are as this program would write them.
 pub fn mapped(task: Tid) -> Option<Vec<(Found, Vec<u8>)>> {
     let maps = read(&format!("/proc/{task}/maps")).ok()?;
     let mut names: Vec<&[u8]> = maps
@@ -381,12 +390,13 @@ pub fn mapped(task: Tid) -> Option<Vec<(Found, Vec<u8>)>> {
         .collect();
     names.dedup();
     let mut found: Vec<(Found, Vec<u8>)> = Vec::new();
-    let program = (format!("/proc/{task}/exe").into_bytes(), names.first().map_or(Vec::new(), |name| name.to_vec()));
-    let others = names.iter().map(|name| (path_of(task, libc::AT_FDCWD, name, true), name.to_vec()));
+    let program = (format!("/proc/{task}/exe").into_bytes(), names.first().map_or(&b""[..], |name| name));
+    // The first name is that of the program.
+    let others = names.iter().skip(1).map(|name| (name.to_vec(), *name));
     for (path, name) in [program].into_iter().chain(others) {
         if let Seen::Object(object) = at(task, &path, true) {
             if found.iter().all(|(other, _)| other.key != object.key) {
-                found.push((object, name));
+                found.push((object, name.to_vec()));
             }
         }
     }
@@ -457,6 +467,13 @@ pub fn writes_to(task: Tid, key: &Key) -> bool {
         matches!(descriptor(task, number), Seen::Object(found) if found.key == *key)
             && descriptor_flags(task, number).map_or(true, |flags| flags & libc::O_ACCMODE != libc::O_RDONLY)
     })
+}
+
+/// Whether a task that was let go on may still be in a call that reads, or may not have begun it: unless it waits in another one.
+pub fn may_read(task: Tid) -> bool {
+    let text = fs::read_to_string(format!("/proc/{task}/syscall")).unwrap_or_default();
+    let number = text.split(' ').next().and_then(|number| number.parse::<libc::c_long>().ok());
+    number.map_or(true, |number| [libc::SYS_read, libc::SYS_pread64].contains(&number))
 }
 
 /// Whether a task sleeps in the kernel.

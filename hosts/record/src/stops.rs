@@ -36,11 +36,13 @@ pub struct Task {
     pub vfork: Option<Tid>,
     /// The descriptors that the last call uses or moves which was let go on; it may not have looked at them yet.
     pub recent: Option<Recent>,
+    /// What its last call reads, if it brought nothing new when it began and its end is not waited for.
+    pub reads: Option<ObjectId>,
 }
 
 impl Task {
     fn new(memory: usize) -> Task {
-        Task { memory, call: None, hidden: false, running: true, vfork: None, recent: None }
+        Task { memory, call: None, hidden: false, running: true, vfork: None, recent: None, reads: None }
     }
 }
 
@@ -153,12 +155,32 @@ impl Tracer {
 
     /// Takes up an event and keeps it, if events are kept. Whether it is blocked.
     pub fn emit(&mut self, event: Event) -> bool {
+        self.keep(&event);
+        let blocked = self.ledger.event(&event);
+        self.catch_up();
+        blocked
+    }
+
+    /// Writes an event down, if events are kept.
+    fn keep(&mut self, event: &Event) {
         if let Some(kept) = &mut self.kept {
-            if let Err(error) = event_list::write(kept, &event) {
+            if let Err(error) = event_list::write(kept, event) {
                 self.failure.get_or_insert(error);
             }
         }
-        self.ledger.event(&event)
+    }
+
+    /// Files have got more: reads of them that were let go on, and that may not be over, get it too.
+    fn catch_up(&mut self) {
+        while self.ledger.has_grown() {
+            let reads = self.tasks.iter().filter_map(|(task, found)| Some((*task, found.reads?))).collect();
+            let reads = self.ledger.take_grown(reads);
+            for (task, object) in reads.into_iter().filter(|(task, _)| look::may_read(*task)) {
+                let event = Event::Moved { task: task as TaskId, flow: Flow { way: Way::In, object } };
+                self.keep(&event);
+                self.ledger.event(&event);
+            }
+        }
     }
 
     pub fn tell(&mut self, words: impl Into<String>) {
@@ -259,6 +281,7 @@ impl Tracer {
         };
         known.running = false;
         known.recent = None;
+        known.reads = None;
         match stop {
             Stop::Filter => self.call_begins(task),
             Stop::CallEnd => self.call_ends(task),
