@@ -154,3 +154,9 @@ static inline void leak_mapped(pid_t a, const char *word)
         }
     }
 }
+/* Name spaces of one's own: another user than root gets them with one of users. */
+static inline void own_spaces(int flags)
+{
+    if (unshare(flags) && unshare(flags | CLONE_NEWUSER))
+        DIE("unshare");
+}

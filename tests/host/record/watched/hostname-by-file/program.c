@@ -2,8 +2,7 @@
 #include "../moves.h"
 int main()
 {
-    if (unshare(CLONE_NEWUTS))
-        DIE("unshare");
+    own_spaces(CLONE_NEWUTS);
     CHILD(secret(); int f = open("/proc/sys/kernel/hostname", O_WRONLY); write(f, S, N - 1));
     struct utsname u;
     uname(&u);

@@ -2,8 +2,7 @@
 #include "../moves.h"
 int main()
 {
-    if (unshare(CLONE_NEWNS))
-        DIE("unshare");
+    own_spaces(CLONE_NEWNS);
     mount(0, "/", 0, MS_REC | MS_PRIVATE, 0);
     mkdir("m", 0755);
     CHILD(secret(); S[N - 1] = 0; if (mount(S, "m", "tmpfs", 0, 0)) DIE("mount"));

@@ -2,8 +2,7 @@
 #include "../moves.h"
 int main()
 {
-    if (unshare(CLONE_NEWNET))
-        DIE("unshare");
+    own_spaces(CLONE_NEWNET);
     struct sockaddr_un a = {AF_UNIX, "sock"};
     int l = socket(AF_UNIX, SOCK_STREAM, 0);
     bind(l, (void *)&a, sizeof a);

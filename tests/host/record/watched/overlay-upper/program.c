@@ -2,8 +2,7 @@
 #include "../moves.h"
 int main()
 {
-    if (unshare(CLONE_NEWNS))
-        DIE("unshare");
+    own_spaces(CLONE_NEWNS);
     mount(0, "/", 0, MS_REC | MS_PRIVATE, 0);
     mkdir("t", 0755);
     mount("tmpfs", "t", "tmpfs", 0, 0);

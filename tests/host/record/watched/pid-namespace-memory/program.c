@@ -2,7 +2,6 @@
 #include "../moves.h"
 int main()
 {
-    if (unshare(CLONE_NEWPID))
-        DIE("unshare");
+    own_spaces(CLONE_NEWPID);
     CHILD(BACK(a, secret(); ms(600)); ms(200); leak_memory(a); waitpid(a, 0, 0));
 }

@@ -2,8 +2,7 @@
 #include "../moves.h"
 int main()
 {
-    if (unshare(CLONE_NEWNS | CLONE_NEWPID))
-        DIE("unshare");
+    own_spaces(CLONE_NEWNS | CLONE_NEWPID);
     mount(0, "/", 0, MS_REC | MS_PRIVATE, 0);
     CHILD({
         mkdir("p", 0755);

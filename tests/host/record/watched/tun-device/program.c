@@ -4,8 +4,7 @@
 #include <linux/if_tun.h>
 int main()
 {
-    if (unshare(CLONE_NEWNET))
-        DIE("unshare");
+    own_spaces(CLONE_NEWNET);
     int t = open("/dev/net/tun", O_RDWR);
     struct ifreq r = {"t0"};
     r.ifr_flags = IFF_TUN | IFF_NO_PI;
