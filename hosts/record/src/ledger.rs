@@ -43,20 +43,23 @@ pub struct Ledger {
     /// The object at each name of the story.
     names: HashMap<Vec<u8>, Option<ObjectId>>,
     events: usize,
+    /// The files that have got more and that nobody was asked about yet.
+    grown: Vec<FileId>,
 }
 
 impl Ledger {
     pub fn start(plan: Plan, report: Report, run: Start) -> Result<Ledger, Refusal> {
         let recorder = Recorder::start(plan, report, run)?;
-        let (objects, under_way, mappings, names) = Default::default();
+        let (objects, under_way, mappings, names, grown) = Default::default();
         // The first line of an event list is no event.
-        Ok(Ledger { recorder, objects, under_way, mappings, names, events: 1 })
+        Ok(Ledger { recorder, objects, under_way, mappings, names, events: 1, grown })
     }
 
     /// Takes up an event. Whether it is blocked: it must not be made then.
     pub fn event(&mut self, event: &Event) -> bool {
         self.events += 1;
         self.recorder.line = self.events;
+        self.grown.clear();
         if event.object().is_some_and(|object| object >= self.objects.len()) {
             self.recorder.gap(UNKNOWN);
             return false;
@@ -112,6 +115,31 @@ impl Ledger {
         self.objects.push(file);
     }
 
+    /// Whether files have got more by what was taken up since the last answer.
+    pub fn has_grown(&self) -> bool {
+        !self.grown.is_empty()
+    }
+
+    /// Which of these objects have got more; they are told once.
+    pub fn take_grown<T>(&mut self, asked: Vec<(T, ObjectId)>) -> Vec<(T, ObjectId)> {
+        let grown = std::mem::take(&mut self.grown);
+        let has =
+            |object: ObjectId| self.file(object).is_some_and(|file| grown.contains(&self.recorder.files.root(file)));
+        asked.into_iter().filter(|(_, object)| has(*object)).collect()
+    }
+
+    /// Whether a read would leave a process as it is.
+    pub fn reads_nothing_new(&self, task: TaskId, object: ObjectId) -> bool {
+        let (Some(process), Some(file)) = (self.recorder.processes.of(task), self.file(object)) else { return false };
+        let (process, file) = (self.recorder.processes.get(process).number, self.recorder.files.get(file).number);
+        match (process, file) {
+            (Some(process), Some(file)) => self.recorder.monitor.would_keep(process, file),
+            // Without a number a file holds nothing.
+            (process, None) => process.is_some(),
+            _ => false,
+        }
+    }
+
     /// Whether a flow would change what its receiver has.
     pub fn would_change(&self, task: TaskId, flow: Flow) -> bool {
         let (Some(process), Some(file)) = (self.recorder.processes.of(task), self.file(flow.object)) else {
@@ -126,6 +154,11 @@ impl Ledger {
             (Some(held), None, Way::Out) => held != 0,
             (None, ..) => true,
         }
+    }
+
+    /// Whether the process of a task holds something of a source.
+    pub fn holds_something(&self, task: TaskId) -> bool {
+        self.recorder.processes.of(task).and_then(|process| self.recorder.held_by(process)) != Some(0)
     }
 
     /// Whether an object is a guarded file.
@@ -172,6 +205,9 @@ impl Ledger {
         };
         if before != after {
             grown.insert(receiver);
+            if let Grown::File(file) = receiver {
+                self.grown.push(file);
+            }
         }
         // What cannot be judged is not made either.
         way == Way::Out && self.recorder.is_guarded(file) && verdict != Some(Verdict::Quiet)
@@ -235,6 +271,11 @@ impl Ledger {
     pub fn mapped_by(&self, task: TaskId) -> Vec<ObjectId> {
         let list = self.recorder.processes.of(task).and_then(|process| self.mappings.get(&process));
         list.into_iter().flatten().filter(|mapping| mapping.writable).map(|mapping| mapping.object).collect()
+    }
+
+    /// Whether somebody has an object mapped, shared and writable.
+    pub fn is_mapped_to_write(&self, object: ObjectId) -> bool {
+        self.mappings.values().flatten().any(|mapping| mapping.writable && mapping.object == object)
     }
 
     /// The next write is the first of an empty file, unless others are just writing to it.

@@ -4,6 +4,7 @@ use crate::event::{Event, TaskId};
 use crate::look::{self, Seen};
 use crate::meaning::{After, Target, Then};
 use crate::path;
+use crate::resolve::path_of;
 use crate::stops::Tracer;
 use crate::sys::Tid;
 use crate::table;
@@ -90,9 +91,9 @@ impl Tracer {
     }
 
     pub fn open_flags(&self, task: Tid, at: usize, arguments: &[u64; 6]) -> i32 {
-        match self.call_number(task) {
-            Some(libc::SYS_creat) => libc::O_CREAT | libc::O_WRONLY | libc::O_TRUNC,
-            Some(libc::SYS_openat2) => {
+        match self.number {
+            libc::SYS_creat => libc::O_CREAT | libc::O_WRONLY | libc::O_TRUNC,
+            libc::SYS_openat2 => {
                 look::word(task, arguments[2]).map_or(libc::O_CREAT | libc::O_TRUNC, |flags| flags as i32)
             }
             _ => arguments[at + 1] as i32,
@@ -146,7 +147,7 @@ impl Tracer {
     pub fn executes(&mut self, task: Tid, at: usize, arguments: &[u64; 6]) -> Then {
         let folder = if at == 0 { libc::AT_FDCWD } else { arguments[0] as i32 };
         let text = look::text(task, arguments[at]).unwrap_or_default();
-        let seen = look::at(task, &look::path_of(task, folder, &text), true);
+        let seen = look::at(task, &path_of(task, folder, &text, true), true);
         let name = match text.is_empty() {
             true => path::shown(path::split(&look::shown(task, folder, &text)).1),
             false => path::shown(path::split(&text).1),

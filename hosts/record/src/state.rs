@@ -39,6 +39,7 @@ const HEADER: &str = "state of record, form 1";
 impl State {
     /// Reads a state; one that is not there is empty.
     pub fn read(path: &Path) -> io::Result<State> {
+        output::refuse_link(path)?;
         let text = match fs::read_to_string(path) {
             Ok(text) => text,
             Err(error) if error.kind() == io::ErrorKind::NotFound => return Ok(State::default()),

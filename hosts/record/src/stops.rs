@@ -36,11 +36,13 @@ pub struct Task {
     pub vfork: Option<Tid>,
     /// The descriptors that the last call uses or moves which was let go on; it may not have looked at them yet.
     pub recent: Option<Recent>,
+    /// What its last call reads, if it brought nothing new when it began and its end is not waited for.
+    pub reads: Option<ObjectId>,
 }
 
 impl Task {
     fn new(memory: usize) -> Task {
-        Task { memory, call: None, hidden: false, running: true, vfork: None, recent: None }
+        Task { memory, call: None, hidden: false, running: true, vfork: None, recent: None, reads: None }
     }
 }
 
@@ -58,6 +60,13 @@ pub struct StoryName {
     /// Whether it stands for all files below a folder.
     pub folder: bool,
     pub guarded: bool,
+}
+
+impl StoryName {
+    /// A name of the story at which nothing was seen yet.
+    fn new(file: &StoryFile) -> StoryName {
+        StoryName { path: file.written.clone(), key: None, folder: file.folder, guarded: file.guarded }
+    }
 }
 
 pub struct Tracer {
@@ -97,17 +106,19 @@ pub struct Tracer {
     pub links: u64,
     /// Numbers for memory that processes share with their children.
     pub anonymous: u64,
+    /// The number of the call that begins.
+    pub number: libc::c_long,
+    /// Files whose pages were put into a pipe or sent.
+    pub spliced: HashSet<ObjectId>,
+    /// Values of the system.
+    pub system: HashSet<ObjectId>,
     stopped: bool,
 }
 
 impl Tracer {
     pub fn new(ledger: Ledger, guard: bool, strict: bool, kept: Option<Box<dyn Write>>) -> Tracer {
         let story = &ledger.recorder.plan.files;
-        let name = |file: &StoryFile| {
-            let (path, folder, guarded) = (file.written.clone(), file.folder, file.guarded);
-            StoryName { path, key: None, folder, guarded }
-        };
-        let names = story.iter().map(name).collect();
+        let names = story.iter().map(StoryName::new).collect();
         let (tasks, memories, objects, sockets, early, queue, waiting) = Default::default();
         Tracer {
             ledger,
@@ -135,18 +146,41 @@ impl Tracer {
             executed: false,
             links: 0,
             anonymous: 0,
+            number: 0,
+            spliced: HashSet::new(),
+            system: HashSet::new(),
             stopped: false,
         }
     }
 
     /// Takes up an event and keeps it, if events are kept. Whether it is blocked.
     pub fn emit(&mut self, event: Event) -> bool {
+        self.keep(&event);
+        let blocked = self.ledger.event(&event);
+        self.catch_up();
+        blocked
+    }
+
+    /// Writes an event down, if events are kept.
+    fn keep(&mut self, event: &Event) {
         if let Some(kept) = &mut self.kept {
-            if let Err(error) = event_list::write(kept, &event) {
+            if let Err(error) = event_list::write(kept, event) {
                 self.failure.get_or_insert(error);
             }
         }
-        self.ledger.event(&event)
+    }
+
+    /// Files have got more: reads of them that were let go on, and that may not be over, get it too.
+    fn catch_up(&mut self) {
+        while self.ledger.has_grown() {
+            let reads = self.tasks.iter().filter_map(|(task, found)| Some((*task, found.reads?))).collect();
+            let reads = self.ledger.take_grown(reads);
+            for (task, object) in reads.into_iter().filter(|(task, _)| look::may_read(*task)) {
+                let event = Event::Moved { task: task as TaskId, flow: Flow { way: Way::In, object } };
+                self.keep(&event);
+                self.ledger.event(&event);
+            }
+        }
     }
 
     pub fn tell(&mut self, words: impl Into<String>) {
@@ -156,7 +190,7 @@ impl Tracer {
     /// Runs a command to its end, and watches all that it starts.
     pub fn run(&mut self, command: &[OsString], user: u32, folder: Vec<u8>) -> io::Result<Ended> {
         let filter = filter::build(self.guard);
-        let mut started = sys::start(command, &filter)?;
+        let mut started = sys::start(command, &filter, !self.guard)?;
         sys::note_interrupts();
         let first = started.task;
         self.memories.insert(0, Memory { tasks: 1, shared: false });
@@ -247,6 +281,7 @@ impl Tracer {
         };
         known.running = false;
         known.recent = None;
+        known.reads = None;
         match stop {
             Stop::Filter => self.call_begins(task),
             Stop::CallEnd => self.call_ends(task),
@@ -273,6 +308,7 @@ impl Tracer {
             return self.resume(task, 0);
         }
         let meaning = meaning::of(&info);
+        self.number = info.number as libc::c_long;
         if meaning::changes_names(meaning, self.guard) {
             if self.naming.is_some_and(|other| other != task) {
                 self.waiting.push_back(task);
@@ -282,7 +318,7 @@ impl Tracer {
         }
         let then = match meaning {
             Some(meaning) => self.begins(task, meaning, &info.arguments),
-            None => self.unknown(&info),
+            None => self.unknown(task, &info),
         };
         match then {
             Then::Free => {
@@ -487,6 +523,9 @@ impl Tracer {
         if found.plain {
             self.labels.insert(object, name.to_vec());
         }
+        if let Key::System(_) = found.key {
+            self.system.insert(object);
+        }
         // A file in memory is gone with its last descriptor.
         let sort = if name.starts_with(b"/memfd:") { crate::files::Sort::Passing } else { found.sort };
         self.emit(Event::Object { sort, label: path::shown(name) });
@@ -512,6 +551,16 @@ impl Tracer {
             }
         }
         state
+    }
+
+    /// Whether an object is a plain file.
+    pub fn is_plain(&self, object: ObjectId) -> bool {
+        self.labels.contains_key(&object)
+    }
+
+    /// An object has another identity too.
+    pub fn same_object(&mut self, key: Key, object: ObjectId) {
+        self.objects.entry(key).or_insert(object);
     }
 
     pub fn known(&self, key: &Key) -> Option<ObjectId> {
@@ -587,9 +636,12 @@ impl Tracer {
     }
 
     /// A call that is not in the table.
-    fn unknown(&mut self, info: &sys::CallInfo) -> Then {
+    fn unknown(&mut self, task: Tid, info: &sys::CallInfo) -> Then {
         let words = meaning::not_in_the_table(info);
         self.tell(words);
+        if self.number == libc::SYS_ptrace && info.arguments[1] as Tid == meaning::own() {
+            return self.refuse_own(task);
+        }
         if self.guard {
             Then::Refuse(libc::ENOSYS)
         } else {

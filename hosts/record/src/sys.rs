@@ -147,8 +147,8 @@ fn pipe() -> io::Result<(File, File)> {
     }
 }
 
-/// Starts a command under the filter. It waits for the tracer before its first call, and is killed with it.
-pub fn start(command: &[OsString], filter: &[Instruction]) -> io::Result<Started> {
+/// Starts a command under the filter, with core dumps or without. It waits for the tracer before its first call, and is killed with it.
+pub fn start(command: &[OsString], filter: &[Instruction], dumps: bool) -> io::Result<Started> {
     let words: Result<Vec<CString>, _> = command.iter().map(|word| CString::new(word.clone().into_vec())).collect();
     let words = words?;
     let mut arguments: Vec<*const libc::c_char> = words.iter().map(|word| word.as_ptr()).collect();
@@ -158,6 +158,10 @@ pub fn start(command: &[OsString], filter: &[Instruction]) -> io::Result<Started
     let task = unsafe {
         let task = checked(libc::fork().into())? as Tid;
         if task == 0 {
+            if !dumps {
+                let none = libc::rlimit { rlim_cur: 0, rlim_max: 0 };
+                libc::setrlimit(libc::RLIMIT_CORE, &none);
+            }
             execute(&arguments, filter, go.as_raw_fd(), failing.as_raw_fd());
         }
         task
@@ -340,6 +344,16 @@ fn status_at(folder: c_int, path: &CStr, flags: c_int) -> io::Result<Status> {
     })
 }
 
+/// The kind of the file system of a path.
+pub fn file_system(path: &CStr) -> io::Result<libc::c_long> {
+    // SAFETY: the path ends with a zero byte; the structure has numbers alone, and the system fills it.
+    unsafe {
+        let mut found: libc::statfs = zeroed();
+        checked(libc::statfs(path.as_ptr(), &mut found).into())?;
+        Ok(found.f_type)
+    }
+}
+
 /// A copy of a task's descriptor.
 pub fn copy_descriptor(task: Tid, number: i32) -> io::Result<OwnedFd> {
     // SAFETY: both calls take numbers and give a descriptor that nobody else has.
@@ -353,7 +367,8 @@ pub fn copy_descriptor(task: Tid, number: i32) -> io::Result<OwnedFd> {
     }
 }
 
-fn process_of(task: Tid) -> Tid {
+/// The process of a task, by its number.
+pub fn process_of(task: Tid) -> Tid {
     let status = std::fs::read_to_string(format!("/proc/{task}/status")).unwrap_or_default();
     let found = status.lines().find_map(|line| line.strip_prefix("Tgid:"));
     found.and_then(|number| number.trim().parse().ok()).unwrap_or(task)
