@@ -12,6 +12,7 @@ mod line;
 mod listing;
 mod pass;
 mod program;
+mod signals;
 mod status;
 
 use std::env;
@@ -83,6 +84,7 @@ fn run(arguments: &[OsString]) -> Result<Outcome, Failure> {
     }
 }
 
+/// Ends with the status of what was done, and tells a failure.
 fn main() -> ExitCode {
     let arguments: Vec<OsString> = env::args_os().collect();
     match run(&arguments) {
