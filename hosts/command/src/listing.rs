@@ -2,17 +2,15 @@
 
 use serde_json::{json, Value};
 
-use crate::line::{meaning, refused_object, refused_policy, Fields, Reader};
-use crate::status::Outcome;
+use crate::line::{meaning, Fields, Progress, Reader};
 
 const HEADING: &str = "step op p o verdict at tag pos";
 
 /// The listing so far.
 #[derive(Debug, Default)]
 pub struct Listing {
+    progress: Progress,
     headed: bool,
-    ended: bool,
-    refused_policy: bool,
     steps: u64,
     alerts: u64,
     blocked: u64,
@@ -68,35 +66,27 @@ impl Listing {
             let counts = format!("total {} alerts {} refused {}", self.steps, self.alerts, self.refused);
             return Err(format!("expected `{counts}`, by the lines above"));
         }
-        self.ended = true;
+        self.progress.ended = true;
         Ok(json!({ "kind": "total", "records": records, "alerts": alerts, "refused": refused }))
     }
 }
 
 impl Reader for Listing {
-    fn take(&mut self, line: &str) -> Result<Vec<Value>, String> {
-        if self.ended {
-            return Err("expected nothing behind the last line".into());
-        }
+    fn progress(&mut self) -> &mut Progress {
+        &mut self.progress
+    }
+
+    fn line(&mut self, line: &str) -> Result<Vec<Value>, String> {
         if !self.headed {
-            self.headed = true;
-            if let Some(number) = refused_policy(line)? {
-                (self.ended, self.refused_policy) = (true, true);
-                return Ok(vec![refused_object(number)]);
-            }
-            return if line == HEADING { Ok(Vec::new()) } else { Err(format!("expected `{HEADING}`")) };
+            self.headed = line == HEADING;
+            return if self.headed { Ok(Vec::new()) } else { Err(format!("expected `{HEADING}`")) };
         }
         let object = if line.starts_with("total ") { self.total(line) } else { self.step(line) };
-        object.map(|object| vec![object])
+        Ok(vec![object?])
     }
 
-    fn complete(&self) -> bool {
-        self.ended
-    }
-
-    fn outcome(&self) -> Outcome {
-        let (alerts, gaps) = (self.alerts + self.blocked > 0, self.refused > 0);
-        Outcome { alerts, gaps, policy_refused: self.refused_policy, own: None }
+    fn found(&self) -> (bool, bool) {
+        (self.alerts + self.blocked > 0, self.refused > 0)
     }
 }
 
