@@ -35,7 +35,7 @@ fn run_proved(name: &str, matches: &ArgMatches) -> Result<Outcome, Failure> {
     let form = if name == "month" { Form::Month } else { Form::Trace };
     let inputs = Inputs::open(&paths, form)?;
     let mut reader: Box<dyn Reader> = match name {
-        "watch" => Box::new(listing::Listing::default()),
+        "watch" => Box::new(listing::Listing::new(json)),
         "month" => Box::new(figures::Figures::new(inputs.traces())),
         _ => Box::new(explanations::Explanations::default()),
     };
