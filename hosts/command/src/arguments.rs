@@ -40,10 +40,46 @@ fn proved(name: &'static str, about: &'static str, inputs: &'static str, most: u
         .after_help(format!("{inputs}\n\n{STATUSES}"))
 }
 
-/// A subcommand whose arguments go on to a program that has its own.
-fn passed(name: &'static str, about: &'static str) -> Command {
-    let rest = Arg::new("arguments").num_args(0..).value_hint(ValueHint::AnyPath).help("What the program itself takes");
-    Command::new(name).about(about).disable_help_flag(true).arg(rest)
+/// The words of the program `policy`, for completions; a test compares them with its help.
+const POLICY_WORDS: [&str; 10] =
+    ["check", "normal", "show", "profiles", "upgrade", "compose", "trim", "explain", "make", "help"];
+
+/// The options of the program `record`, for completions; a test compares them with its help.
+const RECORD_OPTIONS: [&str; 15] = [
+    "story",
+    "guard",
+    "log",
+    "out",
+    "folder",
+    "uid",
+    "keep",
+    "state",
+    "allow-missing",
+    "strict",
+    "why",
+    "quiet-why",
+    "json",
+    "pass-status",
+    "version",
+];
+
+/// A subcommand whose arguments go on to a program that reads them itself: what is said of them here is for completions.
+fn passed(name: &'static str, about: &'static str, known: impl IntoIterator<Item = Arg>) -> Command {
+    let rest = Arg::new("arguments").num_args(0..).value_hint(ValueHint::AnyPath).hide(true);
+    let usage = format!("yaslaurel {name} ..");
+    Command::new(name).about(about).override_usage(usage).disable_help_flag(true).args(known).arg(rest)
+}
+
+/// The subcommand of the program `policy`.
+fn policy() -> Command {
+    let word = Arg::new("word").value_parser(POLICY_WORDS).hide(true);
+    passed("policy", "Make, check, show, compose and explain policies (yaslaurel policy help)", [word])
+}
+
+/// The subcommand of the program `record`.
+fn record() -> Command {
+    let options = RECORD_OPTIONS.map(|name| Arg::new(name).long(name).action(ArgAction::SetTrue).hide(true));
+    passed("record", "Watch a real program (yaslaurel record help)", options)
 }
 
 /// The command with its subcommands.
@@ -61,8 +97,18 @@ pub fn command() -> Command {
         .subcommand(proved("watch", "List what comes of each record of a trace", INPUTS, 2))
         .subcommand(proved("month", "Print the figures of many traces", MONTH_INPUTS, 65))
         .subcommand(proved("explain", "Say of each alert which rule forbids it and how it came to that", INPUTS, 2))
-        .subcommand(passed("policy", "Make, check, show, compose and explain policies (yaslaurel policy help)"))
-        .subcommand(passed("record", "Watch a real program (yaslaurel record help)"))
+        .subcommand(policy())
+        .subcommand(record())
         .subcommand(Command::new("completions").about("Print the completions for a shell").arg(shell))
         .after_help(STATUSES)
+}
+
+#[cfg(test)]
+mod tests {
+    use super::*;
+
+    #[test]
+    fn the_arguments_go_together() {
+        command().debug_assert();
+    }
 }

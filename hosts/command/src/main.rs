@@ -12,6 +12,7 @@ mod line;
 mod listing;
 mod pass;
 mod program;
+mod signals;
 mod status;
 
 use std::env;
@@ -34,7 +35,7 @@ fn run_proved(name: &str, matches: &ArgMatches) -> Result<Outcome, Failure> {
     let form = if name == "month" { Form::Month } else { Form::Trace };
     let inputs = Inputs::open(&paths, form)?;
     let mut reader: Box<dyn Reader> = match name {
-        "watch" => Box::new(listing::Listing::default()),
+        "watch" => Box::new(listing::Listing::new(json)),
         "month" => Box::new(figures::Figures::new(inputs.traces())),
         _ => Box::new(explanations::Explanations::default()),
     };
@@ -83,6 +84,7 @@ fn run(arguments: &[OsString]) -> Result<Outcome, Failure> {
     }
 }
 
+/// Ends with the status of what was done, and tells a failure.
 fn main() -> ExitCode {
     let arguments: Vec<OsString> = env::args_os().collect();
     match run(&arguments) {
