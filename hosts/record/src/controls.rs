@@ -43,6 +43,24 @@ impl Tracer {
         Then::Free
     }
 
+    /// Who takes a connection up gets an address of the caller, before anything is sent.
+    pub fn calls_other_side(&mut self, task: Tid, number: i32) {
+        if let Some(found) = self.sockets.call(task, number) {
+            let object = self.object(&found, || b"a connection".to_vec());
+            self.begun(task, Way::Out, object);
+        }
+    }
+
+    /// The address of a socket goes along with what is sent, whoever has set it.
+    pub fn takes_own_address(&mut self, task: Tid, number: i32) {
+        if !self.sockets.has_names {
+            return;
+        }
+        if let Some(object) = self.socket_names(task, number) {
+            self.moved(task, Way::In, object);
+        }
+    }
+
     pub fn system_v(&mut self, task: Tid, meaning: Meaning, arguments: &[u64; 6]) -> Then {
         let number = arguments[0] as i32;
         let (key, name) = match meaning {

@@ -237,7 +237,7 @@ impl Tracer {
     fn then_emptied(&mut self, task: Tid, then: Then, arguments: &[u64; 6]) -> Then {
         match (then, look::descriptor(task, arguments[0] as i32)) {
             (Then::Wait(_), Seen::Object(found)) if arguments[1] == 0 => match self.known(&found.key) {
-                Some(object) => Then::Wait(After::Truncate(object)),
+                Some(object) => Then::Wait(After::Truncate { object, since: self.ledger.events() }),
                 None => Then::Wait(After::Nothing),
             },
             (then, _) => then,
@@ -355,8 +355,9 @@ impl Tracer {
             Ok(descriptor) => {
                 self.truncations.push(Truncation { object, key, descriptor });
                 if !self.ledger.guards(object) {
-                    self.emit(Event::Emptied { object });
+                    let since = self.ledger.events();
                     self.truncate(object);
+                    self.emptied(object, since);
                 }
             }
             Err(error) => self.tell(format!("a file of process {task} was not truncated: {error}")),

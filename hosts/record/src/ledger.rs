@@ -45,14 +45,16 @@ pub struct Ledger {
     events: usize,
     /// The files that have got more and that nobody was asked about yet.
     grown: Vec<FileId>,
+    /// The event by which something was last written to a file.
+    written: HashMap<FileId, usize>,
 }
 
 impl Ledger {
     pub fn start(plan: Plan, report: Report, run: Start) -> Result<Ledger, Refusal> {
         let recorder = Recorder::start(plan, report, run)?;
-        let (objects, under_way, mappings, names, grown) = Default::default();
+        let (objects, under_way, mappings, names, grown, written) = Default::default();
         // The first line of an event list is no event.
-        Ok(Ledger { recorder, objects, under_way, mappings, names, events: 1, grown })
+        Ok(Ledger { recorder, objects, under_way, mappings, names, events: 1, grown, written })
     }
 
     /// Takes up an event. Whether it is blocked: it must not be made then.
@@ -128,6 +130,12 @@ impl Ledger {
         asked.into_iter().filter(|(_, object)| has(*object)).collect()
     }
 
+    /// Whether something was written to an object behind an event.
+    pub fn written_since(&self, object: ObjectId, event: usize) -> bool {
+        let file = self.file(object).map(|file| self.recorder.files.root(file));
+        file.and_then(|file| self.written.get(&file)).is_some_and(|last| *last > event)
+    }
+
     /// Whether a read would leave a process as it is.
     pub fn reads_nothing_new(&self, task: TaskId, object: ObjectId) -> bool {
         let (Some(process), Some(file)) = (self.recorder.processes.of(task), self.file(object)) else { return false };
@@ -199,6 +207,10 @@ impl Ledger {
             Way::Out if adds => recorder.append(process, file),
             Way::Out => recorder.write(process, file),
         };
+        if way == Way::Out {
+            self.written.insert(self.recorder.files.root(file), self.events);
+        }
+        let recorder = &self.recorder;
         let (after, receiver) = match way {
             Way::In => (recorder.row_of_process(process), Grown::Process(process)),
             Way::Out => (recorder.row_of_file(file), Grown::File(recorder.files.root(file))),

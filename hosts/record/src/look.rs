@@ -469,11 +469,15 @@ pub fn writes_to(task: Tid, key: &Key) -> bool {
     })
 }
 
-/// Whether a task that was let go on may still be in a call that reads, or may not have begun it: unless it waits in another one.
-pub fn may_read(task: Tid) -> bool {
+/// The calls whose ends are not always waited for.
+pub const READS: [libc::c_long; 2] = [libc::SYS_read, libc::SYS_pread64];
+pub const WRITES: [libc::c_long; 2] = [libc::SYS_write, libc::SYS_pwrite64];
+
+/// Whether a task that was let go on may still be in such a call, or may not have begun it: unless it waits in another one.
+pub fn may_be_in(task: Tid, calls: &[libc::c_long]) -> bool {
     let text = fs::read_to_string(format!("/proc/{task}/syscall")).unwrap_or_default();
-    let number = text.split(' ').next().and_then(|number| number.parse::<libc::c_long>().ok());
-    number.map_or(true, |number| [libc::SYS_read, libc::SYS_pread64].contains(&number))
+    let number = text.split(' ').next().and_then(|number| number.parse().ok());
+    number.map_or(true, |number| calls.contains(&number))
 }
 
 /// Whether a task sleeps in the kernel.

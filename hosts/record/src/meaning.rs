@@ -2,7 +2,7 @@
 
 use std::sync::OnceLock;
 
-use crate::event::{Event, ObjectId, TaskId, Way};
+use crate::event::{ObjectId, TaskId, Way};
 use crate::files::Sort;
 use crate::look::{self, Found, Key, Seen};
 use crate::numbers;
@@ -51,7 +51,11 @@ pub enum After {
     Linked {
         at: usize,
     },
-    Truncate(ObjectId),
+    /// A file has no bytes any more, if nobody has written to it since that event.
+    Truncate {
+        object: ObjectId,
+        since: usize,
+    },
     Closed,
     Addressed {
         socket: i32,
@@ -233,6 +237,7 @@ impl Tracer {
                 let socket = arguments[0] as i32;
                 if !binds {
                     self.sockets.addressed(task, socket, Some(&address), false);
+                    self.calls_other_side(task, socket);
                 }
                 Then::Wait(After::Addressed { socket, address, binds })
             }
@@ -249,6 +254,7 @@ impl Tracer {
 
     pub fn look_at(&mut self, task: Tid, folder: i32, address: u64, follow: bool) -> Seen {
         match look::text(task, address) {
+            Some(name) if name.is_empty() && folder != libc::AT_FDCWD => self.look(task, folder),
             Some(name) => look::at(task, &path_of(task, folder, &name, follow), follow),
             None if look::word(task, address & !7).is_none() && self.cannot_read(task) => Seen::Hidden,
             None => Seen::Missing,
@@ -385,11 +391,17 @@ impl Tracer {
                 return self.refuse_own(task);
             }
         }
+        let socket = matches!(seen, Seen::Socket);
         match self.target_of(task, number, seen, Way::Out, address) {
             Target::Objects(objects) if self.guard && objects.iter().any(|object| self.ledger.guards(*object)) => {
                 self.guards_write(task, number).unwrap_or(Then::Refuse(libc::EPERM))
             }
-            Target::Objects(objects) => self.writes_to(task, number, &objects, long),
+            Target::Objects(objects) => {
+                if socket {
+                    self.takes_own_address(task, number);
+                }
+                self.writes_to(task, number, &objects, long)
+            }
             Target::Memory(_) | Target::Hidden if self.guard => Then::Refuse(libc::EPERM),
             Target::Memory(other) => self.passes(task, &[other], Way::Out),
             Target::Open => {
@@ -427,6 +439,9 @@ impl Tracer {
             // Only a short write to a plain file is over before anybody else can do anything.
             if alone && !long && self.is_plain(*object) {
                 self.moved(task, Way::Out, *object);
+                if let Some(found) = self.tasks.get_mut(&task) {
+                    found.writes = Some(*object);
+                }
             } else {
                 self.begun(task, Way::Out, *object);
                 waits = true;
@@ -515,7 +530,10 @@ impl Tracer {
             After::Read(objects) if moved_data(result) => {
                 self.moved_all(task, Way::In, &objects);
             }
-            After::Receive { socket, begun } if moved_data(result) || begun => {
+            // A datagram without data has an address.
+            After::Receive { socket, begun }
+                if moved_data(result) || begun || result == 0 && self.takes_datagrams(task, socket) =>
+            {
                 if let Target::Objects(objects) = self.target(task, socket, Way::In, None) {
                     self.moved_all(task, Way::In, &objects);
                 }
@@ -537,6 +555,10 @@ impl Tracer {
         }
     }
 
+    fn takes_datagrams(&self, task: Tid, socket: i32) -> bool {
+        !self.sockets.is_stream(task, socket)
+    }
+
     /// Calls about names and addresses have come to their end.
     fn ends_other(&mut self, task: Tid, arguments: &[u64; 6], after: After, result: i64) {
         match after {
@@ -551,9 +573,7 @@ impl Tracer {
                 self.linked_to(task, at, arguments);
                 self.check_names(Some(task), "a symbolic link");
             }
-            After::Truncate(object) if result >= 0 => {
-                self.emit(Event::Emptied { object });
-            }
+            After::Truncate { object, since } if result >= 0 => self.emptied(object, since),
             After::Addressed { socket, address, binds } => {
                 self.sockets.addressed(task, socket, Some(&address), binds);
                 if let Some(object) = self.socket_names(task, socket).filter(|_| binds && result >= 0) {
@@ -567,7 +587,11 @@ impl Tracer {
                     self.same_object(found.key, object);
                 }
             }
-            After::Accepted if result >= 0 => self.sockets.accepted(task, result as i32),
+            After::Accepted if result >= 0 => {
+                self.sockets.accepted(task, result as i32);
+                self.takes_in(task, result as i32);
+                self.reads_address(task, result as i32);
+            }
             After::Paired(at) if result >= 0 => {
                 if let Some(pair) = look::word(task, at) {
                     self.sockets.paired(task, pair as i32, (pair >> 32) as i32);

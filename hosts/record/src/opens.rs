@@ -1,11 +1,11 @@
 //! Calls that go by a path, or name a file in another way: opens, program starts, links, attributes.
 
-use crate::event::{Event, TaskId};
+use crate::event::{Event, ObjectId, TaskId};
 use crate::look::{self, Seen};
 use crate::meaning::{After, Target, Then};
 use crate::path;
 use crate::resolve::path_of;
-use crate::stops::Tracer;
+use crate::stops::{Task, Tracer};
 use crate::sys::Tid;
 use crate::table;
 
@@ -129,15 +129,25 @@ impl Tracer {
             if self.guard {
                 self.truncates_later(task, number, object, found.key);
             } else {
-                self.emit(Event::Emptied { object });
+                self.emptied(object, opening.events);
             }
+        }
+    }
+
+    /// A file was truncated by a call that has begun behind an event. If somebody has written to it since then, or may just do so, it may
+    /// have that still.
+    pub fn emptied(&mut self, object: ObjectId, since: usize) {
+        let writes =
+            |(task, found): (&Tid, &Task)| found.writes == Some(object) && look::may_be_in(*task, &look::WRITES);
+        if !self.ledger.written_since(object, since) && !self.tasks.iter().any(writes) {
+            self.emit(Event::Emptied { object });
         }
     }
 
     pub fn truncates(&mut self, task: Tid, seen: Seen, length: u64) -> Then {
         match self.seen(task, seen, |_| b"a file".to_vec()) {
             Target::Objects(objects) if length == 0 => match objects.first() {
-                Some(object) => Then::Wait(After::Truncate(*object)),
+                Some(object) => Then::Wait(After::Truncate { object: *object, since: self.ledger.events() }),
                 None => Then::Free,
             },
             _ => Then::Free,

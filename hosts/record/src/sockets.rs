@@ -32,6 +32,8 @@ pub struct Sockets {
     early: BTreeSet<u16>,
     /// Local addresses to which something was sent.
     named: HashSet<Key>,
+    /// Whether a local socket was given an address.
+    pub has_names: bool,
     /// The ports that a socket for datagrams has had.
     ports: HashMap<u64, BTreeSet<u16>>,
     /// The two addresses of connections, by inode.
@@ -225,6 +227,20 @@ impl Sockets {
         }
     }
 
+    /// Whether a socket has no bounds between messages.
+    pub fn is_stream(&self, task: Tid, number: i32) -> bool {
+        copy(task, number).is_some_and(|copy| copy.kind == libc::SOCK_STREAM)
+    }
+
+    /// What a socket that calls another gives to it by that.
+    pub fn call(&mut self, task: Tid, number: i32) -> Option<Found> {
+        let copy = copy(task, number).filter(|copy| !copy.is_datagram())?;
+        match copy.family {
+            libc::AF_UNIX => Some(Found::passing(Key::Sent(copy.inode))),
+            _ => self.early(task, number, None),
+        }
+    }
+
     /// What is sent on a connection that is not there yet, by the port that is called: it may arrive before the call ends.
     pub fn early(&mut self, task: Tid, number: i32, address: Option<&[u8]>) -> Option<Found> {
         let copy = copy(task, number).filter(|copy| copy.kind == libc::SOCK_STREAM)?;
@@ -238,6 +254,7 @@ impl Sockets {
         let Some(copy) = copy(task, number) else { return };
         match (copy.family, copy.is_datagram()) {
             (libc::AF_UNIX, _) if binds => {
+                self.has_names = true;
                 let bound =
                     address.filter(|address| address.len() > 2).map(<[u8]>::to_vec).or_else(|| copy.address(false));
                 if let Some(key) = bound.and_then(|address| local_address(task, &address)) {

@@ -38,11 +38,13 @@ pub struct Task {
     pub recent: Option<Recent>,
     /// What its last call reads, if it brought nothing new when it began and its end is not waited for.
     pub reads: Option<ObjectId>,
+    /// What its last call writes, if its end is not waited for.
+    pub writes: Option<ObjectId>,
 }
 
 impl Task {
     fn new(memory: usize) -> Task {
-        Task { memory, call: None, hidden: false, running: true, vfork: None, recent: None, reads: None }
+        Task { memory, call: None, hidden: false, running: true, vfork: None, recent: None, reads: None, writes: None }
     }
 }
 
@@ -175,7 +177,7 @@ impl Tracer {
         while self.ledger.has_grown() {
             let reads = self.tasks.iter().filter_map(|(task, found)| Some((*task, found.reads?))).collect();
             let reads = self.ledger.take_grown(reads);
-            for (task, object) in reads.into_iter().filter(|(task, _)| look::may_read(*task)) {
+            for (task, object) in reads.into_iter().filter(|(task, _)| look::may_be_in(*task, &look::READS)) {
                 let event = Event::Moved { task: task as TaskId, flow: Flow { way: Way::In, object } };
                 self.keep(&event);
                 self.ledger.event(&event);
@@ -280,8 +282,7 @@ impl Tracer {
             return;
         };
         known.running = false;
-        known.recent = None;
-        known.reads = None;
+        (known.recent, known.reads, known.writes) = (None, None, None);
         match stop {
             Stop::Filter => self.call_begins(task),
             Stop::CallEnd => self.call_ends(task),

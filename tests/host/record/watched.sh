@@ -60,3 +60,17 @@ for folder in "$here"/watched/*/; do
     sed '$d' "$work/watched.$(basename "$folder")"
     add_counts "$work/watched.$(basename "$folder")"
 done
+
+# truncations ROUNDS: a write that meets a truncation by another process: each time that the source has come into the report is an alert.
+truncations() {
+    w=${watched_in:-$work}/truncations
+    rm -rf "$w" && mkdir -p "$w" && gcc -w -O1 -pthread -o "$w/program" "$here/programs/truncated.c" && cd "$w" || return 1
+    echo S3CRET >a.pos
+    echo b >b.pos
+    printf '%s\n' "source a.pos" "source b.pos" "permit out: b.pos" >story
+    chmod 755 . && [ -z "${as_other:-}" ] || chown -R 65534:65534 .
+    timeout 120 "$record" --quiet-why --story story -- ./program "$1" >found 2>said
+    cd "$root" && [ "$(cat "$w/found")" -gt 0 ] && grep -qE ": $(cat "$w/found") alerts( \(| |,)" "$w/said"
+}
+truncations "$((100 * ${race_factor:-1}))"
+note $? "a race of truncations, $((100 * ${race_factor:-1})) rounds: each time that the source has arrived is an alert"
