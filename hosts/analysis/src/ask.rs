@@ -22,7 +22,7 @@
 use yaslaurel::layout::image;
 use yaslaurel::{Answer, Kind, Mixture, Operation, Policy, Refusal, Rule, Session, Source, Verdict};
 
-/// How many steps a chain may have if nobody says otherwise: more than the longest that [`ask`] can find.
+/// How many steps a chain may have if nobody says otherwise: as many as the longest has that [`ask`] can find.
 pub const STEP_LIMIT: usize = 8;
 
 /// What is asked for: a source, as data or executed.

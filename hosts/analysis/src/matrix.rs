@@ -40,6 +40,14 @@ pub struct MatrixError {
     pub message: String,
 }
 
+impl MatrixError {
+    /// What is wrong in a line.
+    #[must_use]
+    pub fn new(line: usize, message: String) -> MatrixError {
+        MatrixError { line, message }
+    }
+}
+
 impl fmt::Display for MatrixError {
     fn fmt(&self, f: &mut fmt::Formatter<'_>) -> fmt::Result {
         write!(f, "{}: {}", self.line, self.message)
@@ -107,8 +115,8 @@ impl NamedMatrix {
         NamedMatrix::from_cells(lines.filter(|(_, cells)| !cells.is_empty()).collect())
     }
 
-    /// Reads a matrix from the cells of a table, each row with the number of its line. The first row has the names of the objects, behind a
-    /// cell that counts for nothing or without one. An empty cell is `-`.
+    /// Reads a matrix from cells, each row with the number of its line. The first row has the names of the objects; if it is as long as the second,
+    /// its first cell counts for nothing. An empty cell is `-`.
     ///
     /// # Errors
     ///
@@ -222,6 +230,18 @@ impl NamedMatrix {
     #[must_use]
     pub fn has(&self, right: Right) -> bool {
         self.row(right.write)[right.subject] >> right.object & 1 == 1
+    }
+
+    /// The cell of a subject and an object: `r`, `w`, `rw` or `-`.
+    #[must_use]
+    pub fn cell(&self, subject: usize, object: usize) -> &'static str {
+        let has = |write: bool| self.has(Right { write, subject, object });
+        match (has(false), has(true)) {
+            (true, false) => "r",
+            (false, true) => "w",
+            (true, true) => "rw",
+            (false, false) => "-",
+        }
     }
 
     /// Gives or withdraws a right.

@@ -7,8 +7,8 @@ use yaslaurel::{judge_withdrawal, Judgement, Refusal};
 use crate::judge::{consistent, returning};
 use crate::{NamedMatrix, Right, OBJECT_LIMIT, SUBJECT_LIMIT};
 
-/// How much the exact search may look at: subjects and objects of a matrix, looked through for flows. About a second.
-const WORK_LIMIT: usize = 200_000_000;
+/// How many conflicts the exact search may look at: some seconds.
+const WORK_LIMIT: usize = 30_000_000;
 
 /// Which search found the proposals.
 #[derive(Clone, Copy, Debug, PartialEq, Eq)]
@@ -90,13 +90,12 @@ impl Exact<'_> {
 
     /// Searches with so many withdrawals left. The status is false if there is no work left.
     fn search(&mut self, left: usize) -> bool {
-        let (subjects, objects) = (self.matrix.subjects().len(), self.matrix.objects().len());
-        let cost = subjects * subjects * objects * objects;
+        let conflicts = conflicts(&self.matrix);
+        let cost = 1 + conflicts.len();
         if *self.work < cost {
             return false;
         }
         *self.work -= cost;
-        let conflicts = conflicts(&self.matrix);
         if conflicts.is_empty() {
             self.found.push(self.matrix.clone());
             return true;
@@ -229,8 +228,10 @@ pub fn suggest(old: &NamedMatrix, required: &NamedMatrix, most: usize) -> Result
         Some(found) => (Search::Exact, found),
         None => (Search::Greedy, greedy(old, required)?.into_iter().collect()),
     };
+    let withdrawn = |proposed: &NamedMatrix| old.rights().filter(|right| !proposed.has(*right)).collect::<Vec<_>>();
+    found.sort_by_key(withdrawn);
     let mut accepted = Vec::new();
-    for proposed in found.drain(..) {
+    for proposed in found {
         if judge_withdrawal(old.rows(), required.rows(), proposed.rows())? == Judgement::Accepted {
             accepted.push(proposed);
         }

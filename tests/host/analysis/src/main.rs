@@ -1,7 +1,9 @@
-//! analysis-tests KIND SEED COUNT: answers of hosts/analysis against the judge, on random policies and matrices. The last line says how many were
+//! analysis-tests KIND SEED COUNT [SESSIONS]: questions, proposals, games, matrices or pairs; answers of hosts/analysis against the judge, on random policies and matrices. The last line says how many were
 //! wrong, and the exit status is 1 if there are any, or if some kind of answer was never given.
 
 mod brute;
+mod matrices;
+mod pairs;
 mod questions;
 #[path = "../../differential/src/random.rs"]
 #[allow(dead_code)]
@@ -23,6 +25,10 @@ fn main() -> ExitCode {
     let most = number(3).map_or(SESSIONS, |most| most as usize);
     let good = match &kind[..] {
         "questions" => questions::run(seed, count as usize, most),
+        "proposals" => matrices::proposals(seed, count as usize),
+        "games" => matrices::games(seed, count as usize),
+        "matrices" => matrices::flows(seed, count as usize),
+        "pairs" => pairs::run(seed, count as usize),
         _ => {
             eprintln!("there is no kind {kind}");
             return ExitCode::from(2);

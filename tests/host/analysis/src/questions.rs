@@ -23,7 +23,7 @@ fn count(random: &mut Random, percent: usize) -> usize {
 }
 
 /// A rule of up to two mixtures, so that no meet has over eight; or the unrestricted one.
-fn rule(random: &mut Random, sources: &[Source]) -> Rule {
+pub fn rule(random: &mut Random, sources: &[Source]) -> Rule {
     if random.percent(25) {
         return Rule::unrestricted();
     }
@@ -38,7 +38,7 @@ fn rule(random: &mut Random, sources: &[Source]) -> Rule {
 }
 
 /// A small policy; most have one source, so that brute force comes far.
-fn policy(random: &mut Random) -> Policy {
+pub fn policy(random: &mut Random) -> Policy {
     let mut policy = Policy::new();
     let most = if random.percent(80) { 1 } else { 2 };
     let sources: Vec<Source> = (0..most).map(|k| policy.source(&format!("s{k}")).expect("few")).collect();
