@@ -1,6 +1,7 @@
 //! The arguments of the command.
 
 use std::ffi::OsString;
+use std::path::PathBuf;
 
 use clap::builder::{PossibleValuesParser, TypedValueParser};
 use clap::{value_parser, Arg, ArgAction, Command, ValueHint};
@@ -40,9 +41,77 @@ fn proved(name: &'static str, about: &'static str, inputs: &'static str, most: u
         .after_help(format!("{inputs}\n\n{STATUSES}"))
 }
 
+const MATRIX: &str = "\
+yaslaurel matrix verdict MATRIX                 who could carry what where without a right to
+yaslaurel matrix silent MATRIX                  whether no access that it allows raises an alert
+yaslaurel matrix policy MATRIX -o FOLDER        write the derived policy with its names into FOLDER
+yaslaurel matrix judge OLD STAY PROPOSAL        judge a proposal to withdraw rights
+yaslaurel matrix suggest OLD STAY [--most N] [-o FILE]
+                                                search for proposals that the judge accepts, at most N; write the first to FILE
+yaslaurel matrix game MATRIX --from OBJECT --to OBJECT --rounds N --withdrawals N [--play]
+                                                who wins a game of a desk against a guard; with --play you are the guard
+
+A matrix is a text with a line of objects and a line for each subject, with r, w, rw or - for each object; or a table with commas, semicolons or tabs.
+A file called - is standard input.
+
+Exit status: 0 consistent, silent, written, accepted, a proposal is shown, the guard wins; 1 the contrary; 4 a matrix, a name or a bound is refused; 5 a
+failure: wrong arguments, a file that cannot be read, an output that cannot be written, a game that was left.";
+
+/// An argument that is a file or a folder.
+fn path(name: &'static str, value: &'static str, help: &'static str) -> Arg {
+    let path = Arg::new(name).required(true).value_name(value).value_parser(value_parser!(PathBuf));
+    path.value_hint(ValueHint::AnyPath).help(help)
+}
+
+/// An option with a number.
+fn number(name: &'static str, help: &'static str) -> Arg {
+    Arg::new(name).long(name).value_name("N").required(true).value_parser(value_parser!(u32)).help(help)
+}
+
+/// An option with an object of the matrix.
+fn object(name: &'static str, help: &'static str) -> Arg {
+    Arg::new(name).long(name).value_name("OBJECT").required(true).help(help)
+}
+
+/// The subcommand for matrices, with its own.
+fn matrix() -> Command {
+    let one = || path("matrix", "MATRIX", "The matrix");
+    let old = || path("old", "OLD", "The matrix as it is");
+    let stay = || path("stay", "STAY", "The rights that must stay, as a matrix");
+    let proposal = path("proposal", "PROPOSAL", "The proposed matrix");
+    let out = |value, help| path("out", value, help).short('o');
+    let most = number("most", "How many proposals to show at most").required(false).default_value("3");
+    let play = Arg::new("play").long("play").action(ArgAction::SetTrue).help("Be the guard, on standard input");
+    let game = Command::new("game")
+        .about("Say who wins a game of a desk against a guard")
+        .args([one(), object("from", "Whose information the desk wants"), object("to", "Where the desk wants it")])
+        .args([
+            number("rounds", "How many rounds, 1 to 4"),
+            number("withdrawals", "How many rights the guard may withdraw, 0 to 2"),
+        ])
+        .arg(play);
+    Command::new("matrix")
+        .about("Ask an access matrix: flows, silence, proposals, games")
+        .subcommand_required(true)
+        .subcommand(Command::new("verdict").about("Say who could carry what where without a right to").arg(one()))
+        .subcommand(Command::new("silent").about("Say whether no allowed access raises an alert").arg(one()))
+        .subcommand(Command::new("policy").about("Write the derived policy").args([one(), out("FOLDER", "The folder")]))
+        .subcommand(Command::new("judge").about("Judge a proposal to withdraw rights").args([old(), stay(), proposal]))
+        .subcommand(Command::new("suggest").about("Search for proposals that the judge accepts").args([
+            old(),
+            stay(),
+            most,
+            out("FILE", "The first proposal as a table").required(false),
+        ]))
+        .subcommand(game)
+        .after_help(MATRIX)
+}
+
 /// The words of the program `policy`, for completions; a test compares them with its help.
-const POLICY_WORDS: [&str; 10] =
-    ["check", "normal", "show", "profiles", "upgrade", "compose", "trim", "explain", "make", "help"];
+const POLICY_WORDS: [&str; 13] = [
+    "check", "normal", "show", "profiles", "upgrade", "compose", "trim", "explain", "make", "ask", "diff", "lint",
+    "help",
+];
 
 /// The options of the program `record`, for completions; a test compares them with its help.
 const RECORD_OPTIONS: [&str; 15] = [
@@ -73,7 +142,7 @@ fn passed(name: &'static str, about: &'static str, known: impl IntoIterator<Item
 /// The subcommand of the program `policy`.
 fn policy() -> Command {
     let word = Arg::new("word").value_parser(POLICY_WORDS).hide(true);
-    passed("policy", "Make, check, show, compose and explain policies (yaslaurel policy help)", [word])
+    passed("policy", "Make, check, show, compose, explain, ask and compare policies (yaslaurel policy help)", [word])
 }
 
 /// The subcommand of the program `record`.
@@ -97,6 +166,7 @@ pub fn command() -> Command {
         .subcommand(proved("watch", "List what comes of each record of a trace", INPUTS, 2))
         .subcommand(proved("month", "Print the figures of many traces", MONTH_INPUTS, 65))
         .subcommand(proved("explain", "Say of each alert which rule forbids it and how it came to that", INPUTS, 2))
+        .subcommand(matrix())
         .subcommand(policy())
         .subcommand(record())
         .subcommand(Command::new("completions").about("Print the completions for a shell").arg(shell))

@@ -1,6 +1,6 @@
 //! The command `yaslaurel`: runs the programs of Yaslaurel, which are proved (`watch`, `month`, `explain`) or hosts themselves (`policy`,
 //! `record`), tests whether what they print is whole, and gives an exit status. It is no part of what is proved: what it adds is the
-//! arguments, the status and the lines of JSON. `docs/COMMAND.md` has them.
+//! arguments, the status and the lines of JSON. `docs/COMMAND.md` has them. `matrix` asks the library itself (`docs/ANALYSIS.md`).
 
 #![warn(missing_docs)]
 
@@ -10,6 +10,7 @@ mod figures;
 mod inputs;
 mod line;
 mod listing;
+mod matrix;
 mod pass;
 mod program;
 mod signals;
@@ -63,6 +64,22 @@ fn print_text(text: &[u8]) -> Result<Outcome, Failure> {
     Ok(Outcome::default())
 }
 
+/// Answers a question to matrices, by the functions of the library themselves.
+fn run_matrix(matches: &ArgMatches) -> Result<Outcome, Failure> {
+    let status = match matrix::run(matches) {
+        Ok((text, good)) => {
+            print_text(text.as_bytes())?;
+            u8::from(!good)
+        }
+        Err(matrix::Stop::Refused(message)) => {
+            status::tell(&message);
+            status::REFUSED
+        }
+        Err(matrix::Stop::Failed(failure)) => return Err(failure),
+    };
+    Ok(Outcome { own: Some(status), ..Outcome::default() })
+}
+
 /// Does what the arguments ask for.
 fn run(arguments: &[OsString]) -> Result<Outcome, Failure> {
     // What these two are told is theirs, word for word.
@@ -74,6 +91,7 @@ fn run(arguments: &[OsString]) -> Result<Outcome, Failure> {
     match arguments::command().try_get_matches_from(arguments) {
         Ok(matches) => match matches.subcommand() {
             Some(("completions", matches)) => print_completions(matches),
+            Some(("matrix", matches)) => run_matrix(matches),
             Some((name, matches)) => run_proved(name, matches),
             None => Err(Failure::new("a subcommand is missing; see yaslaurel --help")),
         },

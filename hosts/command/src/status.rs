@@ -5,6 +5,9 @@ use std::io::{self, Write};
 /// A failure: what the command was to do could not be done.
 pub const FAILED: u8 = 5;
 
+/// An input is refused.
+pub const REFUSED: u8 = 4;
+
 /// What came of a run.
 #[derive(Clone, Copy, Debug, Default, PartialEq, Eq)]
 pub struct Outcome {
@@ -23,7 +26,7 @@ impl Outcome {
     pub fn status(self) -> u8 {
         match self {
             Outcome { own: Some(status), .. } => status,
-            Outcome { policy_refused: true, .. } => 4,
+            Outcome { policy_refused: true, .. } => REFUSED,
             Outcome { alerts, gaps, .. } => u8::from(alerts) + 2 * u8::from(gaps),
         }
     }

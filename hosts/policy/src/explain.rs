@@ -17,6 +17,7 @@ use crate::{Holder, NamesByStep};
 
 pub use dot::digraph;
 pub use json::list;
+pub(crate) use json::spelled;
 
 /// What is asked: the last record of a trace, which is answered by an alert or blocked.
 #[derive(Clone, Copy, Debug)]

@@ -1,5 +1,7 @@
 //! The program `policy`: policies for operators, text in and text out.
 
+mod questions;
+
 use std::env;
 use std::ffi::OsString;
 use std::fs::{self, File};
@@ -10,7 +12,7 @@ use std::process::ExitCode;
 use policy_text::{
     digraph, emptied, fit, input_fault, limit_fault, list, name_paths, profile_paths, read_consent, read_holders,
     read_names, show, source_names, text_form, trim_trace, upgraded, write_folder, ExplainError, Explanations, Fit,
-    NamesBeside, Story, TrimError,
+    LineError, NamesBeside, Story, TrimError,
 };
 use yaslaurel::{compose_into, normalise, profiles_policy, Policy, Refusal, OUTPUT_LENGTH};
 
@@ -34,14 +36,26 @@ policy explain FOLDER [--step N] [--all] [--json | --dot]
                                     there), in words, as a list in JSON or as a digraph for dot; FOLDER has the names too, as policy make and
                                     record --out write them. Each explanation takes time in proportion to the records before it
 policy make STORY [-o FOLDER]       writes policy.bin, trace.bin and the names of a story into FOLDER, or this folder
+policy ask POLICY [-n FOLDER] [--steps N] [--json] may [run] SOURCE reach CONTAINER
+policy ask POLICY [-n FOLDER] [--steps N] [--json] which sources may come into CONTAINER
+                                    says whether a source, or its content executed (run), can come into a container: never, only with an
+                                    alert, quietly, or not found within N steps (8 without --steps), with a shortest chain of operations
+policy diff FIRST SECOND [-n FOLDER] [--json]
+                                    says how two policies differ, by names, and of each rule which mixtures it gains and loses
+policy lint STORY [--disk FOLDER] [--json]
+                                    says what a story has that does nothing, or hardly what was meant; with --disk also which names
+                                    are missing in FOLDER
 policy help, policy --version
 
 A file called - is standard input. FOLDER's policy.sha256 has the digests of the images that its names and its trace are of: names of
 another policy are refused. normal, upgrade, compose and profiles write the names and the digest beside FILE; normal, upgrade and compose take
 them from FOLDER, or from the folder of their first file if its digests have that.
 
-Exit status: 0 done; 4 the image, the text or the story is refused, names are of another policy, or the step is none to trim or explain;
-5 a failure: wrong arguments, a file that cannot be read, an output that cannot be written. What is refused or fails is told
+POLICY, FIRST and SECOND are images, stories, or folders as policy make writes them.
+
+Exit status: 0 done; for ask 0 never, 1 quietly or with an alert, 2 not found; for diff 0 the normal images are equal and nothing differs by name,
+else 1; for lint 0 nothing told, else 1; 4 the image, the text or the story is refused, names are of another policy, or the step is none to
+trim or explain; 5 a failure: wrong arguments, a file that cannot be read, an output that cannot be written. What is refused or fails is told
 on standard error.
 ";
 
@@ -286,16 +300,19 @@ fn upgrade(arguments: &[OsString]) -> Result<(), Failure> {
     write_made((&arguments, &old), &image, names.as_deref())
 }
 
+/// The lines of a file that are at fault, as many as are told.
+fn at_fault(arguments: &Arguments, errors: &[LineError]) -> Failure {
+    let file = arguments.file.display();
+    let mut lines: Vec<String> = errors.iter().take(TOLD_LIMIT).map(|error| format!("{file}:{error}")).collect();
+    if errors.len() > TOLD_LIMIT {
+        lines.push(format!("{file}: {} more lines are at fault", errors.len() - TOLD_LIMIT));
+    }
+    Refused(lines.join("\n"))
+}
+
 /// Writes the files of a story, or tells its lines at fault.
 fn make(arguments: &Arguments) -> Result<(), Failure> {
-    let file = arguments.file.display();
-    let story = Story::read_all(&arguments.load()?).map_err(|errors| {
-        let mut lines: Vec<String> = errors.iter().take(TOLD_LIMIT).map(|error| format!("{file}:{error}")).collect();
-        if errors.len() > TOLD_LIMIT {
-            lines.push(format!("{file}: {} more lines are at fault", errors.len() - TOLD_LIMIT));
-        }
-        Refused(lines.join("\n"))
-    })?;
+    let story = Story::read_all(&arguments.load()?).map_err(|errors| at_fault(arguments, &errors))?;
     let folder = arguments.option.as_deref().unwrap_or(Path::new("."));
     let written = write_folder(folder, story.policy(), &story.trace(), story.holders());
     written.map_err(|error| Failed(error.to_string()))
@@ -495,11 +512,15 @@ fn explain(arguments: &[OsString]) -> Result<(), Failure> {
     print(text.as_bytes())
 }
 
-fn run(arguments: &[OsString]) -> Result<(), Failure> {
+/// Does what the arguments ask for, and gives the exit status.
+fn run(arguments: &[OsString]) -> Result<u8, Failure> {
     let (word, rest) = arguments.split_first().ok_or_else(|| Failed(format!("what is wanted?\n\n{HELP}")))?;
     let word = &*word.to_string_lossy();
     let read = |option| Arguments::read(word, rest, option);
-    match word {
+    let done = match word {
+        "ask" => return questions::ask(rest),
+        "diff" => return questions::diff(rest),
+        "lint" => return questions::lint(rest),
         "check" => check(&read(None)?),
         "normal" => normal(rest),
         "show" => show_image(&read(Some("-n"))?),
@@ -512,13 +533,14 @@ fn run(arguments: &[OsString]) -> Result<(), Failure> {
         "help" | "--help" => print(HELP.as_bytes()),
         "--version" => print(concat!("policy ", env!("CARGO_PKG_VERSION"), "\n").as_bytes()),
         _ => Err(Failed(format!("policy has no {word}\n\n{HELP}"))),
-    }
+    };
+    done.map(|()| 0)
 }
 
 fn main() -> ExitCode {
     let arguments: Vec<OsString> = env::args_os().skip(1).collect();
     let (message, status) = match run(&arguments) {
-        Ok(()) => return ExitCode::SUCCESS,
+        Ok(status) => return ExitCode::from(status),
         Err(Refused(message)) => (message, 4),
         Err(Failed(message)) => (message, 5),
     };

@@ -70,7 +70,7 @@ impl fmt::Display for TrimError {
 impl Error for TrimError {}
 
 /// An accepted operation in the words of a story, with the names of its step.
-fn words(policy: &Policy, names: &NamesByStep, step: usize, operation: Operation) -> String {
+pub(crate) fn words(policy: &Policy, names: &NamesByStep, step: usize, operation: Operation) -> String {
     let (word, process, object, user) = match operation {
         Operation::Read { process, object } => ("read", process, object, None),
         Operation::Write { process, object } => ("write", process, object, None),

@@ -1,5 +1,5 @@
 #!/usr/bin/env python3
-"""documents.py FILE..: each command `$ yaslaurel ..` that a document shows prints the lines that stand under it there. Prints a line for each; the last line is
+"""documents.py FILE..: each command `$ yaslaurel ..` or `$ policy ..` that a document shows prints the lines that stand under it there. Prints a line for each; the last line is
 `N passed, M failed`."""
 
 import re
@@ -11,7 +11,7 @@ from pathlib import Path
 def main():
     passed = failed = 0
     for name in sys.argv[1:]:
-        shown = re.findall(r"^    \$ (yaslaurel .*)\n((?:    [^$\n].*\n)*)", Path(name).read_text(), re.M)
+        shown = re.findall(r"^    \$ ((?:yaslaurel|policy) .*)\n((?:    [^$\n].*\n)*)", Path(name).read_text(), re.M)
         for words, lines in shown:
             done = subprocess.run(["bash", "-c", words], capture_output=True, text=True)
             good = done.stdout == re.sub(r"^    ", "", lines, flags=re.M)

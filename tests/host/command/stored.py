@@ -1,5 +1,5 @@
 #!/usr/bin/env python3
-"""stored.py REPOSITORY FOLDER: runs each case of runs.txt in FOLDER by a shell, and compares exit status, standard output and standard error with what is
+"""stored.py REPOSITORY FOLDER [CASES]: runs each case of CASES, or of runs.txt beside it, in FOLDER by a shell, and compares exit status, standard output and standard error with what is
 stored. A case is `=== NAME`, the words for the shell, `--- status N`, `--- out` with the text (or `--- out FILE`, a file of the repository) and `--- err`; a part
 that is missing is empty, and `like` behind its word says that each line is a pattern. Prints a line for each case; the last line is `N passed, M failed`."""
 
@@ -38,7 +38,8 @@ def main():
     repository, folder = Path(sys.argv[1]), sys.argv[2]
     passed = failed = 0
     environment = os.environ | {"repo": str(repository)}
-    for name, parts in cases(Path(__file__).with_name("runs.txt")):
+    stored = Path(sys.argv[3]) if len(sys.argv) > 3 else Path(__file__).with_name("runs.txt")
+    for name, parts in cases(stored):
         words = ["timeout", "60", "bash", "-c", parts["words"][1]]
         done = subprocess.run(words, cwd=folder, env=environment, capture_output=True, text=True, stdin=subprocess.DEVNULL)
         good = done.returncode == int(parts["status"][0])

@@ -29,7 +29,7 @@ fn optional(name: &Option<String>) -> Value {
 }
 
 /// A string of JSON: what must be escaped is.
-fn spelled(text: &str) -> String {
+pub(crate) fn spelled(text: &str) -> String {
     let mut out = String::from('"');
     for c in text.chars() {
         match c {
