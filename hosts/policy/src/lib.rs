@@ -21,7 +21,7 @@ pub use access::{held_before, receiver, what, Access};
 pub use compose::{emptied, input_fault, limit_fault, read_consent};
 pub use explain::{digraph, list, Asked, ExplainError, Explanation, Explanations};
 pub use folder::{read_holders, read_names, source_names, write_folder};
-pub use names::NamesByStep;
+pub use names::{FolderNames, NamesByStep};
 pub use profiles::{profile_paths, ProfileFault};
 pub use show::show;
 pub use steps::{Holder, Step, Steps};
