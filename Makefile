@@ -5,6 +5,7 @@
 #   make policy            builds the program `policy`, which makes, checks and shows policies and explains alerts, and prints
 #                          where it is
 #   make record            builds the program `record`, which watches real programs, and prints where it is
+#   make command           builds the one command `yaslaurel` with all its programs (docs/COMMAND.md), and prints where it is
 #   make night             watches eight commands of a shell script, and explains the alert
 #   make profiles-demo     turns the profiles in demo/profiles into a policy, and explains the alerts of a session from it
 #   make vendor-demo       composes a vendor's policy with a house's, one source consenting
@@ -27,7 +28,7 @@
 #   make generated         the tables and pictures that documents have from the sources
 
 .DEFAULT_GOAL = help
-.PHONY: help try demo month policy record night profiles-demo vendor-demo lib install install-programs uninstall setup test soak bench covering mutants generated
+.PHONY: help try demo month policy record command night profiles-demo vendor-demo lib install install-programs uninstall setup test soak bench covering mutants generated
 
 PREFIX = /usr/local
 BINDIR = $(PREFIX)/bin
@@ -64,6 +65,11 @@ policy:
 
 record:
 	@hosts/build record
+
+command: lib
+	@for program in watch month explain; do tools/prove $$program >&2 || exit 1; done
+	@hosts/command/assemble target/command
+	@echo $(CURDIR)/target/command/bin/yaslaurel
 
 night:
 	@demo/night/run

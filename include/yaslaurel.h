@@ -22,6 +22,13 @@
  * from two others (yaslaurel_image_compose). FORMATS.md, which comes with it, has each format in full and a remedy for
  * each refusal.
  *
+ * A session is its numbers alone, so a copy of them is a session of its own. To ask what an access would bring, without
+ * making it, step a copy and drop it:
+ *
+ *     memcpy(copy, session, sizeof copy);
+ *     answer = yaslaurel_step(copy, length, record, sizeof record,
+ *                             &receiver, &tag, &position);
+ *
  * The library holds no state of its own, allocates nothing, takes no locks, leaves errno alone and calls nothing but the C
  * library's functions on memory (memset, memcpy and the like): it reads and writes only its own stack and the memory that
  * a call lends it. So there is nothing to set up, to close or to free.

@@ -16,17 +16,14 @@ use std::error::Error;
 use std::process::ExitCode;
 use std::{env, fs};
 
-use policy_text::{held_before, profile_paths, receiver, what, Access, Asked, NamesByStep, Steps};
-use yaslaurel::{profiles_policy, Operation, Policy, Recording, Session, Source, Verdict};
+use policy_text::{held_before, name_paths, profile_paths, receiver, what, Access, Asked, NamesByStep, Steps};
+use yaslaurel::{profiles_policy, Operation, Policy, Recording, Session, Verdict};
 
 /// The policy of a text, whose files and sources go by their paths.
 fn named_policy(text: &[u8], image: &[u8]) -> Result<Policy, Box<dyn Error>> {
     let mut policy = Policy::from_image(image)?;
     let paths = profile_paths(text)?;
-    for (number, path) in paths.iter().enumerate() {
-        policy.rename_container(number as u8, path)?;
-        policy.rename_source(Source::from_atom(number as u32).ok_or("over 32 paths")?, path)?;
-    }
+    name_paths(&mut policy, &paths)?;
     policy.rename_container(paths.len() as u8, "init")?;
     Ok(policy)
 }

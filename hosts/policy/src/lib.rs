@@ -6,7 +6,10 @@
 mod access;
 mod compose;
 mod explain;
+mod faults;
+#[cfg(feature = "folders")]
 mod folder;
+mod form;
 mod names;
 mod profiles;
 mod show;
@@ -20,9 +23,11 @@ mod upgrade;
 pub use access::{held_before, receiver, what, Access};
 pub use compose::{emptied, input_fault, limit_fault, read_consent};
 pub use explain::{digraph, list, Asked, ExplainError, Explanation, Explanations};
-pub use folder::{read_holders, read_names, source_names, write_folder};
+#[cfg(feature = "folders")]
+pub use folder::{fit, read_holders, read_names, source_names, write_folder, Fit, NamesBeside};
+pub use form::text_form;
 pub use names::{FolderNames, NamesByStep};
-pub use profiles::{profile_paths, ProfileFault};
+pub use profiles::{name_paths, profile_paths, ProfileFault};
 pub use show::show;
 pub use steps::{Holder, Step, Steps};
 pub use story::Story;

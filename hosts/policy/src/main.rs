@@ -8,17 +8,20 @@ use std::path::{Path, PathBuf};
 use std::process::ExitCode;
 
 use policy_text::{
-    digraph, emptied, input_fault, limit_fault, list, profile_paths, read_consent, read_holders, read_names, show,
-    source_names, trim_trace, upgraded, write_folder, ExplainError, Explanations, Story, TrimError,
+    digraph, emptied, fit, input_fault, limit_fault, list, name_paths, profile_paths, read_consent, read_holders,
+    read_names, show, source_names, text_form, trim_trace, upgraded, write_folder, ExplainError, Explanations, Fit,
+    NamesBeside, Story, TrimError,
 };
 use yaslaurel::{compose_into, normalise, profiles_policy, Policy, Refusal, OUTPUT_LENGTH};
 
 const HELP: &str = "\
 policy check IMAGE                  says whether a policy image is accepted, and what it has
-policy normal IMAGE [-o FILE]       writes the normal image, to standard output without -o
+policy normal IMAGE [-n FOLDER] [-o FILE]
+                                    writes the normal image, to standard output without -o
 policy show IMAGE [-n FOLDER]       prints sources, rules, containers and users, with the names that FOLDER has
 policy profiles TEXT [-o FILE]      writes the image of a text of profiles, or tells the line at fault
-policy upgrade OLD [-o FILE]        writes the image of an earlier edition (one that begins with 4) as one of this, without owners
+policy upgrade OLD [-n FOLDER] [-o FILE]
+                                    writes the image of an earlier edition (one that begins with 4) as one of this, without owners
 policy compose FIRST SECOND CONSENT [-n FOLDER] [-o FILE]
                                     writes what two policies permit together: CONSENT has 32 bytes, 1 for each source whose owner
                                     consents, or the names of these sources, one in a line; warns of places without mixtures
@@ -33,11 +36,13 @@ policy explain FOLDER [--step N] [--all] [--json | --dot]
 policy make STORY [-o FOLDER]       writes policy.bin, trace.bin and the names of a story into FOLDER, or this folder
 policy help, policy --version
 
-A file called - is standard input.
+A file called - is standard input. FOLDER's policy.sha256 has the digests of the images that its names and its trace are of: names of
+another policy are refused. normal, upgrade, compose and profiles write the names and the digest beside FILE; normal, upgrade and compose take
+them from FOLDER, or from the folder of their first file if its digests have that.
 
-Exit status: 0 done; 4 the image, the text or the story is refused, or the step is none to trim or explain; 5 a failure: wrong
-arguments, a file that cannot be read, an output that cannot be written. What is refused or fails is told on
-standard error.
+Exit status: 0 done; 4 the image, the text or the story is refused, names are of another policy, or the step is none to trim or explain;
+5 a failure: wrong arguments, a file that cannot be read, an output that cannot be written. What is refused or fails is told
+on standard error.
 ";
 
 /// Why the program does not end with status 0.
@@ -54,11 +59,19 @@ use Failure::{Failed, Refused};
 const LENGTH_LIMIT: u64 = 1 << 20;
 const TRACE_LIMIT: u64 = 1 << 28;
 
+/// How many lines at fault are told of a story.
+const TOLD_LIMIT: usize = 20;
+
 /// The arguments behind the word.
 struct Arguments {
     file: PathBuf,
     /// What stands behind the option.
     option: Option<PathBuf>,
+}
+
+/// Says something on standard error. Where that cannot be written, what is written is there all the same.
+fn tell(what: impl std::fmt::Display) {
+    let _ = writeln!(io::stderr(), "{what}");
 }
 
 /// What is wrong with the arguments behind a word.
@@ -127,8 +140,16 @@ impl Arguments {
         }
     }
 
-    fn refused(&self, refusal: Refusal) -> Failure {
-        Refused(self.said(refusal))
+    /// The bytes of the file are refused; what they are, if they are a text that becomes an image.
+    fn refused(&self, bytes: &[u8], refusal: impl std::fmt::Display) -> Failure {
+        let form = text_form(bytes).map_or_else(String::new, |form| format!("; {form}"));
+        Refused(self.said(format!("{refusal}{form}")))
+    }
+
+    /// The folder of the file, if it is one of a folder.
+    fn folder(&self) -> Option<&Path> {
+        let folder = self.file.parent().filter(|_| self.file.is_file())?;
+        Some(if folder.as_os_str().is_empty() { Path::new(".") } else { folder })
     }
 
     /// Writes an image to the file behind -o, or to standard output, which must not be a terminal.
@@ -154,10 +175,62 @@ fn count(number: usize, word: &str) -> String {
     format!("{number} {word}{}", if number == 1 { "" } else { "s" })
 }
 
+/// Gives a policy the names of a folder, which are refused if they are of other images than these.
+fn take_names(folder: &Path, images: &[(&Arguments, &[u8])], policy: &mut Policy) -> Result<(), Failure> {
+    let failed = |error: io::Error| Failed(error.to_string());
+    let fits = images.iter().map(|(_, image)| fit(folder, image)).collect::<io::Result<Vec<Fit>>>().map_err(failed)?;
+    let files: Vec<String> = images.iter().map(|(file, _)| file.file.display().to_string()).collect();
+    let (files, shown) = (files.join(" or "), folder.display());
+    if fits.iter().all(|fit| *fit == Fit::Other) {
+        return Err(Refused(format!(
+            "{shown}: names of another policy: its policy.sha256 has not the digest of {files}"
+        )));
+    }
+    read_names(folder, policy).map_err(failed)?;
+    if fits.contains(&Fit::Unknown) {
+        tell(format!("note: {shown} has no policy.sha256: whether its names are of {files} is not known"));
+    }
+    Ok(())
+}
+
+/// The folder that has the names of an image: one that was named, or the image's own if its digests have the image.
+fn names_folder<'a>(image: &'a Arguments, bytes: &[u8], named: Option<&'a Path>) -> Result<Option<&'a Path>, Failure> {
+    let Some(folder) = image.folder().filter(|_| named.is_none()) else { return Ok(named) };
+    let found = fit(folder, bytes).map_err(|error| Failed(error.to_string()))?;
+    Ok(Some(folder).filter(|_| found == Fit::Same))
+}
+
+/// Writes an image to the file behind -o, and beside it its names, if these are known; or the image to standard output.
+fn write_named(arguments: &Arguments, image: &[u8], policy: Option<&Policy>) -> Result<(), Failure> {
+    let beside = match (&arguments.option, policy) {
+        (Some(file), Some(policy)) => match NamesBeside::prepare(file, image, policy) {
+            Ok(beside) => Some(beside),
+            Err(error) => {
+                tell(format!("warning: {error}: no names are written"));
+                None
+            }
+        },
+        _ => None,
+    };
+    arguments.write_image(image)?;
+    beside.map_or(Ok(()), |beside| beside.write()).map_err(|error| Failed(error.to_string()))
+}
+
+/// Writes an image that was made of another one with the same containers and users, and its names.
+fn write_made(old: (&Arguments, &[u8]), image: &[u8], named: Option<&Path>) -> Result<(), Failure> {
+    let mut policy = Policy::from_image(image).map_err(|refusal| old.0.refused(image, refusal))?;
+    let folder = names_folder(old.0, old.1, named)?;
+    if let Some(folder) = folder {
+        take_names(folder, &[old], &mut policy)?;
+    }
+    write_named(old.0, image, folder.map(|_| &policy))
+}
+
+/// Says whether an image is accepted, and what it has.
 fn check(arguments: &Arguments) -> Result<(), Failure> {
     let image = arguments.load()?;
-    let policy = Policy::from_image(&image).map_err(|refusal| arguments.refused(refusal))?;
-    let normal = normalise(&image).map_err(|refusal| arguments.refused(refusal))? == image;
+    let policy = Policy::from_image(&image).map_err(|refusal| arguments.refused(&image, refusal))?;
+    let normal = normalise(&image).map_err(|refusal| arguments.refused(&image, refusal))? == image;
     let has = [
         count(policy.source_names().len(), "source"),
         count(policy.rules().len(), "rule"),
@@ -168,38 +241,61 @@ fn check(arguments: &Arguments) -> Result<(), Failure> {
     print(format!("{}\n", arguments.said(format!("accepted, {form}: {}", has.join(", ")))).as_bytes())
 }
 
-fn normal(arguments: &Arguments) -> Result<(), Failure> {
-    let image = normalise(&arguments.load()?).map_err(|refusal| arguments.refused(refusal))?;
-    arguments.write_image(&image)
-}
-
-fn show_image(arguments: &Arguments) -> Result<(), Failure> {
-    let mut policy = Policy::from_image(&arguments.load()?).map_err(|refusal| arguments.refused(refusal))?;
-    if let Some(folder) = &arguments.option {
-        read_names(folder, &mut policy).map_err(|error| Failed(error.to_string()))?;
+/// One image, a folder of names and the file for what is made of it.
+fn image_arguments(word: &str, arguments: &[OsString]) -> Result<(Arguments, Option<PathBuf>), Failure> {
+    let ([file], [names, out]) = files_and_options(word, arguments, ["-n", "-o"])?;
+    if names.is_some() && out.is_none() {
+        return Err(wrong(word, "-n is for the names beside the file behind -o"));
     }
-    print(show(&policy).as_bytes())
+    Ok((Arguments { file, option: out.map(PathBuf::from) }, names.map(PathBuf::from)))
 }
 
+/// Writes the normal image of an image.
+fn normal(arguments: &[OsString]) -> Result<(), Failure> {
+    let (arguments, names) = image_arguments("normal", arguments)?;
+    let old = arguments.load()?;
+    let image = normalise(&old).map_err(|refusal| arguments.refused(&old, refusal))?;
+    write_made((&arguments, &old), &image, names.as_deref())
+}
+
+/// Prints an image as a story.
+fn show_image(arguments: &Arguments) -> Result<(), Failure> {
+    let image = arguments.load()?;
+    print(show(&named_policy(arguments, &image, arguments.option.as_deref())?).as_bytes())
+}
+
+/// Writes the image of a text of profiles, with its paths as names.
 fn profiles(arguments: &Arguments) -> Result<(), Failure> {
     let text = arguments.load()?;
-    match profiles_policy(&text) {
-        Ok(image) => arguments.write_image(&image),
-        Err(refusal) => Err(match profile_paths(&text) {
-            Err(fault) if fault.refusal == refusal => Refused(format!("{}:{fault}", arguments.file.display())),
-            _ => arguments.refused(refusal),
-        }),
-    }
+    let paths = profile_paths(&text);
+    let image = profiles_policy(&text).map_err(|refusal| match &paths {
+        Err(fault) if fault.refusal == refusal => Refused(format!("{}:{fault}", arguments.file.display())),
+        _ => Refused(arguments.said(refusal)),
+    })?;
+    let mut policy = Policy::from_image(&image).map_err(|refusal| Refused(arguments.said(refusal)))?;
+    let paths = paths.map_err(|fault| Failed(format!("{}:{fault}", arguments.file.display())))?;
+    name_paths(&mut policy, &paths).map_err(|error| Failed(arguments.said(error)))?;
+    write_named(arguments, &image, Some(&policy))
 }
 
-fn upgrade(arguments: &Arguments) -> Result<(), Failure> {
-    let image = upgraded(&arguments.load()?).map_err(|error| Refused(arguments.said(error)))?;
-    arguments.write_image(&image)
+/// Writes an image of the edition before owners as one of this.
+fn upgrade(arguments: &[OsString]) -> Result<(), Failure> {
+    let (arguments, names) = image_arguments("upgrade", arguments)?;
+    let old = arguments.load()?;
+    let image = upgraded(&old).map_err(|error| arguments.refused(&old, error))?;
+    write_made((&arguments, &old), &image, names.as_deref())
 }
 
+/// Writes the files of a story, or tells its lines at fault.
 fn make(arguments: &Arguments) -> Result<(), Failure> {
     let file = arguments.file.display();
-    let story = Story::read(&arguments.load()?).map_err(|error| Refused(format!("{file}:{error}")))?;
+    let story = Story::read_all(&arguments.load()?).map_err(|errors| {
+        let mut lines: Vec<String> = errors.iter().take(TOLD_LIMIT).map(|error| format!("{file}:{error}")).collect();
+        if errors.len() > TOLD_LIMIT {
+            lines.push(format!("{file}: {} more lines are at fault", errors.len() - TOLD_LIMIT));
+        }
+        Refused(lines.join("\n"))
+    })?;
     let folder = arguments.option.as_deref().unwrap_or(Path::new("."));
     let written = write_folder(folder, story.policy(), &story.trace(), story.holders());
     written.map_err(|error| Failed(error.to_string()))
@@ -207,9 +303,9 @@ fn make(arguments: &Arguments) -> Result<(), Failure> {
 
 /// A policy from a file's bytes, with the names that a folder has.
 fn named_policy(file: &Arguments, image: &[u8], names: Option<&Path>) -> Result<Policy, Failure> {
-    let mut policy = Policy::from_image(image).map_err(|refusal| file.refused(refusal))?;
+    let mut policy = Policy::from_image(image).map_err(|refusal| file.refused(image, refusal))?;
     if let Some(folder) = names {
-        read_names(folder, &mut policy).map_err(|error| Failed(error.to_string()))?;
+        take_names(folder, &[(file, image)], &mut policy)?;
     }
     Ok(policy)
 }
@@ -222,21 +318,40 @@ fn sources(names: Option<&Path>) -> Result<Vec<String>, Failure> {
     }
 }
 
+/// Two policies to compose, with the names that a folder has, which are those of one of them.
+fn both_policies(
+    first: (&Arguments, &[u8]),
+    second: (&Arguments, &[u8]),
+    names: Option<&Path>,
+) -> Result<[Policy; 2], Failure> {
+    let mut one = named_policy(first.0, first.1, None)?;
+    let mut other = named_policy(second.0, second.1, None)?;
+    if let Some(folder) = names {
+        take_names(folder, &[first, second], &mut one)?;
+        read_names(folder, &mut other).map_err(|error| Failed(error.to_string()))?;
+    }
+    Ok([one, other])
+}
+
+/// Who consents, from a file.
+fn read_consenting(consent: &Arguments, names: Option<&Path>) -> Result<Vec<u8>, Failure> {
+    let text = consent.load()?;
+    if text.is_empty() {
+        tell(format!("warning: {} is empty, so nobody consents", consent.file.display()));
+    }
+    let bytes = read_consent(&text, &sources(names)?);
+    bytes.map_err(|error| Refused(format!("{}:{error}", consent.file.display())))
+}
+
+/// Writes what two policies permit together.
 fn compose(arguments: &[OsString]) -> Result<(), Failure> {
     let ([first, second, consent], [names, out]) = files_and_options("compose", arguments, ["-n", "-o"])?;
     let first = Arguments { file: first, option: out.map(PathBuf::from) };
     let [second, consent] = [second, consent].map(|file| Arguments { file, option: None });
     let names = names.as_ref().map(Path::new);
     let (first_image, second_image) = (first.load()?, second.load()?);
-    let one = named_policy(&first, &first_image, names)?;
-    let other = named_policy(&second, &second_image, names)?;
-    let text = consent.load()?;
-    if text.is_empty() {
-        // If standard error cannot be written, the composed policy says the same.
-        let _ = writeln!(io::stderr(), "warning: {} is empty, so nobody consents", consent.file.display());
-    }
-    let bytes = read_consent(&text, &sources(names)?);
-    let bytes = bytes.map_err(|error| Refused(format!("{}:{error}", consent.file.display())))?;
+    let [one, other] = both_policies((&first, &first_image), (&second, &second_image), names)?;
+    let bytes = read_consenting(&consent, names)?;
     let mut out = vec![0; OUTPUT_LENGTH];
     let length = compose_into(&first_image, &second_image, &bytes, &mut out).map_err(|refusal| {
         let why = match refusal {
@@ -247,11 +362,24 @@ fn compose(arguments: &[OsString]) -> Result<(), Failure> {
         let both = format!("{} with {}", first.file.display(), second.file.display());
         Refused(why.map_or(format!("{both}: {refusal}"), |why| format!("{both}: refused {}: {why}", refusal.number())))
     })?;
-    let composed = named_policy(&first, &out[..length], None)?;
-    first.write_image(&out[..length])?;
-    for place in emptied(&one, &other, &composed) {
-        // If standard error cannot be written, the image is there all the same.
-        let _ = writeln!(io::stderr(), "warning: {place} has no mixtures now, so nothing may be there");
+    let mut composed = named_policy(&first, &out[..length], None)?;
+    let emptied = emptied(&one, &other, &composed);
+    let folder = names_folder(&first, &first_image, names)?;
+    if let Some(folder) = folder {
+        read_names(folder, &mut composed).map_err(|error| Failed(error.to_string()))?;
+    }
+    write_named(&first, &out[..length], folder.map(|_| &composed))?;
+    emptied.iter().for_each(|place| tell(format!("warning: {place} has no mixtures now, so nothing may be there")));
+    Ok(())
+}
+
+/// Tells if the folder of a trace says that it was made for another policy.
+fn tell_other_policy(trace: &Arguments, image: &Arguments, bytes: &[u8]) -> Result<(), Failure> {
+    let Some(folder) = trace.folder() else { return Ok(()) };
+    if fit(folder, bytes).map_err(|error| Failed(error.to_string()))? == Fit::Other {
+        let (shown, image) = (folder.display(), image.file.display());
+        let what = format!("made for another policy: {shown} has in policy.sha256 not the digest of {image}");
+        tell(format!("warning: {}", trace.said(what)));
     }
     Ok(())
 }
@@ -265,17 +393,15 @@ fn trim(arguments: &[OsString]) -> Result<(), Failure> {
     let image = Arguments { file: image, option: None };
     let trace = Arguments { file: trace, option: out.map(PathBuf::from) };
     let bytes = image.load()?;
-    let mut policy = Policy::from_image(&bytes).map_err(|refusal| image.refused(refusal))?;
-    let mut holders = Vec::new();
-    if let Some(folder) = names.as_ref().map(Path::new) {
-        let read = read_names(folder, &mut policy).and_then(|()| read_holders(folder));
-        holders = read.map_err(|error| Failed(error.to_string()))?;
-    }
-    let cut =
-        trim_trace(&policy, &bytes, &holders, &trace.load_up_to(TRACE_LIMIT)?, at).map_err(|error| match error {
-            TrimError::Policy(refusal) => image.refused(refusal),
-            error => Refused(trace.said(error)),
-        })?;
+    let names = names.as_ref().map(Path::new);
+    let policy = named_policy(&image, &bytes, names)?;
+    let holders = names.map_or(Ok(Vec::new()), read_holders).map_err(|error| Failed(error.to_string()))?;
+    let records = trace.load_up_to(TRACE_LIMIT)?;
+    tell_other_policy(&trace, &image, &bytes)?;
+    let cut = trim_trace(&policy, &bytes, &holders, &records, at).map_err(|error| match error {
+        TrimError::Policy(refusal) => image.refused(&bytes, refusal),
+        error => Refused(trace.said(error)),
+    })?;
     let mut text: String = cut.steps.iter().map(|(step, words)| format!("step {step}: {words}\n")).collect();
     if cut.refused + cut.blocked > 0 {
         let left = [count(cut.refused, "refused record"), count(cut.blocked, "blocked record")].join(" and ");
@@ -342,7 +468,7 @@ fn explain(arguments: &[OsString]) -> Result<(), Failure> {
     let policy = named_policy(&image, &image_bytes, Some(&folder))?;
     let holders = read_holders(&folder).map_err(|error| Failed(error.to_string()))?;
     let refused = |error: ExplainError| match error {
-        ExplainError::Policy(refusal) => image.refused(refusal),
+        ExplainError::Policy(refusal) => image.refused(&image_bytes, refusal),
         error => Refused(trace.said(error)),
     };
     let told = Explanations::new(&policy, &image_bytes, &holders, &bytes, all).map_err(refused)?;
@@ -375,10 +501,10 @@ fn run(arguments: &[OsString]) -> Result<(), Failure> {
     let read = |option| Arguments::read(word, rest, option);
     match word {
         "check" => check(&read(None)?),
-        "normal" => normal(&read(Some("-o"))?),
+        "normal" => normal(rest),
         "show" => show_image(&read(Some("-n"))?),
         "profiles" => profiles(&read(Some("-o"))?),
-        "upgrade" => upgrade(&read(Some("-o"))?),
+        "upgrade" => upgrade(rest),
         "compose" => compose(rest),
         "trim" => trim(rest),
         "explain" => explain(rest),

@@ -7,7 +7,7 @@ use std::fmt;
 
 use yaslaurel::layout::profiles::{PATHS, PATH_LIMIT, TEXT_LIMIT};
 use yaslaurel::layout::session::RULE_MIXTURES;
-use yaslaurel::{Mixture, Refusal, Source};
+use yaslaurel::{Mixture, Policy, PolicyError, Refusal, Source};
 
 use crate::LineError;
 
@@ -48,6 +48,19 @@ impl Error for ProfileFault {}
 pub fn profile_paths(text: &[u8]) -> Result<Vec<String>, ProfileFault> {
     let profiles = read(text).map_err(|error| ProfileFault { refusal: Refusal::ProfileText, error })?;
     within_limits(&profiles).map_err(|error| ProfileFault { refusal: Refusal::ProfileLimit, error })
+}
+
+/// Gives the files and sources of a policy from profiles their paths as names.
+///
+/// # Errors
+///
+/// A path that is there twice, or one too many.
+pub fn name_paths(policy: &mut Policy, paths: &[String]) -> Result<(), PolicyError> {
+    for (number, path) in (0..).zip(paths) {
+        policy.rename_container(number, path)?;
+        policy.rename_source(Source::from_atom(number.into()).ok_or(PolicyError::NotThere(number))?, path)?;
+    }
+    Ok(())
 }
 
 /// The paths, if they are not too many and no rule has too many mixtures.
@@ -186,6 +199,14 @@ fn read(text: &[u8]) -> Result<Vec<Profile>, LineError> {
     Ok(profiles)
 }
 
+/// What a profile begins with.
+const HEADING: &str = "profile ";
+
+/// Whether a text goes on with a profile.
+pub(crate) fn is_heading(text: &[u8]) -> bool {
+    text.starts_with(HEADING.as_bytes())
+}
+
 /// Where a text is read.
 struct Scanner<'a> {
     text: &'a [u8],
@@ -233,12 +254,13 @@ impl Scanner<'_> {
 
     /// `profile PATH {`
     fn heading(&mut self) -> Result<String, LineError> {
-        if self.text[self.place..].starts_with(b"profile ") {
-            self.literal("profile ")?;
+        if is_heading(&self.text[self.place..]) {
+            self.literal(HEADING)?;
         } else {
             return self.wrong("`profile PATH {` or the end of the text");
         }
         let path = self.path("a path")?;
+        self.no_other_letter()?;
         self.literal(" {")?;
         self.end_of_line()?;
         Ok(path)
@@ -247,6 +269,7 @@ impl Scanner<'_> {
     /// `PATH MODES,`
     fn entry(&mut self) -> Result<(String, Vec<&'static str>), LineError> {
         let path = self.path("`PATH MODES,` or `}`")?;
+        self.no_other_letter()?;
         if self.peek() != Some(b' ') {
             return self.wrong("a space and modes behind the path");
         }
@@ -269,12 +292,21 @@ impl Scanner<'_> {
         let path = &self.text[self.place..self.place + length];
         self.place += length.min(PATH_LIMIT);
         if length < 2 {
+            self.no_other_letter()?;
             return self.wrong("a letter, digit, dot or slash of a path");
         }
         if length > PATH_LIMIT {
             return self.wrong(&format!("at most {PATH_LIMIT} bytes in a path"));
         }
         Ok(String::from_utf8_lossy(path).into_owned())
+    }
+
+    /// At fault if a path goes on with a letter that paths of files often have, and paths of profiles never.
+    fn no_other_letter(&self) -> Result<(), LineError> {
+        match self.peek() {
+            Some(b'-' | b'_') => self.wrong("a letter, digit, dot or slash: `-` and `_` may not stand in a path"),
+            _ => Ok(()),
+        }
     }
 
     fn mode(&mut self, or: &str) -> Result<&'static str, LineError> {

@@ -5,6 +5,7 @@ use std::str;
 
 use yaslaurel::{Kind, Mixture, Operation, Policy, PolicyError, Rule};
 
+use crate::faults::Faults;
 use crate::statement::{statement, Part, Statement};
 use crate::{Holder, LineError, Step, Steps};
 
@@ -35,19 +36,41 @@ impl Story {
     ///
     /// The first line that is not as `docs/FORMATS.md` has it.
     pub fn read(text: &[u8]) -> Result<Story, LineError> {
+        Story::read_all(text).map_err(|mut errors| errors.remove(0))
+    }
+
+    /// Reads a story to its end, also behind a line that is wrong.
+    ///
+    /// ```
+    /// use policy_text::Story;
+    /// let errors = Story::read_all(b"source north\nrule own = {sooth}\nfile a permit own\nprocces job\n").unwrap_err();
+    /// assert_eq!(errors.iter().map(|error| error.line).collect::<Vec<_>>(), [2, 4]);
+    /// ```
+    ///
+    /// # Errors
+    ///
+    /// Each line that is not as `docs/FORMATS.md` has it, at least one, but for those that may follow from one before: a line that names what a
+    /// line at fault would have made, and one of which the same would be said again.
+    pub fn read_all(text: &[u8]) -> Result<Story, Vec<LineError>> {
         let text = str::from_utf8(text).map_err(|error| {
             let line = text[..error.valid_up_to()].iter().filter(|byte| **byte == b'\n').count() + 1;
-            LineError { line, message: "found bytes that are no UTF-8, expected text".into() }
+            vec![LineError { line, message: "found bytes that are no UTF-8, expected text".into() }]
         })?;
         let statements: Vec<_> = text.split('\n').map(statement).collect();
         let mut reader = Reader { carried: carried(&statements), ..Reader::default() };
-        for (place, found) in statements.into_iter().enumerate() {
-            let line = place + 1;
-            reader.line = line;
-            let done = found.and_then(|found| found.map_or(Ok(()), |found| reader.take(found)));
-            done.map_err(|message| LineError { line, message })?;
+        let mut faults = Faults::default();
+        for ((place, line), found) in text.split('\n').enumerate().zip(statements) {
+            reader.line = place + 1;
+            match found.map(|found| found.map_or(Ok(()), |found| reader.take(found))) {
+                Ok(Ok(())) => {}
+                Ok(Err(message)) => faults.meaning(LineError { line: place + 1, message }, line),
+                Err(message) => faults.grammar(LineError { line: place + 1, message }, line),
+            }
         }
-        Ok(reader.story())
+        match faults.told() {
+            told if told.is_empty() => Ok(reader.story()),
+            told => Err(told),
+        }
     }
 
     /// The policy, for its image and its names.

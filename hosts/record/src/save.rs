@@ -11,7 +11,8 @@ use crate::output;
 use crate::recorder::Recorder;
 
 /// What is written into a folder.
-const FILES: [&str; 6] = ["policy.bin", "trace.bin", "names.txt", "containers.txt", "users.txt", "records.txt"];
+const FILES: [&str; 7] =
+    ["policy.bin", "trace.bin", "names.txt", "containers.txt", "users.txt", "policy.sha256", "records.txt"];
 
 impl Recorder {
     /// The last line.

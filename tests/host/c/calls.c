@@ -374,6 +374,25 @@ static void step_example(void)
     check(good, "the paper's trace, from odd addresses");
 }
 
+/* A copy as a what-if, before each step of the trace: it answers as the step then does, and leaves the session. */
+static void what_if_example(void)
+{
+    static uint64_t copy[SESSION + 1];
+    int good = yaslaurel_session_start(out, 118, session, SESSION) == 0;
+
+    for (int i = 0; i < 6; i++) {
+        const uint8_t *record = trace + 1 + RECORD * i;
+        memcpy(copy, session, sizeof session);
+        memcpy(before, session, sizeof session);
+        got = unset;
+        uint32_t answer = step(copy, SESSION, record, RECORD);
+        uint64_t receiver = got.receiver, tag = got.tag;
+        good = good && session_stayed() && step_gives(record, answer, receiver, tag) &&
+               memcmp(copy, session, sizeof session) == 0;
+    }
+    check(good, "a copy of the session answers as the session then does, and leaves it");
+}
+
 /* The same as batches, on a new session: the alert stops the first, the refusal the second, and the rest is none. */
 static void batch_example(void)
 {
@@ -1089,6 +1108,7 @@ int main(void)
     game_examples();
     game_bounds();
     step_example();
+    what_if_example();
     batch_example();
     trim_examples();
     leaving_example();

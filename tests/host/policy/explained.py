@@ -6,6 +6,7 @@ Each folder in FOLDER has policy.bin, trace.bin and listing.txt, from which only
 must print of it (`lines`) go through `demo/words.py`; `policy explain` must print the same words, and the same facts as JSON. If
 YASLAUREL_EXPLAIN names that program, it must print these lines. Names are given here, a number that is taken again having another one."""
 
+import hashlib
 import json
 import os
 import subprocess
@@ -178,6 +179,8 @@ def give_names(policy, folder, listing):
     (folder / "names.txt").write_text("".join(f"s{atom}\n" for atom in range(sources)))
     (folder / "containers.txt").write_text("".join(f"{line}\n" for line in holders))
     (folder / "users.txt").write_text("".join(f"u{number}\n" for number in range(len(image.users))))
+    digest = hashlib.sha256((folder / "policy.bin").read_bytes()).hexdigest()
+    (folder / "policy.sha256").write_text(f"{digest}  policy.bin\n")
 
 
 def cut(folder):
