@@ -1,6 +1,7 @@
 //! The arguments of the command.
 
 use std::ffi::OsString;
+use std::path::PathBuf;
 
 use clap::builder::{PossibleValuesParser, TypedValueParser};
 use clap::{value_parser, Arg, ArgAction, Command, ValueHint};
@@ -18,6 +19,10 @@ const MONTH_INPUTS: &str = "\
 FOLDER has policy.bin and the traces 00.bin to 63.bin, up to the first that is missing, and is this folder if nothing is named; POLICY and up to 64
 TRACE are files, and - is standard input. A trace whose folder says by policy.sha256 that it was made for another policy is told, and counts as not
 followed.";
+
+const REPORT_INPUTS: &str = "\
+FOLDER has policy.bin and trace.bin, or the traces of a month, 00.bin to 63.bin, or both, and the names, if there are any; it is this folder if
+nothing is named. The page needs no network. What is not in it is told, and counts as not followed.";
 
 /// A subcommand that runs a proved program on files.
 fn proved(name: &'static str, about: &'static str, inputs: &'static str, most: usize) -> Command {
@@ -46,6 +51,29 @@ fn passed(name: &'static str, about: &'static str) -> Command {
     Command::new(name).about(about).disable_help_flag(true).arg(rest)
 }
 
+/// The subcommand that writes a page.
+fn report() -> Command {
+    let folder = Arg::new("folder")
+        .value_name("FOLDER")
+        .default_value(".")
+        .value_parser(value_parser!(PathBuf))
+        .value_hint(ValueHint::DirPath)
+        .help("The policy, its traces and its names");
+    let output = Arg::new("output")
+        .short('o')
+        .long("output")
+        .value_name("FILE")
+        .default_value("report.html")
+        .value_parser(value_parser!(PathBuf))
+        .value_hint(ValueHint::FilePath)
+        .help("Where the page is written");
+    Command::new("report")
+        .about("Write one page of a folder's traces, to look at in a browser")
+        .arg(folder)
+        .arg(output)
+        .after_help(format!("{REPORT_INPUTS}\n\n{STATUSES}"))
+}
+
 /// The command with its subcommands.
 pub fn command() -> Command {
     let shells = PossibleValuesParser::new(["bash", "zsh", "fish"]).map(|name| match &*name {
@@ -61,6 +89,7 @@ pub fn command() -> Command {
         .subcommand(proved("watch", "List what comes of each record of a trace", INPUTS, 2))
         .subcommand(proved("month", "Print the figures of many traces", MONTH_INPUTS, 65))
         .subcommand(proved("explain", "Say of each alert which rule forbids it and how it came to that", INPUTS, 2))
+        .subcommand(report())
         .subcommand(passed("policy", "Make, check, show, compose and explain policies (yaslaurel policy help)"))
         .subcommand(passed("record", "Watch a real program (yaslaurel record help)"))
         .subcommand(Command::new("completions").about("Print the completions for a shell").arg(shell))

@@ -1,6 +1,6 @@
 //! The command `yaslaurel`: runs the programs of Yaslaurel, which are proved (`watch`, `month`, `explain`) or hosts themselves (`policy`,
-//! `record`), tests whether what they print is whole, and gives an exit status. It is no part of what is proved: what it adds is the
-//! arguments, the status and the lines of JSON. `docs/COMMAND.md` has them.
+//! `record`), tests whether what they print is whole, and gives an exit status; `report` writes a page. It is no part of what is proved: what it
+//! adds is the arguments, the status, the lines of JSON and the page. `docs/COMMAND.md` has them.
 
 #![warn(missing_docs)]
 
@@ -10,6 +10,7 @@ mod figures;
 mod inputs;
 mod line;
 mod listing;
+mod page;
 mod pass;
 mod program;
 mod signals;
@@ -56,6 +57,13 @@ fn print_completions(matches: &ArgMatches) -> Result<Outcome, Failure> {
     print_text(&text)
 }
 
+/// Writes the page of a folder.
+fn write_page(matches: &ArgMatches) -> Result<Outcome, Failure> {
+    let (line, outcome) = page::write(matches)?;
+    print_text(line.as_bytes())?;
+    Ok(outcome)
+}
+
 /// Prints a text to standard output.
 fn print_text(text: &[u8]) -> Result<Outcome, Failure> {
     let mut out = io::stdout().lock();
@@ -74,6 +82,7 @@ fn run(arguments: &[OsString]) -> Result<Outcome, Failure> {
     match arguments::command().try_get_matches_from(arguments) {
         Ok(matches) => match matches.subcommand() {
             Some(("completions", matches)) => print_completions(matches),
+            Some(("report", matches)) => write_page(matches),
             Some((name, matches)) => run_proved(name, matches),
             None => Err(Failure::new("a subcommand is missing; see yaslaurel --help")),
         },

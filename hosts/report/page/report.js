@@ -652,10 +652,9 @@
   function showHead() {
     const {records, alerts, blocked, refused} = data.total;
     byId("summary").textContent = `${plural(records, "record")} of ${plural(data.traces.length, "trace")}: ${plural(alerts, "alert")}, `
-      + `${blocked.toLocaleString("en")} blocked, ${refused.toLocaleString("en")} refused.`
-      + (data.named ? "" : " The folder has no names: sources, containers and users go by their numbers.");
-    byId("gaps").append(...data.gaps.map((gap) => make("li", {}, `Not in the page: ${gap}`)));
-    byId("version").textContent = `Made by report ${data.version} with the library of that edition.`;
+      + `${blocked.toLocaleString("en")} blocked, ${refused.toLocaleString("en")} refused.`;
+    byId("gaps").append(...data.gaps.map((gap) => make("li", {class: "blocked"}, `Not followed: ${gap}`)), ...data.notes.map((note) => make("li", {}, `Note: ${note}`)));
+    byId("version").textContent = `Made by yaslaurel report ${data.version} with the library of that edition.`;
     const file = (name, size, digest) => make("tr", {}, make("th", {scope: "row"}, name), make("td", {}, size), make("td", {}, make("code", {}, digest || "not read whole")));
     byId("inputs-rows").append(file("policy.bin", plural(data.policy.bytes, "byte"), data.policy.sha256),
       ...data.traces.map((one) => file(one.name, one.figures ? plural(one.figures.records, "record") : "left out", one.sha256)));

@@ -4,7 +4,7 @@ use std::fs::{self, File};
 use std::io::{self, Read};
 use std::path::Path;
 
-use policy_text::{read_holders, read_names, Holder};
+use policy_text::{fit, read_holders, read_names, Fit, Holder};
 use sha2::{Digest, Sha256};
 use yaslaurel::layout::record;
 use yaslaurel::Policy;
@@ -46,6 +46,8 @@ pub struct Folder {
     pub holders: Option<Vec<Holder>>,
     /// What is not taken up, in words.
     pub gaps: Vec<String>,
+    /// What is not known, in words.
+    pub notes: Vec<String>,
 }
 
 /// The digest of bytes, as `sha256sum` prints it.
@@ -97,10 +99,24 @@ impl Folder {
             read_names(folder, &mut policy).map_err(failed)?;
         }
         let holders = named.then(|| read_holders(folder)).transpose().map_err(failed)?;
-        let mut gaps = Vec::new();
+        let (mut gaps, mut notes) = (Vec::new(), Vec::new());
+        match fit(folder, &image).map_err(failed)? {
+            Fit::Same => {}
+            Fit::Other => gaps.push(
+                "the names and the traces were made for another policy: policy.sha256 has not the digest of policy.bin"
+                    .into(),
+            ),
+            Fit::Unknown => notes.push(
+                "there is no policy.sha256: whether the names and the traces were made for the policy is not known"
+                    .into(),
+            ),
+        }
+        if !named {
+            notes.push("there are no names: sources, containers and users go by their numbers".into());
+        }
         let names = trace_names(folder, &mut gaps);
         let traces = names.into_iter().map(|name| read_trace(folder, name, &mut gaps)).collect::<Result<_, _>>()?;
-        Ok(Folder { policy, sha256: digest(&image), image, traces, holders, gaps })
+        Ok(Folder { policy, sha256: digest(&image), image, traces, holders, gaps, notes })
     }
 }
 

@@ -65,6 +65,8 @@ pub struct Page {
     pub explained: usize,
     /// What the page could not take up, in words.
     pub gaps: Vec<String>,
+    /// What is not known of the folder, in words.
+    pub notes: Vec<String>,
 }
 
 /// What the page's script lays out.
@@ -83,9 +85,8 @@ struct Data {
     kinds: Vec<String>,
     /// What each refusal means, with its number.
     refusals: Vec<(u32, &'static str)>,
-    /// Whether the folder names what the numbers stand for.
-    named: bool,
     gaps: Vec<String>,
+    notes: Vec<String>,
 }
 
 /// A trace in the page.
@@ -142,10 +143,10 @@ pub fn page(folder: &Path) -> Result<Page, PageError> {
             .map(|number| Kind::from_number(number).map_or_else(String::new, |kind| kind.to_string()))
             .collect(),
         refusals: Refusal::all().map(|refusal| (refusal.number(), refusal.meaning())).collect(),
-        named: folder.holders.is_some(),
         gaps: gaps.clone(),
+        notes: folder.notes.clone(),
     };
-    Ok(Page { html: html::assemble(&data), records, alerts, blocked, refused, explained, gaps })
+    Ok(Page { html: html::assemble(&data), records, alerts, blocked, refused, explained, gaps, notes: folder.notes })
 }
 
 /// What is told of the traces so far.
