@@ -7,6 +7,7 @@ import select
 import shutil
 import subprocess
 import time
+from pathlib import Path
 
 KEYS = {"Tab": 9, "Enter": 13, "End": 35, "Home": 36, "ArrowLeft": 37, "ArrowUp": 38, "ArrowRight": 39, "ArrowDown": 40, "PageDown": 34, " ": 32,
         "+": 187, "-": 189}
@@ -79,7 +80,7 @@ class Browser:
         """Opens a file, and gives the seconds until its scripts have run and a picture of it was drawn."""
         self.events.clear()
         begun = time.monotonic()
-        self.ask("Page.navigate", url=f"file://{path}")
+        self.ask("Page.navigate", url=Path(path).resolve().as_uri())
         self.wait_for("Page.loadEventFired")
         self.run("new Promise(done => requestAnimationFrame(() => setTimeout(done)))")
         return time.monotonic() - begun

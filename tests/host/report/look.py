@@ -78,10 +78,13 @@ def check_listing(browser, page, facts):
     equal([shown(row) for row in rows(browser)], facts.rows, "all rows")
     lines = browser.run("""(async () => {
         const lines = [], area = document.getElementById("list"), count = +document.getElementById("list-table").getAttribute("aria-rowcount") - 1;
+        const button = index => document.querySelector(`#rows tr[aria-rowindex="${index + 2}"] button`);
         for (let index = 0; index < count; index++) {
-            area.scrollTop = index * 32;
-            await new Promise(done => requestAnimationFrame(() => setTimeout(done)));
-            document.querySelector(`#rows tr[aria-rowindex="${index + 2}"] button`).click();
+            if (!button(index)) {
+                area.scrollTop = index * 32;
+                await new Promise(done => requestAnimationFrame(() => setTimeout(done)));
+            }
+            button(index).click();
             lines.push(document.querySelector("#details .line").textContent);
         }
         return lines;
@@ -359,7 +362,8 @@ def main():
                 wrong = planted(fault, (folder / f"{fault.page}.html").read_text())
                 path = folder / "wrong.html"
                 path.write_text(wrong)
-                note(checked(browser, fault.check, path, facts[fault.page]) is not None, f"a wrong page is found: {fault.what}")
+                found = checked(browser, fault.check, path, facts[fault.page])
+                note(found is not None, f"a wrong page is found: {fault.what}" + (f" ({found.splitlines()[0][:100]})" if found else ""))
         finally:
             browser.close()
     print(f"{counts[0]} passed, {counts[1]} failed")
