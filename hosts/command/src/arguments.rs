@@ -20,6 +20,10 @@ FOLDER has policy.bin and the traces 00.bin to 63.bin, up to the first that is m
 TRACE are files, and - is standard input. A trace whose folder says by policy.sha256 that it was made for another policy is told, and counts as not
 followed.";
 
+const REPORT_INPUTS: &str = "\
+FOLDER has policy.bin and trace.bin, or the traces of a month, 00.bin to 63.bin, or both, and the names, if there are any; it is this folder if
+nothing is named. The page needs no network. What is not in it is told, and counts as not followed.";
+
 /// A subcommand that runs a proved program on files.
 fn proved(name: &'static str, about: &'static str, inputs: &'static str, most: usize) -> Command {
     let (value, usage) = match name {
@@ -151,6 +155,29 @@ fn record() -> Command {
     passed("record", "Watch a real program (yaslaurel record help)", options)
 }
 
+/// The subcommand that writes a page.
+fn report() -> Command {
+    let folder = Arg::new("folder")
+        .value_name("FOLDER")
+        .default_value(".")
+        .value_parser(value_parser!(PathBuf))
+        .value_hint(ValueHint::DirPath)
+        .help("The policy, its traces and its names");
+    let output = Arg::new("output")
+        .short('o')
+        .long("output")
+        .value_name("FILE")
+        .default_value("report.html")
+        .value_parser(value_parser!(PathBuf))
+        .value_hint(ValueHint::FilePath)
+        .help("Where the page is written");
+    Command::new("report")
+        .about("Write one page of a folder's traces, to look at in a browser")
+        .arg(folder)
+        .arg(output)
+        .after_help(format!("{REPORT_INPUTS}\n\n{STATUSES}"))
+}
+
 /// The command with its subcommands.
 pub fn command() -> Command {
     let shells = PossibleValuesParser::new(["bash", "zsh", "fish"]).map(|name| match &*name {
@@ -166,6 +193,7 @@ pub fn command() -> Command {
         .subcommand(proved("watch", "List what comes of each record of a trace", INPUTS, 2))
         .subcommand(proved("month", "Print the figures of many traces", MONTH_INPUTS, 65))
         .subcommand(proved("explain", "Say of each alert which rule forbids it and how it came to that", INPUTS, 2))
+        .subcommand(report())
         .subcommand(matrix())
         .subcommand(policy())
         .subcommand(record())

@@ -1,6 +1,7 @@
 //! The command `yaslaurel`: runs the programs of Yaslaurel, which are proved (`watch`, `month`, `explain`) or hosts themselves (`policy`,
-//! `record`), tests whether what they print is whole, and gives an exit status. It is no part of what is proved: what it adds is the
-//! arguments, the status and the lines of JSON. `docs/COMMAND.md` has them. `matrix` asks the library itself (`docs/ANALYSIS.md`).
+//! `record`), tests whether what they print is whole, and gives an exit status; `report` writes a page and `matrix` asks the library itself
+//! (`docs/ANALYSIS.md`). It is no part of what is proved: what it adds is the arguments, the status, the lines of JSON and the page. `docs/COMMAND.md`
+//! has them.
 
 #![warn(missing_docs)]
 
@@ -11,6 +12,7 @@ mod inputs;
 mod line;
 mod listing;
 mod matrix;
+mod page;
 mod pass;
 mod program;
 mod signals;
@@ -57,6 +59,13 @@ fn print_completions(matches: &ArgMatches) -> Result<Outcome, Failure> {
     print_text(&text)
 }
 
+/// Writes the page of a folder.
+fn write_page(matches: &ArgMatches) -> Result<Outcome, Failure> {
+    let (line, outcome) = page::write(matches)?;
+    print_text(line.as_bytes())?;
+    Ok(outcome)
+}
+
 /// Prints a text to standard output.
 fn print_text(text: &[u8]) -> Result<Outcome, Failure> {
     let mut out = io::stdout().lock();
@@ -92,6 +101,7 @@ fn run(arguments: &[OsString]) -> Result<Outcome, Failure> {
         Ok(matches) => match matches.subcommand() {
             Some(("completions", matches)) => print_completions(matches),
             Some(("matrix", matches)) => run_matrix(matches),
+            Some(("report", matches)) => write_page(matches),
             Some((name, matches)) => run_proved(name, matches),
             None => Err(Failure::new("a subcommand is missing; see yaslaurel --help")),
         },
