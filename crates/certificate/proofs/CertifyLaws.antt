@@ -27,10 +27,10 @@ use Rattle.image.specs.Policy.{Policy, Sound, ruleAt, ownerAt}
 use Rattle.image.specs.Image.{policyIn, checkOf}
 use Rattle.image.proofs.Decode.{accepted-sound}
 use Rattle.session.specs.Session.{startOf}
-use Rattle.chains.specs.History.{Step, read, write, append, exec, fork, newFile, newVolatile, end, delete, History, _▸_, receiver}
-use Rattle.chains.specs.Guards.{writing}
+use Rattle.chains.specs.History.{Step, History, _▸_, receiver}
 use Rattle.chains.specs.Chains.{Item, Chain, Reaches, Forbidden}
 use Rattle.chains.specs.Demand.{judged, historyOf, GivenAt, BlockedTold}
+use Rattle.chains.proofs.GuardLaws.{writing-judged}
 use Rattle.records.specs.Records.{stepOf}
 use Rattle.records.specs.Traces.{traceRecords}
 use Rattle.monitor.specs.Steps.{stepAsked, stepAnswer}
@@ -44,7 +44,9 @@ use Rattle.witness.specs.Explains.{atomWitness, atomFound}
 use Rattle.witness.specs.Tells.{Right}
 use Rattle.witness.proofs.Theorems.{witness-right, told-given}
 use Rattle.certificate.specs.Origins.{origin, Certificate, lackedBy}
-use Rattle.certificate.specs.Whys.{Reason, reasonOf, reasonNumbers, whyNumbers, answered, reasonIn, forbiddenLast, whyLength, whyRefusal, whyEffect, whySteps, whyReceiverAt, whyTagAt, whyKindAt, whyRecordAt, whyHolderAt, whyRuleAt, whyOwnerAt, whyChainAt, whyCountAt, whyAtomsAt}
+use Rattle.certificate.specs.Whys.{Reason, reasonOf, reasonNumbers, whyNumbers, answered, reasonIn, forbiddenLast}
+use Rattle.certificate.specs.Whys.{whyLength, whyRefusal, whyEffect, whySteps, whyReceiverAt, whyTagAt, whyKindAt}
+use Rattle.certificate.specs.Whys.{whyRecordAt, whyHolderAt, whyRuleAt, whyOwnerAt, whyChainAt, whyCountAt, whyAtomsAt}
 use Rattle.certificate.specs.Certified.{ComesFrom, Certified}
 use Rattle.certificate.proofs.LackLaws.{Wide, lacked-out, uncovered-held}
 use Rattle.witness.proofs.ExplainFacts.{end-back}
@@ -57,17 +59,6 @@ use Rattle.certificate.proofs.WhyCases.{none-refused}
 use Rattle.certificate.proofs.WhyLaws.{Last, last-of}
 
 -- ---- an answer that forbids is one to a step that is judged
-
-writing-judged : (x : Step) → writing x ≡ true → judged x ≡ true
-writing-judged (read p o) w = refl
-writing-judged (write p o) w = refl
-writing-judged (append p o) w = refl
-writing-judged (exec p o u) w = refl
-writing-judged (fork p o) w = refl
-writing-judged (newFile p o u) w = w
-writing-judged (newVolatile p o) w = w
-writing-judged (end p) w = w
-writing-judged (delete p o) w = w
 
 forbidden-judged : (s r : List ℕ) → (isAlert (stepAnswer s r) || isBlocked (stepAnswer s r)) ≡ true → judged (stepAsked r) ≡ true
 forbidden-judged s r f = on (or-cases (isAlert (stepAnswer s r)) f) (decide (judged (stepAsked r)))
@@ -266,7 +257,8 @@ module _ (i t links steps out : List ℕ) (bytes : Bytes i) (z : whyRefusal i t 
   comes : ComesFrom (policyIn i) (toldHistory (startOf (policyIn i)) (traceRecords t)) (toldNumbers (startOf (policyIn i)) (traceRecords t))
       (origin (toldHistory (startOf (policyIn i)) (traceRecords t)) (receiverOf (answered i t)))
       (ruleAt (policyIn i .rules) (getD (whyEffect i t links steps out) whyRuleAt 0)) (getD (whyEffect i t links steps out) whyKindAt 0)
-      (getD (whyEffect i t links steps out) whyRecordAt 0) (getD (whyEffect i t links steps out) whyHolderAt 0) (drop (getD (whyEffect i t links steps out) whyChainAt 0) (whySteps i t links steps out))
+      (getD (whyEffect i t links steps out) whyRecordAt 0) (getD (whyEffect i t links steps out) whyHolderAt 0)
+      (drop (getD (whyEffect i t links steps out) whyChainAt 0) (whySteps i t links steps out))
   comes = rw (is-chain, is-rule, is-kind, is-at, is-holder) (last-right i t bytes ok forbids .comes)
 
   pub certifies : Certified (policyIn i) (toldHistory (startOf (policyIn i)) (traceRecords t)) (toldNumbers (startOf (policyIn i)) (traceRecords t)) (answered i t)
@@ -280,7 +272,8 @@ module _ (i t links steps out : List ℕ) (bytes : Bytes i) (z : whyRefusal i t 
             comes-from (policyIn i) (toldHistory (startOf (policyIn i)) (traceRecords t)) (toldNumbers (startOf (policyIn i)) (traceRecords t))
             (origin (toldHistory (startOf (policyIn i)) (traceRecords t)) (receiverOf (answered i t)))
             (ruleAt (policyIn i .rules) (getD (whyEffect i t links steps out) whyRuleAt 0)) (getD (whyEffect i t links steps out) whyKindAt 0)
-            (getD (whyEffect i t links steps out) whyRecordAt 0) (getD (whyEffect i t links steps out) whyHolderAt 0) (drop (getD (whyEffect i t links steps out) whyChainAt 0) (whySteps i t links steps out)) comes;
+            (getD (whyEffect i t links steps out) whyRecordAt 0) (getD (whyEffect i t links steps out) whyHolderAt 0)
+            (drop (getD (whyEffect i t links steps out) whyChainAt 0) (whySteps i t links steps out)) comes;
         owner = rw is-rule is-owner;
         mixtures = rw is-rule is-count;
         lacks = λ k l. rw (is-rule, is-lacked k (counted k l)) (last-lacked i t bytes ok forbids k (counted k l) .1);

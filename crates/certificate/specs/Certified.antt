@@ -12,7 +12,8 @@ use Rattle.image.specs.Policy.{Policy, ruleAt, ownerAt}
 use Rattle.chains.specs.History.{History}
 use Rattle.chains.specs.Chains.{UserRule, runRule, Starts, Leads, Own, Reaches}
 use Rattle.certificate.specs.Origins.{Origin, own, made, started, nowhere, origin, before, From}
-use Rattle.certificate.specs.Whys.{ownOrigin, madeOrigin, userOrigin, runOrigin, whyReceiverAt, whyTagAt, whyKindAt, whyRecordAt, whyHolderAt, whyRuleAt, whyOwnerAt, whyChainAt, whyCountAt, whyAtomsAt}
+use Rattle.certificate.specs.Whys.{ownOrigin, madeOrigin, userOrigin, runOrigin, whyReceiverAt, whyTagAt, whyKindAt}
+use Rattle.certificate.specs.Whys.{whyRecordAt, whyHolderAt, whyRuleAt, whyOwnerAt, whyChainAt, whyCountAt, whyAtomsAt}
 
 -- The rule r comes from the origin as the numbers say: kind, record, holder. Of a run rule the chain stands in the list: it begins in the
 -- file `holder`, leads its run rule into o by the steps before the exec, and the list has the records of these steps. ns are the records of

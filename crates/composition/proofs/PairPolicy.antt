@@ -81,9 +81,15 @@ unfolding containerIn containerBytes field bytesOf
 fit-back c h =
     let f : (ltb (c .atom) (256 ^ size8) && (ltb (c .permit) (256 ^ size16) && ltb (c .run) (256 ^ size16))) ≡ true = and-1 (ltb (c .kind) (256 ^ size8)) h in
     let g : (ltb (c .permit) (256 ^ size16) && ltb (c .run) (256 ^ size16)) ≡ true = and-1 (ltb (c .atom) (256 ^ size8)) f in
-    let e0 : numberIn (bytesOf size8 (c .kind)) ≡ c .kind = number-bytes size8 (c .kind) (ltb-true (c .kind) (256 ^ size8) (and-0 (ltb (c .kind) (256 ^ size8)) (ltb (c .atom) (256 ^ size8) && (ltb (c .permit) (256 ^ size16) && ltb (c .run) (256 ^ size16))) h)) in
-    let e1 : numberIn (bytesOf size8 (c .atom)) ≡ c .atom = number-bytes size8 (c .atom) (ltb-true (c .atom) (256 ^ size8) (and-0 (ltb (c .atom) (256 ^ size8)) (ltb (c .permit) (256 ^ size16) && ltb (c .run) (256 ^ size16)) f)) in
-    let e2 : numberIn (bytesOf size16 (c .permit)) ≡ c .permit = number-bytes size16 (c .permit) (ltb-true (c .permit) (256 ^ size16) (and-0 (ltb (c .permit) (256 ^ size16)) (ltb (c .run) (256 ^ size16)) g)) in
+    let e0 : numberIn (bytesOf size8 (c .kind)) ≡ c .kind =
+    number-bytes size8 (c .kind)
+    (ltb-true (c .kind) (256 ^ size8)
+    (and-0 (ltb (c .kind) (256 ^ size8)) (ltb (c .atom) (256 ^ size8) && (ltb (c .permit) (256 ^ size16) && ltb (c .run) (256 ^ size16))) h)) in
+    let e1 : numberIn (bytesOf size8 (c .atom)) ≡ c .atom =
+    number-bytes size8 (c .atom)
+    (ltb-true (c .atom) (256 ^ size8) (and-0 (ltb (c .atom) (256 ^ size8)) (ltb (c .permit) (256 ^ size16) && ltb (c .run) (256 ^ size16)) f)) in
+    let e2 : numberIn (bytesOf size16 (c .permit)) ≡ c .permit =
+    number-bytes size16 (c .permit) (ltb-true (c .permit) (256 ^ size16) (and-0 (ltb (c .permit) (256 ^ size16)) (ltb (c .run) (256 ^ size16)) g)) in
     let e3 : numberIn (bytesOf size16 (c .run)) ≡ c .run = number-bytes size16 (c .run) (ltb-true (c .run) (256 ^ size16) (and-1 (ltb (c .permit) (256 ^ size16)) g)) in
     λ i. record { kind = e0 i; atom = e1 i; permit = e2 i; run = e3 i }
 
@@ -338,6 +344,8 @@ module _ (c : ℕ) (a b : List ℕ) (h : Paired a b) where
         pub lent-tabled : Tabled (take (i - 0) p) (take (j - 0) q) (take ((2 * n + u) * formWidth - 0) (putMid 0 ((2 * n + u) * formWidth - 0) zeros x))
         lent-tabled = rw (front-is wp, front-is wq, filled) tabled
 
-        pub lent-written : {before after : List ℕ} {r : ℕ} → Answered (policyAt (take (i - 0) p) (take (j - 0) q) (take ((2 * n + u) * formWidth - 0) (putMid 0 ((2 * n + u) * formWidth - 0) zeros x))) before after r
+        pub lent-written : {before after : List ℕ} {r : ℕ}
+            → Answered (policyAt (take (i - 0) p) (take (j - 0) q) (take ((2 * n + u) * formWidth - 0) (putMid 0 ((2 * n + u) * formWidth - 0) zeros x))) before
+            after r
             → PairWritten (pairOwned c a b) before after r
         lent-written w = answered (rw (front-is wp, front-is wq, filled) at w)

@@ -90,7 +90,8 @@ module _ (a : List ℕ) where
   use-count = omega (arith, length-append (containerUses (containersIn (part a 0))) (usersIn (part a 1)), numbers-long, users-count (part a 1))
 
   module _ (k : ℕ) where
-    pub number-permit : k < 2 * (length (part a 0) / containerSize) → k % 2 ≡ 0 → {r : ℕ} → r ≡ field (part a 0) (k / 2 * containerSize + containerPermitAt) size16 → r ≡ getD (usedNumbers (policyIn a)) k 0
+    pub number-permit : k < 2 * (length (part a 0) / containerSize) → k % 2 ≡ 0 → {r : ℕ}
+        → r ≡ field (part a 0) (k / 2 * containerSize + containerPermitAt) size16 → r ≡ getD (usedNumbers (policyIn a)) k 0
     unfolding usedNumbers policyIn
     number-permit l e {r} f =
         let n : 2 * (k / 2) ≡ k = omega arith in
@@ -99,7 +100,8 @@ module _ (a : List ℕ) where
         ∙ ap (λ (j : ℕ). getD (containerUses (containersIn (part a 0))) j 0) (sym n)
         ∙ permit-at (containersIn (part a 0)) (k / 2) (omega (arith, containers-count (part a 0))) ∙ permit-field (part a 0) (k / 2) h)
 
-    pub number-run : k < 2 * (length (part a 0) / containerSize) → (k % 2 ≡ 0 → ⊥) → {r : ℕ} → r ≡ field (part a 0) (k / 2 * containerSize + containerRunAt) size16 → r ≡ getD (usedNumbers (policyIn a)) k 0
+    pub number-run : k < 2 * (length (part a 0) / containerSize) → (k % 2 ≡ 0 → ⊥) → {r : ℕ}
+        → r ≡ field (part a 0) (k / 2 * containerSize + containerRunAt) size16 → r ≡ getD (usedNumbers (policyIn a)) k 0
     unfolding usedNumbers policyIn
     number-run l d {r} f =
         let n : 2 * (k / 2) + 1 ≡ k = omega arith in
@@ -108,7 +110,8 @@ module _ (a : List ℕ) where
         ∙ ap (λ (j : ℕ). getD (containerUses (containersIn (part a 0))) j 0) (sym n)
         ∙ run-at (containersIn (part a 0)) (k / 2) (omega (arith, containers-count (part a 0))) ∙ run-field (part a 0) (k / 2) h)
 
-    pub number-user : 2 * (length (part a 0) / containerSize) ≤ k → k < useCount a → {r : ℕ} → r ≡ field (part a 1) ((k - 2 * (length (part a 0) / containerSize)) * userSize) size16 → r ≡ getD (usedNumbers (policyIn a)) k 0
+    pub number-user : 2 * (length (part a 0) / containerSize) ≤ k → k < useCount a → {r : ℕ}
+        → r ≡ field (part a 1) ((k - 2 * (length (part a 0) / containerSize)) * userSize) size16 → r ≡ getD (usedNumbers (policyIn a)) k 0
     unfolding usedNumbers policyIn usersIn field
     number-user l h {r} f =
         let n : length (containerUses (containersIn (part a 0))) + (k - 2 * (length (part a 0) / containerSize)) ≡ k = omega (arith, numbers-long) in

@@ -45,7 +45,8 @@ pub forms-as : {f g : ℕ → List ℕ} {count : ℕ} {forms : List ℕ} {b : Bo
 forms-as {count = count} {forms = forms} {b = b} e h = subst (λ (x : ℕ → List ℕ). FormsPut x count forms b) e h
 
 -- the part of the programs' numbers and of their mixtures that is lent
-pub rule-lent : (own modes runs : List ℕ) (n m : ℕ) → take m runs ≡ mixtures own modes n m → ruleFrom (take (m - 0) own) modes (take (m - 0) runs) ≡ ruleFrom (take m own) modes (mixtures own modes n m)
+pub rule-lent : (own modes runs : List ℕ) (n m : ℕ) → take m runs ≡ mixtures own modes n m
+    → ruleFrom (take (m - 0) own) modes (take (m - 0) runs) ≡ ruleFrom (take m own) modes (mixtures own modes n m)
 rule-lent own modes runs n m e = let z : m - 0 ≡ m = omega arith in rw (z, e)
 
 module _ (own modes : List ℕ) (n m : ℕ) where
@@ -183,7 +184,13 @@ module _ (text out : List ℕ) where
           over : limitsGood (profilesIn text) ≡ false
           over =
               unfold limitsGood in
-              refuted (limitsGood (profilesIn text)) (λ y. omega (arith, leb-true (length (pathsOf (profilesIn text))) dataWidth (and-0 (leb (length (pathsOf (profilesIn text))) dataWidth) (every shortRule (rulesOf (profilesIn text))) y)))
+              refuted (limitsGood (profilesIn text))
+              (λ y.
+              omega (
+                arith,
+                leb-true (length (pathsOf (profilesIn text))) dataWidth
+                    (and-0 (leb (length (pathsOf (profilesIn text))) dataWidth) (every shortRule (rulesOf (profilesIn text))) y),
+              ))
 
       -- the tables' policy: 17, or the image
       pub derive-done : (own modes : List ℕ) (n m : ℕ) → Tabulated (profilesIn text) own modes n m → {after : List ℕ} {r : ℕ} → PolicyWritten (tablePolicy own modes n m) out after r
@@ -203,7 +210,8 @@ module _ (text out : List ℕ) where
               (subst (λ (x : Policy). Wrote (normalImage x) out after 0 r) (tables-policy (profilesIn text) own modes n m t) (w .fits (same-rules ∙ e)))
           by false e =
               let o = w .over (same-rules ∙ e) in
-              let l : limitsGood (profilesIn text) ≡ false = unfold limitsGood in refuted (limitsGood (profilesIn text)) (λ y. clash (and-1 (leb (length (pathsOf (profilesIn text))) dataWidth) y) e) in
+              let l : limitsGood (profilesIn text) ≡ false =
+              unfold limitsGood in refuted (limitsGood (profilesIn text)) (λ y. clash (and-1 (leb (length (pathsOf (profilesIn text))) dataWidth) y) e) in
               let g = refused (refusal-limits l) (λ z. omega arith) in
               (o .0 ∙ g .0, o .1 ∙ g .1)
 

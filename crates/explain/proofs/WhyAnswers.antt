@@ -30,7 +30,8 @@ use Rattle.witness.specs.declared.Explained.{Explained}
 use Rattle.witness.specs.Links.{nodeOf}
 use Rattle.witness.specs.Told.{chainFile, chainRecords, foundIn, atEnd}
 use Rattle.witness.specs.Explains.{atomWitness, atomNumbers, atomFound, atomSteps, lentGood, explainRefusal, explainAnswer, explainSteps}
-use Rattle.certificate.specs.Whys.{answered, reasonIn, reasonNumbers, whyNumbers, roomGood, whyLength, whyRefusal, whyEffect, whySteps, whyReceiverAt, whyKindAt, whyRecordAt, whyHolderAt, whyRuleAt, whyOwnerAt, whyChainAt, whyCountAt, whyAtomsAt}
+use Rattle.certificate.specs.Whys.{answered, reasonIn, reasonNumbers, whyNumbers, roomGood, whyLength, whyRefusal, whyEffect, whySteps}
+use Rattle.certificate.specs.Whys.{whyReceiverAt, whyKindAt, whyRecordAt, whyHolderAt, whyRuleAt, whyOwnerAt, whyChainAt, whyCountAt, whyAtomsAt}
 use Rattle.explanations.specs.Lines.{foundLine, ruleFields, wayFields}
 use Rattle.explanations.specs.Buffer.{opened, ended}
 use Rattle.explanations.proofs.ExplanationLines.{rule-text, way-text}
@@ -148,7 +149,10 @@ module _ (i t links steps out : List ℕ) (a : Asked i t) (l : length links ≡ 
         let s : steps′ ≡ atEnd xs steps = g ∙ rw (eq-eqb (whyRefusal i t links steps out) 0 why-given) refl in
         ap₂ (λ (n : ℕ) (z : List ℕ). drop n z) (why-first ∙ ap (λ (n : ℕ). n - length xs) (sym m)) s ∙ end-back xs steps
 
-pub rule-shown : (why steps front : List ℕ) → front ≡ opened (ascii "rule") (ruleFields (getD why whyKindAt 0) (getD why whyRuleAt 0) (getD why whyOwnerAt 0) (getD why whyRecordAt 0) (getD why whyHolderAt 0))
+pub rule-shown : (why steps front : List ℕ)
+    → front
+    ≡ opened (ascii "rule")
+    (ruleFields (getD why whyKindAt 0) (getD why whyRuleAt 0) (getD why whyOwnerAt 0) (getD why whyRecordAt 0) (getD why whyHolderAt 0))
     → ended front (drop (getD why whyChainAt 0) steps) ≡ ruleTold why steps
 unfolding ruleTold
 rule-shown why steps front e =

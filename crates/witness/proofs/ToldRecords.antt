@@ -73,7 +73,10 @@ numbers-size h n s (r ∷ rs) =
   where
     on : (b : Bool) → accepted (stepAnswer s r) ≡ b → stepCount h + length (cond b (n ∷ numbersFrom (suc n) (stepEffect s r) rs) (numbersFrom (suc n) (stepEffect s r) rs))
         ≡ stepCount (extend h (stepOf r) (accepted (stepAnswer s r))) + length (numbersFrom (suc n) (stepEffect s r) rs)
-    on true e = let z : stepCount (extend h (stepOf r) (accepted (stepAnswer s r))) ≡ suc (stepCount h) = size-next h s r ∙ ap (λ (b : Bool). cond b (suc (stepCount h)) (stepCount h)) e in omega (arith, z)
+    on true e =
+        let z : stepCount (extend h (stepOf r) (accepted (stepAnswer s r))) ≡ suc (stepCount h)
+        = size-next h s r ∙ ap (λ (b : Bool). cond b (suc (stepCount h)) (stepCount h)) e in
+        omega (arith, z)
     on false e = let z : stepCount (extend h (stepOf r) (accepted (stepAnswer s r))) ≡ stepCount h = size-next h s r ∙ ap (λ (b : Bool). cond b (suc (stepCount h)) (stepCount h)) e in omega (arith, z)
 
 numbers-bound : (n : ℕ) (s : List ℕ) (rs : List (List ℕ)) (i : ℕ) → i < length (numbersFrom n s rs)
