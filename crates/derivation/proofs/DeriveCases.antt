@@ -116,7 +116,8 @@ module _ (reads writes : List ℕ) (n : ℕ) (good : matrixGood reads writes n �
   pub objects-end : {before mid : List ℕ} {a : ℕ} → Wrote (joined (map containerBytes (objectFiles n))) before mid 0 a → a ≡ n * containerSize
   objects-end w = omega (arith, w .ends, containers-size (objectFiles n), objects-count n)
 
-  module _ {before mid after : List ℕ} {a end : ℕ} (p : Wrote (joined (map containerBytes (objectFiles n))) before mid 0 a) (q : Wrote (joined (map containerBytes (replicate (length reads) subjectProcess))) mid after a end) where
+  module _ {before mid after : List ℕ} {a end : ℕ} (p : Wrote (joined (map containerBytes (objectFiles n))) before mid 0 a)
+      (q : Wrote (joined (map containerBytes (replicate (length reads) subjectProcess))) mid after a end) where
     containers-wrote : Wrote containerPart before after 0 end
     containers-wrote = wrote-join (omega arith) p q
 

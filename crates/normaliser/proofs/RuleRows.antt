@@ -79,7 +79,8 @@ form-part forms v h =
 pub rule-here : (forms order : List ℕ) (j : ℕ) → every (formGood forms) order ≡ true → j < length order → RuleHere forms (getD order j 0)
 rule-here forms order j h l =
     let g : formGood forms (getD order j 0) ≡ true = every-getD (formGood forms) order j 0 l h in
-    record { inside = form-in forms (getD order j 0) g; small = form-small forms (getD order j 0) g; count = form-count forms (getD order j 0) g; owner = owner-is forms (getD order j 0) g; part = form-part forms (getD order j 0) g }
+    let k : ℕ = getD order j 0 in
+    record { inside = form-in forms k g; small = form-small forms k g; count = form-count forms k g; owner = owner-is forms k g; part = form-part forms k g }
 
 -- ---- rules one behind the other
 
