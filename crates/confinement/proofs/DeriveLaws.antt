@@ -5,8 +5,7 @@ use mathlib.Core.Path.{_≡_, refl, sym, ap, ap₂, _∙_, subst}
 use mathlib.Core.Bool.{Bool, true, false, not}
 use mathlib.Core.List.{List, [], _∷_, _++_, map, map-append}
 use lib.Dec.{leb}
-use lib.ListN.{length, take, drop, replicate}
-use lib.Seq.{take-at}
+use lib.ListN.{length, take, replicate}
 use borrow.Author.Tests.{le-leb, lt-leb, leb-true, not-false}
 use Rattle.lists.specs.Lists.{every, joined}
 use Rattle.lists.specs.Conditions.{firstFailed, _orRefuse_}
@@ -15,9 +14,9 @@ use Rattle.lists.proofs.Conditions.{passed, failed, none-left}
 use Rattle.lists.proofs.Joined.{joined-append, joined-one}
 use Rattle.answers.specs.Refusals.{lentLength, profileText, profileLimit}
 use Rattle.fields.specs.Bytes.{bytesOf}
-use Rattle.fields.specs.Writing.{overwritten, Wrote}
+use Rattle.fields.specs.Writing.{Wrote}
 use Rattle.fields.proofs.WritingLaws.{wrote-join}
-use Rattle.fields.proofs.RowWriting.{wrote-whole}
+use Rattle.fields.proofs.RowWriting.{wrote-whole, front-written}
 use Rattle.fields.proofs.ByteLaws.{bytes-length}
 use Rattle.rules.specs.Answers.{dataWidth}
 use Rattle.rules.proofs.RuleLaws.{normal-normal}
@@ -66,12 +65,6 @@ forms-rows f j (suc n) = ap₂ _∷_ (ap plain (sym (normal-normal (f j)))) (for
     plain : List ℕ → List ℕ
     plain r = formRow (record { owner = noOwner; mixtures = r })
 
-front-is : {x before after : List ℕ} {n : ℕ} → Wrote x before after 0 n → take (n - 0) after ≡ x
-unfolding overwritten
-front-is {x} {before} {after} {n} w =
-    let e : n - 0 ≡ length x = omega (arith, w .ends) in
-    ap₂ take e (w .buffer) ∙ take-at x (drop (0 + length x) before) (length x) refl
-
 -- ---- the policy goes to the writer
 
 module _ (ps : List Profile) (own modes : List ℕ) (n m : ℕ) (t : Tabulated ps own modes n m) where
@@ -92,7 +85,7 @@ module _ (ps : List Profile) (own modes : List ℕ) (n m : ℕ) (t : Tabulated p
     containers-are : take (end - 0) after ≡ joined (map containerBytes (profilePolicy ps .containers))
     unfolding profilePolicy tablePolicy
     containers-are =
-        front-is (wrote-join (omega arith) p q)
+        front-written (wrote-join (omega arith) p q)
         ∙ ap (λ (l : List ℕ). joined (fileRows n) ++ l) (sym (joined-one (containerBytes initialProcess)))
         ∙ sym (joined-append (fileRows n) (containerBytes initialProcess ∷ []))
         ∙ ap joined (sym (map-append containerBytes (filesFrom 0 (replicate n [])) (initialProcess ∷ [])))

@@ -80,7 +80,8 @@ unfolding usesOf
 uses-length [] owners = refl
 uses-length (r ∷ rules) owners = ap suc (uses-length rules (drop 1 owners))
 
-after-first : (owners : List ℕ) (n : ℕ) → getD (drop 1 owners) n noOwner ≡ getD owners (suc n) noOwner
+-- behind the first owner
+pub after-first : (owners : List ℕ) (n : ℕ) → getD (drop 1 owners) n noOwner ≡ getD owners (suc n) noOwner
 after-first [] n = refl
 after-first (o ∷ owners) n = refl
 

@@ -20,6 +20,7 @@ use Rattle.fields.proofs.ByteLaws.{bytes-length, joined-length}
 use Rattle.fields.proofs.FieldLaws.{take-mid}
 use Rattle.fields.proofs.RowWriting.{RowsWritten, rows-start, rows-room, rows-next}
 use Rattle.rule_words.specs.Words.{ruleWidth, ruleOf}
+use Rattle.image.proofs.WrittenOwners.{after-first}
 use Rattle.normaliser.specs.Writer.{formWidth, formIn}
 use Rattle.image.specs.Limits.{noOwner, ruleSize, mixtureSize}
 use Rattle.image.specs.Image.{Span}
@@ -86,10 +87,6 @@ rule-here forms order j h l =
 
 nothing : Span
 nothing = record { first = 0; count = 0; owner = noOwner }
-
-after-first : (owners : List ℕ) (j : ℕ) → getD (drop 1 owners) j noOwner ≡ getD owners (suc j) noOwner
-after-first [] j = refl
-after-first (o ∷ owners) j = refl
 
 spans-at : (f : ℕ) (rules : List (List ℕ)) (owners : List ℕ) (j : ℕ) → j < length rules
     → getD (spansOf f rules owners) j nothing ≡ record { first = f + length (joined (take j rules)); count = length (getD rules j []); owner = getD owners j noOwner }
