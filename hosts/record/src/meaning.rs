@@ -563,12 +563,7 @@ impl Tracer {
     fn ends_other(&mut self, task: Tid, arguments: &[u64; 6], after: After, result: i64) {
         match after {
             After::Open(opening) if result >= 0 => self.opened(task, &opening, result as i32),
-            After::Names(how) if result >= 0 || self.guard => {
-                if how == MOUNT {
-                    look::forget_mounts();
-                }
-                self.check_names(Some(task), how);
-            }
+            After::Names(how) if result >= 0 || self.guard => self.names_changed(task, how),
             After::Linked { at } if result >= 0 => {
                 self.linked_to(task, at, arguments);
                 self.check_names(Some(task), "a symbolic link");
@@ -587,11 +582,7 @@ impl Tracer {
                     self.same_object(found.key, object);
                 }
             }
-            After::Accepted if result >= 0 => {
-                self.sockets.accepted(task, result as i32);
-                self.takes_in(task, result as i32);
-                self.reads_address(task, result as i32);
-            }
+            After::Accepted if result >= 0 => self.accepted(task, result as i32),
             After::Paired(at) if result >= 0 => {
                 if let Some(pair) = look::word(task, at) {
                     self.sockets.paired(task, pair as i32, (pair >> 32) as i32);
@@ -599,6 +590,21 @@ impl Tracer {
             }
             _ => {}
         }
+    }
+
+    /// A call has changed names.
+    fn names_changed(&mut self, task: Tid, how: &str) {
+        if how == MOUNT {
+            look::forget_mounts();
+        }
+        self.check_names(Some(task), how);
+    }
+
+    /// A connection was taken up, under this number.
+    fn accepted(&mut self, task: Tid, number: i32) {
+        self.sockets.accepted(task, number);
+        self.takes_in(task, number);
+        self.reads_address(task, number);
     }
 
     /// What a descriptor gives goes into the memory of a task.
