@@ -9,6 +9,7 @@ use crate::sys::{self, Tid};
 use crate::table::{self, Meaning};
 
 impl Tracer {
+    /// An option of a socket is asked for or set.
     pub fn socket_option(&mut self, task: Tid, meaning: Meaning, arguments: &[u64; 6]) -> Then {
         /// Options that say what a socket is, and whether it has failed.
         const PLAIN: [i32; 6] =
@@ -61,6 +62,7 @@ impl Tracer {
         }
     }
 
+    /// Queues, semaphores and segments of System V.
     pub fn system_v(&mut self, task: Tid, meaning: Meaning, arguments: &[u64; 6]) -> Then {
         let number = arguments[0] as i32;
         let (key, name) = match meaning {
@@ -92,6 +94,7 @@ impl Tracer {
         Then::Free
     }
 
+    /// A device control.
     pub fn controls(&mut self, task: Tid, arguments: &[u64; 6]) -> Then {
         let (number, control) = (arguments[0] as i32, arguments[1] as u32);
         match table::control(control) {

@@ -18,18 +18,22 @@ const ARGUMENTS: u32 = 16;
 /// The bit that marks calls of the x32 convention.
 const X32: u32 = 0x4000_0000;
 
+/// An instruction of the filter.
 fn instruction(code: u16, jt: u8, jf: u8, k: u32) -> Instruction {
     Instruction { code, jt, jf, k }
 }
 
+/// The call runs free.
 fn free() -> Instruction {
     instruction(RETURN, 0, 0, libc::SECCOMP_RET_ALLOW)
 }
 
+/// The call stops.
 fn stopped() -> Instruction {
     instruction(RETURN, 0, 0, libc::SECCOMP_RET_TRACE)
 }
 
+/// Loads the low half of an argument.
 fn argument(place: u32) -> Instruction {
     instruction(LOAD, 0, 0, ARGUMENTS + 8 * place)
 }

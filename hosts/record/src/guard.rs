@@ -70,11 +70,13 @@ struct Change {
     becomes: Option<Vec<u8>>,
 }
 
+/// Device and inode at a path.
 fn identity(path: &[u8]) -> Option<(u64, u64)> {
     let status = sys::status(&CString::new(path).ok()?, true).ok()?;
     Some((status.device, status.inode))
 }
 
+/// The folder and the name that a path of a task has.
 fn place(task: Tid, folder: i32, address: u64) -> Option<Place> {
     let text = look::text(task, address)?;
     let end = text.iter().rposition(|byte| *byte != b'/').map_or(0, |place| place + 1);
@@ -169,6 +171,7 @@ impl Tracer {
         }
     }
 
+    /// Whether two tasks have one memory.
     fn same_memory(&self, one: Tid, other: Tid) -> bool {
         let memory = |task: &Tid| self.tasks.get(task).map(|task| task.memory);
         memory(&one) == memory(&other)
@@ -200,6 +203,7 @@ impl Tracer {
         }
     }
 
+    /// A call that cannot be judged is refused.
     fn not_judged(&mut self, task: Tid) -> Then {
         self.tell(format!("a call of process {task} is refused, since other tasks did not stop while it was judged"));
         Then::Refuse(libc::EPERM)
@@ -221,6 +225,7 @@ impl Tracer {
         Then::Wait(After::Nothing)
     }
 
+    /// Makes the truncations of an object that wait.
     fn truncate(&mut self, object: ObjectId) {
         let (now, later) =
             std::mem::take(&mut self.truncations).into_iter().partition(|waiting| waiting.object == object);

@@ -50,6 +50,7 @@ pub struct Ledger {
 }
 
 impl Ledger {
+    /// A ledger at the start of a run.
     pub fn start(plan: Plan, report: Report, run: Start) -> Result<Ledger, Refusal> {
         let recorder = Recorder::start(plan, report, run)?;
         let (objects, under_way, mappings, names, grown, written) = Default::default();
@@ -103,14 +104,17 @@ impl Ledger {
         self.recorder.gap("not a line of an event list");
     }
 
+    /// How many events were taken up.
     pub fn events(&self) -> usize {
         self.events
     }
 
+    /// The file of an object.
     fn file(&self, object: ObjectId) -> Option<FileId> {
         self.objects.get(object).copied()
     }
 
+    /// Another object.
     fn object(&mut self, sort: Sort, label: &str) {
         let file = self.recorder.files.nameless(sort, label.to_string());
         self.recorder.files.get_mut(file).outside = true;
@@ -196,6 +200,7 @@ impl Ledger {
         blocked
     }
 
+    /// Reports a flow, and notes what has grown by it. Whether it is blocked.
     fn carry(&mut self, process: ProcessId, way: Way, file: FileId, adds: bool, grown: &mut BTreeSet<Grown>) -> bool {
         let recorder = &mut self.recorder;
         let before = match way {
@@ -234,6 +239,7 @@ impl Ledger {
         }
     }
 
+    /// Where something goes on that has grown.
     fn onward(&self, grown: Grown) -> Vec<(ProcessId, Way, FileId)> {
         let recorder = &self.recorder;
         let root = |object: ObjectId| recorder.files.root(self.objects[object]);
@@ -259,6 +265,7 @@ impl Ledger {
         }
     }
 
+    /// An object is mapped into the memory of a task.
     fn mapped(&mut self, task: TaskId, object: ObjectId, writable: bool) {
         let Some(process) = self.recorder.processes.of(task) else { return };
         let (list, mapping) = (self.mappings.entry(process).or_default(), Mapping { object, writable });
@@ -273,6 +280,7 @@ impl Ledger {
         }
     }
 
+    /// It no longer is.
     fn unmapped(&mut self, task: TaskId, object: ObjectId) {
         if let Some(list) = self.recorder.processes.of(task).and_then(|process| self.mappings.get_mut(&process)) {
             list.retain(|mapping| mapping.object != object);
@@ -299,6 +307,7 @@ impl Ledger {
         self.recorder.truncated(file, !busy);
     }
 
+    /// A task has a child.
     fn born(&mut self, parent: TaskId, child: TaskId, one_memory: bool) {
         if self.recorder.processes.of(child).is_some() {
             self.recorder.gap(&format!("process {child} starts once more, and its end was not told"));
@@ -313,6 +322,7 @@ impl Ledger {
         }
     }
 
+    /// A task has executed a program.
     fn executed(&mut self, task: TaskId, program: ObjectId, user: u32, name: &str) {
         let Some(file) = self.file(program) else { return };
         self.under_way.retain(|flow| flow.task != task);
@@ -326,6 +336,7 @@ impl Ledger {
         }
     }
 
+    /// A task goes on under another number.
     fn renumbered(&mut self, from: TaskId, to: TaskId) {
         if from == to || self.recorder.processes.of(from).is_none() {
             return self.recorder.gap(UNKNOWN);
@@ -343,6 +354,7 @@ impl Ledger {
         self.under_way.iter().any(|flow| flow.task == task)
     }
 
+    /// A task is gone.
     fn gone(&mut self, task: TaskId) {
         self.under_way.retain(|flow| flow.task != task);
         let process = self.recorder.processes.of(task);
@@ -378,6 +390,7 @@ impl Ledger {
         }
     }
 
+    /// An object holds a source from an earlier run.
     fn holds(&mut self, object: ObjectId, source: &str) {
         if let Some(file) = self.file(object) {
             self.recorder.held_before(file, source);

@@ -73,6 +73,7 @@ impl Found {
         Found { key, sort: Sort::File, plain: false, is_folder: false }
     }
 
+    /// An object that is gone with its last descriptor.
     pub fn passing(key: Key) -> Found {
         Found { key, sort: Sort::Passing, plain: false, is_folder: false }
     }
@@ -156,6 +157,7 @@ pub fn numbering(task: Tid) -> Option<u64> {
     sys::status(&path, true).ok().map(|status| status.inode)
 }
 
+/// The place of a descriptor below `/proc`.
 pub fn descriptor_path(task: Tid, number: i32) -> String {
     format!("/proc/{task}/fd/{number}")
 }
@@ -215,6 +217,7 @@ pub fn descriptor(task: Tid, number: i32) -> Seen {
     }
 }
 
+/// What a failed look says: it is hidden, or not there.
 fn failed(error: &io::Error) -> Seen {
     match error.raw_os_error() {
         Some(libc::EACCES | libc::EPERM) => Seen::Hidden,
@@ -255,10 +258,12 @@ fn real_name(path: &[u8], follow: bool) -> Vec<u8> {
     found.unwrap_or_else(|_| path.to_vec())
 }
 
+/// A text as the number of a task.
 fn number_in(text: &[u8]) -> Option<Tid> {
     std::str::from_utf8(text).ok()?.parse().ok()
 }
 
+/// What the status of a file stands for.
 fn object(task: Tid, status: &Status) -> Seen {
     let (major, minor) = status.device_file;
     let device = |block| {

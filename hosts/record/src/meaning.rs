@@ -92,6 +92,7 @@ pub enum Target {
 /// How names change by a mount.
 pub const MOUNT: &str = "a mount";
 
+/// What calls mean, by number.
 fn meanings() -> &'static [Option<Meaning>] {
     static MEANINGS: OnceLock<Vec<Option<Meaning>>> = OnceLock::new();
     MEANINGS.get_or_init(|| {
@@ -111,6 +112,7 @@ pub fn of(info: &CallInfo) -> Option<Meaning> {
     meanings().get(usize::try_from(info.number).ok()?).copied().flatten()
 }
 
+/// Whether a call is a program start.
 pub fn is_exec(info: &CallInfo) -> bool {
     matches!(of(info), Some(Meaning::Executes(_)))
 }
@@ -252,6 +254,7 @@ impl Tracer {
         look::descriptor(task, number)
     }
 
+    /// What a path in the memory of a task leads to.
     pub fn look_at(&mut self, task: Tid, folder: i32, address: u64, follow: bool) -> Seen {
         match look::text(task, address) {
             Some(name) if name.is_empty() && folder != libc::AT_FDCWD => self.look(task, folder),
@@ -266,6 +269,7 @@ impl Tracer {
         sys::registers(task).is_ok_and(|registers| look::word(task, registers.rsp & !7).is_none())
     }
 
+    /// Tells once for each task that it cannot be looked into.
     pub fn tell_hidden(&mut self, task: Tid) {
         let known = self.tasks.get_mut(&task).map(|task| std::mem::replace(&mut task.hidden, true));
         if known == Some(false) {
@@ -279,6 +283,7 @@ impl Tracer {
         self.target_of(task, number, seen, way, address)
     }
 
+    /// The objects behind what a descriptor was found to be.
     fn target_of(&mut self, task: Tid, number: i32, seen: Seen, way: Way, address: Option<&[u8]>) -> Target {
         match seen {
             Seen::Socket => self.socket_target(task, number, way, address),
@@ -286,6 +291,7 @@ impl Tracer {
         }
     }
 
+    /// The objects of what was found.
     pub fn seen(&mut self, task: Tid, seen: Seen, name: impl FnOnce(Tid) -> Vec<u8>) -> Target {
         match seen {
             Seen::Missing => Target::Missing,
@@ -316,6 +322,7 @@ impl Tracer {
         }
     }
 
+    /// The objects of a socket for one way.
     fn socket_target(&mut self, task: Tid, number: i32, way: Way, address: Option<&[u8]>) -> Target {
         match self.sockets.ends(task, number, way, address) {
             Ends::Objects(found) => {
@@ -353,6 +360,7 @@ impl Tracer {
         !matches!(self.number, libc::SYS_write | libc::SYS_pwrite64) || arguments[2] >= LONG
     }
 
+    /// A read counts at its end, or is under way if others can use the memory.
     fn begins_read(&mut self, task: Tid, number: i32) -> Then {
         self.settle_mappings(task);
         let seen = self.look(task, number);
@@ -421,6 +429,7 @@ impl Tracer {
         Then::Refuse(libc::EPERM)
     }
 
+    /// A write to objects begins.
     fn writes_to(&mut self, task: Tid, number: i32, objects: &[ObjectId], long: bool) -> Then {
         let alone = self.is_alone(task);
         let mut waits = false;
@@ -555,6 +564,7 @@ impl Tracer {
         }
     }
 
+    /// Whether a socket gives messages one by one.
     fn takes_datagrams(&self, task: Tid, socket: i32) -> bool {
         !self.sockets.is_stream(task, socket)
     }
@@ -563,12 +573,7 @@ impl Tracer {
     fn ends_other(&mut self, task: Tid, arguments: &[u64; 6], after: After, result: i64) {
         match after {
             After::Open(opening) if result >= 0 => self.opened(task, &opening, result as i32),
-            After::Names(how) if result >= 0 || self.guard => {
-                if how == MOUNT {
-                    look::forget_mounts();
-                }
-                self.check_names(Some(task), how);
-            }
+            After::Names(how) if result >= 0 || self.guard => self.names_changed(task, how),
             After::Linked { at } if result >= 0 => {
                 self.linked_to(task, at, arguments);
                 self.check_names(Some(task), "a symbolic link");
@@ -587,11 +592,7 @@ impl Tracer {
                     self.same_object(found.key, object);
                 }
             }
-            After::Accepted if result >= 0 => {
-                self.sockets.accepted(task, result as i32);
-                self.takes_in(task, result as i32);
-                self.reads_address(task, result as i32);
-            }
+            After::Accepted if result >= 0 => self.accepted(task, result as i32),
             After::Paired(at) if result >= 0 => {
                 if let Some(pair) = look::word(task, at) {
                     self.sockets.paired(task, pair as i32, (pair >> 32) as i32);
@@ -599,6 +600,21 @@ impl Tracer {
             }
             _ => {}
         }
+    }
+
+    /// A call has changed names.
+    fn names_changed(&mut self, task: Tid, how: &str) {
+        if how == MOUNT {
+            look::forget_mounts();
+        }
+        self.check_names(Some(task), how);
+    }
+
+    /// A connection was taken up, under this number.
+    fn accepted(&mut self, task: Tid, number: i32) {
+        self.sockets.accepted(task, number);
+        self.takes_in(task, number);
+        self.reads_address(task, number);
     }
 
     /// What a descriptor gives goes into the memory of a task.
@@ -629,6 +645,7 @@ fn shown(key: &Key) -> Vec<u8> {
     }
 }
 
+/// The port in host and port as 18 bytes.
 fn port_of(address: &[u8]) -> u16 {
     address.get(16..18).map_or(0, |bytes| u16::from_be_bytes([bytes[0], bytes[1]]))
 }

@@ -51,6 +51,7 @@ impl Tracer {
         Then::Free
     }
 
+    /// An object is mapped into the memory of a task.
     pub fn map(&mut self, task: Tid, object: ObjectId, writable: bool) {
         if writable {
             self.tell_elsewhere(object);
@@ -100,6 +101,7 @@ impl Tracer {
         Then::Wait(After::Pass { others: others.to_vec(), way })
     }
 
+    /// Data goes through an object between the memories of two tasks.
     pub fn pass(&mut self, task: Tid, other: Tid, way: Way) {
         let Some(memory) = self.tasks.get(&other).map(|other| other.memory) else { return };
         let object =

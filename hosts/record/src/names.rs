@@ -171,6 +171,7 @@ impl Recorder {
         self.govern_by(file, path, &format!("{how} by {by}"));
     }
 
+    /// The same, with the words for who has given the name.
     pub fn govern_by(&mut self, file: FileId, path: &[u8], by: &str) {
         let Some(rule) = self.files.story_rule(path) else { return };
         let name = self.files.story_name(path).unwrap_or_default().to_string();
@@ -191,6 +192,7 @@ impl Recorder {
         }
     }
 
+    /// Copies what a file holds into a container for another user.
     pub fn copy(&mut self, file: FileId, old: u8, user: u8, by: &str) {
         let process = self.plan.recorder;
         let numbers = self.take_number().and_then(|number| {

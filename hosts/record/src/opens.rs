@@ -38,6 +38,7 @@ impl Tracer {
         self.seen(task, seen, |_| name)
     }
 
+    /// The name of the file that a call names, for people.
     pub fn file_name(&self, task: Tid, way: table::Way, arguments: &[u64; 6]) -> Vec<u8> {
         let text = |folder, address| look::shown(task, folder, &look::text(task, address).unwrap_or_default());
         match way {
@@ -47,6 +48,7 @@ impl Tracer {
         }
     }
 
+    /// A call reads something of the file that it names.
     pub fn reads_file(&mut self, task: Tid, way: table::Way, arguments: &[u64; 6]) -> Then {
         match self.named_file(task, way, arguments) {
             Target::Objects(objects) if !objects.is_empty() => Then::Wait(After::Read(objects)),
@@ -54,6 +56,7 @@ impl Tracer {
         }
     }
 
+    /// A call adds something to the file that it names.
     pub fn adds_to_file(&mut self, task: Tid, way: table::Way, arguments: &[u64; 6]) -> Then {
         if let Target::Objects(objects) = self.named_file(task, way, arguments) {
             for object in objects {
@@ -73,6 +76,7 @@ impl Tracer {
         }
     }
 
+    /// A call asks where a link leads.
     pub fn reads_link(&mut self, task: Tid, way: table::Way, arguments: &[u64; 6]) -> Then {
         if self.links == 0 {
             return Then::Free;
@@ -90,6 +94,7 @@ impl Tracer {
         }
     }
 
+    /// The flags of an open.
     pub fn open_flags(&self, task: Tid, at: usize, arguments: &[u64; 6]) -> i32 {
         match self.number {
             libc::SYS_creat => libc::O_CREAT | libc::O_WRONLY | libc::O_TRUNC,
@@ -144,6 +149,7 @@ impl Tracer {
         }
     }
 
+    /// A call truncates what was found.
     pub fn truncates(&mut self, task: Tid, seen: Seen, length: u64) -> Then {
         match self.seen(task, seen, |_| b"a file".to_vec()) {
             Target::Objects(objects) if length == 0 => match objects.first() {
@@ -154,6 +160,7 @@ impl Tracer {
         }
     }
 
+    /// A program start begins.
     pub fn executes(&mut self, task: Tid, at: usize, arguments: &[u64; 6]) -> Then {
         let folder = if at == 0 { libc::AT_FDCWD } else { arguments[0] as i32 };
         let text = look::text(task, arguments[at]).unwrap_or_default();

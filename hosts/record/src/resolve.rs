@@ -64,6 +64,7 @@ struct Walk {
 }
 
 impl Walk {
+    /// The path so far.
     fn path(&self) -> Vec<u8> {
         self.names.iter().fold(self.start.clone(), |path, (name, _)| [&path[..], b"/", name].concat())
     }

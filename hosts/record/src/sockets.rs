@@ -48,6 +48,7 @@ struct Copy {
     kind: i32,
 }
 
+/// An open copy of a descriptor of a task, if it is a socket.
 fn copy(task: Tid, number: i32) -> Option<Copy> {
     let descriptor = sys::copy_descriptor(task, number).ok()?;
     let inode = sys::status_of(&descriptor).ok()?.inode;
@@ -57,15 +58,18 @@ fn copy(task: Tid, number: i32) -> Option<Copy> {
 }
 
 impl Copy {
+    /// The address of the socket, or of its other side.
     fn address(&self, other_side: bool) -> Option<Vec<u8>> {
         sys::socket_address(&self.descriptor, other_side).ok()
     }
 
+    /// Whether it sends datagrams.
     fn is_datagram(&self) -> bool {
         self.kind == libc::SOCK_DGRAM
     }
 }
 
+/// The family that an address begins with.
 fn family(address: &[u8]) -> i32 {
     address.get(..2).map_or(libc::AF_UNSPEC, |bytes| i32::from(u16::from_ne_bytes([bytes[0], bytes[1]])))
 }
@@ -79,6 +83,7 @@ fn host_and_port(address: &[u8]) -> Option<Vec<u8>> {
     }
 }
 
+/// The port of an address of the internet.
 fn port(address: &[u8]) -> Option<u16> {
     host_and_port(address)?;
     address.get(2..4).map(|bytes| u16::from_be_bytes([bytes[0], bytes[1]])).filter(|port| *port != 0)
@@ -101,6 +106,7 @@ fn early(port: u16) -> Found {
     Found::passing(Key::Stream { from: Vec::new(), to: port.to_be_bytes().to_vec() })
 }
 
+/// A socket of another kind, in words.
 fn not_followed(copy: &Copy) -> Ends {
     Ends::NotFollowed(format!(
         "a socket of family {} and type {}, of which the other sides are not known",
@@ -124,6 +130,7 @@ impl Sockets {
         }
     }
 
+    /// The objects of a local connection for one way.
     fn local_stream(&mut self, copy: &Copy, way: Way) -> Vec<Found> {
         let sent = |inode: u64| Found::passing(Key::Sent(inode));
         match way {
@@ -136,6 +143,7 @@ impl Sockets {
         }
     }
 
+    /// The other side of a local socket, by inodes.
     fn peer(&mut self, inode: u64) -> Option<u64> {
         if let Some(peer) = self.peers.get(&inode) {
             return Some(*peer);
@@ -145,6 +153,7 @@ impl Sockets {
         Some(peer)
     }
 
+    /// Two local sockets are sides of one connection.
     fn pair(&mut self, one: u64, other: u64) {
         self.peers.insert(one, other);
         self.peers.insert(other, one);
@@ -154,6 +163,7 @@ impl Sockets {
         }
     }
 
+    /// The objects of a local socket for datagrams.
     fn local_datagrams(&mut self, task: Tid, copy: &Copy, way: Way, address: Option<&[u8]>) -> Ends {
         let inbox = |inode: u64| Ends::Objects(vec![Found::passing(Key::Inbox(inode))]);
         match (way, address) {
@@ -180,6 +190,7 @@ impl Sockets {
         }
     }
 
+    /// The objects of a socket for datagrams of the internet.
     fn datagrams(&mut self, copy: &Copy, way: Way, address: Option<&[u8]>) -> Ends {
         let objects = |ports: &mut dyn Iterator<Item = u16>| {
             Ends::Objects(ports.map(|port| Found::passing(Key::Port(port))).collect())
@@ -199,12 +210,14 @@ impl Sockets {
         }
     }
 
+    /// Keeps the port that a socket has now.
     fn note_port(&mut self, copy: &Copy) {
         if let Some(port) = copy.address(false).as_deref().and_then(port) {
             self.ports.entry(copy.inode).or_default().insert(port);
         }
     }
 
+    /// The objects of a connection of the internet.
     fn stream(&mut self, copy: &Copy, way: Way) -> Ends {
         let side = |other| copy.address(other).as_deref().and_then(host_and_port);
         if let (Some(own), Some(other)) = (side(false), side(true)) {

@@ -19,6 +19,7 @@ pub struct Holder {
 }
 
 impl Holder {
+    /// The identity of a file, if it is one.
     pub fn of(key: &Key) -> Option<Holder> {
         match key {
             Key::Inode { device, inode, birth } => Some(Holder { device: *device, inode: *inode, birth: *birth }),
@@ -58,6 +59,7 @@ impl State {
         Ok(state)
     }
 
+    /// Takes up a line.
     fn take(&mut self, line: &str) -> Option<()> {
         let fields: Vec<&str> = line.splitn(6, ' ').collect();
         let ["holds", device, inode, birth, source, path] = fields[..] else { return None };

@@ -43,6 +43,7 @@ pub struct Task {
 }
 
 impl Task {
+    /// A task of a memory, that runs.
     fn new(memory: usize) -> Task {
         Task { memory, call: None, hidden: false, running: true, vfork: None, recent: None, reads: None, writes: None }
     }
@@ -118,6 +119,7 @@ pub struct Tracer {
 }
 
 impl Tracer {
+    /// A tracer at the start of a run.
     pub fn new(ledger: Ledger, guard: bool, strict: bool, kept: Option<Box<dyn Write>>) -> Tracer {
         let story = &ledger.recorder.plan.files;
         let names = story.iter().map(StoryName::new).collect();
@@ -185,6 +187,7 @@ impl Tracer {
         }
     }
 
+    /// Tells something that is not followed.
     pub fn tell(&mut self, words: impl Into<String>) {
         self.emit(Event::Told { words: words.into() });
     }
@@ -207,6 +210,7 @@ impl Tracer {
         self.failure.take().map_or(Ok(ended), Err)
     }
 
+    /// Takes up stops until no task is left.
     fn watch(&mut self, started: &mut Started) -> io::Result<Ended> {
         let mut ended = None;
         while let Some((task, stop)) = self.next(ended.is_some())? {
@@ -247,10 +251,12 @@ impl Tracer {
         }
     }
 
+    /// Ends all tasks.
     fn end_all(&self) {
         self.tasks.keys().for_each(|task| sys::kill(*task));
     }
 
+    /// With `--strict` the first thing that is not followed ends the run.
     fn end_if_strict(&mut self) {
         if self.strict && !self.stopped && self.ledger.recorder.report.incomplete() {
             self.stopped = true;
@@ -269,6 +275,7 @@ impl Tracer {
         }
     }
 
+    /// Takes up a stop of a task.
     fn stop(&mut self, task: Tid, stop: Stop) {
         if let Stop::Exited { .. } | Stop::Killed { .. } = stop {
             if let Stop::Killed { core: true, .. } = stop {
@@ -294,6 +301,7 @@ impl Tracer {
         }
     }
 
+    /// Lets a task go on, with a signal or without.
     pub fn resume(&mut self, task: Tid, signal: i32) {
         if let Some(found) = self.tasks.get_mut(&task) {
             let until = if found.call.is_some() { Until::CallEnd } else { Until::NextCall };
@@ -354,6 +362,7 @@ impl Tracer {
         }
     }
 
+    /// A call whose end was waited for has ended.
     fn call_ends(&mut self, task: Tid) {
         let call = self.tasks.get_mut(&task).and_then(|found| found.call.take());
         if let Some(call) = call {
@@ -391,6 +400,7 @@ impl Tracer {
         }
     }
 
+    /// A task has a child.
     fn born(&mut self, parent: Tid, vfork: bool) {
         let (Ok(child), Some(memory)) = (sys::event_message(parent), self.tasks.get(&parent).map(|task| task.memory))
         else {
@@ -431,6 +441,7 @@ impl Tracer {
         }
     }
 
+    /// A memory of its own for a child.
     fn fork_memory(&mut self, parent: usize) -> usize {
         self.next_memory += 1;
         let shared = self.memories.get(&parent).is_some_and(|memory| memory.shared);
@@ -438,6 +449,7 @@ impl Tracer {
         self.next_memory
     }
 
+    /// A task no longer has a memory.
     fn leave_memory(&mut self, memory: usize) {
         if let Some(found) = self.memories.get_mut(&memory) {
             found.tasks -= 1;
@@ -447,6 +459,7 @@ impl Tracer {
         }
     }
 
+    /// A task has executed a program: it has a memory of its own.
     fn executed(&mut self, task: Tid) {
         self.executed = true;
         let before = sys::event_message(task).unwrap_or(task);
@@ -478,6 +491,7 @@ impl Tracer {
         self.resume(task, 0);
     }
 
+    /// Tells which program a task has executed, and what the kernel has mapped for it.
     fn execute(&mut self, task: Tid, program: Option<ObjectId>, name: String) {
         let user = if self.ledger.recorder.plan.names_uids() { look::user(task).unwrap_or(u32::MAX) } else { 0 };
         let mapped: Vec<ObjectId> = match look::mapped(task) {
@@ -494,6 +508,7 @@ impl Tracer {
         }
     }
 
+    /// A task is gone.
     fn gone(&mut self, task: Tid) {
         self.early.remove(&task);
         let Some(found) = self.tasks.remove(&task) else { return };
@@ -504,6 +519,7 @@ impl Tracer {
         self.call_left(task);
     }
 
+    /// Tells a core dump.
     fn core_dump(&mut self, task: Tid) {
         self.tell(format!("process {task} has left a core dump, which has what it held"));
     }
@@ -564,28 +580,34 @@ impl Tracer {
         self.objects.entry(key).or_insert(object);
     }
 
+    /// The object of an identity, if it was seen.
     pub fn known(&self, key: &Key) -> Option<ObjectId> {
         self.objects.get(key).copied()
     }
 
+    /// The identity of an object.
     pub fn key_of(&self, object: ObjectId) -> Option<Key> {
         self.objects.iter().find(|(_, other)| **other == object).map(|(key, _)| key.clone())
     }
 
+    /// Data moves between a task and an object. Whether it is blocked.
     pub fn moved(&mut self, task: Tid, way: Way, object: ObjectId) -> bool {
         self.emit(Event::Moved { task: task as TaskId, flow: Flow { way, object } })
     }
 
+    /// The same, from here on until the call is over.
     pub fn begun(&mut self, task: Tid, way: Way, object: ObjectId) -> bool {
         self.emit(Event::Begun { task: task as TaskId, flow: Flow { way, object } })
     }
 
+    /// Data moves between a task and several objects.
     pub fn moved_all(&mut self, task: Tid, way: Way, objects: &[ObjectId]) {
         for object in objects {
             self.moved(task, way, *object);
         }
     }
 
+    /// The same, until the call is over.
     pub fn begun_all(&mut self, task: Tid, way: Way, objects: &[ObjectId]) {
         for object in objects {
             self.begun(task, way, *object);

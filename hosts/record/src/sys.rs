@@ -55,6 +55,7 @@ const OPTIONS: c_int = libc::PTRACE_O_TRACESYSGOOD
     | libc::PTRACE_O_TRACESECCOMP
     | libc::PTRACE_O_EXITKILL;
 
+/// A result of the system as a number or an error.
 fn checked(result: c_long) -> io::Result<c_long> {
     if result < 0 {
         Err(io::Error::last_os_error())
@@ -91,6 +92,7 @@ pub enum Stop {
     },
 }
 
+/// What a status says of a task.
 fn stop(status: c_int) -> Stop {
     if libc::WIFEXITED(status) {
         return Stop::Exited { code: libc::WEXITSTATUS(status) };
@@ -138,6 +140,7 @@ impl Started {
     }
 }
 
+/// Both ends of a new pipe.
 fn pipe() -> io::Result<(File, File)> {
     let mut ends = [0; 2];
     // SAFETY: there is room for two descriptors, which nobody else has.
@@ -223,6 +226,7 @@ pub fn interrupt(task: Tid) -> io::Result<()> {
     checked(unsafe { libc::ptrace(libc::PTRACE_INTERRUPT, task, 0usize, 0usize) }).map(|_| ())
 }
 
+/// The call at whose beginning a task has stopped.
 pub fn call_info(task: Tid) -> io::Result<CallInfo> {
     let mut info = CallInfo::default();
     // SAFETY: the system writes at most as many bytes as the structure has.
@@ -230,6 +234,7 @@ pub fn call_info(task: Tid) -> io::Result<CallInfo> {
     checked(done).map(|_| info)
 }
 
+/// The registers of a stopped task.
 pub fn registers(task: Tid) -> io::Result<Registers> {
     // SAFETY: the structure has numbers alone, and the system fills it.
     unsafe {
@@ -239,6 +244,7 @@ pub fn registers(task: Tid) -> io::Result<Registers> {
     }
 }
 
+/// Sets them.
 pub fn set_registers(task: Tid, registers: &Registers) -> io::Result<()> {
     // SAFETY: the system reads the structure.
     checked(unsafe { libc::ptrace(libc::PTRACE_SETREGS, task, 0usize, ptr::from_ref(registers)) }).map(|_| ())
@@ -302,6 +308,7 @@ pub struct Status {
 }
 
 impl Status {
+    /// Whether it is a file of this kind.
     pub fn is(&self, kind: u32) -> bool {
         self.mode & libc::S_IFMT == kind
     }
@@ -320,6 +327,7 @@ pub fn status_of(descriptor: &OwnedFd) -> io::Result<Status> {
     status_at(descriptor.as_raw_fd(), c"", libc::AT_EMPTY_PATH)
 }
 
+/// What the system says of a path below a folder.
 fn status_at(folder: c_int, path: &CStr, flags: c_int) -> io::Result<Status> {
     // SAFETY: the path ends with a zero byte; the structure has numbers alone, and the system fills it.
     let found = unsafe {

@@ -105,6 +105,18 @@ assert gap["text"] == "the call of number 999 is not in the table" and gap["line
 END
 note $? "--json: what is not followed, with its line"
 
+# Calls that are in no table are told, one run for each: by name, by a number that nobody has, of the x32 convention.
+fresh "${three[@]}"
+for call in 101:ptrace 163:acct 167:swapon 170:sethostname 179:quotactl 206:io_setup 248:add_key 250:keyctl 298:perf_event_open \
+    300:fanotify_init 321:bpf 323:userfaultfd 425:io_uring_setup; do
+    ran 2 "the call ${call#*:}" -- python3 -c "import ctypes; ctypes.CDLL(None).syscall(${call%:*}, -1, -1, -1, -1); open('out', 'w')"
+    says "not followed, line [0-9]+: the call ${call#*:} is not in the table"
+done
+ran 2 "a call that is newer than the table" -- python3 -c "import ctypes; ctypes.CDLL(None).syscall(600); open('out', 'w')"
+says "not followed, line [0-9]+: the call of number 600 is not in the table"
+ran 2 "a call of the x32 convention" -- python3 -c "import ctypes; ctypes.CDLL(None).syscall(0x40000001, 1, b'x', 1); open('out', 'w')"
+says "not followed, line [0-9]+: the call of number 1073741825 is not in the table"
+
 # A story that does not fit the files.
 missing='story: source gone was not there at the start, so nothing was known to come from it'
 fresh "source a.pos" "source gone"
