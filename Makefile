@@ -23,7 +23,7 @@
 # Change it (contributors)
 #   make setup             installs what is missing by apt, as root: tools/needed.txt lists it
 #   make test              everything that can fail, as the gate runs it; as root it begins with make setup
-#   make soak              live runs of `record` that take long: races many times, the watched programs as another user too
+#   make soak              what takes long: live runs of `record` (races many times, the watched programs as another user too), 10,000 questions to policies, planted faults of hosts/analysis
 #   make bench             ratios against Rust, in one run
 #   make covering          the cover test alone, which the bench and a host test measure
 #   make mutants CRATE=..  small changes of a crate, one at a time: which are still proved? SPECS=1 changes definitions, ABOVE=1 asks the
@@ -139,6 +139,8 @@ covering:
 
 soak: lib
 	@tests/host/record/soak
+	@tests/host/analysis/run $(SEED) 10000
+	@tests/host/analysis/faults $(SEED)
 
 bench: lib covering
 	bench/run

@@ -115,6 +115,7 @@ struct View {
 }
 
 impl View {
+    /// What the search needs of a policy.
     fn new(policy: &Policy) -> View {
         let rule = |place: Option<u16>| match place {
             Some(place) => policy.rules()[usize::from(place)].clone(),
@@ -328,46 +329,66 @@ impl Relay {
 
     /// Its operations but for the write into the container, with the process that makes that; nothing if numbers or processes are too few.
     fn operations(&self, goal: &Goal<'_>) -> Option<(Vec<Operation>, u8)> {
-        let mut steps = Vec::new();
-        let mut free = (goal.view.free..image::CONTAINERS.most).map(|number| number as u8);
+        let mut made = Made { steps: Vec::new(), free: goal.view.free };
         let last = goal.last();
-        let (first, last) = match self.second {
-            Second::Same => (last, last),
-            Second::Other => (goal.view.processes.iter().copied().find(|&process| process != last)?, last),
-            Second::Forked => {
-                let child = free.next()?;
-                steps.push(Operation::Fork { process: last, child });
-                (child, last)
-            }
+        let first = match self.second {
+            Second::Same => last,
+            Second::Other => goal.view.processes.iter().copied().find(|&process| process != last)?,
+            Second::Forked => made.fork(last)?,
         };
         let program = match self.program {
             Program::Stored(file) => file,
-            Program::Emptied(file) => {
-                steps.push(Operation::Write { process: first, object: file });
-                file
-            }
-            Program::New(user) => {
-                let file = free.next()?;
-                steps.push(Operation::NewFile { process: first, file, user });
-                file
-            }
+            Program::Emptied(file) => made.emptied(first, file),
+            Program::New(user) => made.new_file(first, user)?,
         };
         let store = match self.store {
             Store::Stored(file) => file,
             Store::Program => program,
-            Store::New(user) => {
-                let file = free.next()?;
-                steps.push(Operation::NewFile { process: first, file, user });
-                file
-            }
+            Store::New(user) => made.new_file(first, user)?,
         };
         let emptied = |number: u8| self.program == Program::Emptied(number);
         let carrier = goal.view.carriers(goal.item).find(|file| !emptied(file.number))?.number;
+        let mut steps = made.steps;
         steps.push(Operation::Read { process: first, object: carrier });
         steps.push(Operation::Exec { process: first, file: program, user: self.first_user });
         steps.push(Operation::Write { process: first, object: store });
         steps.push(Operation::Exec { process: last, file: store, user: self.second_user });
         Some((steps, last))
+    }
+}
+
+/// What a relay makes first. A new container takes the smallest free number.
+struct Made {
+    steps: Vec<Operation>,
+    free: usize,
+}
+
+impl Made {
+    /// The next free number, if there is one.
+    fn number(&mut self) -> Option<u8> {
+        let number = Some(self.free).filter(|free| *free < image::CONTAINERS.most)?;
+        self.free += 1;
+        Some(number as u8)
+    }
+
+    /// A fork.
+    fn fork(&mut self, process: u8) -> Option<u8> {
+        let child = self.number()?;
+        self.steps.push(Operation::Fork { process, child });
+        Some(child)
+    }
+
+    /// A new file.
+    fn new_file(&mut self, process: u8, user: u8) -> Option<u8> {
+        let file = self.number()?;
+        self.steps.push(Operation::NewFile { process, file, user });
+        Some(file)
+    }
+
+    /// A file that a process which holds nothing writes.
+    fn emptied(&mut self, process: u8, file: u8) -> u8 {
+        self.steps.push(Operation::Write { process, object: file });
+        file
     }
 }
 

@@ -48,6 +48,7 @@ impl MatrixError {
     }
 }
 
+/// `LINE: MESSAGE`.
 impl fmt::Display for MatrixError {
     fn fmt(&self, f: &mut fmt::Formatter<'_>) -> fmt::Result {
         write!(f, "{}: {}", self.line, self.message)
@@ -250,6 +251,7 @@ impl NamedMatrix {
         rows[right.subject] = rows[right.subject] & !(1 << right.object) | u32::from(given) << right.object;
     }
 
+    /// The rows of one kind of right.
     fn row(&self, write: bool) -> &[u32] {
         if write {
             &self.writes

@@ -25,12 +25,14 @@ pub enum Stop {
     Failed(Failure),
 }
 
+/// A failure stops a subcommand.
 impl From<Failure> for Stop {
     fn from(failure: Failure) -> Stop {
         Stop::Failed(failure)
     }
 }
 
+/// So does a refusal of the library.
 impl From<Refusal> for Stop {
     fn from(refusal: Refusal) -> Stop {
         Stop::Refused(refusal.to_string())

@@ -53,10 +53,10 @@ them from FOLDER, or from the folder of their first file if its digests have tha
 
 POLICY, FIRST and SECOND are images, stories, or folders as policy make writes them.
 
-Exit status: 0 done; for ask 0 never, 1 quietly or with an alert, 2 not found; for diff 0 the normal images are equal and nothing differs by name,
-else 1; for lint 0 nothing told, else 1; 4 the image, the text or the story is refused, names are of another policy, or the step is none to
-trim or explain; 5 a failure: wrong arguments, a file that cannot be read, an output that cannot be written. What is refused or fails is told
-on standard error.
+Exit status: 0 done, for ask never, for diff equal, for lint nothing told; 1 for ask quietly or with an alert, for diff a difference, for lint something
+told; 2 for ask not found; 4 the image, the text or the story is refused, names are of another policy, or the step is none to trim or
+explain; 5 a failure: wrong arguments, a file that cannot be read, an output that cannot be written. What is refused or fails is told on
+standard error.
 ";
 
 /// Why the program does not end with status 0.

@@ -29,6 +29,11 @@ impl Reached {
         self.steps[usize::from(container)][atom as usize]
     }
 
+    /// Forgets what was found by so many steps: that round was not finished.
+    fn forget(&mut self, steps: usize) {
+        self.steps.iter_mut().flatten().filter(|fewest| **fewest == Some(steps)).for_each(|fewest| *fewest = None);
+    }
+
     /// Notes what the policy's containers hold.
     fn note(&mut self, state: &State, depth: usize) {
         for (container, steps) in self.steps.iter_mut().enumerate() {
@@ -98,7 +103,6 @@ pub fn reached(image: &[u8], containers: usize, users: usize, quiet: bool, depth
                 }
             }
             if seen.len() > most {
-                // What was noted in this round may lack shorter companions of the same round only.
                 found.forget(steps);
                 return found;
             }
@@ -107,11 +111,4 @@ pub fn reached(image: &[u8], containers: usize, users: usize, quiet: bool, depth
         found.depth = steps;
     }
     found
-}
-
-impl Reached {
-    /// Forgets what was found by so many steps: that round was not finished.
-    fn forget(&mut self, steps: usize) {
-        self.steps.iter_mut().flatten().filter(|fewest| **fewest == Some(steps)).for_each(|fewest| *fewest = None);
-    }
 }

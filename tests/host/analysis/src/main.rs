@@ -15,6 +15,7 @@ use std::process::ExitCode;
 /// How many sessions brute force keeps for one policy.
 const SESSIONS: usize = 20_000;
 
+/// Runs the comparison that the arguments name.
 fn main() -> ExitCode {
     let arguments: Vec<String> = env::args().skip(1).collect();
     let number = |place: usize| arguments.get(place).and_then(|text| text.parse::<u64>().ok());

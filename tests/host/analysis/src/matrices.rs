@@ -74,7 +74,8 @@ fn suggestion(old: &NamedMatrix, required: &NamedMatrix) -> (bool, &'static str)
         }
         Suggestion::Lacking(_) => (!kept.is_subset(&old_rights), "lacking"),
         Suggestion::None => (tried.map_or(true, |fewest| fewest.is_none()), "none"),
-        Suggestion::NotFound => (true, "not found"),
+        // Small matrices are never too much work.
+        Suggestion::NotFound => (tried.is_none(), "not found"),
     }
 }
 
