@@ -36,13 +36,16 @@
     return filled(document.createElementNS(SVG, name), attributes, children);
   }
 
+  // Gives an element its attributes and children.
   function filled(element, attributes, children) {
     for (const [name, value] of Object.entries(attributes)) element.setAttribute(name, value);
     element.append(...children);
     return element;
   }
 
+  // A name, apart from the text around it, also where it is written from right to left.
   const named = (text) => make("span", {class: text.length > 40 ? "name long" : "name", title: text}, text);
+  // A count with its word.
   const plural = (count, word) => `${count.toLocaleString("en")} ${word}${count === 1 ? "" : "s"}`;
 
   // A text of at most so many letters: the middle is left out.
@@ -59,7 +62,9 @@
     return [...Array(64).keys()].filter((atom) => (parts[atom >> 5] >>> (atom & 31)) & 1);
   }
 
+  // The names of a set's atoms.
   const sourcesOf = (digits) => atomsOf(digits).map((atom) => data.policy.sources[atom]);
+  // A list of names in words.
   const inWords = (names) => names.join(", ") || "nothing";
 
   // How many numbers of a rising list are at most a value.
@@ -117,11 +122,13 @@
       return held && held.lanes[countUpTo(held.steps, step) - 1];
     }
 
+    // What that container is called.
     nameAt(number, step) {
       const lane = this.laneAt(number, step);
       return lane ? lane.name : `number ${number}`;
     }
 
+    // The answer to a record, as a word.
     answer(place) {
       const answer = this.columns.answer[place];
       return answer === 0 ? "quiet" : answer === ALERT ? "alert" : answer === BLOCKED ? "blocked" : "refused";
@@ -135,6 +142,7 @@
       return code[place] === END ? who : `${who} ${this.nameAt(object[place], place + 1)}`;
     }
 
+    // The name of the receiver; nothing for a refused record.
     receiver(place) {
       return this.answer(place) === "refused" ? "" : this.nameAt(this.columns.receiver[place], place + 1);
     }
@@ -170,6 +178,7 @@
     holds: {title: "The receiver holds then", order: (place) => trace.outcome(place)},
   };
 
+  // How tall a row is, as the style has it.
   const rowHeight = () => 2 * parseFloat(getComputedStyle(document.documentElement).fontSize);
 
   // What the filters ask for.
@@ -194,7 +203,7 @@
   // The rows that the filters let through, in the chosen order.
   function filter() {
     const {answers, text, lane, atom} = wanted();
-    const tags = atom === "" ? null : new Set(trace.tags.keys().filter((tag) => atomsOf(trace.tags[tag]).includes(Number(atom))));
+    const tags = atom === "" ? null : new Set([...trace.tags.keys()].filter((tag) => atomsOf(trace.tags[tag]).includes(Number(atom))));
     const holder = lane === "" ? null : trace.lanes[Number(lane)];
     const rows = [];
     for (let place = 0; place < trace.count; place++) {
@@ -209,9 +218,11 @@
     sort();
   }
 
+  // All words of a row, for the filter by text.
   const wordsOf = (place) =>
     `${place + 1} ${trace.answer(place)} ${trace.access(place)} ${trace.receiver(place)} ${trace.outcome(place)}`.toLowerCase();
 
+  // Puts the rows in the chosen order, says how many they are, and draws them from the first.
   function sort() {
     const {order} = COLUMNS[list.key];
     const keys = new Map(list.rows.map((place) => [place, order(place)]));
@@ -266,6 +277,7 @@
     if (focused) focusActive();
   }
 
+  // Puts the focus on the row that the keyboard is on.
   function focusActive() {
     byId("rows").querySelector("button[tabindex='0']")?.focus({preventScroll: true});
   }
@@ -281,6 +293,7 @@
     focusActive();
   }
 
+  // The keys that go from row to row.
   function onListKey(event) {
     const page = Math.max(1, Math.floor(byId("list").clientHeight / rowHeight()) - 1);
     const moves = {ArrowDown: 1, ArrowUp: -1, PageDown: page, PageUp: -page, Home: -Infinity, End: Infinity};
@@ -300,6 +313,7 @@
 
   // ---- The details of a record: its answer, its certificate and its chains.
 
+  // The details of a record.
   function details(place) {
     const step = place + 1, told = trace.explanations.get(step), body = make("div", {class: "explained"});
     const answer = trace.answer(place);
@@ -336,6 +350,7 @@
     return [make("h4", {}, "How ", named(what), " came there"), chainPicture(what, way), make("ol", {class: "chain"}, first, ...items)];
   }
 
+  // An explanation as `policy explain` prints it.
   function inTheWords(told) {
     return make("div", {}, make("h4", {}, "The same in words"), make("pre", {class: "words"}, told.text.trimEnd()));
   }
@@ -362,7 +377,7 @@
         x = 2;
         y += 62;
         box.turned = true;
-        x += box.before;
+        x += box.before + 10;
       } else if (!start) x += box.before;
       Object.assign(box, {x, y});
       x += box.width;
@@ -370,6 +385,7 @@
     return y + 44;
   }
 
+  // A chain as a picture.
   function chainPicture(what, way) {
     const width = Math.max(300, Math.min(1300, byId("answers").clientWidth - 40));
     const boxes = chainBoxes(way), height = placeBoxes(boxes, width);
@@ -387,6 +403,7 @@
     return picture;
   }
 
+  // The head of all arrows in a picture.
   const arrowHead = () => draw("defs", {}, draw("marker", {id: "head", viewBox: "0 0 8 8", refX: 7, refY: 4, markerWidth: 7, markerHeight: 7,
     orient: "auto"}, draw("path", {class: "head", d: "M0 0L8 4L0 8Z"})));
 
@@ -415,8 +432,10 @@
   // ---- Containers over time: lanes, drawn as far as they are seen.
 
   const lanes = {shown: [], first: 0, last: 1};
+  // How tall a lane is, as the style has it.
   const laneHeight = () => 1.75 * parseFloat(getComputedStyle(document.documentElement).fontSize);
 
+  // Takes the containers whose names have the text.
   function filterLanes() {
     const text = byId("lane-text").value.trim().toLowerCase();
     lanes.shown = trace.lanes.filter((lane) => lane.name.toLowerCase().includes(text));
@@ -432,13 +451,16 @@
     showLanes();
   }
 
+  // Moves by a part of what is shown.
   const pan = (part) => view(lanes.first + part * (lanes.last - lanes.first), lanes.last + part * (lanes.last - lanes.first));
 
+  // Shows more or fewer steps around the same middle.
   function zoom(factor) {
     const middle = (lanes.first + lanes.last) / 2, half = (lanes.last - lanes.first) * factor / 2;
     view(middle - half, middle + half);
   }
 
+  // Draws the lanes that are seen, or for paper so many from the first.
   function showLanes(printed = 0) {
     const area = byId("lane-scroll"), height = laneHeight();
     const first = printed ? 0 : Math.max(0, Math.floor(area.scrollTop / height) - 2);
@@ -450,6 +472,7 @@
     area.replaceChildren(inner);
   }
 
+  // One lane: its name, and what it holds.
   function laneRow(lane, top) {
     const width = Math.max(200, byId("lane-scroll").clientWidth - (byId("lane-scroll").clientWidth < 640 ? 112 : 224));
     const picture = draw("svg", {width, height: 26, viewBox: `0 0 ${width} 26`, "aria-hidden": "true"}, ...spans(lane, width), ...notes(lane, width));
@@ -458,6 +481,7 @@
     return row;
   }
 
+  // Where a step is in a lane.
   const laneX = (step, width) => Math.max(0, Math.min(width, (step - lanes.first) / (lanes.last - lanes.first) * width));
 
   // What a lane holds, span by span. Changes that fall on one dot are drawn as one.
@@ -475,6 +499,7 @@
     return drawn;
   }
 
+  // What a lane holds from one step until another; `place` to `tag` are the changes that are drawn as this one.
   function span(lane, tag, place, from, until, x, right) {
     const words = trace.tagWords[lane.tags[tag]], held = lane.tags[tag];
     const more = tag > place ? `; ${plural(tag - place, "change")} before` : "";
@@ -501,6 +526,7 @@
     return drawn;
   }
 
+  // The keys that move and zoom the lanes.
   function onLaneKey(event) {
     const moves = {ArrowLeft: () => pan(-0.25), ArrowRight: () => pan(0.25), "+": () => zoom(0.5), "=": () => zoom(0.5), "-": () => zoom(2)};
     if (!moves[event.key] || event.ctrlKey || event.metaKey || event.altKey) return;
@@ -550,6 +576,7 @@
     return make("figure", {}, make("figcaption", {}, title), picture);
   }
 
+  // The alerts of a thousand accepted steps, with the numbers that they are made of.
   function rate({alerts, accepted}) {
     if (accepted === 0) return "none";
     return `${Math.floor(1000 * alerts / accepted)} ${1000 * alerts % accepted}/${accepted} (${alerts} of ${accepted})`;
@@ -573,6 +600,7 @@
     return [`Alerts by steps: ${plural(size, "step")} from each number on`, counts];
   }
 
+  // Shows the charts and the table of figures.
   function showFigures() {
     const counted = data.traces.filter((one) => one.figures), months = data.traces.length > 1;
     const charts = byId("charts");
@@ -590,7 +618,9 @@
 
   // ---- The policy.
 
+  // What a rule is called.
   const ruleName = (rule) => (rule === null ? "everything" : `rule ${rule}`);
+  // A mixture in words.
   const mixtureWords = (digits) => (digits === "f".repeat(16) ? "everything" : `{${sourcesOf(digits).join(", ")}}`);
 
   // Who has a rule: name, which rule of it this is, and the rule.
@@ -600,6 +630,7 @@
     return [...places, ...users.map(({name, rule}) => [`user ${name}`, "user", rule])].filter(([, , rule]) => rule !== null);
   }
 
+  // Shows the policy: as a graph if it is small, and as tables.
   function showPolicy() {
     const {containers, rules, users, sources} = data.policy, places = placesOfRules();
     const names = [...new Set(places.map(([name]) => name))];
@@ -621,6 +652,7 @@
   // The heights of a column's boxes, spread over the height of the picture.
   const spread = (count, height, place) => 30 + (height - 40) * (place + 0.5) / Math.max(1, count);
 
+  // The graph: who has a rule at the left, the rules with their mixtures, the sources in these at the right.
   function policyPicture(names, places, rules, mixtures, atoms) {
     const height = 34 * Math.max(names.length, rules.length + mixtures.length, atoms.length) + 50, width = 1080;
     const picture = draw("svg", {role: "img", "aria-label": "Who may hold what: containers and users, their rules with mixtures, and the sources in these. The tables below have the same.",
@@ -642,13 +674,16 @@
     return make("figure", {}, make("figcaption", {}, "Solid lines: permit rule, and the sources of a mixture. Dashed: run rule. Dotted: rule of a user."), picture);
   }
 
+  // A line of the graph.
   const edge = (title, kind, x1, y1, x2, y2) => draw("path", {class: kind, d: `M${x1} ${y1}C${x1 + 60} ${y1} ${x2 - 60} ${y2} ${x2} ${y2}`}, draw("title", {}, title));
 
+  // A box of the graph.
   const box = (name, x, y, width, letters) => draw("g", {}, draw("title", {}, name), draw("rect", {class: "box", x, y: y - 13, width, height: 26, rx: 4}),
     draw("text", {x: x + 8, y: y + 5}, shortened(name, letters)));
 
   // ---- The frame: header, inputs, choices, print.
 
+  // Shows the counts, what is left out, what the page was made of, and the heads of the list.
   function showHead() {
     const {records, alerts, blocked, refused} = data.total;
     byId("summary").textContent = `${plural(records, "record")} of ${plural(data.traces.length, "trace")}: ${plural(alerts, "alert")}, `
@@ -669,6 +704,7 @@
     }
   }
 
+  // The options of a choice.
   const options = (first, pairs) => [make("option", {value: ""}, first), ...pairs.map(([value, text]) => make("option", {value}, text))];
 
   // The containers to choose from: all, or where these are too many those of the policy and those with an alert or a blocked access.
@@ -715,11 +751,13 @@
     showLanes(PRINTED_LANES);
   }
 
+  // Takes away what is for paper alone.
   function afterPaper() {
     byId("print").replaceChildren();
     if (trace) showLanes();
   }
 
+  // What is done when something is pressed, written or scrolled.
   function listen() {
     const on = (id, name, action) => byId(id).addEventListener(name, action);
     on("filters", "submit", (event) => event.preventDefault());
