@@ -332,7 +332,8 @@
   function certificate(told) {
     const {origin} = told;
     const owner = origin.owner === null ? "" : `, set by ${origin.owner}`;
-    const parts = [make("h4", {}, "Why: the rule that forbids"), make("p", {}, named(`${told.rule}${owner}`), ` (rule ${origin.number} of the policy)`)];
+    const words = make("p", {}, named(`${told.rule}${owner}`), ` (rule ${origin.number} of the policy)`);
+    const parts = [make("h4", {}, "Why: the rule that forbids"), words];
     if (told.mixtures.length === 0) parts.push(make("p", {}, "It has no mixtures, and permits nothing at all."));
     else {
       const rows = told.mixtures.map((mixture, place) => [`{${mixture.join(", ")}}`, told.lacks[place]]);
@@ -476,7 +477,8 @@
   function laneRow(lane, top) {
     const width = Math.max(200, byId("lane-scroll").clientWidth - (byId("lane-scroll").clientWidth < 640 ? 112 : 224));
     const picture = draw("svg", {width, height: 26, viewBox: `0 0 ${width} 26`, "aria-hidden": "true"}, ...spans(lane, width), ...notes(lane, width));
-    const row = make("div", {class: "lane"}, make("div", {class: "lane-name", title: `${lane.name} (${lane.kind}, number ${lane.number})`}, named(lane.name)), picture);
+    const title = `${lane.name} (${lane.kind}, number ${lane.number})`;
+    const row = make("div", {class: "lane"}, make("div", {class: "lane-name", title}, named(lane.name)), picture);
     row.style.top = `${top}px`;
     return row;
   }
@@ -557,8 +559,10 @@
       draw("line", {class: "axis", x1: 0, x2: width, y1: 150, y2: 150}));
     counts.forEach(([name, count], place) => {
       const x = 10 + 44 * place, tall = Math.round(120 * count / most);
-      picture.append(draw("g", {}, draw("title", {}, `${name}: ${count}`), draw("rect", {class: "bar", x: x + 6, y: 150 - tall, width: 32, height: tall}),
-        draw("text", {class: "count", x: x + 22, y: 144 - tall}, String(count)), draw("text", {class: "label", x: x + 22, y: 168}, shortened(name, 7))));
+      picture.append(draw("g", {}, draw("title", {}, `${name}: ${count}`),
+        draw("rect", {class: "bar", x: x + 6, y: 150 - tall, width: 32, height: tall}),
+        draw("text", {class: "count", x: x + 22, y: 144 - tall}, String(count)),
+        draw("text", {class: "label", x: x + 22, y: 168}, shortened(name, 7))));
     });
     return make("figure", {}, make("figcaption", {}, title), picture);
   }
@@ -632,7 +636,7 @@
 
   // Shows the policy: as a graph if it is small, and as tables.
   function showPolicy() {
-    const {containers, rules, users, sources} = data.policy, places = placesOfRules();
+    const {rules} = data.policy, places = placesOfRules();
     const names = [...new Set(places.map(([name]) => name))];
     const mixtures = rules.flatMap((rule, number) => rule.mixtures.map((digits) => ({number, digits})));
     const atoms = [...new Set(mixtures.flatMap(({digits}) => atomsOf(digits)))].sort((one, other) => one - other);
@@ -641,12 +645,21 @@
     if (places.length === 0) byId("graph").append(make("p", {}, "No container and no user has a rule: each may hold everything."));
     else if (fits) byId("graph").append(policyPicture(names, places, rules, mixtures, atoms));
     else byId("graph").append(make("p", {}, `The policy is shown as tables alone: a graph is drawn for ${limits}.`));
-    byId("policy-tables").append(
-      table("Containers", ["Number", "Name", "Kind", "Its source", "May hold (permit rule)", "Who runs it may hold (run rule)"], containers.map((one, number) =>
-        [number, one.name, one.kind, one.source === null ? "none" : sources[one.source], ruleName(one.permit), ruleName(one.run)])),
-      table("Rules: what is held must be within one mixture", ["Rule", "Mixtures", "Set by"], rules.map((rule, number) =>
-        [ruleName(number), rule.mixtures.map(mixtureWords).join(" or ") || "no mixture: nothing at all", rule.owner === null ? "nobody" : users[rule.owner].name])));
-    if (users.length) byId("policy-tables").append(table("Users", ["Number", "Name", "Rule"], users.map(({name, rule}, number) => [number, name, ruleName(rule)])));
+    showPolicyTables();
+  }
+
+  // Shows the containers, rules and users of the policy as tables.
+  function showPolicyTables() {
+    const {containers, rules, users, sources} = data.policy, area = byId("policy-tables");
+    const heads = ["Number", "Name", "Kind", "Its source", "May hold (permit rule)", "Who runs it may hold (run rule)"];
+    area.append(table("Containers", heads, containers.map((one, number) =>
+      [number, one.name, one.kind, one.source === null ? "none" : sources[one.source], ruleName(one.permit), ruleName(one.run)])));
+    const mixtures = (rule) => rule.mixtures.map(mixtureWords).join(" or ") || "no mixture: nothing at all";
+    const owner = (rule) => (rule.owner === null ? "nobody" : users[rule.owner].name);
+    area.append(table("Rules: what is held must be within one mixture", ["Rule", "Mixtures", "Set by"],
+      rules.map((rule, number) => [ruleName(number), mixtures(rule), owner(rule)])));
+    if (users.length)
+      area.append(table("Users", ["Number", "Name", "Rule"], users.map(({name, rule}, number) => [number, name, ruleName(rule)])));
   }
 
   // The heights of a column's boxes, spread over the height of the picture.
@@ -655,8 +668,8 @@
   // The graph: who has a rule at the left, the rules with their mixtures, the sources in these at the right.
   function policyPicture(names, places, rules, mixtures, atoms) {
     const height = 34 * Math.max(names.length, rules.length + mixtures.length, atoms.length) + 50, width = 1080;
-    const picture = draw("svg", {role: "img", "aria-label": "Who may hold what: containers and users, their rules with mixtures, and the sources in these. The tables below have the same.",
-      viewBox: `0 0 ${width} ${height}`, width, height});
+    const words = "Who may hold what: containers and users, their rules with mixtures, and the sources in these. The tables below have the same.";
+    const picture = draw("svg", {role: "img", "aria-label": words, viewBox: `0 0 ${width} ${height}`, width, height});
     const heads = [[10, "containers and users"], [400, "rules and their mixtures"], [860, "sources"]];
     picture.append(...heads.map(([x, text]) => draw("text", {x, y: 16}, text)));
     const nameY = (name) => spread(names.length, height, names.indexOf(name)), atomY = (atom) => spread(atoms.length, height, atoms.indexOf(atom));
@@ -667,18 +680,24 @@
       picture.append(edge(`${name}, ${kind} rule: rule ${rule}`, `edge ${kind}`, 240, nameY(name), 390, y));
     }
     for (const slot of slots.filter(({digits}) => digits))
-      for (const atom of atomsOf(slot.digits))
-        picture.append(edge(`rule ${slot.number} permits ${data.policy.sources[atom]} in ${mixtureWords(slot.digits)}`, "edge", 720, slotY(slot), 850, atomY(atom)));
-    picture.append(...names.map((name) => box(name, 10, nameY(name), 230, 30)), ...atoms.map((atom) => box(data.policy.sources[atom], 850, atomY(atom), 220, 29)),
-      ...slots.map((slot) => (slot.digits ? box(mixtureWords(slot.digits), 410, slotY(slot), 310, 42) : box(`rule ${slot.number}`, 390, slotY(slot), 110, 14))));
-    return make("figure", {}, make("figcaption", {}, "Solid lines: permit rule, and the sources of a mixture. Dashed: run rule. Dotted: rule of a user."), picture);
+      for (const atom of atomsOf(slot.digits)) {
+        const title = `rule ${slot.number} permits ${data.policy.sources[atom]} in ${mixtureWords(slot.digits)}`;
+        picture.append(edge(title, "edge", 720, slotY(slot), 850, atomY(atom)));
+      }
+    const slotBox = (slot) => (slot.digits ? box(mixtureWords(slot.digits), 410, slotY(slot), 310, 42) : box(`rule ${slot.number}`, 390, slotY(slot), 110, 14));
+    picture.append(...names.map((name) => box(name, 10, nameY(name), 230, 30)), ...slots.map(slotBox),
+      ...atoms.map((atom) => box(data.policy.sources[atom], 850, atomY(atom), 220, 29)));
+    const legend = "Solid lines: permit rule, and the sources of a mixture. Dashed: run rule. Dotted: rule of a user.";
+    return make("figure", {}, make("figcaption", {}, legend), picture);
   }
 
   // A line of the graph.
-  const edge = (title, kind, x1, y1, x2, y2) => draw("path", {class: kind, d: `M${x1} ${y1}C${x1 + 60} ${y1} ${x2 - 60} ${y2} ${x2} ${y2}`}, draw("title", {}, title));
+  const edge = (title, kind, x1, y1, x2, y2) =>
+    draw("path", {class: kind, d: `M${x1} ${y1}C${x1 + 60} ${y1} ${x2 - 60} ${y2} ${x2} ${y2}`}, draw("title", {}, title));
 
   // A box of the graph.
-  const box = (name, x, y, width, letters) => draw("g", {}, draw("title", {}, name), draw("rect", {class: "box", x, y: y - 13, width, height: 26, rx: 4}),
+  const box = (name, x, y, width, letters) => draw("g", {}, draw("title", {}, name),
+    draw("rect", {class: "box", x, y: y - 13, width, height: 26, rx: 4}),
     draw("text", {x: x + 8, y: y + 5}, shortened(name, letters)));
 
   // ---- The frame: header, inputs, choices, print.
@@ -688,9 +707,11 @@
     const {records, alerts, blocked, refused} = data.total;
     byId("summary").textContent = `${plural(records, "record")} of ${plural(data.traces.length, "trace")}: ${plural(alerts, "alert")}, `
       + `${blocked.toLocaleString("en")} blocked, ${refused.toLocaleString("en")} refused.`;
-    byId("gaps").append(...data.gaps.map((gap) => make("li", {class: "blocked"}, `Not followed: ${gap}`)), ...data.notes.map((note) => make("li", {}, `Note: ${note}`)));
+    byId("gaps").append(...data.gaps.map((gap) => make("li", {class: "blocked"}, `Not followed: ${gap}`)),
+      ...data.notes.map((note) => make("li", {}, `Note: ${note}`)));
     byId("version").textContent = `Made by yaslaurel report ${data.version} with the library of that edition.`;
-    const file = (name, size, digest) => make("tr", {}, make("th", {scope: "row"}, name), make("td", {}, size), make("td", {}, make("code", {}, digest || "not read whole")));
+    const file = (name, size, digest) => make("tr", {}, make("th", {scope: "row"}, name), make("td", {}, size),
+      make("td", {}, make("code", {}, digest || "not read whole")));
     byId("inputs-rows").append(file("policy.bin", plural(data.policy.bytes, "byte"), data.policy.sha256),
       ...data.traces.map((one) => file(one.name, one.figures ? plural(one.figures.records, "record") : "left out", one.sha256)));
     for (const [key, {title}] of Object.entries(COLUMNS)) {
@@ -741,7 +762,8 @@
   // On paper all rows that the filters let through are there, with the explanations, each up to a limit that is told.
   function prepareForPaper() {
     if (!trace || byId("print").childNodes.length) return;
-    const rows = list.rows.slice(0, PRINTED_ROWS).map((place) => [place + 1, trace.answer(place), trace.access(place), trace.receiver(place), trace.outcome(place)]);
+    const cells = (place) => [place + 1, trace.answer(place), trace.access(place), trace.receiver(place), trace.outcome(place)];
+    const rows = list.rows.slice(0, PRINTED_ROWS).map(cells);
     const told = list.rows.filter((place) => trace.explanations.has(place + 1)), printed = told.slice(0, PRINTED_DETAILS);
     const left = list.rows.length - rows.length, unexplained = told.length - printed.length;
     byId("print").append(table("Records and their answers", Object.values(COLUMNS).map(({title}) => title), rows));
