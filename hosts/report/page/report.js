@@ -36,13 +36,16 @@
     return filled(document.createElementNS(SVG, name), attributes, children);
   }
 
+  // Gives an element its attributes and children.
   function filled(element, attributes, children) {
     for (const [name, value] of Object.entries(attributes)) element.setAttribute(name, value);
     element.append(...children);
     return element;
   }
 
+  // A name, apart from the text around it, also where it is written from right to left.
   const named = (text) => make("span", {class: text.length > 40 ? "name long" : "name", title: text}, text);
+  // A count with its word.
   const plural = (count, word) => `${count.toLocaleString("en")} ${word}${count === 1 ? "" : "s"}`;
 
   // A text of at most so many letters: the middle is left out.
@@ -59,7 +62,9 @@
     return [...Array(64).keys()].filter((atom) => (parts[atom >> 5] >>> (atom & 31)) & 1);
   }
 
+  // The names of a set's atoms.
   const sourcesOf = (digits) => atomsOf(digits).map((atom) => data.policy.sources[atom]);
+  // A list of names in words.
   const inWords = (names) => names.join(", ") || "nothing";
 
   // How many numbers of a rising list are at most a value.
@@ -117,11 +122,13 @@
       return held && held.lanes[countUpTo(held.steps, step) - 1];
     }
 
+    // What that container is called.
     nameAt(number, step) {
       const lane = this.laneAt(number, step);
       return lane ? lane.name : `number ${number}`;
     }
 
+    // The answer to a record, as a word.
     answer(place) {
       const answer = this.columns.answer[place];
       return answer === 0 ? "quiet" : answer === ALERT ? "alert" : answer === BLOCKED ? "blocked" : "refused";
@@ -135,6 +142,7 @@
       return code[place] === END ? who : `${who} ${this.nameAt(object[place], place + 1)}`;
     }
 
+    // The name of the receiver; nothing for a refused record.
     receiver(place) {
       return this.answer(place) === "refused" ? "" : this.nameAt(this.columns.receiver[place], place + 1);
     }
@@ -170,6 +178,7 @@
     holds: {title: "The receiver holds then", order: (place) => trace.outcome(place)},
   };
 
+  // How tall a row is, as the style has it.
   const rowHeight = () => 2 * parseFloat(getComputedStyle(document.documentElement).fontSize);
 
   // What the filters ask for.
@@ -194,7 +203,7 @@
   // The rows that the filters let through, in the chosen order.
   function filter() {
     const {answers, text, lane, atom} = wanted();
-    const tags = atom === "" ? null : new Set(trace.tags.keys().filter((tag) => atomsOf(trace.tags[tag]).includes(Number(atom))));
+    const tags = atom === "" ? null : new Set([...trace.tags.keys()].filter((tag) => atomsOf(trace.tags[tag]).includes(Number(atom))));
     const holder = lane === "" ? null : trace.lanes[Number(lane)];
     const rows = [];
     for (let place = 0; place < trace.count; place++) {
@@ -209,9 +218,11 @@
     sort();
   }
 
+  // All words of a row, for the filter by text.
   const wordsOf = (place) =>
     `${place + 1} ${trace.answer(place)} ${trace.access(place)} ${trace.receiver(place)} ${trace.outcome(place)}`.toLowerCase();
 
+  // Puts the rows in the chosen order, says how many they are, and draws them from the first.
   function sort() {
     const {order} = COLUMNS[list.key];
     const keys = new Map(list.rows.map((place) => [place, order(place)]));
@@ -266,6 +277,7 @@
     if (focused) focusActive();
   }
 
+  // Puts the focus on the row that the keyboard is on.
   function focusActive() {
     byId("rows").querySelector("button[tabindex='0']")?.focus({preventScroll: true});
   }
@@ -281,6 +293,7 @@
     focusActive();
   }
 
+  // The keys that go from row to row.
   function onListKey(event) {
     const page = Math.max(1, Math.floor(byId("list").clientHeight / rowHeight()) - 1);
     const moves = {ArrowDown: 1, ArrowUp: -1, PageDown: page, PageUp: -page, Home: -Infinity, End: Infinity};
@@ -300,6 +313,7 @@
 
   // ---- The details of a record: its answer, its certificate and its chains.
 
+  // The details of a record.
   function details(place) {
     const step = place + 1, told = trace.explanations.get(step), body = make("div", {class: "explained"});
     const answer = trace.answer(place);
@@ -318,7 +332,8 @@
   function certificate(told) {
     const {origin} = told;
     const owner = origin.owner === null ? "" : `, set by ${origin.owner}`;
-    const parts = [make("h4", {}, "Why: the rule that forbids"), make("p", {}, named(`${told.rule}${owner}`), ` (rule ${origin.number} of the policy)`)];
+    const words = make("p", {}, named(`${told.rule}${owner}`), ` (rule ${origin.number} of the policy)`);
+    const parts = [make("h4", {}, "Why: the rule that forbids"), words];
     if (told.mixtures.length === 0) parts.push(make("p", {}, "It has no mixtures, and permits nothing at all."));
     else {
       const rows = told.mixtures.map((mixture, place) => [`{${mixture.join(", ")}}`, told.lacks[place]]);
@@ -336,6 +351,7 @@
     return [make("h4", {}, "How ", named(what), " came there"), chainPicture(what, way), make("ol", {class: "chain"}, first, ...items)];
   }
 
+  // An explanation as `policy explain` prints it.
   function inTheWords(told) {
     return make("div", {}, make("h4", {}, "The same in words"), make("pre", {class: "words"}, told.text.trimEnd()));
   }
@@ -362,7 +378,7 @@
         x = 2;
         y += 62;
         box.turned = true;
-        x += box.before;
+        x += box.before + 10;
       } else if (!start) x += box.before;
       Object.assign(box, {x, y});
       x += box.width;
@@ -370,6 +386,7 @@
     return y + 44;
   }
 
+  // A chain as a picture.
   function chainPicture(what, way) {
     const width = Math.max(300, Math.min(1300, byId("answers").clientWidth - 40));
     const boxes = chainBoxes(way), height = placeBoxes(boxes, width);
@@ -387,6 +404,7 @@
     return picture;
   }
 
+  // The head of all arrows in a picture.
   const arrowHead = () => draw("defs", {}, draw("marker", {id: "head", viewBox: "0 0 8 8", refX: 7, refY: 4, markerWidth: 7, markerHeight: 7,
     orient: "auto"}, draw("path", {class: "head", d: "M0 0L8 4L0 8Z"})));
 
@@ -415,8 +433,10 @@
   // ---- Containers over time: lanes, drawn as far as they are seen.
 
   const lanes = {shown: [], first: 0, last: 1};
+  // How tall a lane is, as the style has it.
   const laneHeight = () => 1.75 * parseFloat(getComputedStyle(document.documentElement).fontSize);
 
+  // Takes the containers whose names have the text.
   function filterLanes() {
     const text = byId("lane-text").value.trim().toLowerCase();
     lanes.shown = trace.lanes.filter((lane) => lane.name.toLowerCase().includes(text));
@@ -432,13 +452,16 @@
     showLanes();
   }
 
+  // Moves by a part of what is shown.
   const pan = (part) => view(lanes.first + part * (lanes.last - lanes.first), lanes.last + part * (lanes.last - lanes.first));
 
+  // Shows more or fewer steps around the same middle.
   function zoom(factor) {
     const middle = (lanes.first + lanes.last) / 2, half = (lanes.last - lanes.first) * factor / 2;
     view(middle - half, middle + half);
   }
 
+  // Draws the lanes that are seen, or for paper so many from the first.
   function showLanes(printed = 0) {
     const area = byId("lane-scroll"), height = laneHeight();
     const first = printed ? 0 : Math.max(0, Math.floor(area.scrollTop / height) - 2);
@@ -450,14 +473,17 @@
     area.replaceChildren(inner);
   }
 
+  // One lane: its name, and what it holds.
   function laneRow(lane, top) {
     const width = Math.max(200, byId("lane-scroll").clientWidth - (byId("lane-scroll").clientWidth < 640 ? 112 : 224));
     const picture = draw("svg", {width, height: 26, viewBox: `0 0 ${width} 26`, "aria-hidden": "true"}, ...spans(lane, width), ...notes(lane, width));
-    const row = make("div", {class: "lane"}, make("div", {class: "lane-name", title: `${lane.name} (${lane.kind}, number ${lane.number})`}, named(lane.name)), picture);
+    const title = `${lane.name} (${lane.kind}, number ${lane.number})`;
+    const row = make("div", {class: "lane"}, make("div", {class: "lane-name", title}, named(lane.name)), picture);
     row.style.top = `${top}px`;
     return row;
   }
 
+  // Where a step is in a lane.
   const laneX = (step, width) => Math.max(0, Math.min(width, (step - lanes.first) / (lanes.last - lanes.first) * width));
 
   // What a lane holds, span by span. Changes that fall on one dot are drawn as one.
@@ -475,6 +501,7 @@
     return drawn;
   }
 
+  // What a lane holds from one step until another; `place` to `tag` are the changes that are drawn as this one.
   function span(lane, tag, place, from, until, x, right) {
     const words = trace.tagWords[lane.tags[tag]], held = lane.tags[tag];
     const more = tag > place ? `; ${plural(tag - place, "change")} before` : "";
@@ -501,6 +528,7 @@
     return drawn;
   }
 
+  // The keys that move and zoom the lanes.
   function onLaneKey(event) {
     const moves = {ArrowLeft: () => pan(-0.25), ArrowRight: () => pan(0.25), "+": () => zoom(0.5), "=": () => zoom(0.5), "-": () => zoom(2)};
     if (!moves[event.key] || event.ctrlKey || event.metaKey || event.altKey) return;
@@ -531,8 +559,10 @@
       draw("line", {class: "axis", x1: 0, x2: width, y1: 150, y2: 150}));
     counts.forEach(([name, count], place) => {
       const x = 10 + 44 * place, tall = Math.round(120 * count / most);
-      picture.append(draw("g", {}, draw("title", {}, `${name}: ${count}`), draw("rect", {class: "bar", x: x + 6, y: 150 - tall, width: 32, height: tall}),
-        draw("text", {class: "count", x: x + 22, y: 144 - tall}, String(count)), draw("text", {class: "label", x: x + 22, y: 168}, shortened(name, 7))));
+      picture.append(draw("g", {}, draw("title", {}, `${name}: ${count}`),
+        draw("rect", {class: "bar", x: x + 6, y: 150 - tall, width: 32, height: tall}),
+        draw("text", {class: "count", x: x + 22, y: 144 - tall}, String(count)),
+        draw("text", {class: "label", x: x + 22, y: 168}, shortened(name, 7))));
     });
     return make("figure", {}, make("figcaption", {}, title), picture);
   }
@@ -550,6 +580,7 @@
     return make("figure", {}, make("figcaption", {}, title), picture);
   }
 
+  // The alerts of a thousand accepted steps, with the numbers that they are made of.
   function rate({alerts, accepted}) {
     if (accepted === 0) return "none";
     return `${Math.floor(1000 * alerts / accepted)} ${1000 * alerts % accepted}/${accepted} (${alerts} of ${accepted})`;
@@ -573,6 +604,7 @@
     return [`Alerts by steps: ${plural(size, "step")} from each number on`, counts];
   }
 
+  // Shows the charts and the table of figures.
   function showFigures() {
     const counted = data.traces.filter((one) => one.figures), months = data.traces.length > 1;
     const charts = byId("charts");
@@ -590,7 +622,9 @@
 
   // ---- The policy.
 
+  // What a rule is called.
   const ruleName = (rule) => (rule === null ? "everything" : `rule ${rule}`);
+  // A mixture in words.
   const mixtureWords = (digits) => (digits === "f".repeat(16) ? "everything" : `{${sourcesOf(digits).join(", ")}}`);
 
   // Who has a rule: name, which rule of it this is, and the rule.
@@ -600,8 +634,9 @@
     return [...places, ...users.map(({name, rule}) => [`user ${name}`, "user", rule])].filter(([, , rule]) => rule !== null);
   }
 
+  // Shows the policy: as a graph if it is small, and as tables.
   function showPolicy() {
-    const {containers, rules, users, sources} = data.policy, places = placesOfRules();
+    const {rules} = data.policy, places = placesOfRules();
     const names = [...new Set(places.map(([name]) => name))];
     const mixtures = rules.flatMap((rule, number) => rule.mixtures.map((digits) => ({number, digits})));
     const atoms = [...new Set(mixtures.flatMap(({digits}) => atomsOf(digits)))].sort((one, other) => one - other);
@@ -610,21 +645,31 @@
     if (places.length === 0) byId("graph").append(make("p", {}, "No container and no user has a rule: each may hold everything."));
     else if (fits) byId("graph").append(policyPicture(names, places, rules, mixtures, atoms));
     else byId("graph").append(make("p", {}, `The policy is shown as tables alone: a graph is drawn for ${limits}.`));
-    byId("policy-tables").append(
-      table("Containers", ["Number", "Name", "Kind", "Its source", "May hold (permit rule)", "Who runs it may hold (run rule)"], containers.map((one, number) =>
-        [number, one.name, one.kind, one.source === null ? "none" : sources[one.source], ruleName(one.permit), ruleName(one.run)])),
-      table("Rules: what is held must be within one mixture", ["Rule", "Mixtures", "Set by"], rules.map((rule, number) =>
-        [ruleName(number), rule.mixtures.map(mixtureWords).join(" or ") || "no mixture: nothing at all", rule.owner === null ? "nobody" : users[rule.owner].name])));
-    if (users.length) byId("policy-tables").append(table("Users", ["Number", "Name", "Rule"], users.map(({name, rule}, number) => [number, name, ruleName(rule)])));
+    showPolicyTables();
+  }
+
+  // Shows the containers, rules and users of the policy as tables.
+  function showPolicyTables() {
+    const {containers, rules, users, sources} = data.policy, area = byId("policy-tables");
+    const heads = ["Number", "Name", "Kind", "Its source", "May hold (permit rule)", "Who runs it may hold (run rule)"];
+    area.append(table("Containers", heads, containers.map((one, number) =>
+      [number, one.name, one.kind, one.source === null ? "none" : sources[one.source], ruleName(one.permit), ruleName(one.run)])));
+    const mixtures = (rule) => rule.mixtures.map(mixtureWords).join(" or ") || "no mixture: nothing at all";
+    const owner = (rule) => (rule.owner === null ? "nobody" : users[rule.owner].name);
+    area.append(table("Rules: what is held must be within one mixture", ["Rule", "Mixtures", "Set by"],
+      rules.map((rule, number) => [ruleName(number), mixtures(rule), owner(rule)])));
+    if (users.length)
+      area.append(table("Users", ["Number", "Name", "Rule"], users.map(({name, rule}, number) => [number, name, ruleName(rule)])));
   }
 
   // The heights of a column's boxes, spread over the height of the picture.
   const spread = (count, height, place) => 30 + (height - 40) * (place + 0.5) / Math.max(1, count);
 
+  // The graph: who has a rule at the left, the rules with their mixtures, the sources in these at the right.
   function policyPicture(names, places, rules, mixtures, atoms) {
     const height = 34 * Math.max(names.length, rules.length + mixtures.length, atoms.length) + 50, width = 1080;
-    const picture = draw("svg", {role: "img", "aria-label": "Who may hold what: containers and users, their rules with mixtures, and the sources in these. The tables below have the same.",
-      viewBox: `0 0 ${width} ${height}`, width, height});
+    const words = "Who may hold what: containers and users, their rules with mixtures, and the sources in these. The tables below have the same.";
+    const picture = draw("svg", {role: "img", "aria-label": words, viewBox: `0 0 ${width} ${height}`, width, height});
     const heads = [[10, "containers and users"], [400, "rules and their mixtures"], [860, "sources"]];
     picture.append(...heads.map(([x, text]) => draw("text", {x, y: 16}, text)));
     const nameY = (name) => spread(names.length, height, names.indexOf(name)), atomY = (atom) => spread(atoms.length, height, atoms.indexOf(atom));
@@ -635,27 +680,38 @@
       picture.append(edge(`${name}, ${kind} rule: rule ${rule}`, `edge ${kind}`, 240, nameY(name), 390, y));
     }
     for (const slot of slots.filter(({digits}) => digits))
-      for (const atom of atomsOf(slot.digits))
-        picture.append(edge(`rule ${slot.number} permits ${data.policy.sources[atom]} in ${mixtureWords(slot.digits)}`, "edge", 720, slotY(slot), 850, atomY(atom)));
-    picture.append(...names.map((name) => box(name, 10, nameY(name), 230, 30)), ...atoms.map((atom) => box(data.policy.sources[atom], 850, atomY(atom), 220, 29)),
-      ...slots.map((slot) => (slot.digits ? box(mixtureWords(slot.digits), 410, slotY(slot), 310, 42) : box(`rule ${slot.number}`, 390, slotY(slot), 110, 14))));
-    return make("figure", {}, make("figcaption", {}, "Solid lines: permit rule, and the sources of a mixture. Dashed: run rule. Dotted: rule of a user."), picture);
+      for (const atom of atomsOf(slot.digits)) {
+        const title = `rule ${slot.number} permits ${data.policy.sources[atom]} in ${mixtureWords(slot.digits)}`;
+        picture.append(edge(title, "edge", 720, slotY(slot), 850, atomY(atom)));
+      }
+    const slotBox = (slot) => (slot.digits ? box(mixtureWords(slot.digits), 410, slotY(slot), 310, 42) : box(`rule ${slot.number}`, 390, slotY(slot), 110, 14));
+    picture.append(...names.map((name) => box(name, 10, nameY(name), 230, 30)), ...slots.map(slotBox),
+      ...atoms.map((atom) => box(data.policy.sources[atom], 850, atomY(atom), 220, 29)));
+    const legend = "Solid lines: permit rule, and the sources of a mixture. Dashed: run rule. Dotted: rule of a user.";
+    return make("figure", {}, make("figcaption", {}, legend), picture);
   }
 
-  const edge = (title, kind, x1, y1, x2, y2) => draw("path", {class: kind, d: `M${x1} ${y1}C${x1 + 60} ${y1} ${x2 - 60} ${y2} ${x2} ${y2}`}, draw("title", {}, title));
+  // A line of the graph.
+  const edge = (title, kind, x1, y1, x2, y2) =>
+    draw("path", {class: kind, d: `M${x1} ${y1}C${x1 + 60} ${y1} ${x2 - 60} ${y2} ${x2} ${y2}`}, draw("title", {}, title));
 
-  const box = (name, x, y, width, letters) => draw("g", {}, draw("title", {}, name), draw("rect", {class: "box", x, y: y - 13, width, height: 26, rx: 4}),
+  // A box of the graph.
+  const box = (name, x, y, width, letters) => draw("g", {}, draw("title", {}, name),
+    draw("rect", {class: "box", x, y: y - 13, width, height: 26, rx: 4}),
     draw("text", {x: x + 8, y: y + 5}, shortened(name, letters)));
 
   // ---- The frame: header, inputs, choices, print.
 
+  // Shows the counts, what is left out, what the page was made of, and the heads of the list.
   function showHead() {
     const {records, alerts, blocked, refused} = data.total;
     byId("summary").textContent = `${plural(records, "record")} of ${plural(data.traces.length, "trace")}: ${plural(alerts, "alert")}, `
       + `${blocked.toLocaleString("en")} blocked, ${refused.toLocaleString("en")} refused.`;
-    byId("gaps").append(...data.gaps.map((gap) => make("li", {class: "blocked"}, `Not followed: ${gap}`)), ...data.notes.map((note) => make("li", {}, `Note: ${note}`)));
+    byId("gaps").append(...data.gaps.map((gap) => make("li", {class: "blocked"}, `Not followed: ${gap}`)),
+      ...data.notes.map((note) => make("li", {}, `Note: ${note}`)));
     byId("version").textContent = `Made by yaslaurel report ${data.version} with the library of that edition.`;
-    const file = (name, size, digest) => make("tr", {}, make("th", {scope: "row"}, name), make("td", {}, size), make("td", {}, make("code", {}, digest || "not read whole")));
+    const file = (name, size, digest) => make("tr", {}, make("th", {scope: "row"}, name), make("td", {}, size),
+      make("td", {}, make("code", {}, digest || "not read whole")));
     byId("inputs-rows").append(file("policy.bin", plural(data.policy.bytes, "byte"), data.policy.sha256),
       ...data.traces.map((one) => file(one.name, one.figures ? plural(one.figures.records, "record") : "left out", one.sha256)));
     for (const [key, {title}] of Object.entries(COLUMNS)) {
@@ -669,6 +725,7 @@
     }
   }
 
+  // The options of a choice.
   const options = (first, pairs) => [make("option", {value: ""}, first), ...pairs.map(([value, text]) => make("option", {value}, text))];
 
   // The containers to choose from: all, or where these are too many those of the policy and those with an alert or a blocked access.
@@ -705,7 +762,8 @@
   // On paper all rows that the filters let through are there, with the explanations, each up to a limit that is told.
   function prepareForPaper() {
     if (!trace || byId("print").childNodes.length) return;
-    const rows = list.rows.slice(0, PRINTED_ROWS).map((place) => [place + 1, trace.answer(place), trace.access(place), trace.receiver(place), trace.outcome(place)]);
+    const cells = (place) => [place + 1, trace.answer(place), trace.access(place), trace.receiver(place), trace.outcome(place)];
+    const rows = list.rows.slice(0, PRINTED_ROWS).map(cells);
     const told = list.rows.filter((place) => trace.explanations.has(place + 1)), printed = told.slice(0, PRINTED_DETAILS);
     const left = list.rows.length - rows.length, unexplained = told.length - printed.length;
     byId("print").append(table("Records and their answers", Object.values(COLUMNS).map(({title}) => title), rows));
@@ -715,11 +773,13 @@
     showLanes(PRINTED_LANES);
   }
 
+  // Takes away what is for paper alone.
   function afterPaper() {
     byId("print").replaceChildren();
     if (trace) showLanes();
   }
 
+  // What is done when something is pressed, written or scrolled.
   function listen() {
     const on = (id, name, action) => byId(id).addEventListener(name, action);
     on("filters", "submit", (event) => event.preventDefault());

@@ -213,3 +213,35 @@ fn verdict_number(verdict: Verdict) -> u32 {
         other => panic!("unknown verdict {other:?}"),
     }
 }
+
+#[cfg(test)]
+mod tests {
+    use policy_text::Story;
+
+    use super::*;
+
+    /// What a page says of two alerts with a budget.
+    fn explained(mut budget: Budget) -> (usize, usize, usize) {
+        let text = "source north\nsource south\npermit south: south\nprocess job\nstep read job north\n\
+            step append job south\nstep append job south\n";
+        let story = Story::read(text.as_bytes()).unwrap();
+        let (image, bytes) = (story.policy().image(), story.trace());
+        let (sha256, name) = (String::new(), TRACE.to_string());
+        let trace = Trace { name, sha256: sha256.clone(), bytes: None };
+        let policy = story.policy().clone();
+        let folder =
+            Folder { policy, image, sha256, traces: Vec::new(), holders: None, gaps: Vec::new(), notes: Vec::new() };
+        let replaying = Replaying::start(&folder, &trace, &bytes).unwrap();
+        let (replay, figures) = replaying.run(Some(&mut budget)).unwrap();
+        assert_eq!((figures.records, figures.accepted, figures.alerts), (3, 3, 2));
+        (budget.explained, replay.explanations.len(), replay.unexplained)
+    }
+
+    #[test]
+    fn what_is_not_explained_is_counted() {
+        assert_eq!(explained(Budget::default()), (2, 2, 0));
+        assert_eq!(explained(Budget { work: 5, room: 1000, explained: 0 }), (1, 1, 1));
+        assert_eq!(explained(Budget { work: 1000, room: 1, explained: 0 }), (1, 1, 1));
+        assert_eq!(explained(Budget { work: 3, room: 1000, explained: 0 }), (0, 0, 2));
+    }
+}

@@ -54,6 +54,7 @@ class Facts:
             self.lanes[lane][1].append((step, tag))
 
     def lane_name(self, lane):
+        """What the container of a lane is called."""
         return self.containers.holders[lane[0]][lane[1]]
 
     def state(self, step):

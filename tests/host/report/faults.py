@@ -27,7 +27,8 @@ FAULTS = [
     Fault("the alerts are left out on paper", "demo", "paper", "list.rows.slice(0, PRINTED_ROWS)", "list.rows.slice(1, PRINTED_ROWS)"),
     Fault("the rate has no remainder", "month", "month", "${1000 * alerts % accepted}/", "0/"),
     Fault("something is asked of the network", "demo", "order", "  showHead();\n", "  showHead();\n  fetch(\"http://example.invalid/\");\n"),
-    Fault("a name becomes markup", "hostile", "hostile", "element.append(...children);", "for (const child of children) typeof child === \"string\" ? element.insertAdjacentHTML(\"beforeend\", child) : element.append(child);"),
+    Fault("a name becomes markup", "hostile", "hostile", "element.append(...children);",
+          "for (const child of children) typeof child === \"string\" ? element.insertAdjacentHTML(\"beforeend\", child) : element.append(child);"),
     Fault("a name ends the element of the data", "hostile", "hostile", "\\u003c", "<"),
     Fault("marks of direction are not spelled", "hostile", "hostile", "/[\\p{Cc}\\p{Cf}\\p{Zl}\\p{Zp}]/gu", "/[\\p{Cc}]/gu"),
 ]

@@ -343,6 +343,20 @@ def facts_of(folder, page):
     return Facts(folder / page, (folder / f"{page}.listing").read_text(), explained)
 
 
+def look(browser, folder, note):
+    """Looks at each page, then at the wrong ones."""
+    facts = {page: facts_of(folder, page) for page in PAGES}
+    for page, names in PAGES.items():
+        for name in names:
+            wrong = checked(browser, name, folder / f"{page}.html", facts[page])
+            note(wrong is None, f"{page}: {CHECKS[name].__doc__}" + (f"\n{wrong}" if wrong else ""))
+    for fault in FAULTS:
+        path = folder / "wrong.html"
+        path.write_text(planted(fault, (folder / f"{fault.page}.html").read_text()))
+        found = checked(browser, fault.check, path, facts[fault.page])
+        note(found is not None, f"a wrong page is found: {fault.what}" + (f" ({found.splitlines()[0][:100]})" if found else ""))
+
+
 def main():
     folder, counts = Path(sys.argv[1]), [0, 0]
 
@@ -351,21 +365,15 @@ def main():
         counts[not good] += 1
 
     with tempfile.TemporaryDirectory() as work:
-        browser = Browser(work)
         try:
-            facts = {page: facts_of(folder, page) for page in PAGES}
-            for page, names in PAGES.items():
-                for name in names:
-                    wrong = checked(browser, name, folder / f"{page}.html", facts[page])
-                    note(wrong is None, f"{page}: {CHECKS[name].__doc__}" + (f"\n{wrong}" if wrong else ""))
-            for fault in FAULTS:
-                wrong = planted(fault, (folder / f"{fault.page}.html").read_text())
-                path = folder / "wrong.html"
-                path.write_text(wrong)
-                found = checked(browser, fault.check, path, facts[fault.page])
-                note(found is not None, f"a wrong page is found: {fault.what}" + (f" ({found.splitlines()[0][:100]})" if found else ""))
-        finally:
-            browser.close()
+            browser = Browser(work)
+        except (BrowserError, OSError) as error:
+            note(False, f"the browser starts: {error}\n{Path(work, 'chromium.log').read_text(errors='replace')[-600:]}")
+        else:
+            try:
+                look(browser, folder, note)
+            finally:
+                browser.close()
     print(f"{counts[0]} passed, {counts[1]} failed")
     return counts[1] > 0
 
