@@ -16,6 +16,9 @@
 #                          LIBDIR=PREFIX/lib, staged under DESTDIR
 #   make install-programs  the programs `policy` and `record`, in PREFIX/bin
 #   make uninstall         removes all these, under the same names
+#   make dist              the release in target/dist, for makers without the prover: a tarball with libraries, programs, manual,
+#                          documents and examples, and its SHA256SUMS
+#   make deb               the same as Debian's packages
 #
 # Change it (contributors)
 #   make setup             installs what is missing by apt, as root: tools/needed.txt lists it
@@ -28,7 +31,7 @@
 #   make generated         the tables and pictures that documents have from the sources
 
 .DEFAULT_GOAL = help
-.PHONY: help try demo month policy record command night profiles-demo vendor-demo lib install install-programs uninstall setup test soak bench covering mutants generated
+.PHONY: help try demo month policy record command night profiles-demo vendor-demo lib install install-programs uninstall dist deb setup test soak bench covering mutants generated
 
 PREFIX = /usr/local
 BINDIR = $(PREFIX)/bin
@@ -118,6 +121,12 @@ uninstall:
 	rm -f $(DESTDIR)$(DOCDIR)/FORMATS.md $(addprefix $(DESTDIR)$(DOCDIR)/examples/,host.c guard.c)
 	rm -f $(addprefix $(DESTDIR)$(CRATEDIR)/,Cargo.toml build.rs $(CRATE_SOURCES))
 	-rmdir --ignore-fail-on-non-empty $(addprefix $(DESTDIR),$(DOCDIR)/examples $(DOCDIR) $(CRATEDIR)/src $(CRATEDIR) $(dir $(CRATEDIR)))
+
+dist:
+	@packaging/dist target/dist
+
+deb: dist
+	@packaging/deb target/dist
 
 setup:
 	@tools/setup

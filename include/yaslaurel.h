@@ -7,7 +7,7 @@
  *
  * USE
  *
- * Link with libyaslaurel.a: pkg-config --cflags --libs yaslaurel. The host reads or makes a policy image, lends
+ * Link with libyaslaurel: pkg-config --cflags --libs yaslaurel. The host reads or makes a policy image, lends
  * YASLAUREL_SESSION_LENGTH numbers for a session, starts it, and reports each operation:
  *
  *     const size_t length = YASLAUREL_SESSION_LENGTH;
@@ -133,6 +133,14 @@
 #define YASLAUREL_MUST_USE __attribute__((warn_unused_result))
 #else
 #define YASLAUREL_MUST_USE
+#endif
+
+/*
+ * How the short functions at the end of this header are defined: in each file that includes it. The shared library has
+ * them as functions too, for bindings that read no header; it was compiled with another definition of this name.
+ */
+#ifndef YASLAUREL_INLINE
+#define YASLAUREL_INLINE static inline
 #endif
 
 /* The version of this header, in one number to compare with. yaslaurel_version gives the library's. */
@@ -593,7 +601,7 @@ uint32_t yaslaurel_image_compose(const uint8_t *first, size_t first_len, const u
  *
  * Returns nothing. All 8 bytes of `out` are written.
  */
-static inline void yaslaurel_record(uint32_t code, uint32_t p, uint32_t o, uint32_t u,
+YASLAUREL_INLINE void yaslaurel_record(uint32_t code, uint32_t p, uint32_t o, uint32_t u,
                                     uint8_t out[YASLAUREL_RECORD_LENGTH])
 {
     const uint32_t numbers[3] = {p, o, u};
@@ -613,7 +621,7 @@ static inline void yaslaurel_record(uint32_t code, uint32_t p, uint32_t o, uint3
  *
  * Returns a constant text of a few words, "no refusal" for 0, 19 and every number over 25.
  */
-static inline const char *yaslaurel_meaning(uint32_t refusal)
+YASLAUREL_INLINE const char *yaslaurel_meaning(uint32_t refusal)
 {
     static const char *const meanings[] = {
         "no refusal",
@@ -651,7 +659,7 @@ static inline const char *yaslaurel_meaning(uint32_t refusal)
  *
  * Returns a constant text of a few words, that of the refusal for 8.
  */
-static inline const char *yaslaurel_verdict_meaning(uint32_t answer)
+YASLAUREL_INLINE const char *yaslaurel_verdict_meaning(uint32_t answer)
 {
     switch (answer) {
     case YASLAUREL_CONSISTENT:
@@ -670,7 +678,7 @@ static inline const char *yaslaurel_verdict_meaning(uint32_t answer)
  *
  * Returns a constant text of a few words, that of the refusal for 8.
  */
-static inline const char *yaslaurel_silence_meaning(uint32_t answer)
+YASLAUREL_INLINE const char *yaslaurel_silence_meaning(uint32_t answer)
 {
     switch (answer) {
     case YASLAUREL_NOT_SILENT:
@@ -689,7 +697,7 @@ static inline const char *yaslaurel_silence_meaning(uint32_t answer)
  *
  * Returns a constant text of a few words, that of the refusal for 8 and 23.
  */
-static inline const char *yaslaurel_outcome_meaning(uint32_t answer)
+YASLAUREL_INLINE const char *yaslaurel_outcome_meaning(uint32_t answer)
 {
     switch (answer) {
     case YASLAUREL_GUARD:
@@ -709,7 +717,7 @@ static inline const char *yaslaurel_outcome_meaning(uint32_t answer)
  *
  * Returns a constant text of a few words, that of the refusal for 8.
  */
-static inline const char *yaslaurel_judgement_meaning(uint32_t answer)
+YASLAUREL_INLINE const char *yaslaurel_judgement_meaning(uint32_t answer)
 {
     switch (answer) {
     case YASLAUREL_ACCEPTED:
@@ -735,25 +743,25 @@ static inline const char *yaslaurel_judgement_meaning(uint32_t answer)
  *
  * Returns the pointer itself, or for a null the address of one element that nobody uses.
  */
-static inline const uint8_t *yaslaurel_bytes(const uint8_t *bytes)
+YASLAUREL_INLINE const uint8_t *yaslaurel_bytes(const uint8_t *bytes)
 {
     static const uint8_t none = 0;
     return bytes != NULL ? bytes : &none;
 }
 
-static inline uint64_t *yaslaurel_words(uint64_t *words)
+YASLAUREL_INLINE uint64_t *yaslaurel_words(uint64_t *words)
 {
     static uint64_t none = 0;
     return words != NULL ? words : &none;
 }
 
-static inline const uint32_t *yaslaurel_rows(const uint32_t *rows)
+YASLAUREL_INLINE const uint32_t *yaslaurel_rows(const uint32_t *rows)
 {
     static const uint32_t none = 0;
     return rows != NULL ? rows : &none;
 }
 
-static inline uint8_t *yaslaurel_output(uint8_t *out)
+YASLAUREL_INLINE uint8_t *yaslaurel_output(uint8_t *out)
 {
     static uint8_t none = 0;
     return out != NULL ? out : &none;

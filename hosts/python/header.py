@@ -1,5 +1,6 @@
 #!/usr/bin/env python3
-"""header.py HEADER: the names of the functions that the library behind a C header has, one on a line.
+"""header.py HEADER [--inline]: the names of the functions that the static library behind a C header has, one on a line; with
+--inline those too that the header defines itself, as the shared library has them.
 
 Reads what include/yaslaurel.h consists of. A function stands right behind its comment, or behind another function of
 the same comment; the paragraphs of a comment are parted by empty lines, and the one that begins with `Returns` says
@@ -11,7 +12,7 @@ from dataclasses import dataclass
 
 COMMENT = re.compile(r"/\*(.*?)\*/\n", re.S)
 FUNCTION = re.compile(
-    r"^(?P<before>(?:YASLAUREL_MUST_USE\n)?)(?P<text>(?P<inline>static inline )?\w[\w ]*\*?(?P<name>yaslaurel_\w+)\([^;{]*\))"
+    r"^(?P<before>(?:YASLAUREL_MUST_USE\n)?)(?P<text>(?P<inline>YASLAUREL_INLINE )?\w[\w ]*\*?(?P<name>yaslaurel_\w+)\([^;{]*\))"
     r"\s*[;{]",
     re.M,
 )
@@ -67,7 +68,8 @@ def read(name):
 
 
 if __name__ == "__main__":
+    with_inline = sys.argv[2:] == ["--inline"]
     for part in read(sys.argv[1]):
         for function in part.functions:
-            if not function.inline:
+            if with_inline or not function.inline:
                 print(function.name)

@@ -67,7 +67,7 @@ def summary(part):
 
 def prototype(function):
     """A prototype whose lines break between parameters alone: names in italics, the rest in bold."""
-    front, _, rest = function.prototype.removeprefix("static inline ").partition("(")
+    front, _, rest = function.prototype.removeprefix("YASLAUREL_INLINE ").partition("(")
     parameters = [PARAMETER.sub(r"\\fI\1\\fB\2", text) if text != "void" else text for text in rest[:-1].split(", ")]
     text = f"{front}({', '.join(parameter.replace(' ', chr(0)) for parameter in parameters)});"
     return [".PP", ".in +4n", ".ti -4n", f"\\fB{text.replace(chr(0), chr(92) + ' ')}\\fP", ".in"]

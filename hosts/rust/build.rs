@@ -1,6 +1,6 @@
 //! Links `libyaslaurel.a`, from the first of these folders that has it: the one that the variable `YASLAUREL_LIB` names
-//! (then no other is asked), `target/lib` of the repository, where `make lib` leaves it, the `lib` beside the `share` in
-//! which `make install` has put this crate, and what pkg-config says.
+//! (then no other is asked), `target/lib` of the repository, where `make lib` leaves it, the `lib` of a release, the `lib`
+//! beside the `share` in which `make install` has put this crate, and what pkg-config says.
 
 use std::env;
 use std::path::{Path, PathBuf};
@@ -18,8 +18,9 @@ fn told_by_pkg_config() -> Option<PathBuf> {
 /// The folder of the library, if `YASLAUREL_LIB` does not name it.
 fn found(here: &Path) -> PathBuf {
     let made = here.join("../../target/lib");
+    let released = here.join("../../lib");
     let installed = here.join("../../../lib");
-    let folders = [made.clone(), installed].into_iter().chain(told_by_pkg_config());
+    let folders = [made.clone(), released, installed].into_iter().chain(told_by_pkg_config());
     match folders.into_iter().find(|folder| folder.join(ARCHIVE).exists()) {
         Some(folder) => folder,
         None => {

@@ -209,9 +209,15 @@ pub extern "C" fn yaslaurel_matrix_verdict(
 ) -> u32
     ensures { λ r. ⌜
         (r ≡ matrixVerdict (now (reads .entry)) (now (writes .entry)) objects .number)
-        × (now (count .exit) ≡ valueAfter (matrixVerdict (now (reads .entry)) (now (writes .entry)) objects .number) (matrixVerdict (now (reads .entry)) (now (writes .entry)) objects .count) (now (count .entry)))
-        × (now (source .exit) ≡ valueAfter (matrixVerdict (now (reads .entry)) (now (writes .entry)) objects .number) (matrixVerdict (now (reads .entry)) (now (writes .entry)) objects .source) (now (source .entry)))
-        × (now (target .exit) ≡ valueAfter (matrixVerdict (now (reads .entry)) (now (writes .entry)) objects .number) (matrixVerdict (now (reads .entry)) (now (writes .entry)) objects .target) (now (target .entry))) ⌝ }
+        × (now (count .exit)
+        ≡ valueAfter (matrixVerdict (now (reads .entry)) (now (writes .entry)) objects .number)
+        (matrixVerdict (now (reads .entry)) (now (writes .entry)) objects .count) (now (count .entry)))
+        × (now (source .exit)
+        ≡ valueAfter (matrixVerdict (now (reads .entry)) (now (writes .entry)) objects .number)
+        (matrixVerdict (now (reads .entry)) (now (writes .entry)) objects .source) (now (source .entry)))
+        × (now (target .exit)
+        ≡ valueAfter (matrixVerdict (now (reads .entry)) (now (writes .entry)) objects .number)
+        (matrixVerdict (now (reads .entry)) (now (writes .entry)) objects .target) (now (target .entry))) ⌝ }
 {
     let v = matrix::verdict(reads, writes, objects);
     match v {
@@ -261,9 +267,15 @@ pub extern "C" fn yaslaurel_matrix_game(
 ) -> u32
     ensures { λ r. ⌜
         (r ≡ gameValues (now (reads .entry)) (now (writes .entry)) objects source target rounds withdrawals .number)
-        × (now (code .exit) ≡ moveAfter (gameValues (now (reads .entry)) (now (writes .entry)) objects source target rounds withdrawals .number) (gameValues (now (reads .entry)) (now (writes .entry)) objects source target rounds withdrawals .code) (now (code .entry)))
-        × (now (subject .exit) ≡ moveAfter (gameValues (now (reads .entry)) (now (writes .entry)) objects source target rounds withdrawals .number) (gameValues (now (reads .entry)) (now (writes .entry)) objects source target rounds withdrawals .subject) (now (subject .entry)))
-        × (now (object .exit) ≡ moveAfter (gameValues (now (reads .entry)) (now (writes .entry)) objects source target rounds withdrawals .number) (gameValues (now (reads .entry)) (now (writes .entry)) objects source target rounds withdrawals .object) (now (object .entry))) ⌝ }
+        × (now (code .exit)
+        ≡ moveAfter (gameValues (now (reads .entry)) (now (writes .entry)) objects source target rounds withdrawals .number)
+        (gameValues (now (reads .entry)) (now (writes .entry)) objects source target rounds withdrawals .code) (now (code .entry)))
+        × (now (subject .exit)
+        ≡ moveAfter (gameValues (now (reads .entry)) (now (writes .entry)) objects source target rounds withdrawals .number)
+        (gameValues (now (reads .entry)) (now (writes .entry)) objects source target rounds withdrawals .subject) (now (subject .entry)))
+        × (now (object .exit)
+        ≡ moveAfter (gameValues (now (reads .entry)) (now (writes .entry)) objects source target rounds withdrawals .number)
+        (gameValues (now (reads .entry)) (now (writes .entry)) objects source target rounds withdrawals .object) (now (object .entry))) ⌝ }
 {
     let outcome = game::play(reads, writes, objects, source, target, rounds, withdrawals);
     let values = game::outcome_values(outcome);

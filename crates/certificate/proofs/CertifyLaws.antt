@@ -27,10 +27,10 @@ use Rattle.image.specs.Policy.{Policy, Sound, ruleAt, ownerAt}
 use Rattle.image.specs.Image.{policyIn, checkOf}
 use Rattle.image.proofs.Decode.{accepted-sound}
 use Rattle.session.specs.Session.{startOf}
-use Rattle.chains.specs.History.{Step, read, write, append, exec, fork, newFile, newVolatile, end, delete, History, _▸_, receiver}
-use Rattle.chains.specs.Guards.{writing}
+use Rattle.chains.specs.History.{Step, History, _▸_, receiver}
 use Rattle.chains.specs.Chains.{Item, Chain, Reaches, Forbidden}
 use Rattle.chains.specs.Demand.{judged, historyOf, GivenAt, BlockedTold}
+use Rattle.chains.proofs.GuardLaws.{writing-judged}
 use Rattle.records.specs.Records.{stepOf}
 use Rattle.records.specs.Traces.{traceRecords}
 use Rattle.monitor.specs.Steps.{stepAsked, stepAnswer}
@@ -44,7 +44,9 @@ use Rattle.witness.specs.Explains.{atomWitness, atomFound}
 use Rattle.witness.specs.Tells.{Right}
 use Rattle.witness.proofs.Theorems.{witness-right, told-given}
 use Rattle.certificate.specs.Origins.{origin, Certificate, lackedBy}
-use Rattle.certificate.specs.Whys.{Reason, reasonOf, reasonNumbers, whyNumbers, answered, reasonIn, forbiddenLast, whyLength, whyRefusal, whyEffect, whySteps}
+use Rattle.certificate.specs.Whys.{Reason, reasonOf, reasonNumbers, whyNumbers, answered, reasonIn, forbiddenLast}
+use Rattle.certificate.specs.Whys.{whyLength, whyRefusal, whyEffect, whySteps, whyReceiverAt, whyTagAt, whyKindAt}
+use Rattle.certificate.specs.Whys.{whyRecordAt, whyHolderAt, whyRuleAt, whyOwnerAt, whyChainAt, whyCountAt, whyAtomsAt}
 use Rattle.certificate.specs.Certified.{ComesFrom, Certified}
 use Rattle.certificate.proofs.LackLaws.{Wide, lacked-out, uncovered-held}
 use Rattle.witness.proofs.ExplainFacts.{end-back}
@@ -57,17 +59,6 @@ use Rattle.certificate.proofs.WhyCases.{none-refused}
 use Rattle.certificate.proofs.WhyLaws.{Last, last-of}
 
 -- ---- an answer that forbids is one to a step that is judged
-
-writing-judged : (x : Step) → writing x ≡ true → judged x ≡ true
-writing-judged (read p o) w = refl
-writing-judged (write p o) w = refl
-writing-judged (append p o) w = refl
-writing-judged (exec p o u) w = refl
-writing-judged (fork p o) w = refl
-writing-judged (newFile p o u) w = w
-writing-judged (newVolatile p o) w = w
-writing-judged (end p) w = w
-writing-judged (delete p o) w = w
 
 forbidden-judged : (s r : List ℕ) → (isAlert (stepAnswer s r) || isBlocked (stepAnswer s r)) ≡ true → judged (stepAsked r) ≡ true
 forbidden-judged s r f = on (or-cases (isAlert (stepAnswer s r)) f) (decide (judged (stepAsked r)))
@@ -216,57 +207,58 @@ module _ (i t links steps out : List ℕ) (bytes : Bytes i) (z : whyRefusal i t 
       ∙ put-at (reasonNumbers (policyIn i) (receiverOf (answered i t)) (tagOf (answered i t)) (length steps) (reasonIn i t)) out k
       (omega (arith, numbers-long (policyIn i) (receiverOf (answered i t)) (tagOf (answered i t)) (length steps) (reasonIn i t) short, l))
 
-  is-receiver : getD (whyEffect i t links steps out) 0 0 ≡ receiverOf (answered i t)
+  is-receiver : getD (whyEffect i t links steps out) whyReceiverAt 0 ≡ receiverOf (answered i t)
   unfolding reasonNumbers
   is-receiver = number-at 0 (omega arith)
 
-  is-tag : getD (whyEffect i t links steps out) 1 0 ≡ tagOf (answered i t)
+  is-tag : getD (whyEffect i t links steps out) whyTagAt 0 ≡ tagOf (answered i t)
   unfolding reasonNumbers
   is-tag = number-at 1 (omega arith)
 
-  is-kind : getD (whyEffect i t links steps out) 2 0 ≡ reasonIn i t .kind
+  is-kind : getD (whyEffect i t links steps out) whyKindAt 0 ≡ reasonIn i t .kind
   unfolding reasonNumbers
   is-kind = number-at 2 (omega arith)
 
-  is-at : getD (whyEffect i t links steps out) 3 0 ≡ reasonIn i t .at
+  is-at : getD (whyEffect i t links steps out) whyRecordAt 0 ≡ reasonIn i t .at
   unfolding reasonNumbers
   is-at = number-at 3 (omega arith)
 
-  is-holder : getD (whyEffect i t links steps out) 4 0 ≡ reasonIn i t .holder
+  is-holder : getD (whyEffect i t links steps out) whyHolderAt 0 ≡ reasonIn i t .holder
   unfolding reasonNumbers
   is-holder = number-at 4 (omega arith)
 
-  is-rule : getD (whyEffect i t links steps out) 5 0 ≡ reasonIn i t .rule
+  is-rule : getD (whyEffect i t links steps out) whyRuleAt 0 ≡ reasonIn i t .rule
   unfolding reasonNumbers
   is-rule = number-at 5 (omega arith)
 
-  is-owner : getD (whyEffect i t links steps out) 6 0 ≡ ownerAt (policyIn i .owners) (reasonIn i t .rule)
+  is-owner : getD (whyEffect i t links steps out) whyOwnerAt 0 ≡ ownerAt (policyIn i .owners) (reasonIn i t .rule)
   unfolding reasonNumbers
   is-owner = number-at 6 (omega arith)
 
-  is-first : getD (whyEffect i t links steps out) 7 0 ≡ length steps - length (reasonIn i t .chain)
+  is-first : getD (whyEffect i t links steps out) whyChainAt 0 ≡ length steps - length (reasonIn i t .chain)
   unfolding reasonNumbers
   is-first = number-at 7 (omega arith)
 
-  is-count : getD (whyEffect i t links steps out) 8 0 ≡ length (ruleAt (policyIn i .rules) (reasonIn i t .rule))
+  is-count : getD (whyEffect i t links steps out) whyCountAt 0 ≡ length (ruleAt (policyIn i .rules) (reasonIn i t .rule))
   unfolding reasonNumbers
   is-count = number-at 8 (omega arith)
 
   is-lacked : (k : ℕ) → k < length (ruleAt (policyIn i .rules) (reasonIn i t .rule))
-      → getD (whyEffect i t links steps out) (9 + k) 0 ≡ lackedBy (tagOf (answered i t)) (getD (ruleAt (policyIn i .rules) (reasonIn i t .rule)) k 0)
+      → getD (whyEffect i t links steps out) (whyAtomsAt + k) 0 ≡ lackedBy (tagOf (answered i t)) (getD (ruleAt (policyIn i .rules) (reasonIn i t .rule)) k 0)
   is-lacked k l =
       number-at (9 + k) (omega (arith, short, l)) ∙ number-lacked (policyIn i) (receiverOf (answered i t)) (tagOf (answered i t)) (length steps) (reasonIn i t) k l
 
-  is-chain : drop (getD (whyEffect i t links steps out) 7 0) (whySteps i t links steps out) ≡ reasonIn i t .chain
+  is-chain : drop (getD (whyEffect i t links steps out) whyChainAt 0) (whySteps i t links steps out) ≡ reasonIn i t .chain
   is-chain = rw (is-first, steps-is) (end-back (reasonIn i t .chain) steps)
 
-  counted : (k : ℕ) → k < getD (whyEffect i t links steps out) 8 0 → k < length (ruleAt (policyIn i .rules) (reasonIn i t .rule))
+  counted : (k : ℕ) → k < getD (whyEffect i t links steps out) whyCountAt 0 → k < length (ruleAt (policyIn i .rules) (reasonIn i t .rule))
   counted k l = omega (arith, is-count, l)
 
   comes : ComesFrom (policyIn i) (toldHistory (startOf (policyIn i)) (traceRecords t)) (toldNumbers (startOf (policyIn i)) (traceRecords t))
       (origin (toldHistory (startOf (policyIn i)) (traceRecords t)) (receiverOf (answered i t)))
-      (ruleAt (policyIn i .rules) (getD (whyEffect i t links steps out) 5 0)) (getD (whyEffect i t links steps out) 2 0)
-      (getD (whyEffect i t links steps out) 3 0) (getD (whyEffect i t links steps out) 4 0) (drop (getD (whyEffect i t links steps out) 7 0) (whySteps i t links steps out))
+      (ruleAt (policyIn i .rules) (getD (whyEffect i t links steps out) whyRuleAt 0)) (getD (whyEffect i t links steps out) whyKindAt 0)
+      (getD (whyEffect i t links steps out) whyRecordAt 0) (getD (whyEffect i t links steps out) whyHolderAt 0)
+      (drop (getD (whyEffect i t links steps out) whyChainAt 0) (whySteps i t links steps out))
   comes = rw (is-chain, is-rule, is-kind, is-at, is-holder) (last-right i t bytes ok forbids .comes)
 
   pub certifies : Certified (policyIn i) (toldHistory (startOf (policyIn i)) (traceRecords t)) (toldNumbers (startOf (policyIn i)) (traceRecords t)) (answered i t)
@@ -279,8 +271,9 @@ module _ (i t links steps out : List ℕ) (bytes : Bytes i) (z : whyRefusal i t 
         from =
             comes-from (policyIn i) (toldHistory (startOf (policyIn i)) (traceRecords t)) (toldNumbers (startOf (policyIn i)) (traceRecords t))
             (origin (toldHistory (startOf (policyIn i)) (traceRecords t)) (receiverOf (answered i t)))
-            (ruleAt (policyIn i .rules) (getD (whyEffect i t links steps out) 5 0)) (getD (whyEffect i t links steps out) 2 0)
-            (getD (whyEffect i t links steps out) 3 0) (getD (whyEffect i t links steps out) 4 0) (drop (getD (whyEffect i t links steps out) 7 0) (whySteps i t links steps out)) comes;
+            (ruleAt (policyIn i .rules) (getD (whyEffect i t links steps out) whyRuleAt 0)) (getD (whyEffect i t links steps out) whyKindAt 0)
+            (getD (whyEffect i t links steps out) whyRecordAt 0) (getD (whyEffect i t links steps out) whyHolderAt 0)
+            (drop (getD (whyEffect i t links steps out) whyChainAt 0) (whySteps i t links steps out)) comes;
         owner = rw is-rule is-owner;
         mixtures = rw is-rule is-count;
         lacks = λ k l. rw (is-rule, is-lacked k (counted k l)) (last-lacked i t bytes ok forbids k (counted k l) .1);
@@ -291,8 +284,8 @@ module _ (i t links steps out : List ℕ) (bytes : Bytes i) (z : whyRefusal i t 
       }
 
   -- an atom that reaches the receiver has a chain, which begins in a container
-  pub explained : (k : ℕ) → k < getD (whyEffect i t links steps out) 8 0 → (buffer : List ℕ)
-      → atomFound i t (receiverOf (answered i t)) (getD (whyEffect i t links steps out) (9 + k) 0) buffer .file < containerLimit
+  pub explained : (k : ℕ) → k < getD (whyEffect i t links steps out) whyCountAt 0 → (buffer : List ℕ)
+      → atomFound i t (receiverOf (answered i t)) (getD (whyEffect i t links steps out) (whyAtomsAt + k) 0) buffer .file < containerLimit
   unfolding atomFound foundIn atomWitness
   explained k l buffer = on (witness (policyIn i) history item c) refl (witness-right (policyIn i) history item c)
     where
@@ -300,13 +293,13 @@ module _ (i t links steps out : List ℕ) (bytes : Bytes i) (z : whyRefusal i t 
       history = toldHistory (startOf (policyIn i)) (traceRecords t)
 
       item : Item
-      item = itemOf (getD (whyEffect i t links steps out) (9 + k) 0)
+      item = itemOf (getD (whyEffect i t links steps out) (whyAtomsAt + k) 0)
 
       c : ℕ
       c = receiverOf (answered i t)
 
       chain : Chain (policyIn i) history item c
-      chain = reaches-item (policyIn i) (accepted-sound i bytes ok) history (getD (whyEffect i t links steps out) (9 + k) 0) c .0 (certifies .reaches k l)
+      chain = reaches-item (policyIn i) (accepted-sound i bytes ok) history (getD (whyEffect i t links steps out) (whyAtomsAt + k) 0) c .0 (certifies .reaches k l)
 
       on : (v : Option Witness) → witness (policyIn i) history item c ≡ v → Right (policyIn i) history item c v → chainFile v < containerLimit
       on none e n = absurd (n chain)

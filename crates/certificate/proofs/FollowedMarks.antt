@@ -1,12 +1,11 @@
 -- A trace followed record by record: the marks, and the last answer. The least atom that a mixture lacks, looked for from 0 on.
 use Prim.Native.Nat.{ℕ, suc, _+_, _/_, _%_, _^_, _≤_, _<_}
 use native.Mathlib.Omega.{arith}
-use native.Mathlib.Decide.{decLt}
 use mathlib.Core.Path.{_≡_, refl, sym, ap, subst, _∙_}
 use mathlib.Core.Bool.{Bool, true, false, not}
 use mathlib.Core.List.{List, [], _∷_}
 use lib.Dec.{eqb}
-use lib.ListN.{length, take, drop, getD, set, length-take, length-drop}
+use lib.ListN.{length, take, drop, getD, set}
 use Rattle.lists.proofs.Bools.{passes-test, fails-test}
 use Rattle.lists.proofs.Below.{Failing, least-is, least-none}
 use Rattle.answers.specs.declared.Answer.{Answer}
@@ -26,6 +25,7 @@ use Rattle.records.proofs.TraceRecords.{record-length, next-record, no-record}
 use Rattle.monitor.specs.Steps.{stepAsked, stepAnswer, stepEffect}
 use Rattle.monitor.specs.Runs.{stepOn, runAnswers, runEffect}
 use Rattle.monitor.proofs.StepLaws.{step-record, accepted-zero}
+use Rattle.witness.proofs.TraceParts.{followed-whole, left-before}
 use Rattle.certificate.specs.Origins.{lacksAt, lackedBy}
 use Rattle.certificate.specs.Whys.{lastFrom, lastAnswer}
 use Rattle.certificate.specs.Marks.{nowhereMark, recordMark, nextMark, marksAfter, marksOn, marksAll}
@@ -130,9 +130,6 @@ following-start trace marks s l = record { inside = omega arith; whole = λ z. o
 module _ (trace marks₀ s₀ s marks : List ℕ) (answer : Answer) (at : ℕ) (h : Following trace marks₀ s₀ s marks answer at) (l : at < length trace)
     (x s′ marks′ : List ℕ) (answer′ : Answer) (xe : x ≡ take recordLength (drop at trace)) (ae : answer′ ≡ stepAnswer s x) (se : s′ ≡ stepEffect s x)
     (me : marks′ ≡ marksOn marks (at / recordLength) s x) where
-  next-count : at + length x < length trace → length x ≡ recordLength
-  next-count m = omega (arith, ap length xe, length-take recordLength (drop at trace), length-drop at trace)
-
   next-same : marksAll marks′ (suc (at / recordLength)) s′ (traceRecords (drop (at + length x) trace)) ≡ marksAll marks₀ 0 s₀ (traceRecords trace)
   unfolding marksAll
   next-same = rw (me, se, xe) (rw (next-record trace at l) at (h .same))
@@ -142,13 +139,6 @@ module _ (trace marks₀ s₀ s marks : List ℕ) (answer : Answer) (at : ℕ) (
   unfolding marksAll
   renumber marks n m s [] e = refl
   renumber marks n m s (r ∷ rs) e = let z : n ≡ m = e (omega arith) in rw z
-
-  behind-some : 0 < length (traceRecords (drop (at + length x) trace)) → at + length x < length trace
-  behind-some m = on (decLt (at + length x) (length trace))
-    where
-      on : Dec (at + length x < length trace) → at + length x < length trace
-      on (yes z) = z
-      on (no z) = absurd (omega (arith, m, ap length (no-record trace (at + length x) (omega arith))))
 
   next-leaves : runEffect s′ (traceRecords (drop (at + length x) trace)) ≡ runEffect s₀ (traceRecords trace)
   unfolding runEffect stepOn
@@ -162,12 +152,12 @@ module _ (trace marks₀ s₀ s marks : List ℕ) (answer : Answer) (at : ℕ) (
   following-next es em =
       record {
         inside = record-length trace x at l xe .1;
-        whole = λ m. omega (arith, next-count m, h .whole l);
+        whole = λ m. omega (arith, followed-whole trace x at xe m, h .whole l);
         session = es ∙ h .session;
         long = em ∙ h .long;
         same =
             renumber marks′ ((at + length x) / recordLength) (suc (at / recordLength)) s′ (traceRecords (drop (at + length x) trace))
-            (λ m. omega (arith, next-count (behind-some m), h .whole l))
+            (λ m. omega (arith, followed-whole trace x at xe (left-before trace (at + length x) m), h .whole l))
             ∙ next-same;
         leaves = next-leaves;
         last = next-last;

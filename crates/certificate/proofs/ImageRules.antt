@@ -17,7 +17,8 @@ use Rattle.rules.specs.declared.Bounded.{Bounded}
 use Rattle.rules.specs.Rules.{covers, unrestricted}
 use Rattle.rules.specs.Answers.{tagWidth, mixtureLimit, padded, boundedOf}
 use Rattle.rules.proofs.BoundedLaws.{padded-take, padded-length, bounded-fits, bounded-some}
-use Rattle.image.specs.Limits.{containerSize, userSize, ruleSize, mixtureSize, size8, size16, containerKindAt, containerPermitAt, containerRunAt, ruleCountAt, ruleOwnerAt, unrestrictedNumber, noOwner, isFile}
+use Rattle.image.specs.Limits.{containerSize, userSize, ruleSize, mixtureSize, size8, size16, containerKindAt, containerPermitAt}
+use Rattle.image.specs.Limits.{containerRunAt, ruleCountAt, ruleOwnerAt, unrestrictedNumber, noOwner, isFile}
 use Rattle.image.specs.Policy.{Container, unrestrictedRule, ruleAt, ownerAt}
 use Rattle.image.specs.Image.{part, containerIn, containersIn, usersIn, rulesIn, ownersIn, mixturesIn, policyIn, checkOf}
 use Rattle.image.proofs.AcceptedImage.{accepted-spans}

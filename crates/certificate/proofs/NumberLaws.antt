@@ -6,25 +6,21 @@ use mathlib.Core.Path.{_≡_, refl, ap, _∙_}
 use mathlib.Core.Bool.{true, false}
 use mathlib.Core.List.{List, [], _∷_}
 use mathlib.Core.Logic.{_⊎_, inl, inr}
-use mathlib.Core.Option.{Option, none, some}
 use lib.ListN.{length, take, getD}
 use Rattle.lists.proofs.Bools.{decide}
 use Rattle.answers.specs.Answers.{accepted}
-use Rattle.chains.specs.History.{Step, History, start, _▸_, stepCount}
-use Rattle.chains.specs.Demand.{extend, historyFrom, historyOf}
+use Rattle.chains.specs.History.{History, start, _▸_, stepCount}
+use Rattle.chains.specs.Demand.{historyFrom, historyOf}
 use Rattle.records.specs.Records.{stepOf}
 use Rattle.monitor.specs.Steps.{stepAsked, stepAnswer, stepEffect}
 use Rattle.monitor.specs.Runs.{stepOn}
 use Rattle.monitor.proofs.Theorems.{accepted-spelled}
 use Rattle.witness.specs.Told.{numbersFrom, acceptedNumbers}
+use Rattle.witness.proofs.TrackLaws.{skipped}
 use Rattle.certificate.specs.Origins.{before}
 use Rattle.certificate.proofs.OriginLaws.{before-last, before-earlier}
 
 -- ---- one more record in front
-
-extend-skipped : (h : History) (m : Option Step) → extend h m false ≡ h
-extend-skipped h none = refl
-extend-skipped h (some x) = refl
 
 module _ (s r : List ℕ) (a : accepted (stepAnswer s r) ≡ true) where
   pub history-accepted : (h : History) (rs : List (List ℕ)) → historyFrom stepOn stepOf h s (r ∷ rs) ≡ historyFrom stepOn stepOf (h ▸ stepAsked r) (stepEffect s r) rs
@@ -38,7 +34,7 @@ module _ (s r : List ℕ) (a : accepted (stepAnswer s r) ≡ true) where
 module _ (s r : List ℕ) (a : accepted (stepAnswer s r) ≡ false) where
   pub history-skipped : (h : History) (rs : List (List ℕ)) → historyFrom stepOn stepOf h s (r ∷ rs) ≡ historyFrom stepOn stepOf h (stepEffect s r) rs
   unfolding stepOn
-  history-skipped h rs = rw (a, extend-skipped h (stepOf r))
+  history-skipped h rs = rw (a, skipped h (stepOf r))
 
   pub numbers-skipped : (n : ℕ) (rs : List (List ℕ)) → numbersFrom n s (r ∷ rs) ≡ numbersFrom (suc n) (stepEffect s r) rs
   unfolding numbersFrom

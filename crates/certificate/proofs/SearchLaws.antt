@@ -188,15 +188,16 @@ module _ (i t : List ℕ) (tag o : ℕ) where
 
     module _ (ok : checkOf i ≡ 0) (l : f < length (policyIn i .containers)) {b : Bool} (e : b ≡ forbidsAt policy tag (getElem? (policyIn i .containers) f)) (h : b ≡ true)
         {links′ steps′ : List ℕ} {r : Found} (w : FileFound i t (runOf (getElem? (policyIn i .containers) f)) o links steps r links′ steps′) where
+      -- the container at f, whose run rule forbids
+      x : (K : Container) × (getElem? (policyIn i .containers) f ≡ some K)
+      x = element (policyIn i .containers) f l
+
+      n : runForbids policy tag (x .0) ≡ true
+      n = forbids-here f (x .0) (x .1) e h
+
       pub nothing : r .file ≡ containerLimit → Searching i t tag o links₀ steps₀ links′ steps′ (f + 1)
       nothing z = on (runWitness policy history o (x .0)) refl
         where
-          x : (K : Container) × (getElem? (policyIn i .containers) f ≡ some K)
-          x = element (policyIn i .containers) f l
-
-          n : runForbids policy tag (x .0) ≡ true
-          n = forbids-here f (x .0) (x .1) e h
-
           on : (v : Option Witness) → runWitness policy history o (x .0) ≡ v → Searching i t tag o links₀ steps₀ links′ steps′ (f + 1)
           on none q =
               let k : steps′ ≡ steps₀ =
@@ -217,12 +218,6 @@ module _ (i t : List ℕ) (tag o : ℕ) where
       pub found : r .file ≢ containerLimit → Searched i t tag o links₀ steps₀ r links′ steps′
       found z = on (runWitness policy history o (x .0)) refl
         where
-          x : (K : Container) × (getElem? (policyIn i .containers) f ≡ some K)
-          x = element (policyIn i .containers) f l
-
-          n : runForbids policy tag (x .0) ≡ true
-          n = forbids-here f (x .0) (x .1) e h
-
           on : (v : Option Witness) → runWitness policy history o (x .0) ≡ v → Searched i t tag o links₀ steps₀ r links′ steps′
           on none q = absurd (z (file-here f (x .0) (x .1) w none q ∙ unfold chainFile in refl))
           on (some v) q =

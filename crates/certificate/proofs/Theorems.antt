@@ -31,7 +31,7 @@ use Rattle.monitor.proofs.Guarded as guarded
 use Rattle.witness.specs.Told.{toldHistory, toldNumbers}
 use Rattle.witness.specs.Explains.{atomFound}
 use Rattle.certificate.specs.Origins.{origin, From, Certificate}
-use Rattle.certificate.specs.Whys.{answered, roomGood, forbiddenLast, whyConditions, whyRefusal, whyEffect, whySteps, whyLinks}
+use Rattle.certificate.specs.Whys.{answered, roomGood, forbiddenLast, whyConditions, whyRefusal, whyEffect, whySteps, whyLinks, whyCountAt, whyAtomsAt}
 use Rattle.certificate.specs.Certified.{Certified}
 use Rattle.certificate.proofs.OriginLaws as origins
 use Rattle.certificate.proofs.CertifyLaws as laws
@@ -75,8 +75,8 @@ module _ (i t links steps out : List ℕ) (bytes : Bytes i) (z : whyRefusal i t 
   why-certificate = laws.last-certified i t bytes (cases.none-refused i t links steps out .0 z .1) (cases.none-refused i t links steps out .0 z .2)
 
   -- and of each of these atoms `explain` tells a chain: it begins in a container
-  pub why-explained : (k : ℕ) → k < getD (whyEffect i t links steps out) 8 0 → (buffer : List ℕ)
-      → atomFound i t (receiverOf (answered i t)) (getD (whyEffect i t links steps out) (9 + k) 0) buffer .file < containerLimit
+  pub why-explained : (k : ℕ) → k < getD (whyEffect i t links steps out) whyCountAt 0 → (buffer : List ℕ)
+      → atomFound i t (receiverOf (answered i t)) (getD (whyEffect i t links steps out) (whyAtomsAt + k) 0) buffer .file < containerLimit
   why-explained = laws.explained i t links steps out bytes z
 
 -- ---- each refusal has its condition, and is given only under it

@@ -12,7 +12,8 @@ use Rattle.image.specs.Policy.{Policy, ruleAt, ownerAt}
 use Rattle.chains.specs.History.{History}
 use Rattle.chains.specs.Chains.{UserRule, runRule, Starts, Leads, Own, Reaches}
 use Rattle.certificate.specs.Origins.{Origin, own, made, started, nowhere, origin, before, From}
-use Rattle.certificate.specs.Whys.{ownOrigin, madeOrigin, userOrigin, runOrigin}
+use Rattle.certificate.specs.Whys.{ownOrigin, madeOrigin, userOrigin, runOrigin, whyReceiverAt, whyTagAt, whyKindAt}
+use Rattle.certificate.specs.Whys.{whyRecordAt, whyHolderAt, whyRuleAt, whyOwnerAt, whyChainAt, whyCountAt, whyAtomsAt}
 
 -- The rule r comes from the origin as the numbers say: kind, record, holder. Of a run rule the chain stands in the list: it begins in the
 -- file `holder`, leads its run rule into o by the steps before the exec, and the list has the records of these steps. ns are the records of
@@ -30,14 +31,14 @@ ComesFrom P h ns nowhere r kind n holder chain = ⊥
 -- Of the answer a, after the history h: out has the 17 numbers at its front, and the chain of a run rule is in steps from the place on that the
 -- eighth number says.
 pub record Certified (P : Policy) (h : History) (ns : List ℕ) (a : Answer) (out steps : List ℕ) : Type 0 where
-  pub receiver : getD out 0 0 ≡ receiverOf a
-  pub tag : getD out 1 0 ≡ tagOf a
+  pub receiver : getD out whyReceiverAt 0 ≡ receiverOf a
+  pub tag : getD out whyTagAt 0 ≡ tagOf a
   pub comes :
-      ComesFrom P h ns (origin h (receiverOf a)) (ruleAt (P .rules) (getD out 5 0)) (getD out 2 0) (getD out 3 0) (getD out 4 0)
-      (drop (getD out 7 0) steps)
-  pub from : From P h (origin h (receiverOf a)) (ruleAt (P .rules) (getD out 5 0))
-  pub owner : getD out 6 0 ≡ ownerAt (P .owners) (getD out 5 0)
-  pub mixtures : getD out 8 0 ≡ length (ruleAt (P .rules) (getD out 5 0))
-  pub lacks : (k : ℕ) → k < getD out 8 0 → atom (getD (ruleAt (P .rules) (getD out 5 0)) k 0) (getD out (9 + k) 0) ≡ 0
-  pub holds : (k : ℕ) → k < getD out 8 0 → atom (tagOf a) (getD out (9 + k) 0) ≡ 1
-  pub reaches : (k : ℕ) → k < getD out 8 0 → Reaches P h (getD out (9 + k) 0) (receiverOf a)
+      ComesFrom P h ns (origin h (receiverOf a)) (ruleAt (P .rules) (getD out whyRuleAt 0)) (getD out whyKindAt 0) (getD out whyRecordAt 0) (getD out whyHolderAt 0)
+      (drop (getD out whyChainAt 0) steps)
+  pub from : From P h (origin h (receiverOf a)) (ruleAt (P .rules) (getD out whyRuleAt 0))
+  pub owner : getD out whyOwnerAt 0 ≡ ownerAt (P .owners) (getD out whyRuleAt 0)
+  pub mixtures : getD out whyCountAt 0 ≡ length (ruleAt (P .rules) (getD out whyRuleAt 0))
+  pub lacks : (k : ℕ) → k < getD out whyCountAt 0 → atom (getD (ruleAt (P .rules) (getD out whyRuleAt 0)) k 0) (getD out (whyAtomsAt + k) 0) ≡ 0
+  pub holds : (k : ℕ) → k < getD out whyCountAt 0 → atom (tagOf a) (getD out (whyAtomsAt + k) 0) ≡ 1
+  pub reaches : (k : ℕ) → k < getD out whyCountAt 0 → Reaches P h (getD out (whyAtomsAt + k) 0) (receiverOf a)

@@ -120,8 +120,49 @@ reasonOf P h ns c t = reasonBy P h ns t (origin h c)
 
 -- ---- the numbers that are told
 
+-- how many they are, and where each stands
 abbrev pub whyLength : ℕ
 whyLength = 17
+
+-- the receiver
+abbrev pub whyReceiverAt : ℕ
+whyReceiverAt = 0
+
+-- its tag
+abbrev pub whyTagAt : ℕ
+whyTagAt = 1
+
+-- the origin of the rule
+abbrev pub whyKindAt : ℕ
+whyKindAt = 2
+
+-- the record of that origin
+abbrev pub whyRecordAt : ℕ
+whyRecordAt = 3
+
+-- the container, the user or the file of that origin
+abbrev pub whyHolderAt : ℕ
+whyHolderAt = 4
+
+-- the number of the rule
+abbrev pub whyRuleAt : ℕ
+whyRuleAt = 5
+
+-- its owner
+abbrev pub whyOwnerAt : ℕ
+whyOwnerAt = 6
+
+-- where the records of a run rule's chain begin in the buffer
+abbrev pub whyChainAt : ℕ
+whyChainAt = 7
+
+-- how many mixtures the rule has
+abbrev pub whyCountAt : ℕ
+whyCountAt = 8
+
+-- the atoms that they lack, one for each
+abbrev pub whyAtomsAt : ℕ
+whyAtomsAt = 9
 
 -- Of the container c with the tag t, for the reason w: c, t, the origin, its record, its container, user or file, the number of the rule, its
 -- owner, where the records of a run rule's chain begin in a buffer of so many numbers, how many mixtures the rule has, and for each the

@@ -511,8 +511,27 @@ fn put(numbers: &[u64], out: &mut [u64])
     }
 }
 
-// How many numbers are told.
+// How many numbers are told, and where each stands: the receiver, its tag, the origin of the rule, its record, its container, user or file, the
+// number of the rule, its owner, where the records of its chain begin, how many mixtures it has, and the atoms that these lack.
 pub const WHY_LENGTH: usize = 17;
+
+pub const WHY_RECEIVER_AT: usize = 0;
+
+pub const WHY_KIND_AT: usize = 2;
+
+pub const WHY_RECORD_AT: usize = 3;
+
+pub const WHY_HOLDER_AT: usize = 4;
+
+pub const WHY_RULE_AT: usize = 5;
+
+pub const WHY_OWNER_AT: usize = 6;
+
+pub const WHY_CHAIN_AT: usize = 7;
+
+pub const WHY_COUNT_AT: usize = 8;
+
+pub const WHY_ATOMS_AT: usize = 9;
 
 // What is told of the container with the tag.
 fn put_told(image: &[u8], receiver: usize, tag: u64, told: Told, out: &mut [u64])

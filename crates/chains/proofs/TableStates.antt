@@ -13,7 +13,8 @@ use Rattle.lists.proofs.Conditions.{zero-or-not, given-none}
 use Rattle.answers.specs.declared.Answer.{Answer}
 use Rattle.answers.specs.Answers.{refused, isRefused}
 use Rattle.chains.specs.History.{Step}
-use Rattle.chains.specs.Table.{State, needsFree, ruleOr, entry, isSome, processGood, objectGood, kindGood, freeGood, userGood, behalfFits, meetGood, earlyConditions, tableConditions, verdict, left, operate}
+use Rattle.chains.specs.Table.{State, needsFree, ruleOr, entry, isSome, processGood, objectGood, kindGood, freeGood, userGood}
+use Rattle.chains.specs.Table.{behalfFits, meetGood, earlyConditions, tableConditions, verdict, left, operate}
 
 -- states that give the same rows and the same rules of users are equal
 pub same-state : (σ τ : State) → ((c : ℕ) → σ .row c ≡ τ .row c) → ((u : ℕ) → σ .user u ≡ τ .user u) → σ ≡ τ
@@ -23,6 +24,11 @@ same-state σ τ p q = λ i. record { row = λ c. p c i; user = λ u. q u i }
 pub rule-declared : (m : Option (List ℕ)) → isSome m ≡ true → m ≡ some (ruleOr m)
 rule-declared none e = clash e refl
 rule-declared (some v) e = refl
+
+-- what follows from a test and from its contrary holds
+pub either-way : (b g : Bool) → (b || g) ≡ true → (not b || g) ≡ true → g ≡ true
+either-way true g h k = k
+either-way false g h k = h
 
 -- ---- an operation, by its refusal
 
@@ -52,10 +58,6 @@ module _ (σ : State) (t : Step) where
     pub behalf : behalfFits σ t ≡ true
     pub meet : meetGood σ t ≡ true
 
-  both : (b g : Bool) → (b || g) ≡ true → (not b || g) ≡ true → g ≡ true
-  both true g h k = k
-  both false g h k = h
-
   numbers : numbersDistinct (numbersOf (tableConditions σ t)) ≡ true
   unfolding tableConditions earlyConditions numbersOf numbersDistinct elem
   numbers = refl
@@ -66,7 +68,7 @@ module _ (σ : State) (t : Step) where
       of : AllHold (tableConditions σ t) → Passed
       of = unfold tableConditions earlyConditions in (λ h. record {
         process = h .0;
-        object = both (needsFree (entry σ t .need)) (objectGood σ t) (unfold kindGood in (h .1 .0)) (unfold freeGood in (h .1 .1 .0));
+        object = either-way (needsFree (entry σ t .need)) (objectGood σ t) (unfold kindGood in (h .1 .0)) (unfold freeGood in (h .1 .1 .0));
         user = h .1 .1 .1 .0;
         behalf = h .1 .1 .1 .1 .0;
         meet = h .1 .1 .1 .1 .1;

@@ -33,7 +33,9 @@ module _ (s : Step) (w : Row) where
   blocks-alerts e = and-1 (isGuarded (w .kind)) e
 
   -- by the three of them
-  by-verdict : (C : Answer → Type 0) → (blocks s w ≡ true → C (blocked (receiver s) (w .tag) (coverPlace (w .permit) (w .tag)))) → (blocks s w ≡ false → alerts s w ≡ true → C (alert (receiver s) (w .tag) (coverPlace (w .permit) (w .tag))))
+  by-verdict : (C : Answer → Type 0)
+      → (blocks s w ≡ true → C (blocked (receiver s) (w .tag) (coverPlace (w .permit) (w .tag))))
+      → (blocks s w ≡ false → alerts s w ≡ true → C (alert (receiver s) (w .tag) (coverPlace (w .permit) (w .tag))))
       → (alerts s w ≡ false → C (quiet (receiver s) (w .tag) (coverPlace (w .permit) (w .tag)))) → C (verdict s w)
   by-verdict C kb ka kq =
       ⊎-elim (λ b. subst C (sym (verdict-blocked b)) (kb b))

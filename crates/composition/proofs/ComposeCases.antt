@@ -82,7 +82,9 @@ module _ (a b consent out : List ℕ) where
 
       module _ (second : checkOf b ≡ 0) where
         -- 20
-        pub case-input : inputGood a b consent ≡ false → (_≡_ {A = Composition} (record { refusal = compositionInput; length = 0 }) (composeAnswer a b consent out)) × (out ≡ composeEffect a b consent out)
+        pub case-input : inputGood a b consent ≡ false
+            → (_≡_ {A = Composition} (record { refusal = compositionInput; length = 0 }) (composeAnswer a b consent out))
+            × (out ≡ composeEffect a b consent out)
         case-input h = refused (refusal-input a b consent out long first second h) (λ z. omega arith)
 
         module _ (input : inputGood a b consent ≡ true) (ba : Bytes a) (bb : Bytes b) {c n : ℕ} {after : List ℕ} (e : c ≡ consenting consent) (w : PairWritten (pairOwned c a b) out after n) where
@@ -107,7 +109,9 @@ module _ (a b consent out : List ℕ) where
           pub case-limit : n ≡ 0 → (_≡_ {A = Composition} (record { refusal = compositionLimit; length = 0 }) (composeAnswer a b consent out)) × (after ≡ composeEffect a b consent out)
           case-limit z = by (limitGood (composed a b consent)) refl
             where
-              by : (x : Bool) → limitGood (composed a b consent) ≡ x → (_≡_ {A = Composition} (record { refusal = compositionLimit; length = 0 }) (composeAnswer a b consent out)) × (after ≡ composeEffect a b consent out)
+              by : (x : Bool) → limitGood (composed a b consent) ≡ x
+                  → (_≡_ {A = Composition} (record { refusal = compositionLimit; length = 0 }) (composeAnswer a b consent out))
+                  × (after ≡ composeEffect a b consent out)
               by true h = let l : n ≡ length (encode (policyOf (composed a b consent))) = rw h at answer-is in absurd (omega (arith, image-long h))
               by false h =
                   let g = refused (refusal-limit a b consent out long first second input h) (λ y. omega arith) in
@@ -119,7 +123,8 @@ module _ (a b consent out : List ℕ) where
           unfolding composeAnswer composeEffect answerUnless writtenUnless composedImage
           case-written d = by (limitGood (composed a b consent)) refl
             where
-              by : (x : Bool) → limitGood (composed a b consent) ≡ x → (_≡_ {A = Composition} (record { refusal = 0; length = n }) (composeAnswer a b consent out)) × (after ≡ composeEffect a b consent out)
+              by : (x : Bool) → limitGood (composed a b consent) ≡ x
+                  → (_≡_ {A = Composition} (record { refusal = 0; length = n }) (composeAnswer a b consent out)) × (after ≡ composeEffect a b consent out)
               by true h =
                   let f : composeRefusal a b consent out ≡ 0 = refusal-none a b consent out long first second input h in
                   let l : n ≡ length (encode (policyOf (composed a b consent))) = rw h at answer-is in

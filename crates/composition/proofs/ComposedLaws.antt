@@ -120,7 +120,9 @@ own-covered r m h = covers-by m r m (normal-among r m h) (holds-refl m)
 
 pub composed-self : (c : ℕ) (r : List ℕ) → composedRule c r r ≡ normal r
 unfolding composedRule
-composed-self c r = normal-unique (entering c r (normal r) ++ entering c r (normal r)) r (λ t. covers-append (entering c r (normal r)) (entering c r (normal r)) t ∙ twice (covers (entering c r (normal r)) t) ∙ same t)
+composed-self c r =
+    normal-unique (entering c r (normal r) ++ entering c r (normal r)) r
+    (λ t. covers-append (entering c r (normal r)) (entering c r (normal r)) t ∙ twice (covers (entering c r (normal r)) t) ∙ same t)
   where
     twice : (x : Bool) → (x || x) ≡ x
     twice true = refl
@@ -157,7 +159,11 @@ side c r s t h = at (largest (entering c s (normal r)) t h)
 pub composed-sound : (c : ℕ) (r s : List ℕ) (t : ℕ) → covers (composedRule c r s) t ≡ true
     → ((covers r t ≡ true) × (covers s t ≡ true)) ⊎ (Consented c r t ⊎ Consented c s t)
 unfolding composedRule
-composed-sound c r s t h = by (or-cases (covers (entering c s (normal r)) t) (sym (covers-append (entering c s (normal r)) (entering c r (normal s)) t) ∙ sym (covers-normal (entering c s (normal r) ++ entering c r (normal s)) t) ∙ h))
+composed-sound c r s t h =
+    by
+    (or-cases (covers (entering c s (normal r)) t)
+    (sym (covers-append (entering c s (normal r)) (entering c r (normal s)) t)
+    ∙ sym (covers-normal (entering c s (normal r) ++ entering c r (normal s)) t) ∙ h))
   where
     first : ((covers r t ≡ true) × (covers s t ≡ true)) ⊎ Consented c r t → ((covers r t ≡ true) × (covers s t ≡ true)) ⊎ (Consented c r t ⊎ Consented c s t)
     first (inl x) = inl x
@@ -207,7 +213,8 @@ module _ (c : ℕ) (r : List ℕ) (within : Within tagWidth r) (partly : holds c
       ap (λ (x : List ℕ). normal (entering c r x ++ entering c ((2 ^ tagWidth - 1) ∷ []) (normal r))) (normal-one (2 ^ tagWidth - 1))
       ∙ normal-unique (entering c r ((2 ^ tagWidth - 1) ∷ []) ++ entering c ((2 ^ tagWidth - 1) ∷ []) (normal r)) r
       (λ t. covers-append (entering c r ((2 ^ tagWidth - 1) ∷ [])) (entering c ((2 ^ tagWidth - 1) ∷ []) (normal r)) t
-      ∙ same-test (covers (entering c r ((2 ^ tagWidth - 1) ∷ [])) t || covers (entering c ((2 ^ tagWidth - 1) ∷ []) (normal r)) t) (covers r t) (λ h. to t (or-cases (covers (entering c r ((2 ^ tagWidth - 1) ∷ [])) t) h)) (from t))
+      ∙ same-test (covers (entering c r ((2 ^ tagWidth - 1) ∷ [])) t || covers (entering c ((2 ^ tagWidth - 1) ∷ []) (normal r)) t) (covers r t)
+      (λ h. to t (or-cases (covers (entering c r ((2 ^ tagWidth - 1) ∷ [])) t) h)) (from t))
     where
       under-all : (m : ℕ) → elem m (normal r) ≡ true → covers ((2 ^ tagWidth - 1) ∷ []) m ≡ true
       under-all m h = covers-by (2 ^ tagWidth - 1) ((2 ^ tagWidth - 1) ∷ []) m (elem-here (2 ^ tagWidth - 1) []) (holds-all tagWidth m (within m (normal-among r m h)))
@@ -217,4 +224,6 @@ module _ (c : ℕ) (r : List ℕ) (within : Within tagWidth r) (partly : holds c
       to t (inr e) = sym (covers-normal r t) ∙ covers-entering c ((2 ^ tagWidth - 1) ∷ []) (normal r) t e
 
       from : (t : ℕ) → covers r t ≡ true → (covers (entering c r ((2 ^ tagWidth - 1) ∷ [])) t || covers (entering c ((2 ^ tagWidth - 1) ∷ []) (normal r)) t) ≡ true
-      from t h = or-1 (covers (entering c r ((2 ^ tagWidth - 1) ∷ [])) t) (covers (entering c ((2 ^ tagWidth - 1) ∷ []) (normal r)) t) (all-enter c ((2 ^ tagWidth - 1) ∷ []) (normal r) under-all t (covers-normal r t ∙ h))
+      from t h =
+          or-1 (covers (entering c r ((2 ^ tagWidth - 1) ∷ [])) t) (covers (entering c ((2 ^ tagWidth - 1) ∷ []) (normal r)) t)
+          (all-enter c ((2 ^ tagWidth - 1) ∷ []) (normal r) under-all t (covers-normal r t ∙ h))

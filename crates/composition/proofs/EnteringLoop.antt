@@ -77,7 +77,9 @@ module _ {c : ℕ} {other rule before list : List ℕ} {n at i : ℕ} (h : Gathe
         was = h .was;
         long = length-set list at (getD rule i 0) ∙ h .long;
         front =
-            ap (λ (x : List ℕ). x ++ entering c other (drop (i + 1) rule)) (ap (λ (k : ℕ). take k (set list at (getD rule i 0))) (add-one at) ∙ take-suc-set list at (getD rule i 0) (omega (arith, h .most, h .room, h .long)))
+            ap (λ (x : List ℕ). x ++ entering c other (drop (i + 1) rule))
+            (ap (λ (k : ℕ). take k (set list at (getD rule i 0))) (add-one at)
+            ∙ take-suc-set list at (getD rule i 0) (omega (arith, h .most, h .room, h .long)))
             ∙ append-assoc (take at list) (getD rule i 0 ∷ []) (entering c other (drop (i + 1) rule))
             ∙ ap (λ (x : List ℕ). take at list ++ x) (sym (next-entering b e ∙ rw t))
             ∙ h .front;

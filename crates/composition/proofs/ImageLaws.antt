@@ -26,7 +26,8 @@ use Rattle.image.proofs.WrittenOwners.{Ownable, owned-ownable, policy-sound, po
 use Rattle.normaliser.specs.Normaliser.{writtenUnless}
 use Rattle.normaliser.proofs.WriterLaws as writer
 use Rattle.composition.specs.Composed.{consentGood, consenting, composedOwned}
-use Rattle.composition.specs.Images.{sameContainers, sameShape, composed, composedImage, usesShort, rulesFew, inputGood, limitGood, pairConditions, composeConditions, answerUnless, composeAnswer, composeEffect}
+use Rattle.composition.specs.Images.{sameContainers, sameShape, composed, composedImage, usesShort, rulesFew, inputGood}
+use Rattle.composition.specs.Images.{limitGood, pairConditions, composeConditions, answerUnless, composeAnswer, composeEffect}
 use Rattle.composition.proofs.UseLaws.{alike, Matched, owned-comm, owned-self, few-written, composed-ownable, ownable-short}
 
 -- ---- the shapes of two policies

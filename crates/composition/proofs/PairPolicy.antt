@@ -16,8 +16,9 @@ use Rattle.lists.specs.Lists.{every, joined}
 use Rattle.lists.proofs.Bools.{and-in, and-0, and-1, or-0, or-cases}
 use Rattle.lists.proofs.Every.{every-0, every-1, every-nil, every-cons, every-imp, every-map, every-getD}
 use Rattle.lists.proofs.Same.{same-eq}
+use Rattle.fields.proofs.RowWriting.{front-written}
 use Rattle.fields.specs.Bytes.{numberIn, bytesOf, field}
-use Rattle.fields.specs.Writing.{overwritten, Wrote}
+use Rattle.fields.specs.Writing.{Wrote}
 use Rattle.fields.proofs.ByteLaws.{bytes-length, number-bytes, section-back}
 use Rattle.rules.specs.Rules.{normal}
 use Rattle.rules.specs.Answers.{dataWidth, mixtureLimit}
@@ -81,9 +82,15 @@ unfolding containerIn containerBytes field bytesOf
 fit-back c h =
     let f : (ltb (c .atom) (256 ^ size8) && (ltb (c .permit) (256 ^ size16) && ltb (c .run) (256 ^ size16))) ≡ true = and-1 (ltb (c .kind) (256 ^ size8)) h in
     let g : (ltb (c .permit) (256 ^ size16) && ltb (c .run) (256 ^ size16)) ≡ true = and-1 (ltb (c .atom) (256 ^ size8)) f in
-    let e0 : numberIn (bytesOf size8 (c .kind)) ≡ c .kind = number-bytes size8 (c .kind) (ltb-true (c .kind) (256 ^ size8) (and-0 (ltb (c .kind) (256 ^ size8)) (ltb (c .atom) (256 ^ size8) && (ltb (c .permit) (256 ^ size16) && ltb (c .run) (256 ^ size16))) h)) in
-    let e1 : numberIn (bytesOf size8 (c .atom)) ≡ c .atom = number-bytes size8 (c .atom) (ltb-true (c .atom) (256 ^ size8) (and-0 (ltb (c .atom) (256 ^ size8)) (ltb (c .permit) (256 ^ size16) && ltb (c .run) (256 ^ size16)) f)) in
-    let e2 : numberIn (bytesOf size16 (c .permit)) ≡ c .permit = number-bytes size16 (c .permit) (ltb-true (c .permit) (256 ^ size16) (and-0 (ltb (c .permit) (256 ^ size16)) (ltb (c .run) (256 ^ size16)) g)) in
+    let e0 : numberIn (bytesOf size8 (c .kind)) ≡ c .kind =
+    number-bytes size8 (c .kind)
+    (ltb-true (c .kind) (256 ^ size8)
+    (and-0 (ltb (c .kind) (256 ^ size8)) (ltb (c .atom) (256 ^ size8) && (ltb (c .permit) (256 ^ size16) && ltb (c .run) (256 ^ size16))) h)) in
+    let e1 : numberIn (bytesOf size8 (c .atom)) ≡ c .atom =
+    number-bytes size8 (c .atom)
+    (ltb-true (c .atom) (256 ^ size8) (and-0 (ltb (c .atom) (256 ^ size8)) (ltb (c .permit) (256 ^ size16) && ltb (c .run) (256 ^ size16)) f)) in
+    let e2 : numberIn (bytesOf size16 (c .permit)) ≡ c .permit =
+    number-bytes size16 (c .permit) (ltb-true (c .permit) (256 ^ size16) (and-0 (ltb (c .permit) (256 ^ size16)) (ltb (c .run) (256 ^ size16)) g)) in
     let e3 : numberIn (bytesOf size16 (c .run)) ≡ c .run = number-bytes size16 (c .run) (ltb-true (c .run) (256 ^ size16) (and-1 (ltb (c .permit) (256 ^ size16)) g)) in
     λ i. record { kind = e0 i; atom = e1 i; permit = e2 i; run = e3 i }
 
@@ -329,15 +336,11 @@ module _ (c : ℕ) (a b : List ℕ) (h : Paired a b) where
           ap (λ (k : ℕ). take k (putMid 0 ((2 * n + u) * formWidth - 0) zeros x)) z ∙ take-at x (drop ((2 * n + u) * formWidth - 0) zeros) (length x) refl ∙ e
 
       module _ {p₀ p : List ℕ} {i : ℕ} (wp : Wrote placesBytes p₀ p 0 i) {q₀ q : List ℕ} {j : ℕ} (wq : Wrote usersBytes q₀ q 0 j) where
-        front-is : {y before after : List ℕ} {m : ℕ} → Wrote y before after 0 m → take (m - 0) after ≡ y
-        unfolding overwritten
-        front-is {y} {before} {after} {m} w =
-            let z : m - 0 ≡ length y = omega (arith, w .ends) in
-            ap₂ take z (w .buffer) ∙ take-at y (drop (0 + length y) before) (length y) refl
-
         pub lent-tabled : Tabled (take (i - 0) p) (take (j - 0) q) (take ((2 * n + u) * formWidth - 0) (putMid 0 ((2 * n + u) * formWidth - 0) zeros x))
-        lent-tabled = rw (front-is wp, front-is wq, filled) tabled
+        lent-tabled = rw (front-written wp, front-written wq, filled) tabled
 
-        pub lent-written : {before after : List ℕ} {r : ℕ} → Answered (policyAt (take (i - 0) p) (take (j - 0) q) (take ((2 * n + u) * formWidth - 0) (putMid 0 ((2 * n + u) * formWidth - 0) zeros x))) before after r
+        pub lent-written : {before after : List ℕ} {r : ℕ}
+            → Answered (policyAt (take (i - 0) p) (take (j - 0) q) (take ((2 * n + u) * formWidth - 0) (putMid 0 ((2 * n + u) * formWidth - 0) zeros x))) before
+            after r
             → PairWritten (pairOwned c a b) before after r
-        lent-written w = answered (rw (front-is wp, front-is wq, filled) at w)
+        lent-written w = answered (rw (front-written wp, front-written wq, filled) at w)

@@ -61,7 +61,8 @@ module _ (s : List ℕ) where
   pub own-start : (out : List ℕ) → length s / containerSize ≤ containerLimit → containerLimit * containerSize ≤ length out → RowsWritten (ownRows s) out 0 out 0 0
   own-start out h l = rows-start (ownRows s) out 0 (omega (arith, own-size))
 
-  module _ (i : ℕ) (l : i < length s / containerSize) {kind atom : ℕ} (e : kind ≡ field s (i * containerSize + containerKindAt) size8) (f : atom ≡ field s (i * containerSize + containerAtomAt) size8) where
+  module _ (i : ℕ) (l : i < length s / containerSize) {kind atom : ℕ} (e : kind ≡ field s (i * containerSize + containerKindAt) size8)
+      (f : atom ≡ field s (i * containerSize + containerAtomAt) size8) where
     row-is : getD (ownRows s) i [] ≡ containerBytes (record { kind = kind; atom = atom; permit = 2 * i; run = 2 * i + 1 })
     row-is =
         let z : 0 + 2 * i ≡ 2 * i = omega arith in
@@ -75,7 +76,9 @@ module _ (s : List ℕ) where
       pub own-room : at + containerSize ≤ length out
       own-room = omega (arith, rows-room g (omega (arith, rows-count)), ap length row-is, container-wide (record { kind = kind; atom = atom; permit = 2 * i; run = 2 * i + 1 }))
 
-      pub own-next : {after : List ℕ} {next : ℕ} → Wrote (containerBytes (record { kind = kind; atom = atom; permit = 2 * i; run = 2 * i + 1 })) out after at next → RowsWritten (ownRows s) before 0 after next (i + 1)
+      pub own-next : {after : List ℕ} {next : ℕ}
+          → Wrote (containerBytes (record { kind = kind; atom = atom; permit = 2 * i; run = 2 * i + 1 })) out after at next
+          → RowsWritten (ownRows s) before 0 after next (i + 1)
       own-next w = rows-next g (omega (arith, rows-count)) (sym row-is) w
 
   pub own-end : {before out : List ℕ} {at i : ℕ} → RowsWritten (ownRows s) before 0 out at i → length s / containerSize ≤ i → Wrote (joined (ownRows s)) before out 0 at
@@ -142,7 +145,8 @@ module _ (a b : List ℕ) (i : ℕ) (h : Comparing a b i) (l : i < length a / co
   abbrev atomOf : List ℕ → ℕ
   atomOf s = field s (i * containerSize + containerAtomAt) size8
 
-  split : (eqb (kindOf a) (kindOf b) && (eqb (atomOf a) (atomOf b) && sameContainers (drop (suc i) (containersIn a)) (drop (suc i) (containersIn b)))) ≡ sameContainers (containersIn a) (containersIn b)
+  split : (eqb (kindOf a) (kindOf b) && (eqb (atomOf a) (atomOf b) && sameContainers (drop (suc i) (containersIn a)) (drop (suc i) (containersIn b))))
+      ≡ sameContainers (containersIn a) (containersIn b)
   unfolding sameContainers
   split =
       let m : i < length b / containerSize = omega (arith, h .even) in

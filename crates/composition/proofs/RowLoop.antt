@@ -1,8 +1,8 @@
 -- The rows of uses one behind the other, as long as each rule fits.
-use Prim.Native.Nat.{ℕ, suc, _+_, _-_, _*_, _≤_, _<_}
+use Prim.Native.Nat.{ℕ, _+_, _-_, _*_, _≤_, _<_}
 use mathlib.Core.Path.{_≡_, refl, sym, ap, ap₂, _∙_}
 use mathlib.Core.Bool.{Bool, true, false}
-use mathlib.Core.List.{List, [], _∷_, _++_, map}
+use mathlib.Core.List.{List, [], _++_, map}
 use native.Mathlib.Omega.{arith}
 use native.Mathlib.Decide.{decLt}
 use lib.ListN.{length, getD, take, drop, length-append, length-map}
@@ -11,7 +11,7 @@ use borrow.Author.Tests.{leb-true}
 use borrow.Rule.Slice.PartMut.{putMid}
 use Rattle.lists.specs.Lists.{every, joined}
 use Rattle.lists.proofs.Bools.{refuted, clash}
-use Rattle.lists.proofs.Every.{every-nil, every-cons, every-getD}
+use Rattle.lists.proofs.Every.{every-getD}
 use Rattle.lists.proofs.Joined.{joined-more}
 use Rattle.lists.proofs.Places.{map-at}
 use Rattle.fields.specs.Writing.{overwritten, Wrote}
@@ -20,13 +20,10 @@ use Rattle.fields.proofs.RowWriting.{part-wrote}
 use Rattle.rules.specs.Answers.{mixtureLimit}
 use Rattle.image.specs.Normal.{Use, freeUse}
 use Rattle.normaliser.specs.Writer.{formWidth, formRow}
+use Rattle.normaliser.proofs.FormRows.{every-place}
 use Rattle.composition.specs.Images.{shortUse}
 use Rattle.composition.specs.Tables.{UsePut, UsesPut}
 use Rattle.composition.proofs.UseRows.{row-long}
-
-every-place : (f : Use → Bool) (xs : List Use) → ((k : ℕ) → k < length xs → f (getD xs k freeUse) ≡ true) → every f xs ≡ true
-every-place f [] h = every-nil f
-every-place f (x ∷ xs) h = every-cons f x xs (h 0 (omega arith)) (every-place f xs (λ k l. h (suc k) (omega arith)))
 
 -- the rows of the first k uses, each of which fits
 pub record Rowing (us : List Use) (count : ℕ) (forms : List ℕ) (k : ℕ) : Type 0 where

@@ -131,7 +131,10 @@ module _ (a consent out : List ℕ) (bytes : Bytes a) (good : consentGood consen
   image-long : normalRefusal ≡ 0 → headerSize ≤ length (normalImage (policyIn a))
   image-long z = images.normal-long a consent bytes (accepted z)
 
-  answer-same : (n : ℕ) → normalRefusal ≡ n → answerUnless n (composedImage a a consent) ≡ cond (ltb (lengthUnless n (normalImage (policyIn a))) headerSize) (record { refusal = lengthUnless n (normalImage (policyIn a)); length = 0 }) (record { refusal = 0; length = lengthUnless n (normalImage (policyIn a)) })
+  answer-same : (n : ℕ) → normalRefusal ≡ n
+      → answerUnless n (composedImage a a consent)
+      ≡ cond (ltb (lengthUnless n (normalImage (policyIn a))) headerSize) (record { refusal = lengthUnless n (normalImage (policyIn a)); length = 0 })
+      (record { refusal = 0; length = lengthUnless n (normalImage (policyIn a)) })
   unfolding answerUnless lengthUnless
   answer-same zero z =
       let i : composedImage a a consent ≡ normalImage (policyIn a) = image-same z in

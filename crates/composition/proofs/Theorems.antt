@@ -120,7 +120,8 @@ module _ (a b consent out : List ℕ) where
     where
       to : refusal ≡ lentLength → length out < outputBound
       to e =
-          cases (λ l. l) (λ l p. absurd (omega (arith, images.refusal-first a b consent out l p, images.check-small a))) (λ l p q. absurd (omega (arith, images.refusal-second a b consent out l p q, images.check-small b)))
+          cases (λ l. l) (λ l p. absurd (omega (arith, images.refusal-first a b consent out l p, images.check-small a)))
+          (λ l p q. absurd (omega (arith, images.refusal-second a b consent out l p q, images.check-small b)))
           (λ l p q x. absurd (omega (arith, images.refusal-input a b consent out l p q x))) (λ l p q x y. absurd (omega (arith, images.refusal-limit a b consent out l p q x y)))
           (λ l p q x y. absurd (omega (arith, images.refusal-none a b consent out l p q x y)))
 
@@ -182,7 +183,8 @@ module _ (a b consent out : List ℕ) where
     shape = unfold inputGood in (and-0 (sameShape (policyIn a) (policyIn b)) (consentGood consent) (compose-passed .0 e .3))
 
     -- the image is accepted, its own normal image, and the output holds it
-    pub composed-accepted : (checkOf (composedImage a b consent) ≡ 0) × (normalImage (policyIn (composedImage a b consent)) ≡ composedImage a b consent) × (length (composedImage a b consent) ≤ outputBound)
+    pub composed-accepted : (checkOf (composedImage a b consent) ≡ 0) × (normalImage (policyIn (composedImage a b consent)) ≡ composedImage a b consent)
+        × (length (composedImage a b consent) ≤ outputBound)
     unfolding composedImage composed
     composed-accepted =
         let h = compose-passed .0 e in (

@@ -225,7 +225,10 @@ place-shape c p q e h k = by (isFile (p .kind)) h (rw (sym e) at k)
         rw z (use-refl freeUse)
 
     by : (b : Bool) → cond b (fileShape p) (otherShape (p .kind) p) ≡ true → cond b (fileShape q) (otherShape (p .kind) q) ≡ true
-        → cond b (fileShape p) ((isVolatile (p .kind) || isProcess (p .kind)) && (eqb (p .atom) noAtom && (sameUse (composedUse c (p .permit) (q .permit)) freeUse && sameUse (composedUse c (p .run) (q .run)) freeUse))) ≡ true
+        → cond b (fileShape p)
+        ((isVolatile (p .kind) || isProcess (p .kind))
+        && (eqb (p .atom) noAtom && (sameUse (composedUse c (p .permit) (q .permit)) freeUse && sameUse (composedUse c (p .run) (q .run)) freeUse)))
+        ≡ true
     by true x y = x
     by false x y =
         let f : (eqb (p .atom) noAtom && (sameUse (p .permit) freeUse && sameUse (p .run) freeUse)) ≡ true = and-1 (isVolatile (p .kind) || isProcess (p .kind)) x in

@@ -4,7 +4,7 @@ use mathlib.Core.Path.{_≡_, refl, sym, ap, ap₂, _∙_}
 use mathlib.Core.Bool.{true}
 use mathlib.Core.List.{List, [], _∷_, _++_, map, map-append}
 use native.Mathlib.Omega.{arith}
-use lib.ListN.{length, getD, take, drop, length-append, length-map}
+use lib.ListN.{length, getD, take, drop, length-append, length-map, List·getD-append}
 use Rattle.lists.specs.Lists.{every}
 use Rattle.lists.proofs.Every.{every-0, every-1, every-nil, every-cons, every-append, every-getD}
 use Rattle.lists.proofs.Places.{map-at}
@@ -71,11 +71,6 @@ module _ (s : List ℕ) (i : ℕ) (l : i < length s / containerSize) where
   unfolding containerIn
   run-field = ap (λ (c : Container). c .run) record-is ∙ field-record s (i * containerSize) containerSize containerRunAt size16 (omega arith)
 
-getD-left : (xs ys : List ℕ) (k : ℕ) → k < length xs → getD (xs ++ ys) k 0 ≡ getD xs k 0
-getD-left [] ys k l = absurd (omega arith)
-getD-left (x ∷ xs) ys zero l = refl
-getD-left (x ∷ xs) ys (suc k) l = getD-left xs ys k (omega arith)
-
 getD-right : (xs ys : List ℕ) (k : ℕ) → getD (xs ++ ys) (length xs + k) 0 ≡ getD ys k 0
 getD-right [] ys k = let z : 0 + k ≡ k = omega arith in ap (λ (j : ℕ). getD ys j 0) z
 getD-right (x ∷ xs) ys k =
@@ -90,25 +85,28 @@ module _ (a : List ℕ) where
   use-count = omega (arith, length-append (containerUses (containersIn (part a 0))) (usersIn (part a 1)), numbers-long, users-count (part a 1))
 
   module _ (k : ℕ) where
-    pub number-permit : k < 2 * (length (part a 0) / containerSize) → k % 2 ≡ 0 → {r : ℕ} → r ≡ field (part a 0) (k / 2 * containerSize + containerPermitAt) size16 → r ≡ getD (usedNumbers (policyIn a)) k 0
+    pub number-permit : k < 2 * (length (part a 0) / containerSize) → k % 2 ≡ 0 → {r : ℕ}
+        → r ≡ field (part a 0) (k / 2 * containerSize + containerPermitAt) size16 → r ≡ getD (usedNumbers (policyIn a)) k 0
     unfolding usedNumbers policyIn
     number-permit l e {r} f =
         let n : 2 * (k / 2) ≡ k = omega arith in
         let h : k / 2 < length (part a 0) / containerSize = omega arith in
-        f ∙ sym (getD-left (containerUses (containersIn (part a 0))) (usersIn (part a 1)) k (omega (arith, numbers-long))
+        f ∙ sym (List·getD-append (containerUses (containersIn (part a 0))) (usersIn (part a 1)) 0 k (omega (arith, numbers-long))
         ∙ ap (λ (j : ℕ). getD (containerUses (containersIn (part a 0))) j 0) (sym n)
         ∙ permit-at (containersIn (part a 0)) (k / 2) (omega (arith, containers-count (part a 0))) ∙ permit-field (part a 0) (k / 2) h)
 
-    pub number-run : k < 2 * (length (part a 0) / containerSize) → (k % 2 ≡ 0 → ⊥) → {r : ℕ} → r ≡ field (part a 0) (k / 2 * containerSize + containerRunAt) size16 → r ≡ getD (usedNumbers (policyIn a)) k 0
+    pub number-run : k < 2 * (length (part a 0) / containerSize) → (k % 2 ≡ 0 → ⊥) → {r : ℕ}
+        → r ≡ field (part a 0) (k / 2 * containerSize + containerRunAt) size16 → r ≡ getD (usedNumbers (policyIn a)) k 0
     unfolding usedNumbers policyIn
     number-run l d {r} f =
         let n : 2 * (k / 2) + 1 ≡ k = omega arith in
         let h : k / 2 < length (part a 0) / containerSize = omega arith in
-        f ∙ sym (getD-left (containerUses (containersIn (part a 0))) (usersIn (part a 1)) k (omega (arith, numbers-long))
+        f ∙ sym (List·getD-append (containerUses (containersIn (part a 0))) (usersIn (part a 1)) 0 k (omega (arith, numbers-long))
         ∙ ap (λ (j : ℕ). getD (containerUses (containersIn (part a 0))) j 0) (sym n)
         ∙ run-at (containersIn (part a 0)) (k / 2) (omega (arith, containers-count (part a 0))) ∙ run-field (part a 0) (k / 2) h)
 
-    pub number-user : 2 * (length (part a 0) / containerSize) ≤ k → k < useCount a → {r : ℕ} → r ≡ field (part a 1) ((k - 2 * (length (part a 0) / containerSize)) * userSize) size16 → r ≡ getD (usedNumbers (policyIn a)) k 0
+    pub number-user : 2 * (length (part a 0) / containerSize) ≤ k → k < useCount a → {r : ℕ}
+        → r ≡ field (part a 1) ((k - 2 * (length (part a 0) / containerSize)) * userSize) size16 → r ≡ getD (usedNumbers (policyIn a)) k 0
     unfolding usedNumbers policyIn usersIn field
     number-user l h {r} f =
         let n : length (containerUses (containersIn (part a 0))) + (k - 2 * (length (part a 0) / containerSize)) ≡ k = omega (arith, numbers-long) in

@@ -121,7 +121,8 @@ module _ (c : ℕ) (u v : Use) (su : length (u .mixtures) ≤ mixtureLimit) (sv 
       → UsePut (composedUse c u v) (putMid 0 (ruleWidth - 0) (set row ruleWidth o) ws) b
   unfolding composedUse formRow
   rows-composed {row} {other} p q {o} e {ws} {b} w =
-      let x : ruleOf (take (ruleWidth - 0) (set row ruleWidth o)) ≡ u .mixtures = ap (λ (y : List ℕ). ruleOf (take (ruleWidth - 0) (set y ruleWidth o))) p ∙ ap ruleOf (set-words u su o) ∙ words-rule (u .mixtures) in
+      let x : ruleOf (take (ruleWidth - 0) (set row ruleWidth o)) ≡ u .mixtures =
+      ap (λ (y : List ℕ). ruleOf (take (ruleWidth - 0) (set y ruleWidth o))) p ∙ ap ruleOf (set-words u su o) ∙ words-rule (u .mixtures) in
       let y : ruleOf (take (ruleWidth - 0) other) ≡ v .mixtures = ap (λ (y : List ℕ). ruleOf (take (ruleWidth - 0) y)) q ∙ ap ruleOf (row-words v sv) ∙ words-rule (v .mixtures) in
       let r : composedRule c (ruleOf (take (ruleWidth - 0) (set row ruleWidth o))) (ruleOf (take (ruleWidth - 0) other)) ≡ composedRule c (u .mixtures) (v .mixtures) = ap₂ (composedRule c) x y in
       let z : o ≡ composedOwner (u .owner) (v .owner) =

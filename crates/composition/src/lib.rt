@@ -181,7 +181,8 @@ fn put_composed(
     j: usize,
     consent: u64,
 ) -> bool
-    requires { ⌜ (length (now row) ≡ formWidth) × (checkOf (now first) ≡ 0) × (checkOf (now second) ≡ 0) × (named (length (policyIn (now first) .rules)) i ≡ true) × (named (length (policyIn (now second) .rules)) j ≡ true) ⌝ }
+    requires { ⌜ (length (now row) ≡ formWidth) × (checkOf (now first) ≡ 0) × (checkOf (now second) ≡ 0)
+        × (named (length (policyIn (now first) .rules)) i ≡ true) × (named (length (policyIn (now second) .rules)) j ≡ true) ⌝ }
     ensures { λ r. ⌜ UsePut (composedUse consent (useAt (policyIn (now (first .entry))) i) (useAt (policyIn (now (second .entry))) j)) (now (row .exit)) r ⌝ }
 {
     put_use(row, first, i);
@@ -393,7 +394,8 @@ fn repeat(image: &[u8], out: &mut [u8]) -> Composition
 
 // Writes two images composed as a normal image: 9, then what the first image is refused for, then the second, then 20 and 21.
 pub fn compose(first: &[u8], second: &[u8], consent: &[u8], out: &mut [u8]) -> Composition
-    ensures { λ r. ⌜ (r ≡ composeAnswer (now (first .entry)) (now (second .entry)) (now (consent .entry)) (now (out .entry))) × (now (out .exit) ≡ composeEffect (now (first .entry)) (now (second .entry)) (now (consent .entry)) (now (out .entry))) ⌝ }
+    ensures { λ r. ⌜ (r ≡ composeAnswer (now (first .entry)) (now (second .entry)) (now (consent .entry)) (now (out .entry)))
+        × (now (out .exit) ≡ composeEffect (now (first .entry)) (now (second .entry)) (now (consent .entry)) (now (out .entry))) ⌝ }
 {
     if is_repeated(first, second, consent) {
         return repeat(first, out);

@@ -5,8 +5,7 @@ use mathlib.Core.Path.{_≡_, refl, sym, ap, ap₂, _∙_, subst}
 use mathlib.Core.Bool.{Bool, true, false, not}
 use mathlib.Core.List.{List, [], _∷_, _++_, map, map-append}
 use lib.Dec.{leb}
-use lib.ListN.{length, take, drop, replicate}
-use lib.Seq.{take-at}
+use lib.ListN.{length, take, replicate}
 use borrow.Author.Tests.{le-leb, lt-leb, leb-true, not-false}
 use Rattle.lists.specs.Lists.{every, joined}
 use Rattle.lists.specs.Conditions.{firstFailed, _orRefuse_}
@@ -15,9 +14,9 @@ use Rattle.lists.proofs.Conditions.{passed, failed, none-left}
 use Rattle.lists.proofs.Joined.{joined-append, joined-one}
 use Rattle.answers.specs.Refusals.{lentLength, profileText, profileLimit}
 use Rattle.fields.specs.Bytes.{bytesOf}
-use Rattle.fields.specs.Writing.{overwritten, Wrote}
+use Rattle.fields.specs.Writing.{Wrote}
 use Rattle.fields.proofs.WritingLaws.{wrote-join}
-use Rattle.fields.proofs.RowWriting.{wrote-whole}
+use Rattle.fields.proofs.RowWriting.{wrote-whole, front-written}
 use Rattle.fields.proofs.ByteLaws.{bytes-length}
 use Rattle.rules.specs.Answers.{dataWidth}
 use Rattle.rules.proofs.RuleLaws.{normal-normal}
@@ -45,7 +44,8 @@ pub forms-as : {f g : ℕ → List ℕ} {count : ℕ} {forms : List ℕ} {b : Bo
 forms-as {count = count} {forms = forms} {b = b} e h = subst (λ (x : ℕ → List ℕ). FormsPut x count forms b) e h
 
 -- the part of the programs' numbers and of their mixtures that is lent
-pub rule-lent : (own modes runs : List ℕ) (n m : ℕ) → take m runs ≡ mixtures own modes n m → ruleFrom (take (m - 0) own) modes (take (m - 0) runs) ≡ ruleFrom (take m own) modes (mixtures own modes n m)
+pub rule-lent : (own modes runs : List ℕ) (n m : ℕ) → take m runs ≡ mixtures own modes n m
+    → ruleFrom (take (m - 0) own) modes (take (m - 0) runs) ≡ ruleFrom (take m own) modes (mixtures own modes n m)
 rule-lent own modes runs n m e = let z : m - 0 ≡ m = omega arith in rw (z, e)
 
 module _ (own modes : List ℕ) (n m : ℕ) where
@@ -64,12 +64,6 @@ forms-rows f j (suc n) = ap₂ _∷_ (ap plain (sym (normal-normal (f j)))) (for
   where
     plain : List ℕ → List ℕ
     plain r = formRow (record { owner = noOwner; mixtures = r })
-
-front-is : {x before after : List ℕ} {n : ℕ} → Wrote x before after 0 n → take (n - 0) after ≡ x
-unfolding overwritten
-front-is {x} {before} {after} {n} w =
-    let e : n - 0 ≡ length x = omega (arith, w .ends) in
-    ap₂ take e (w .buffer) ∙ take-at x (drop (0 + length x) before) (length x) refl
 
 -- ---- the policy goes to the writer
 
@@ -91,7 +85,7 @@ module _ (ps : List Profile) (own modes : List ℕ) (n m : ℕ) (t : Tabulated p
     containers-are : take (end - 0) after ≡ joined (map containerBytes (profilePolicy ps .containers))
     unfolding profilePolicy tablePolicy
     containers-are =
-        front-is (wrote-join (omega arith) p q)
+        front-written (wrote-join (omega arith) p q)
         ∙ ap (λ (l : List ℕ). joined (fileRows n) ++ l) (sym (joined-one (containerBytes initialProcess)))
         ∙ sym (joined-append (fileRows n) (containerBytes initialProcess ∷ []))
         ∙ ap joined (sym (map-append containerBytes (filesFrom 0 (replicate n [])) (initialProcess ∷ [])))
@@ -183,7 +177,13 @@ module _ (text out : List ℕ) where
           over : limitsGood (profilesIn text) ≡ false
           over =
               unfold limitsGood in
-              refuted (limitsGood (profilesIn text)) (λ y. omega (arith, leb-true (length (pathsOf (profilesIn text))) dataWidth (and-0 (leb (length (pathsOf (profilesIn text))) dataWidth) (every shortRule (rulesOf (profilesIn text))) y)))
+              refuted (limitsGood (profilesIn text))
+              (λ y.
+              omega (
+                arith,
+                leb-true (length (pathsOf (profilesIn text))) dataWidth
+                    (and-0 (leb (length (pathsOf (profilesIn text))) dataWidth) (every shortRule (rulesOf (profilesIn text))) y),
+              ))
 
       -- the tables' policy: 17, or the image
       pub derive-done : (own modes : List ℕ) (n m : ℕ) → Tabulated (profilesIn text) own modes n m → {after : List ℕ} {r : ℕ} → PolicyWritten (tablePolicy own modes n m) out after r
@@ -203,7 +203,8 @@ module _ (text out : List ℕ) where
               (subst (λ (x : Policy). Wrote (normalImage x) out after 0 r) (tables-policy (profilesIn text) own modes n m t) (w .fits (same-rules ∙ e)))
           by false e =
               let o = w .over (same-rules ∙ e) in
-              let l : limitsGood (profilesIn text) ≡ false = unfold limitsGood in refuted (limitsGood (profilesIn text)) (λ y. clash (and-1 (leb (length (pathsOf (profilesIn text))) dataWidth) y) e) in
+              let l : limitsGood (profilesIn text) ≡ false =
+              unfold limitsGood in refuted (limitsGood (profilesIn text)) (λ y. clash (and-1 (leb (length (pathsOf (profilesIn text))) dataWidth) y) e) in
               let g = refused (refusal-limits l) (λ z. omega arith) in
               (o .0 ∙ g .0, o .1 ∙ g .1)
 

@@ -12,9 +12,12 @@ use Rattle.rules.specs.Rules.{distinct, heldIn, unheldIn, insert, sort, normal,
 use Rattle.fields.specs.Bytes.{bytesOf}
 use Rattle.image.specs.Limits.{fileKind, processKind, noAtom, unrestrictedNumber, noOwner}
 use Rattle.image.specs.Policy.{Container, Policy, unrestrictedRule, ruleAt, ownerAt}
-use Rattle.image.specs.Normal.{normalAt, useAt, ownedPlace, owned, placeUses, uses, sameUse, freeUse, noted, numbered, numberOf, containerOf, writtenBy, writtenUses, policyOf, normalPolicy, containerBytes, spanBytes, spansOf, pair, header, framed, encode, normalImage}
+use Rattle.image.specs.Normal.{normalAt, useAt, ownedPlace, owned, placeUses, uses, sameUse, freeUse, noted, numbered, numberOf, containerOf, writtenBy}
+use Rattle.image.specs.Normal.{writtenUses, policyOf, normalPolicy, containerBytes, spanBytes, spansOf, pair, header, framed, encode, normalImage}
 use Rattle.profiles.specs.Profiles.{Mode, mode-r, mode-w, mode-a, mode-l, mode-m, mode-ix, mode-px, mode-Px, mode-ux, mode-Ux, PathEntry, Profile, modeText, slash}
-use Rattle.confinement.specs.Confinement.{namesOf, withPath, withPaths, pathsOf, isOneOf, someOf, reading, executing, writing, unconfined, inheriting, confined, modesAmong, modesOn, fileAtoms, atomsFrom, runMixture, programsWith, profilesAt, orElse, ifSome, permitMixtures, runMixtures, rulesFrom, rulesOf, filesFrom, initialProcess, profilePolicy}
+use Rattle.confinement.specs.Confinement.{namesOf, withPath, withPaths, pathsOf, isOneOf, someOf, reading, executing, writing, unconfined, inheriting}
+use Rattle.confinement.specs.Confinement.{confined, modesAmong, modesOn, fileAtoms, atomsFrom, runMixture, programsWith, profilesAt, orElse, ifSome}
+use Rattle.confinement.specs.Confinement.{permitMixtures, runMixtures, rulesFrom, rulesOf, filesFrom, initialProcess, profilePolicy}
 use Rattle.confinement.specs.Images.{limitsGood}
 
 -- a line `PATH MODES,`
@@ -45,7 +48,9 @@ pub record Clauses : Type 0 where
   pub own-twin : rulesOf (profile "/p" [] ∷ []) ≡ (d 0 ∷ []) ∷ (r 0 ∷ []) ∷ []
   -- "the atoms of files it may read (r, m) and the twins of those it may execute (any x mode)"; a, l, w are neither
   pub reads-executes : runMixture (map ascii ("/p" ∷ "/r" ∷ "/m" ∷ "/ix" ∷ "/px" ∷ "/Px" ∷ "/ux" ∷ "/Ux" ∷ "/w" ∷ "/a" ∷ "/l" ∷ []))
-      (profile "/p" (line "/r" (mode-r ∷ []) ∷ line "/m" (mode-m ∷ []) ∷ line "/ix" (mode-ix ∷ []) ∷ line "/px" (mode-px ∷ []) ∷ line "/Px" (mode-Px ∷ []) ∷ line "/ux" (mode-ux ∷ []) ∷ line "/Ux" (mode-Ux ∷ []) ∷ line "/w" (mode-w ∷ []) ∷ line "/a" (mode-a ∷ []) ∷ line "/l" (mode-l ∷ []) ∷ []))
+      (profile "/p"
+      (line "/r" (mode-r ∷ []) ∷ line "/m" (mode-m ∷ []) ∷ line "/ix" (mode-ix ∷ []) ∷ line "/px" (mode-px ∷ []) ∷ line "/Px" (mode-Px ∷ [])
+      ∷ line "/ux" (mode-ux ∷ []) ∷ line "/Ux" (mode-Ux ∷ []) ∷ line "/w" (mode-w ∷ []) ∷ line "/a" (mode-a ∷ []) ∷ line "/l" (mode-l ∷ []) ∷ []))
       ≡ r 0 + d 1 + d 2 + r 3 + r 4 + r 5 + r 6 + r 7
   -- it may read itself
   pub reads-itself : rulesOf (profile "/p" (line "/p" (mode-r ∷ []) ∷ []) ∷ []) ≡ (d 0 ∷ []) ∷ ((r 0 + d 0) ∷ []) ∷ []
@@ -82,7 +87,8 @@ pub record Clauses : Type 0 where
   pub no-x : rulesOf (profile "/p" (line "/f" (mode-l ∷ []) ∷ []) ∷ []) ≡ (d 0 ∷ []) ∷ (r 0 ∷ []) ∷ (d 1 ∷ []) ∷ any ∷ []
 
 pub clauses : Clauses
-unfolding ascii modeText namesOf withPath withPaths pathsOf isOneOf someOf reading executing writing unconfined inheriting confined modesAmong modesOn fileAtoms atomsFrom runMixture programsWith profilesAt orElse ifSome permitMixtures runMixtures rulesFrom rulesOf
+unfolding ascii modeText namesOf withPath withPaths pathsOf isOneOf someOf reading executing writing unconfined inheriting confined
+    modesAmong modesOn fileAtoms atomsFrom runMixture programsWith profilesAt orElse ifSome permitMixtures runMixtures rulesFrom rulesOf
     knownBy positionBy sameList unrestrictedRule unrestricted normal sort insert distinct elem unheldIn heldIn holds
 clauses =
     record {
@@ -129,7 +135,9 @@ pub record Limits : Type 0 where
   pub held-9 : limitsGood (profile "/p/" (line "/f/" (mode-w ∷ []) ∷ linesOf 9 (mode-px ∷ [])) ∷ profilesOf 9 (line "/f/" (mode-w ∷ []) ∷ [])) ≡ true
 
 pub limits : Limits
-unfolding limitsGood every ascii modeText namesOf withPath withPaths pathsOf isOneOf someOf reading executing writing unconfined inheriting confined modesAmong modesOn fileAtoms atomsFrom runMixture programsWith profilesAt orElse ifSome permitMixtures runMixtures rulesFrom rulesOf
+unfolding limitsGood every ascii modeText namesOf withPath withPaths pathsOf isOneOf someOf reading executing writing unconfined inheriting
+    confined modesAmong modesOn fileAtoms atomsFrom runMixture programsWith profilesAt orElse ifSome permitMixtures runMixtures rulesFrom
+    rulesOf
     knownBy positionBy sameList unrestrictedRule unrestricted normal sort insert distinct elem unheldIn heldIn holds
 limits = record { paths-32 = refl; paths-33 = refl; writers-8 = refl; writers-9 = refl; inherited-8 = refl; inherited-9 = refl; held-9 = refl }
 
@@ -163,7 +171,8 @@ pub document-rules : rulesOf document
     ∷ (0x800000010 ∷ []) ∷ any
     ∷ (0x800000030 ∷ []) ∷ any
     ∷ []
-unfolding ascii modeText namesOf withPath withPaths pathsOf isOneOf someOf reading executing writing unconfined inheriting confined modesAmong modesOn fileAtoms atomsFrom runMixture programsWith profilesAt orElse ifSome permitMixtures runMixtures rulesFrom rulesOf
+unfolding ascii modeText namesOf withPath withPaths pathsOf isOneOf someOf reading executing writing unconfined inheriting confined
+    modesAmong modesOn fileAtoms atomsFrom runMixture programsWith profilesAt orElse ifSome permitMixtures runMixtures rulesFrom rulesOf
     knownBy positionBy sameList unrestrictedRule unrestricted normal sort insert distinct elem unheldIn heldIn holds
 document-rules = refl
 
@@ -189,8 +198,11 @@ policy =
     }
 
 policy-is : normalPolicy (profilePolicy document) ≡ policy
-unfolding profilePolicy filesFrom initialProcess ascii modeText namesOf withPath withPaths pathsOf isOneOf someOf reading executing writing unconfined inheriting confined modesAmong modesOn fileAtoms atomsFrom runMixture programsWith profilesAt orElse ifSome permitMixtures runMixtures rulesFrom rulesOf
-    normalPolicy policyOf writtenBy writtenUses containerOf numberOf positionBy numbered noted knownBy sameUse freeUse uses placeUses owned ownedPlace useAt ownerAt normalAt ruleAt sameList unrestrictedRule unrestricted normal sort insert distinct elem unheldIn heldIn holds
+unfolding profilePolicy filesFrom initialProcess ascii modeText namesOf withPath withPaths pathsOf isOneOf someOf reading executing writing
+    unconfined inheriting confined modesAmong modesOn fileAtoms atomsFrom runMixture programsWith profilesAt orElse ifSome permitMixtures
+    runMixtures rulesFrom rulesOf
+    normalPolicy policyOf writtenBy writtenUses containerOf numberOf positionBy numbered noted knownBy sameUse freeUse uses placeUses owned
+    ownedPlace useAt ownerAt normalAt ruleAt sameList unrestrictedRule unrestricted normal sort insert distinct elem unheldIn heldIn holds
 policy-is = refl
 
 pub image-is : normalImage (profilePolicy document) ≡ encode policy
@@ -205,6 +217,8 @@ image-length = ap length image-is
 -- no profile: an image of 26 bytes
 pub empty-length : length (normalImage (profilePolicy [])) ≡ 26
 unfolding profilePolicy filesFrom initialProcess namesOf withPaths pathsOf rulesFrom rulesOf
-    normalImage normalPolicy policyOf writtenBy writtenUses containerOf numberOf positionBy numbered noted knownBy sameUse freeUse uses placeUses owned ownedPlace useAt ownerAt normalAt ruleAt sameList unrestrictedRule unrestricted normal sort insert distinct elem unheldIn heldIn holds
+    normalImage normalPolicy policyOf writtenBy writtenUses containerOf numberOf positionBy numbered noted knownBy sameUse freeUse uses
+    placeUses owned ownedPlace useAt ownerAt normalAt ruleAt sameList unrestrictedRule unrestricted normal sort insert distinct elem
+    unheldIn heldIn holds
     encode framed header pair containerBytes spanBytes spansOf bytesOf joined
 empty-length = refl

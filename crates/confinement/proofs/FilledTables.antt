@@ -1,7 +1,7 @@
 -- The tables of a good text are filled from the numbers of its lines, one after the other.
 use Prim.Native.Nat.{ℕ, suc, _+_, _-_, _*_, _≤_, _<_}
 use native.Mathlib.Omega.{arith}
-use native.Mathlib.Decide.{decLt}
+use native.Mathlib.Decide.{decLt, ℕ-discrete}
 use native.Mathlib.Numerals.{add-one}
 use mathlib.Core.Path.{_≡_, refl, sym, ap, ap₂, _∙_, subst}
 use mathlib.Core.Logic.{_⊎_, inl, inr, ⊎-elim}
@@ -25,10 +25,12 @@ use Rattle.profiles.specs.declared.NamedPath.{NamedPath}
 use Rattle.confinement.specs.Confinement.{withPath, withPaths, pathsOf, modesOn}
 use Rattle.confinement.specs.Images.{profilesIn}
 use Rattle.confinement.specs.Tables.{pathAt, noProfile, cellCount}
-use Rattle.confinement.specs.Scans.{pathsFrom, tablePaths, PathSpans, hintCount, Placed, Scanned}
+use Rattle.confinement.specs.Scans.{pathsFrom, tablePaths, PathSpans, hintCount, Placed, LineAdded, Scanned}
 use Rattle.confinement.proofs.PathsNamed.{Distinct, distinct-path, path-kept, path-added, paths-kept, paths-distinct, number-tells}
 use Rattle.confinement.proofs.PathSearch.{paths-length, paths-more, places-table, places-distinct, places-more, position-known, position-last}
-use Rattle.confinement.proofs.LineWalks.{good-once, lineNames, names-of, entered, opened, resumed, withEntry, resumed-whole, entered-length, resumed-grows, namingLines, naming-names, naming-resumed, Told, good-told, told-end, Opens, Enters, Turn, is-profile, is-entry, turn}
+use Rattle.confinement.proofs.LineWalks.{good-once, lineNames, names-of, entered, opened, resumed, withEntry, resumed-whole}
+use Rattle.confinement.proofs.LineWalks.{entered-length, resumed-grows, namingLines, naming-names, naming-resumed, Told}
+use Rattle.confinement.proofs.LineWalks.{good-told, told-end, Opens, Enters, Turn, is-profile, is-entry, turn}
 use Rattle.confinement.proofs.EntryLaws.{few-programs, entered-before, entered-at, bits-last, no-bits, nothing-more, not-first, getD-zeros}
 
 -- ---- more paths
@@ -263,14 +265,17 @@ module _ (t words starts sizes own modes : List ℕ) (i n m : ℕ) (g : TextScan
     pub named-fits : s .start + s .size ≤ length t
     named-fits = line .fits
 
+    -- a line with modes is not the first
+    pub line-begun : (s .modes ≡ 0 → ⊥) → 1 ≤ m
+    line-begun b = by this
+      where
+        by : Turn t more-words (g .left) s → 1 ≤ m
+        by (is-profile x) = absurd (b (x .tells .modes))
+        by (is-entry x) = ⊎-elim (λ h. h) (λ e. absurd (not-first (profilesIn t) (x .entry) (x .rest) (sym e ∙ x .lines))) (g .begun)
+
     module _ (starts′ sizes′ hints : List ℕ) (r c : ℕ) (p : Placed t starts sizes n path starts′ sizes′ hints r c) where
-      pub paths-over : dataWidth ≤ r → (u v : ℕ) → u ≡ dataWidth + 1 → Scanned t starts′ sizes′ own modes u v
-      paths-over h u v e =
-          record {
-            paths = λ l. absurd (omega arith);
-            programs = λ l. absurd (omega arith);
-            many = λ l. omega (arith, p .full h, ap length (paths-now line), paths-grow (withPath before path) (lineNames (line .rest)));
-          }
+      many-paths : dataWidth ≤ r → dataWidth < length (pathsOf (profilesIn t))
+      many-paths h = omega (arith, p .full h, ap length (paths-now line), paths-grow (withPath before path) (lineNames (line .rest)))
 
       module _ (h : r < dataWidth) where
         -- a profile's first line
@@ -293,18 +298,10 @@ module _ (t words starts sizes own modes : List ℕ) (i n m : ℕ) (g : TextScan
           opening-count =
               omega (arith, g .count, length-append (g .done) (opened (opening .path) ∷ []), ap length opening-whole, resumed-grows more (opening .rest))
 
-          pub programs-over : m ≡ dataWidth → (u v : ℕ) → u ≡ dataWidth + 1 → Scanned t starts′ sizes′ own modes u v
-          programs-over z u v e =
-              record {
-                paths = λ l. absurd (omega arith);
-                programs = λ l. absurd (omega arith);
-                many = λ l. omega (arith, opening-count, few-programs (profilesIn t) (g .once));
-              }
+          many-programs : m ≡ dataWidth → dataWidth < length (pathsOf (profilesIn t))
+          many-programs z = omega (arith, opening-count, few-programs (profilesIn t) (g .once))
 
-          module _ (z : m ≡ dataWidth → ⊥) where
-            pub opening-room : m < dataWidth
-            opening-room = omega (arith, g .room)
-
+          module _ (opening-room : m < dataWidth) where
             number : r ≡ position (opening .path) (pathsOf (profilesIn t))
             number = p .found h ∙ number-now (named-opens t more-words (g .left) s opening) ∙ ap (λ (x : List ℕ). position x (pathsOf (profilesIn t))) (opening .tells .text)
 
@@ -335,7 +332,7 @@ module _ (t words starts sizes own modes : List ℕ) (i n m : ℕ) (g : TextScan
                 g .blank (j * dataWidth + k) (omega arith)
                 ∙ sym (ap (λ (x : Profile). modeBits (modesOn x (getD (pathsOf (profilesIn t)) k []))) (last j e) ∙ no-bits (opening .path) (getD (pathsOf (profilesIn t)) k []))
 
-            pub opening-passed : TextScan t words starts′ sizes′ (set own m r) modes (i + 1) c (m + 1)
+            opening-passed : TextScan t words starts′ sizes′ (set own m r) modes (i + 1) c (m + 1)
             unfolding named-opens
             opening-passed =
                 record {
@@ -368,14 +365,11 @@ module _ (t words starts sizes own modes : List ℕ) (i n m : ℕ) (g : TextScan
           abbrev entry : PathEntry
           entry = entering .entry
 
-          pub entering-begun : 1 ≤ m
-          entering-begun = ⊎-elim (λ h. h) (λ e. absurd (not-first (profilesIn t) entry (entering .rest) (sym e ∙ entering .lines))) (g .begun)
+          entering-begun : 1 ≤ m
+          entering-begun = line-begun b
 
-          pub entering-few : m ≤ dataWidth
-          entering-few = g .room
-
-          pub entering-cell : (m - 1) * dataWidth + r < length modes
-          entering-cell = omega (arith, g .modesLong, h, entering-few, entering-begun)
+          entering-cell : (m - 1) * dataWidth + r < length modes
+          entering-cell = omega (arith, g .modesLong, h, g .room, entering-begun)
 
           number-of : r ≡ position (entry .path) (pathsOf (profilesIn t))
           number-of = p .found h ∙ number-now (named-enters t more-words (g .left) s entering) ∙ ap (λ (x : List ℕ). position x (pathsOf (profilesIn t))) (entering .tells .text)
@@ -448,7 +442,7 @@ module _ (t words starts sizes own modes : List ℕ) (i n m : ℕ) (g : TextScan
           unfolding resumed
           entering-whole = ap (resumed (g .done)) (sym (entering .lines)) ∙ g .whole
 
-          pub entering-passed : TextScan t words starts′ sizes′ own after (i + 1) c m
+          entering-passed : TextScan t words starts′ sizes′ own after (i + 1) c m
           unfolding named-enters
           entering-passed =
               record {
@@ -471,3 +465,20 @@ module _ (t words starts sizes own modes : List ℕ) (i n m : ℕ) (g : TextScan
                     (λ x. omega (arith, h, entering-begun))
                     ∙ g .blank i l;
               }
+
+      module _ (own′ modes′ : List ℕ) (m′ : ℕ) (a : LineAdded own modes m r (s .modes) own′ modes′ m′) where
+        -- there is no room for the line
+        pub line-over : dataWidth < m′ → (u v : ℕ) → u ≡ dataWidth + 1 → Scanned t starts′ sizes′ own′ modes′ u v
+        line-over h u v e =
+            record {
+              paths = λ l. absurd (omega arith);
+              programs = λ l. absurd (omega arith);
+              many = λ _. ⊎-elim many-paths (λ w. many-programs (w .0) (w .1) (w .2)) (a .full h);
+            }
+
+        pub line-passed : m′ ≤ dataWidth → TextScan t words starts′ sizes′ own′ modes′ (i + 1) c m′
+        line-passed l = by (ℕ-discrete (s .modes) 0)
+          where
+            by : Dec (s .modes ≡ 0) → TextScan t words starts′ sizes′ own′ modes′ (i + 1) c m′
+            by (yes b) = let o = a .opened l b in rw (o .1, o .2, o .3) (opening-passed (a .fits l) b (o .0))
+            by (no b) = let o = a .entered l b in rw (o .0, o .1, o .2) (entering-passed (a .fits l) b)

@@ -17,6 +17,7 @@ pub mod PathRuleRows
 pub mod PathSearch
 pub mod LineWalks
 pub mod EntryLaws
+pub mod LineAdditions
 pub mod FilledTables
 pub mod TablePolicy
 pub mod DeriveLaws

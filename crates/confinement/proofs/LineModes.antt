@@ -39,7 +39,8 @@ in-some : (wanted ms : List Mode) (m : Mode) → List·Memᴰ m ms → List·Mem
 unfolding someOf
 in-some wanted [] m k w = absurd (List·Memᴰ·not-nil k)
 in-some wanted (n ∷ ms) m k w =
-    ⊎-elim (λ e. or-0 (isOneOf wanted n) (someOf wanted ms) (in-one wanted n (Memᴰ·cast (sym e) w))) (λ e. or-1 (isOneOf wanted n) (someOf wanted ms) (in-some wanted ms m e w)) (List·Memᴰ·cases-cons k)
+    ⊎-elim (λ e. or-0 (isOneOf wanted n) (someOf wanted ms) (in-one wanted n (Memᴰ·cast (sym e) w)))
+    (λ e. or-1 (isOneOf wanted n) (someOf wanted ms) (in-some wanted ms m e w)) (List·Memᴰ·cases-cons k)
 
 -- ---- the modes of lines
 

@@ -78,7 +78,9 @@ module _ (r : List ℕ) (b : Bounded) (e : b ≡ boundedOf (normal r)) where
   unfolding boundedOf
   fits-told = ap (λ (x : Bounded). x .fits) e ∙ by (leb (length (normal r)) mixtureLimit)
     where
-      by : (t : Bool) → cond {A = Bounded} t (record { fits = true; count = length (normal r); mixtures = padded (normal r) }) (record { fits = false; count = 0; mixtures = replicate mixtureLimit 0 }) .fits ≡ t
+      by : (t : Bool)
+          → cond {A = Bounded} t (record { fits = true; count = length (normal r); mixtures = padded (normal r) })
+          (record { fits = false; count = 0; mixtures = replicate mixtureLimit 0 }) .fits ≡ t
       by true = refl
       by false = refl
 

@@ -14,8 +14,11 @@ use Rattle.rules.specs.Answers.{dataWidth}
 use Rattle.image.specs.Policy.{unrestrictedRule}
 use Rattle.profiles.specs.Profiles.{Mode, Profile}
 use Rattle.profiles.specs.Scanning.{modeBits}
-use Rattle.confinement.specs.Confinement.{someOf, reading, executing, writing, unconfined, inheriting, confined, modesOn, fileAtoms, atomsFrom, runMixture, programsWith, profilesAt, orElse, ifSome, permitMixtures, runMixtures}
-use Rattle.confinement.specs.Tables.{noProfile, ProgramTable, readingBits, executingBits, writingBits, unconfinedBits, inheritingBits, confinedBits, meets, fileBits, rowAtoms, rowMixture, listFrom, rowAt, mixtures, columnAt, chosenBy, chosenAt, ifAny, permitFrom, inheritedFrom, runFrom}
+use Rattle.confinement.specs.Confinement.{someOf, reading, executing, writing, unconfined, inheriting, confined, modesOn, fileAtoms}
+use Rattle.confinement.specs.Confinement.{atomsFrom, runMixture, programsWith, profilesAt, orElse, ifSome, permitMixtures, runMixtures}
+use Rattle.confinement.specs.Tables.{noProfile, ProgramTable, readingBits, executingBits, writingBits, unconfinedBits}
+use Rattle.confinement.specs.Tables.{inheritingBits, confinedBits, meets, fileBits, rowAtoms, rowMixture, listFrom, rowAt}
+use Rattle.confinement.specs.Tables.{mixtures, columnAt, chosenBy, chosenAt, ifAny, permitFrom, inheritedFrom, runFrom}
 use Rattle.confinement.proofs.ModeBits.{Spelt, some-bits, reading-spelt, executing-spelt, writing-spelt, unconfined-spelt, inheriting-spelt, confined-spelt}
 
 -- ---- run mixtures
@@ -69,7 +72,8 @@ module _ (ns : List (List ℕ)) (q : List ℕ) where
     where
       by : (b : Bool) → eqb (position (p .path) ns) k ≡ b
           → chosenAt k (map (λ p. position (p .path) ns) ps) (map (runMixture ns) ps) ≡ map (runMixture ns) (profilesAt q ps)
-          → cond (eqb (position (p .path) ns) k) (runMixture ns p ∷ chosenAt k (map (λ p. position (p .path) ns) ps) (map (runMixture ns) ps)) (chosenAt k (map (λ p. position (p .path) ns) ps) (map (runMixture ns) ps))
+          → cond (eqb (position (p .path) ns) k) (runMixture ns p ∷ chosenAt k (map (λ p. position (p .path) ns) ps) (map (runMixture ns) ps))
+          (chosenAt k (map (λ p. position (p .path) ns) ps) (map (runMixture ns) ps))
           ≡ map (runMixture ns) (cond b (p ∷ profilesAt q ps) (profilesAt q ps))
       by true e ih = rw e (ap (λ (l : List ℕ). runMixture ns p ∷ l) ih)
       by false e ih = rw e ih

@@ -87,7 +87,10 @@ module _ (f : ℕ → List ℕ) (count : ℕ) (forms : List ℕ) (i : ℕ) (h : 
         place = omega arith;
         most = h .most;
         long = wrote-length (omega (arith, x-long, form-room)) put ∙ h .long;
-        fits = rw (add-one i, forms-snoc f 0 i, zero-i) (every-append shortRule (formsFrom f 0 i) (normal (f i) ∷ []) (h .fits) (every-cons shortRule (normal (f i)) [] (sym (w .told) ∙ e) (every-nil shortRule)));
+        fits =
+            rw (add-one i, forms-snoc f 0 i, zero-i)
+            (every-append shortRule (formsFrom f 0 i) (normal (f i) ∷ []) (h .fits)
+            (every-cons shortRule (normal (f i)) [] (sym (w .told) ∙ e) (every-nil shortRule)));
         front =
             ap₂ take next-place (put .buffer)
             ∙ unfold overwritten in (take-at (take (i * formWidth) forms ++ x) (drop (i * formWidth + length x) forms) (i * formWidth + formWidth) front-long)

@@ -21,7 +21,9 @@ use Rattle.rules.proofs.RuleLaws.{normal-among}
 use Rattle.image.specs.Limits.{unrestrictedNumber, noOwner, noAtom, fileKind}
 use Rattle.image.specs.Policy.{unrestrictedRule, ownerGood, named, containerGood, ruleGood, Sound}
 use Rattle.profiles.specs.Profiles.{Mode, Profile}
-use Rattle.confinement.specs.Confinement.{pathsOf, someOf, reading, executing, writing, unconfined, inheriting, confined, modesOn, fileAtoms, atomsFrom, runMixture, programsWith, profilesAt, orElse, ifSome, permitMixtures, runMixtures, rulesFrom, rulesOf, filesFrom, initialProcess, profilePolicy}
+use Rattle.confinement.specs.Confinement.{pathsOf, someOf, reading, executing, writing, unconfined, inheriting, confined, modesOn}
+use Rattle.confinement.specs.Confinement.{fileAtoms, atomsFrom, runMixture, programsWith, profilesAt, orElse, ifSome, permitMixtures}
+use Rattle.confinement.specs.Confinement.{runMixtures, rulesFrom, rulesOf, filesFrom, initialProcess, profilePolicy}
 use Rattle.confinement.specs.Images.{limitsGood}
 use Rattle.confinement.proofs.PathsNamed.{profiles-known}
 

@@ -25,7 +25,8 @@ use Rattle.image.specs.Normal.{Place, processPlace}
 use Rattle.image.proofs.WrittenMeaning.{normal-unrestricted}
 use Rattle.profiles.specs.Profiles.{Mode, Profile}
 use Rattle.profiles.specs.Texts.{noRepeat, profiledOnce}
-use Rattle.confinement.specs.Confinement.{pathsOf, someOf, writing, unconfined, inheriting, confined, modesOn, runMixture, programsWith, profilesAt, orElse, ifSome, permitMixtures, runMixtures, rulesFrom, rulesOf}
+use Rattle.confinement.specs.Confinement.{pathsOf, someOf, writing, unconfined, inheriting, confined, modesOn, runMixture}
+use Rattle.confinement.specs.Confinement.{programsWith, profilesAt, orElse, ifSome, permitMixtures, runMixtures, rulesFrom, rulesOf}
 use Rattle.confinement.specs.Images.{limitsGood}
 use Rattle.confinement.specs.Sentences.{MayHold, SomeWith, NoneWith, Unprofiled}
 use Rattle.confinement.proofs.PathsNamed.{Distinct, profiles-known, paths-distinct}
@@ -248,7 +249,9 @@ module _ (ps : List Profile) (good : limitsGood ps ≡ true) (k : ℕ) (l : k < 
       let b : k < length (filePlaces ns ps 0 ns) = omega (arith, places-length ns ps 0 ns) in
       rw (permit-at, run-at) (List·getD-append (filePlaces ns ps 0 ns) (processPlace ∷ []) processPlace k b ∙ places-at ns ps 0 ns k l ∙ stated z)
     where
-      stated : {n : ℕ} → n ≡ k → _≡_ {A = Place} (record { kind = fileKind; atom = n; permit = normal (permitMixtures ns ps n path); run = normal (runMixtures ns ps path) }) (record { kind = fileKind; atom = k; permit = normal (permitMixtures ns ps k path); run = normal (runMixtures ns ps path) })
+      stated : {n : ℕ} → n ≡ k
+          → _≡_ {A = Place} (record { kind = fileKind; atom = n; permit = normal (permitMixtures ns ps n path); run = normal (runMixtures ns ps path) })
+          (record { kind = fileKind; atom = k; permit = normal (permitMixtures ns ps k path); run = normal (runMixtures ns ps path) })
       stated e = ap (λ (n : ℕ). record { kind = fileKind; atom = n; permit = normal (permitMixtures ns ps n path); run = normal (runMixtures ns ps path) }) e
 
   module _ (t : ℕ) (p : Profile) (m : List·Memᴰ p ps) where
@@ -282,7 +285,11 @@ module _ (ps : List Profile) (good : limitsGood ps ≡ true) (k : ℕ) (l : k < 
       ↔ ((p : Profile) × List·Memᴰ p ps × (someOf writing (modesOn p path) ≡ true) × ((i : ℕ) → atom t i ≡ 1 → (i ≡ k) ⊎ MayHold ns p i))
   unfolding permitMixtures
   permit-written (p, m, w) t =
-      rw (permit-at, covers-normal (permitMixtures ns ps k path) t, else-some (λ x. bitOr (runMixture ns x) (2 ^ k)) (programsWith writing path ps) (2 ^ k ∷ []) p (with-chosen writing path ps p .1 (m, w)))
+      rw (
+        permit-at,
+        covers-normal (permitMixtures ns ps k path) t,
+        else-some (λ x. bitOr (runMixture ns x) (2 ^ k)) (programsWith writing path ps) (2 ^ k ∷ []) p (with-chosen writing path ps p .1 (m, w)),
+      )
       (with-covers ps (λ x. bitOr (runMixture ns x) (2 ^ k)) (λ x. (i : ℕ) → atom t i ≡ 1 → (i ≡ k) ⊎ MayHold ns x i) writing path t (permit-held t))
 
   pub permit-unwritten : NoneWith ps writing path → getD (rulesOf ps) (2 * k) [] ≡ 2 ^ k ∷ []
@@ -303,7 +310,13 @@ module _ (ps : List Profile) (good : limitsGood ps ≡ true) (k : ℕ) (l : k < 
     pub run-unconfined : SomeWith ps unconfined path → getD (rulesOf ps) (2 * k + 1) [] ≡ unrestrictedRule
     unfolding runMixtures orElse
     run-unconfined (p, m, w) =
-        run-at ∙ rw (at-none path ps free, if-some (programsWith unconfined path ps) unrestrictedRule (orElse (map (runMixture ns) (programsWith inheriting path ps)) (ifSome (programsWith confined path ps) [] unrestrictedRule)) p (with-chosen unconfined path ps p .1 (m, w)))
+        run-at
+        ∙ rw (
+          at-none path ps free,
+          if-some (programsWith unconfined path ps) unrestrictedRule
+              (orElse (map (runMixture ns) (programsWith inheriting path ps)) (ifSome (programsWith confined path ps) [] unrestrictedRule)) p
+              (with-chosen unconfined path ps p .1 (m, w)),
+        )
         normal-unrestricted
 
     module _ (kept : NoneWith ps unconfined path) where
@@ -314,7 +327,12 @@ module _ (ps : List Profile) (good : limitsGood ps ≡ true) (k : ℕ) (l : k < 
       pub run-inherited : SomeWith ps inheriting path → (t : ℕ) → (covers (getD (rulesOf ps) (2 * k + 1) []) t ≡ true)
           ↔ ((p : Profile) × List·Memᴰ p ps × (someOf inheriting (modesOn p path) ≡ true) × ((i : ℕ) → atom t i ≡ 1 → MayHold ns p i))
       run-inherited (p, m, w) t =
-          rw (run-rest, covers-normal (orElse (map (runMixture ns) (programsWith inheriting path ps)) (ifSome (programsWith confined path ps) [] unrestrictedRule)) t, else-some (runMixture ns) (programsWith inheriting path ps) (ifSome (programsWith confined path ps) [] unrestrictedRule) p (with-chosen inheriting path ps p .1 (m, w)))
+          rw (
+            run-rest,
+            covers-normal (orElse (map (runMixture ns) (programsWith inheriting path ps)) (ifSome (programsWith confined path ps) [] unrestrictedRule)) t,
+            else-some (runMixture ns) (programsWith inheriting path ps) (ifSome (programsWith confined path ps) [] unrestrictedRule) p
+                (with-chosen inheriting path ps p .1 (m, w)),
+          )
           (with-covers ps (runMixture ns) (λ x. (i : ℕ) → atom t i ≡ 1 → MayHold ns x i) inheriting path t (run-held t))
 
       module _ (apart : NoneWith ps inheriting path) where

@@ -61,7 +61,12 @@ module _ (p : Profile) where
   unfolding atomsFrom
   atoms-other k [] i h = none-at i
   atoms-other k (q ∷ qs) i h =
-      omega (arith, atom-or (fileAtoms k (modesOn p q)) (atomsFrom (suc k) qs p) i, file-other k (modesOn p q) i (h k (omega arith) (omega arith) .0) (h k (omega arith) (omega arith) .1), atoms-other (suc k) qs i (λ j l m. h j (omega arith) (omega arith)))
+      omega (
+        arith,
+        atom-or (fileAtoms k (modesOn p q)) (atomsFrom (suc k) qs p) i,
+        file-other k (modesOn p q) i (h k (omega arith) (omega arith) .0) (h k (omega arith) (omega arith) .1),
+        atoms-other (suc k) qs i (λ j l m. h j (omega arith) (omega arith)),
+      )
 
   atoms-data : (k : ℕ) (qs : List (List ℕ)) (j : ℕ) → k + length qs ≤ dataWidth → j < length qs
       → atom (atomsFrom k qs p) (k + j) ≡ cond (someOf reading (modesOn p (getD qs j []))) 1 0
@@ -72,7 +77,13 @@ module _ (p : Profile) where
       rw e (omega (arith, atom-or (fileAtoms k (modesOn p q)) (atomsFrom (suc k) qs p) k, file-data k (modesOn p q), atoms-other (suc k) qs k (λ j a b. ((λ e. omega arith), (λ e. omega arith)))))
   atoms-data k (q ∷ qs) (suc j) l m =
       let e : k + suc j ≡ suc k + j = omega arith in
-      rw e (omega (arith, atom-or (fileAtoms k (modesOn p q)) (atomsFrom (suc k) qs p) (suc k + j), file-other k (modesOn p q) (suc k + j) (λ e. omega arith) (λ e. omega arith), atoms-data (suc k) qs j (omega arith) (omega arith)))
+      rw e
+      (omega (
+        arith,
+        atom-or (fileAtoms k (modesOn p q)) (atomsFrom (suc k) qs p) (suc k + j),
+        file-other k (modesOn p q) (suc k + j) (λ e. omega arith) (λ e. omega arith),
+        atoms-data (suc k) qs j (omega arith) (omega arith),
+      ))
 
   atoms-running : (k : ℕ) (qs : List (List ℕ)) (j : ℕ) → k + length qs ≤ dataWidth → j < length qs
       → atom (atomsFrom k qs p) (dataWidth + (k + j)) ≡ cond (someOf executing (modesOn p (getD qs j []))) 1 0
@@ -80,10 +91,22 @@ module _ (p : Profile) where
   atoms-running k [] j l m = absurd (omega arith)
   atoms-running k (q ∷ qs) zero l m =
       let e : k + 0 ≡ k = omega arith in
-      rw e (omega (arith, atom-or (fileAtoms k (modesOn p q)) (atomsFrom (suc k) qs p) (dataWidth + k), file-running k (modesOn p q), atoms-other (suc k) qs (dataWidth + k) (λ j a b. ((λ e. omega arith), (λ e. omega arith)))))
+      rw e
+      (omega (
+        arith,
+        atom-or (fileAtoms k (modesOn p q)) (atomsFrom (suc k) qs p) (dataWidth + k),
+        file-running k (modesOn p q),
+        atoms-other (suc k) qs (dataWidth + k) (λ j a b. ((λ e. omega arith), (λ e. omega arith))),
+      ))
   atoms-running k (q ∷ qs) (suc j) l m =
       let e : k + suc j ≡ suc k + j = omega arith in
-      rw e (omega (arith, atom-or (fileAtoms k (modesOn p q)) (atomsFrom (suc k) qs p) (dataWidth + (suc k + j)), file-other k (modesOn p q) (dataWidth + (suc k + j)) (λ e. omega arith) (λ e. omega arith), atoms-running (suc k) qs j (omega arith) (omega arith)))
+      rw e
+      (omega (
+        arith,
+        atom-or (fileAtoms k (modesOn p q)) (atomsFrom (suc k) qs p) (dataWidth + (suc k + j)),
+        file-other k (modesOn p q) (dataWidth + (suc k + j)) (λ e. omega arith) (λ e. omega arith),
+        atoms-running (suc k) qs j (omega arith) (omega arith),
+      ))
 
 -- ---- the run mixture
 
@@ -136,4 +159,9 @@ pub run-none : (ns : List (List ℕ)) (p : Profile) → known (p .path) ns ≡ t
 unfolding runMixture
 run-none ns p own i h =
     let at : ℕ = position (p .path) ns in
-    omega (arith, atom-or (2 ^ (dataWidth + at)) (atomsFrom 0 ns p) i, single-other (dataWidth + at) i (h at (position-lt sameList (p .path) ns own) .1), atoms-other p 0 ns i (λ j a b. h j (omega arith)))
+    omega (
+      arith,
+      atom-or (2 ^ (dataWidth + at)) (atomsFrom 0 ns p) i,
+      single-other (dataWidth + at) i (h at (position-lt sameList (p .path) ns own) .1),
+      atoms-other p 0 ns i (λ j a b. h j (omega arith)),
+    )

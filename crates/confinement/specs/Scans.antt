@@ -1,15 +1,17 @@
 -- What the pass over a good text gives (change request No. 1): its paths by their places, in order of first appearance, and its
 -- programs with their modes on each path.
-use Prim.Native.Nat.{ℕ, zero, suc, _+_, _≤_, _<_}
+use Prim.Native.Nat.{ℕ, zero, suc, _+_, _-_, _*_, _≤_, _<_}
 use mathlib.Core.Bool.{Bool, true}
 use mathlib.Core.List.{List, [], _∷_}
 use mathlib.Core.Path.{_≡_}
-use lib.ListN.{length, getD}
+use mathlib.Core.Logic.{_⊎_}
+use lib.Bits.{bitOr}
+use lib.ListN.{length, getD, set}
 use Rattle.lists.specs.Lists.{position}
 use Rattle.rules.specs.Answers.{dataWidth}
 use Rattle.confinement.specs.Confinement.{withPath, pathsOf}
 use Rattle.confinement.specs.Images.{profilesIn}
-use Rattle.confinement.specs.Tables.{pathAt, PathTable, ProgramTable}
+use Rattle.confinement.specs.Tables.{pathAt, cellCount, PathTable, ProgramTable}
 
 -- n paths of a table, from the j-th place on
 unfoldable pub pathsFrom : List ℕ → List ℕ → List ℕ → ℕ → ℕ → List (List ℕ)
@@ -45,6 +47,17 @@ pub record Placed (t starts₀ sizes₀ : List ℕ) (n : ℕ) (q starts sizes hi
   pub startsLong : length starts ≡ dataWidth
   pub sizesLong : length sizes ≡ dataWidth
   pub hintsLong : length hints ≡ hintCount
+
+-- a line without modes adds a program, and one with modes adds these to the last of m programs, at the path's number; a count over 32 says that
+-- the number is over 31, or that there are 32 programs already
+pub record LineAdded (own₀ modes₀ : List ℕ) (m number bits : ℕ) (own modes : List ℕ) (count : ℕ) : Type 0 where
+  pub full : dataWidth < count → (dataWidth ≤ number) ⊎ ((number < dataWidth) × (bits ≡ 0) × (m ≡ dataWidth))
+  pub fits : count ≤ dataWidth → number < dataWidth
+  pub opened : count ≤ dataWidth → bits ≡ 0 → (m < dataWidth) × (count ≡ m + 1) × (own ≡ set own₀ m number) × (modes ≡ modes₀)
+  pub entered : count ≤ dataWidth → (bits ≡ 0 → ⊥) → (count ≡ m) × (own ≡ own₀)
+      × (modes ≡ set modes₀ ((m - 1) * dataWidth + number) (bitOr (getD modes₀ ((m - 1) * dataWidth + number) 0) bits))
+  pub ownLong : length own ≡ dataWidth
+  pub modesLong : length modes ≡ cellCount
 
 -- the tables of a text's n paths and m programs; a count over 32 says that there are more than 32 paths
 pub record Scanned (t starts sizes own modes : List ℕ) (n m : ℕ) : Type 0 where

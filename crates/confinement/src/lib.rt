@@ -5,7 +5,8 @@ ghost use lib.ListN.{length, getD, take, replicate};
 ghost use mathlib.Core.Bool.{cond};
 ghost use Rattle.rules.specs.Answers.{dataWidth, tagWidth};
 ghost use Rattle.normaliser.specs.Writer.{formWidth};
-ghost use Rattle.confinement.specs.Tables.{cellCount, meets, fileBits, rowMixture, mixtures, columnAt, chosenBy, chosenAt, permitFrom, inheritedFrom, runFrom, Listed, FormPut, ruleFrom, ruleCount, FormsPut, tablePolicy, TabulatedOfSome, PolicyWritten};
+ghost use Rattle.confinement.specs.Tables.{cellCount, meets, fileBits, rowMixture, mixtures, columnAt, chosenBy, chosenAt, permitFrom, inheritedFrom};
+ghost use Rattle.confinement.specs.Tables.{runFrom, Listed, FormPut, ruleFrom, ruleCount, FormsPut, tablePolicy, TabulatedOfSome, PolicyWritten};
 ghost use Rattle.confinement.specs.Images.{profileAnswer, profileEffect};
 ghost use Rattle.confinement.specs.Confinement.{filesFrom};
 ghost use Rattle.fields.specs.Writing.{Wrote};
@@ -83,7 +84,8 @@ fn run_mixture(own: usize, row: &[u64]) -> u64
 
 // The run mixtures of m programs, of n paths.
 fn put_mixtures(runs: &mut [u64], own: &[usize], modes: &[u64], n: usize, m: usize)
-    requires { ⌜ (n ≤ dataWidth) × (m ≤ dataWidth) × (length (now runs) ≡ dataWidth) × (length (now own) ≡ dataWidth) × (length (now modes) ≡ cellCount) × ((j : ℕ) → j < m → getD (now own) j 0 < dataWidth) ⌝ }
+    requires { ⌜ (n ≤ dataWidth) × (m ≤ dataWidth) × (length (now runs) ≡ dataWidth) × (length (now own) ≡ dataWidth)
+        × (length (now modes) ≡ cellCount) × ((j : ℕ) → j < m → getD (now own) j 0 < dataWidth) ⌝ }
     ensures { λ _. ⌜ take m (now (runs .exit)) ≡ mixtures (now (own .entry)) (now (modes .entry)) n m ⌝ }
 {
     let mut j = 0;
@@ -207,7 +209,8 @@ fn put_path_rule(
     runs: &[u64],
     i: usize,
 ) -> bool
-    requires { ⌜ (length (now form) ≡ formWidth) × (length (now words) ≡ dataWidth) × (i < ruleCount) × (length (now own) ≡ length (now runs)) × (length (now runs) ≤ dataWidth) × (length (now modes) ≡ cellCount) ⌝ }
+    requires { ⌜ (length (now form) ≡ formWidth) × (length (now words) ≡ dataWidth) × (i < ruleCount)
+        × (length (now own) ≡ length (now runs)) × (length (now runs) ≤ dataWidth) × (length (now modes) ≡ cellCount) ⌝ }
     ensures { λ r. ⌜ FormPut (ruleFrom (now (own .entry)) (now (modes .entry)) (now (runs .entry)) i) (now (form .entry)) (now (form .exit)) r ⌝ }
 {
     let k = i / 2;
@@ -228,7 +231,8 @@ fn put_rules(
     runs: &[u64],
     count: usize,
 ) -> bool
-    requires { ⌜ (length (now forms) ≡ ruleCount * formWidth) × (length (now words) ≡ dataWidth) × (count ≤ ruleCount) × (length (now own) ≡ length (now runs)) × (length (now runs) ≤ dataWidth) × (length (now modes) ≡ cellCount) ⌝ }
+    requires { ⌜ (length (now forms) ≡ ruleCount * formWidth) × (length (now words) ≡ dataWidth) × (count ≤ ruleCount)
+        × (length (now own) ≡ length (now runs)) × (length (now runs) ≤ dataWidth) × (length (now modes) ≡ cellCount) ⌝ }
     ensures { λ r. ⌜ FormsPut (ruleFrom (now (own .entry)) (now (modes .entry)) (now (runs .entry))) count (now (forms .exit)) r ⌝ }
 {
     let mut i = 0;

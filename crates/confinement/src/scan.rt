@@ -9,7 +9,7 @@ ghost use Rattle.rules.specs.Answers.{dataWidth};
 ghost use Rattle.profiles.specs.Texts.{textGood};
 ghost use Rattle.profiles.specs.LineWords.{textWords};
 ghost use Rattle.confinement.specs.Tables.{pathAt, cellCount};
-ghost use Rattle.confinement.specs.Scans.{tablePaths, PathSpans, hintCount, Hinted, Placed, Scanned};
+ghost use Rattle.confinement.specs.Scans.{tablePaths, PathSpans, hintCount, Hinted, Placed, LineAdded, Scanned};
 
 // As many paths as there are data atoms.
 const PATHS: usize = 32;
@@ -143,7 +143,8 @@ fn place(
     size: usize,
 ) -> Number
     requires { ⌜ PathSpans (now text) (now starts) (now sizes) n × (start + size ≤ length (now text)) × (length (now hints) ≡ hintCount) ⌝ }
-    ensures { λ r. ⌜ Placed (now (text .entry)) (now (starts .entry)) (now (sizes .entry)) n (pathAt (now (text .entry)) start size) (now (starts .exit)) (now (sizes .exit)) (now (hints .exit)) (r .number) (r .count) ⌝ }
+    ensures { λ r. ⌜ Placed (now (text .entry)) (now (starts .entry)) (now (sizes .entry)) n (pathAt (now (text .entry)) start size)
+        (now (starts .exit)) (now (sizes .exit)) (now (hints .exit)) (r .number) (r .count) ⌝ }
 {
     let h = hint_place(text, start, size);
     let hint = hints[h];
@@ -187,6 +188,27 @@ fn too_many() -> Counts
     }
 }
 
+// A line whose path has this number adds a program if it has no modes, and modes to the last program otherwise: how many programs there are
+// with it, 33 if there is no room.
+fn add_line(own: &mut [usize], modes: &mut [u64], m: usize, number: usize, bits: u64) -> usize
+    requires { ⌜ (m ≤ dataWidth) × (length (now own) ≡ dataWidth) × (length (now modes) ≡ cellCount) × ((bits ≡ 0 → ⊥) → 1 ≤ m) ⌝ }
+    ensures { λ r. ⌜ LineAdded (now (own .entry)) (now (modes .entry)) m number bits (now (own .exit)) (now (modes .exit)) r ⌝ }
+{
+    if PATHS <= number {
+        return PATHS + 1;
+    }
+    if bits == 0 {
+        if m == PATHS {
+            return PATHS + 1;
+        }
+        own[m] = number;
+        return m + 1;
+    }
+    let cell = (m - 1) * PATHS + number;
+    modes[cell] = modes[cell] | bits;
+    m
+}
+
 // The tables of the text from the numbers of its lines, with hints. There are not more programs than paths.
 fn fill_hinted(
     text: &[u8],
@@ -197,7 +219,9 @@ fn fill_hinted(
     modes: &mut [u64],
     hints: &mut [usize],
 ) -> Counts
-    requires { ⌜ (textGood (now text) ≡ true) × (now words ≡ textWords (now text)) × (length (now starts) ≡ dataWidth) × (length (now sizes) ≡ dataWidth) × (length (now own) ≡ dataWidth) × (now modes ≡ replicate cellCount 0) × (length (now hints) ≡ hintCount) ⌝ }
+    requires { ⌜ (textGood (now text) ≡ true) × (now words ≡ textWords (now text)) × (length (now starts) ≡ dataWidth)
+        × (length (now sizes) ≡ dataWidth) × (length (now own) ≡ dataWidth) × (now modes ≡ replicate cellCount 0)
+        × (length (now hints) ≡ hintCount) ⌝ }
     ensures { λ r. ⌜ Scanned (now (text .entry)) (now (starts .exit)) (now (sizes .exit)) (now (own .exit)) (now (modes .exit)) (r .paths) (r .programs) ⌝ }
 {
     let mut n = 0;
@@ -207,20 +231,10 @@ fn fill_hinted(
         let line = profiles::named_path(words[i]);
         i += 1;
         let placed = place(text, starts, sizes, hints, n, line.start, line.size);
-        let number = placed.number;
         n = placed.count;
-        if PATHS <= number {
+        m = add_line(own, modes, m, placed.number, line.modes);
+        if PATHS < m {
             return too_many();
-        }
-        if line.modes == 0 {
-            if m == PATHS {
-                return too_many();
-            }
-            own[m] = number;
-            m += 1;
-        } else {
-            let cell = (m - 1) * PATHS + number;
-            modes[cell] = modes[cell] | line.modes;
         }
     }
     Counts {
@@ -239,7 +253,8 @@ pub fn fill_tables(
     own: &mut [usize],
     modes: &mut [u64],
 ) -> Counts
-    requires { ⌜ (textGood (now text) ≡ true) × (now words ≡ textWords (now text)) × (length (now starts) ≡ dataWidth) × (length (now sizes) ≡ dataWidth) × (length (now own) ≡ dataWidth) × (now modes ≡ replicate cellCount 0) ⌝ }
+    requires { ⌜ (textGood (now text) ≡ true) × (now words ≡ textWords (now text)) × (length (now starts) ≡ dataWidth)
+        × (length (now sizes) ≡ dataWidth) × (length (now own) ≡ dataWidth) × (now modes ≡ replicate cellCount 0) ⌝ }
     ensures { λ r. ⌜ Scanned (now (text .entry)) (now (starts .exit)) (now (sizes .exit)) (now (own .exit)) (now (modes .exit)) (r .paths) (r .programs) ⌝ }
 {
     let mut hints = [0usize; 256];

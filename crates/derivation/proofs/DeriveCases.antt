@@ -15,9 +15,9 @@ use Rattle.lists.proofs.Conditions.{passed, failed, none-left}
 use Rattle.lists.proofs.Joined.{joined-append, joined-one}
 use Rattle.answers.specs.Refusals.{matrix, lentLength}
 use Rattle.fields.specs.Bytes.{bytesOf}
-use Rattle.fields.specs.Writing.{overwritten, Wrote}
+use Rattle.fields.specs.Writing.{Wrote}
 use Rattle.fields.proofs.WritingLaws.{wrote-join}
-use Rattle.fields.proofs.RowWriting.{wrote-whole}
+use Rattle.fields.proofs.RowWriting.{wrote-whole, front-written}
 use Rattle.fields.proofs.ByteLaws.{bytes-length}
 use Rattle.image.specs.Limits.{unrestrictedNumber, containerSize, userSize, outputBound}
 use Rattle.image.specs.Policy.{Container, Sound}
@@ -74,13 +74,6 @@ module _ (reads writes : List ℕ) (n : ℕ) (out : List ℕ) where
 
 -- ---- what is handed to the writer
 
--- the front of an array, written from its start
-front-is : {x before after : List ℕ} {end : ℕ} → Wrote x before after 0 end → take (end - 0) after ≡ x
-unfolding overwritten
-front-is {x} {before} {after} {end} w =
-    let e : end - 0 ≡ length x = omega (arith, w .ends) in
-    ap₂ (λ (k : ℕ) (l : List ℕ). take k l) e (w .buffer) ∙ take-at x (drop (0 + length x) before) (length x) refl
-
 -- the front of an array of zeros
 pub zeros-front : (k m : ℕ) → k ≤ m → take {A = ℕ} (k - 0) (replicate m 0) ≡ replicate k 0
 zeros-front k m l =
@@ -116,7 +109,8 @@ module _ (reads writes : List ℕ) (n : ℕ) (good : matrixGood reads writes n �
   pub objects-end : {before mid : List ℕ} {a : ℕ} → Wrote (joined (map containerBytes (objectFiles n))) before mid 0 a → a ≡ n * containerSize
   objects-end w = omega (arith, w .ends, containers-size (objectFiles n), objects-count n)
 
-  module _ {before mid after : List ℕ} {a end : ℕ} (p : Wrote (joined (map containerBytes (objectFiles n))) before mid 0 a) (q : Wrote (joined (map containerBytes (replicate (length reads) subjectProcess))) mid after a end) where
+  module _ {before mid after : List ℕ} {a end : ℕ} (p : Wrote (joined (map containerBytes (objectFiles n))) before mid 0 a)
+      (q : Wrote (joined (map containerBytes (replicate (length reads) subjectProcess))) mid after a end) where
     containers-wrote : Wrote containerPart before after 0 end
     containers-wrote = wrote-join (omega arith) p q
 
@@ -126,7 +120,7 @@ module _ (reads writes : List ℕ) (n : ℕ) (good : matrixGood reads writes n �
     containers-are : take (end - 0) after ≡ joined (map containerBytes (derivedPolicy reads writes n .containers))
     unfolding derivedPolicy
     containers-are =
-        front-is containers-wrote
+        front-written containers-wrote
         ∙ sym (joined-append (map containerBytes (objectFiles n)) (map containerBytes (replicate (length reads) subjectProcess)))
         ∙ ap joined (sym (map-append containerBytes (objectFiles n) (replicate (length reads) subjectProcess)))
 

@@ -163,7 +163,15 @@ module _ (reads writes : List ℕ) (objects : ℕ) (g : Good reads writes object
   derived-sound =
       record {
         fewContainers =
-            omega (arith, length-append (map objectFile (countFrom 0 objects)) (replicate (length reads) subjectProcess), length-map (countFrom 0 objects) objectFile, count-length 0 objects, length-replicate {A = Container} (length reads) subjectProcess, g .few, g .subjects);
+            omega (
+              arith,
+              length-append (map objectFile (countFrom 0 objects)) (replicate (length reads) subjectProcess),
+              length-map (countFrom 0 objects) objectFile,
+              count-length 0 objects,
+              length-replicate {A = Container} (length reads) subjectProcess,
+              g .few,
+              g .subjects,
+            );
         fewUsers = omega arith;
         fewRules = omega (arith, rules-length, g .few);
         rulesGood = every-count ruleGood (permitOf reads writes) 0 objects (λ b l m. permit-good b (omega arith));

@@ -10,7 +10,8 @@ use Rattle.fields.specs.Bytes.{bytesOf, numberIn, field}
 use Rattle.image.specs.Limits.{fileKind, processKind, noAtom, unrestrictedNumber, noOwner}
 use Rattle.image.specs.Policy.{Container, Policy, unrestrictedRule, ruleAt, ownerAt}
 use Rattle.image.specs.Image.{offset, sectionLength}
-use Rattle.image.specs.Normal.{normalAt, useAt, ownedPlace, owned, placeUses, uses, sameUse, freeUse, noted, numbered, numberOf, containerOf, writtenBy, writtenUses, policyOf, normalPolicy, containerBytes, spanBytes, spansOf, pair, header, framed, encode, normalImage}
+use Rattle.image.specs.Normal.{normalAt, useAt, ownedPlace, owned, placeUses, uses, sameUse, freeUse, noted, numbered, numberOf, containerOf, writtenBy}
+use Rattle.image.specs.Normal.{writtenUses, policyOf, normalPolicy, containerBytes, spanBytes, spansOf, pair, header, framed, encode, normalImage}
 use Rattle.matrix.specs.Flows.{has}
 use Rattle.lists.specs.Counting.{countFrom}
 use Rattle.derivation.specs.Derived.{writerMixtures, orAlone, permitOf, objectFile, subjectProcess, derivedPolicy, derivedImage}
@@ -43,7 +44,9 @@ policy =
     }
 
 policy-is : normalPolicy (derivedPolicy reads writes 4) ≡ policy
-unfolding derivedPolicy countFrom objectFile subjectProcess permitOf writerMixtures orAlone has atom normalPolicy policyOf writtenBy writtenUses containerOf numberOf positionBy numbered noted knownBy sameUse freeUse uses placeUses owned ownedPlace useAt ownerAt normalAt ruleAt unrestrictedRule unrestricted sameList normal sort insert distinct elem unheldIn heldIn holds
+unfolding derivedPolicy countFrom objectFile subjectProcess permitOf writerMixtures orAlone has atom normalPolicy policyOf writtenBy writtenUses
+    containerOf numberOf positionBy numbered noted knownBy sameUse freeUse uses placeUses owned ownedPlace useAt ownerAt normalAt ruleAt
+    unrestrictedRule unrestricted sameList normal sort insert distinct elem unheldIn heldIn holds
 policy-is = refl
 
 -- "the matrix example grows to 118" (change request No. 10): pairs (18,42), (60,2), (62,24), (86,32), a rule record having 6 bytes

@@ -73,8 +73,13 @@ module _ {reads writes : List ℕ} {b : ℕ} {words : List ℕ} {count s : ℕ} 
       ap length (g .words-are)
       ∙ omega (arith, length-append (g .done) (replicate (mixtureLimit - length (g .done)) 0), length-replicate {A = ℕ} (mixtureLimit - length (g .done)) 0, g .most, g .place, g .few)
 
-  writers-next : s < length reads → writerMixtures (drop s reads) (drop s writes) b
-      ≡ cond (has (getD writes s 0) b) (bitOr (getD reads s 0) (2 ^ b) ∷ writerMixtures (drop (s + 1) reads) (drop (s + 1) writes) b) (writerMixtures (drop (s + 1) reads) (drop (s + 1) writes) b)
+  -- the mixtures from s on, by whether s writes
+  abbrev nextMixtures : Bool → List ℕ
+  nextMixtures writing =
+      cond writing (bitOr (getD reads s 0) (2 ^ b) ∷ writerMixtures (drop (s + 1) reads) (drop (s + 1) writes) b)
+      (writerMixtures (drop (s + 1) reads) (drop (s + 1) writes) b)
+
+  writers-next : s < length reads → writerMixtures (drop s reads) (drop s writes) b ≡ nextMixtures (has (getD writes s 0) b)
   unfolding writerMixtures
   writers-next l =
       let p : s < length writes = omega (arith, g .even) in
@@ -97,8 +102,7 @@ module _ {reads writes : List ℕ} {b : ℕ} {words : List ℕ} {count s : ℕ} 
     where
       one : writerMixtures (drop s reads) (drop s writes) b ≡ v ∷ writerMixtures (drop (s + 1) reads) (drop (s + 1) writes) b
       one =
-          writers-next l
-          ∙ ap (λ (x : Bool). cond x (bitOr (getD reads s 0) (2 ^ b) ∷ writerMixtures (drop (s + 1) reads) (drop (s + 1) writes) b) (writerMixtures (drop (s + 1) reads) (drop (s + 1) writes) b)) (has-is (getD writes s 0) b t)
+          writers-next l ∙ ap nextMixtures (has-is (getD writes s 0) b t)
           ∙ ap (λ (m : ℕ). m ∷ writerMixtures (drop (s + 1) reads) (drop (s + 1) writes) b) (sym e)
 
   pub permit-leave : s < length reads → (getD writes s 0 / 2 ^ b % 2 ≡ 1 → ⊥) → PermitListed reads writes b words count (s + 1)
@@ -116,8 +120,7 @@ module _ {reads writes : List ℕ} {b : ℕ} {words : List ℕ} {count s : ℕ} 
     where
       none : writerMixtures (drop s reads) (drop s writes) b ≡ writerMixtures (drop (s + 1) reads) (drop (s + 1) writes) b
       none =
-          writers-next l
-          ∙ ap (λ (x : Bool). cond x (bitOr (getD reads s 0) (2 ^ b) ∷ writerMixtures (drop (s + 1) reads) (drop (s + 1) writes) b) (writerMixtures (drop (s + 1) reads) (drop (s + 1) writes) b)) (has-not (getD writes s 0) b t)
+          writers-next l ∙ ap nextMixtures (has-not (getD writes s 0) b t)
 
   all-done : length reads ≤ s → g .done ≡ writerMixtures reads writes b
   unfolding writerMixtures
@@ -130,8 +133,9 @@ module _ {reads writes : List ℕ} {b : ℕ} {words : List ℕ} {count s : ℕ} 
   unfolding permitOf orAlone wordsOf padded
   permit-alone l z {own} e = by (g .done) (g .words-are) (sym (g .sum) ∙ z) (all-done l)
     where
-      by : (d : List ℕ) → words ≡ 0 ∷ (d ++ replicate (mixtureLimit - length d) 0) → length d ≡ 0 → d ≡ writerMixtures reads writes b
-          → set (set words 0 1) 1 own ≡ length (orAlone b (writerMixtures reads writes b)) ∷ (orAlone b (writerMixtures reads writes b) ++ replicate (mixtureLimit - length (orAlone b (writerMixtures reads writes b))) 0)
+      by : (d : List ℕ)
+          → words ≡ 0 ∷ (d ++ replicate (mixtureLimit - length d) 0) → length d ≡ 0 → d ≡ writerMixtures reads writes b
+          → set (set words 0 1) 1 own ≡ wordsOf (orAlone b (writerMixtures reads writes b))
       by [] w n q = rw (← q) (ap (λ (x : List ℕ). set (set x 0 1) 1 own) w ∙ ap (λ (m : ℕ). 1 ∷ m ∷ replicate 7 0) e)
       by (m ∷ d) w n q = absurd (omega arith)
 

@@ -139,7 +139,10 @@ fn put_permits(words: &mut [u64], reads: &[u32], writes: &[u32], n: usize)
 
 // Writes the derived policy as a normal image and gives its length, or the refusal: 9, then 8.
 pub fn derive(reads: &[u32], writes: &[u32], objects: u32, out: &mut [u8]) -> u32
-    ensures { λ r. ⌜ (r ≡ derivedAnswer (now (reads .entry)) (now (writes .entry)) objects (now (out .entry))) × (now (out .exit) ≡ derivedEffect (now (reads .entry)) (now (writes .entry)) objects (now (out .entry))) ⌝ }
+    ensures { λ r. ⌜
+        (r ≡ derivedAnswer (now (reads .entry)) (now (writes .entry)) objects (now (out .entry)))
+        × (now (out .exit) ≡ derivedEffect (now (reads .entry)) (now (writes .entry)) objects (now (out .entry)))
+        ⌝ }
 {
     if out.len() < image::OUTPUT_BOUND {
         return answers::LENT_LENGTH;

@@ -22,7 +22,7 @@ use Rattle.certificate.proofs.ToldLaws.{last-answer}
 use Rattle.explanations.specs.Lines.{explainedTotalLine}
 use Rattle.files.specs.Calls.{Handed, handed-none, handed-then, handed-as}
 use Rattle.explain.specs.Texts.{explanationText, isForbidden, upTo, recordsText, answersTo, traceText}
-use Rattle.explain.specs.Runs.{recordLimit, traceLimit, Asked, RecordsShown}
+use Rattle.explain.specs.Runs.{recordLimit, traceSize, Asked, RecordsShown}
 use Rattle.explain.proofs.HandLaws.{front-again, take-more}
 
 -- ---- one record
@@ -76,7 +76,7 @@ explaining-start i t s a e =
       finds = omega (arith, ap (λ (z : List Answer). countOf isForbidden z) (all-left i t s e));
     }
 
-module _ (i t : List ℕ) (a : ℕ) (s : List ℕ) (b at n m : ℕ) (h : Explaining i t a s b at n m) (l : at < length t) (f : length t ≤ traceLimit) where
+module _ (i t : List ℕ) (a : ℕ) (s : List ℕ) (b at n m : ℕ) (h : Explaining i t a s b at n m) (l : at < length t) (f : length t ≤ traceSize) where
   pub few : n < recordLimit
   few = omega (arith, h .place l)
 
@@ -177,7 +177,7 @@ explaining-end i t a s b at n m h l =
 
 -- ---- what is explained
 
-pub asked : (i t : List ℕ) (v : Answer) → checkOf i ≡ 0 → length t ≤ traceLimit → v ≡ answered i t → isForbidden v ≡ true → Asked i t
+pub asked : (i t : List ℕ) (v : Answer) → checkOf i ≡ 0 → length t ≤ traceSize → v ≡ answered i t → isForbidden v ≡ true → Asked i t
 unfolding forbiddenLast
 asked i t v c f e p = record { accepted = c; few = f; forbidden = ap isForbidden (sym e) ∙ p }
 

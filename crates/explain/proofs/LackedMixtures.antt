@@ -18,7 +18,8 @@ use Rattle.certificate.proofs.ImageRules.{bounded-count, bounded-take}
 use Rattle.explanations.specs.Lines.{lacksLine, mixtureLines}
 use Rattle.files.specs.Calls.{Handed, handed-none, handed-then, handed-as}
 use Rattle.explain.specs.Texts.{wayText, mixturesOf, lackedIn, cameIn, mixturesText}
-use Rattle.explain.specs.Runs.{Told, mixtureText}
+use Rattle.certificate.specs.Whys.{whyReceiverAt, whyRuleAt, whyAtomsAt}
+use Rattle.explain.specs.Runs.{WhyNumbers, mixtureText}
 
 -- ---- a mixture of the image
 
@@ -31,64 +32,64 @@ mixture-is r b j s e l =
 -- ---- one mixture
 
 -- the atoms that the numbers tell
-pub atom-in : (i t why : List ℕ) → take (length (mixturesOf i t)) (drop 9 why) ≡ map (lackedIn i t) (mixturesOf i t) → (j : ℕ) → j < length (mixturesOf i t)
-    → getD why (9 + j) 0 ≡ lackedIn i t (getD (mixturesOf i t) j 0)
+pub atom-in : (i t why : List ℕ) → take (length (mixturesOf i t)) (drop whyAtomsAt why) ≡ map (lackedIn i t) (mixturesOf i t) → (j : ℕ) → j < length (mixturesOf i t)
+    → getD why (whyAtomsAt + j) 0 ≡ lackedIn i t (getD (mixturesOf i t) j 0)
 atom-in i t why h j l =
-    sym (getD-drop 9 why j 0)
-    ∙ sym (getD-take (length (mixturesOf i t)) (drop 9 why) j 0 l)
+    sym (getD-drop whyAtomsAt why j 0)
+    ∙ sym (getD-take (length (mixturesOf i t)) (drop whyAtomsAt why) j 0 l)
     ∙ ap (λ (x : List ℕ). getD x j 0) h
     ∙ map-at (lackedIn i t) (mixturesOf i t) j 0 0 l
 
 -- there are atoms of at most 8
-pub few-mixtures : (i t why : List ℕ) → Told i t why → length (mixturesOf i t) ≤ mixtureLimit
+pub few-mixtures : (i t why : List ℕ) → WhyNumbers i t why → length (mixturesOf i t) ≤ mixtureLimit
 few-mixtures i t why h =
-    omega (arith, h .long, ap length (h .atoms), length-take (length (mixturesOf i t)) (drop 9 why), length-drop 9 why, length-map (mixturesOf i t) (lackedIn i t))
+    omega (arith, h .long, ap length (h .atoms), length-take (length (mixturesOf i t)) (drop whyAtomsAt why), length-drop whyAtomsAt why, length-map (mixturesOf i t) (lackedIn i t))
 
-module _ (i t why : List ℕ) (h : Told i t why) (j : ℕ) (l : j < length (mixturesOf i t)) where
-  pub atom-at : getD why (9 + j) 0 ≡ lackedIn i t (getD (mixturesOf i t) j 0)
+module _ (i t why : List ℕ) (h : WhyNumbers i t why) (j : ℕ) (l : j < length (mixturesOf i t)) where
+  pub atom-at : getD why (whyAtomsAt + j) 0 ≡ lackedIn i t (getD (mixturesOf i t) j 0)
   atom-at = atom-in i t why (h .atoms) j l
 
-  rule-is-named : mixturesOf i t ≡ ruleAt (policyIn i .rules) (getD why 5 0)
+  rule-is-named : mixturesOf i t ≡ ruleAt (policyIn i .rules) (getD why whyRuleAt 0)
   unfolding mixturesOf
   rule-is-named = ap (ruleAt (policyIn i .rules)) (sym (h .rule))
 
-  pub mixture-there : j < length (ruleAt (policyIn i .rules) (getD why 5 0))
+  pub mixture-there : j < length (ruleAt (policyIn i .rules) (getD why whyRuleAt 0))
   mixture-there = rw rule-is-named at l
 
-  pub mixture-told : (m : ℕ) → m ≡ getD (ruleAt (policyIn i .rules) (getD why 5 0)) j 0 → m ≡ getD (mixturesOf i t) j 0
+  pub mixture-told : (m : ℕ) → m ≡ getD (ruleAt (policyIn i .rules) (getD why whyRuleAt 0)) j 0 → m ≡ getD (mixturesOf i t) j 0
   mixture-told m e = e ∙ ap (λ (x : List ℕ). getD x j 0) (sym rule-is-named)
 
-  pub container-low : getD why 0 0 < containerLimit
+  pub container-low : getD why whyReceiverAt 0 < containerLimit
   container-low = omega (arith, h .receiver, h .container)
 
-  pub atom-low : getD why (9 + j) 0 < tagWidth
+  pub atom-low : getD why (whyAtomsAt + j) 0 < tagWidth
   atom-low = omega (arith, atom-at, h .small j l)
 
-  pub came-is : (k : ℕ) → wayText i t (getD why 0 0) k ≡ cameIn i t k
+  pub came-is : (k : ℕ) → wayText i t (getD why whyReceiverAt 0) k ≡ cameIn i t k
   unfolding cameIn
   came-is k = ap (λ (c : ℕ). wayText i t c k) (h .receiver)
 
-  pub atoms-before : take j (drop 9 why) ≡ take j (map (lackedIn i t) (mixturesOf i t))
+  pub atoms-before : take j (drop whyAtomsAt why) ≡ take j (map (lackedIn i t) (mixturesOf i t))
   atoms-before =
       let k : j ≤ length (mixturesOf i t) = omega arith in
-      sym (take-take j (length (mixturesOf i t)) (drop 9 why) k) ∙ ap (λ (x : List ℕ). take j x) (h .atoms)
+      sym (take-take j (length (mixturesOf i t)) (drop whyAtomsAt why) k) ∙ ap (λ (x : List ℕ). take j x) (h .atoms)
 
   abbrev told-already : Bool
   told-already = elem (lackedIn i t (getD (mixturesOf i t) j 0)) (take j (map (lackedIn i t) (mixturesOf i t)))
 
-  before-is : (b : Bool) → b ≡ elem (getD why (9 + j) 0) (take j (drop 9 why)) → b ≡ told-already
+  before-is : (b : Bool) → b ≡ elem (getD why (whyAtomsAt + j) 0) (take j (drop whyAtomsAt why)) → b ≡ told-already
   before-is b e = e ∙ ap₂ (λ (k : ℕ) (x : List ℕ). elem k x) atom-at atoms-before
 
-  line-is : (m k : ℕ) → m ≡ getD (mixturesOf i t) j 0 → k ≡ getD why (9 + j) 0 → lacksLine m k ≡ lacksLine (getD (mixturesOf i t) j 0) (lackedIn i t (getD (mixturesOf i t) j 0))
+  line-is : (m k : ℕ) → m ≡ getD (mixturesOf i t) j 0 → k ≡ getD why (whyAtomsAt + j) 0 → lacksLine m k ≡ lacksLine (getD (mixturesOf i t) j 0) (lackedIn i t (getD (mixturesOf i t) j 0))
   line-is m k e f = ap₂ (λ (x y : ℕ). lacksLine x y) e (f ∙ atom-at)
 
-  pub mixture-known : (m k a b : ℕ) (r : Bool) → m ≡ getD (mixturesOf i t) j 0 → k ≡ getD why (9 + j) 0 → r ≡ elem (getD why (9 + j) 0) (take j (drop 9 why)) → r ≡ true
+  pub mixture-known : (m k a b : ℕ) (r : Bool) → m ≡ getD (mixturesOf i t) j 0 → k ≡ getD why (whyAtomsAt + j) 0 → r ≡ elem (getD why (whyAtomsAt + j) 0) (take j (drop whyAtomsAt why)) → r ≡ true
       → Handed (lacksLine m k) a b → Handed (mixtureText i t j) a b
   unfolding mixtureText
   mixture-known m k a b r e f g p x =
       handed-as (line-is m k e f ∙ sym (append-nil _) ∙ rw (sym (before-is r g) ∙ p) refl) x
 
-  pub mixture-new : (m k a b d : ℕ) (r : Bool) → m ≡ getD (mixturesOf i t) j 0 → k ≡ getD why (9 + j) 0 → r ≡ elem (getD why (9 + j) 0) (take j (drop 9 why)) → r ≡ false
+  pub mixture-new : (m k a b d : ℕ) (r : Bool) → m ≡ getD (mixturesOf i t) j 0 → k ≡ getD why (whyAtomsAt + j) 0 → r ≡ elem (getD why (whyAtomsAt + j) 0) (take j (drop whyAtomsAt why)) → r ≡ false
       → Handed (lacksLine m k) a b → Handed (cameIn i t k) b d → Handed (mixtureText i t j) a d
   unfolding mixtureText
   mixture-new m k a b d r e f g p x y =

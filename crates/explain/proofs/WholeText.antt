@@ -16,15 +16,15 @@ use Rattle.session.proofs.Canonical.{started-effect}
 use Rattle.listing.specs.Lines.{policyLine}
 use Rattle.files.specs.Calls.{Handed, handed-as, FileIs, FileLoaded}
 use Rattle.explain.specs.Texts.{traceText, explanationsOf}
-use Rattle.explain.specs.Runs.{traceLimit, TraceShown, ExplanationsShown}
+use Rattle.explain.specs.Runs.{traceSize, TraceExplained, ExplanationsShown}
 
 -- a file that leaves room was read whole
 file-whole : {name bytes : List ℕ} {room : ℕ} → FileLoaded name bytes room → length bytes < room → FileIs name bytes
 file-whole (inl f) l = f
 file-whole (inr f) l = absurd (omega (arith, f .1))
 
-pub trace-shown : {name : List ℕ} {room : ℕ} (i trace : List ℕ) (a b : ℕ) → name ≡ ascii "trace.bin" → room ≡ traceLimit + 1
-    → FileLoaded name trace room → length trace ≤ traceLimit → Handed (traceText i trace) a b → TraceShown i a b
+pub trace-shown : {name : List ℕ} {room : ℕ} (i trace : List ℕ) (a b : ℕ) → name ≡ ascii "trace.bin" → room ≡ traceSize + 1
+    → FileLoaded name trace room → length trace ≤ traceSize → Handed (traceText i trace) a b → TraceExplained i a b
 trace-shown i trace a b n k f l h =
     record {
       trace = trace;
@@ -56,7 +56,7 @@ module _ {name : List ℕ} {room : ℕ} (policy lent : List ℕ) (refusal : ℕ)
         handed = handed-as (ap policyLine checked ∙ sym (rw (ne-eqb (checkOf policy) 0 (λ e. d (checked ∙ e))))) h;
       }
 
-  pub shown-explained : (a b : ℕ) → refusal ≡ 0 → TraceShown policy a b → ExplanationsShown a b
+  pub shown-explained : (a b : ℕ) → refusal ≡ 0 → TraceExplained policy a b → ExplanationsShown a b
   unfolding explanationsOf
   shown-explained a b z h =
       record {

@@ -31,12 +31,13 @@ use Rattle.witness.specs.Links.{nodeOf}
 use Rattle.witness.specs.Told.{chainFile, chainRecords, foundIn, atEnd}
 use Rattle.witness.specs.Explains.{atomWitness, atomNumbers, atomFound, atomSteps, lentGood, explainRefusal, explainAnswer, explainSteps}
 use Rattle.certificate.specs.Whys.{answered, reasonIn, reasonNumbers, whyNumbers, roomGood, whyLength, whyRefusal, whyEffect, whySteps}
+use Rattle.certificate.specs.Whys.{whyReceiverAt, whyKindAt, whyRecordAt, whyHolderAt, whyRuleAt, whyOwnerAt, whyChainAt, whyCountAt, whyAtomsAt}
 use Rattle.explanations.specs.Lines.{foundLine, ruleFields, wayFields}
 use Rattle.explanations.specs.Buffer.{opened, ended}
 use Rattle.explanations.proofs.ExplanationLines.{rule-text, way-text}
 use Rattle.files.specs.Calls.{Handed, handed-then, handed-as}
 use Rattle.explain.specs.Texts.{wayText, mixturesOf, lackedIn, ruleText, mixturesText, explanationText}
-use Rattle.explain.specs.Runs.{recordLimit, traceLimit, Asked, Told, ruleTold}
+use Rattle.explain.specs.Runs.{recordLimit, traceSize, Asked, WhyNumbers, ruleTold}
 use Rattle.explain.proofs.LackedMixtures.{atom-in}
 
 -- ---- what is lent
@@ -44,11 +45,11 @@ use Rattle.explain.proofs.LackedMixtures.{atom-in}
 abbrev pub linksLength : ℕ
 linksLength = nodeOf recordLimit
 
-pub few-records : (t : List ℕ) → length t ≤ traceLimit → length (traceRecords t) ≤ recordLimit
+pub few-records : (t : List ℕ) → length t ≤ traceSize → length (traceRecords t) ≤ recordLimit
 unfolding traceRecords
 few-records t h = omega (arith, cut-count recordLength ((length t + (recordLength - 1)) / recordLength) t)
 
-lent-good : (t links steps : List ℕ) → length t ≤ traceLimit → length links ≡ linksLength → length steps ≡ recordLimit → lentGood t links steps ≡ true
+lent-good : (t links steps : List ℕ) → length t ≤ traceSize → length links ≡ linksLength → length steps ≡ recordLimit → lentGood t links steps ≡ true
 unfolding lentGood
 lent-good t links steps h l m =
     and-in (le-leb (nodeOf (length (traceRecords t))) (length links) (omega (arith, few-records t h, l)))
@@ -56,7 +57,7 @@ lent-good t links steps h l m =
 
 -- ---- how an atom came into a container
 
-module _ (i t links steps : List ℕ) (c k : ℕ) (a : checkOf i ≡ 0) (f : length t ≤ traceLimit) (l : length links ≡ linksLength) (m : length steps ≡ recordLimit)
+module _ (i t links steps : List ℕ) (c k : ℕ) (a : checkOf i ≡ 0) (f : length t ≤ traceSize) (l : length links ≡ linksLength) (m : length steps ≡ recordLimit)
     (x : c < containerLimit) (y : k < tagWidth) where
   not-refused : explainRefusal i t c k links steps ≡ 0
   not-refused = explains.none-refused i t c k links steps .1 (lent-good t links steps f l m, a, both-there c k x y)
@@ -102,7 +103,7 @@ module _ (i t links steps out : List ℕ) (a : Asked i t) (l : length links ≡ 
     unfolding whyEffect whyNumbers reasonIn overwritten
     written = e ∙ rw (eq-eqb (whyRefusal i t links steps out) 0 why-given) refl
 
-    atoms-written : take (length (mixturesOf i t)) (drop 9 out′) ≡ map (lackedIn i t) (mixturesOf i t)
+    atoms-written : take (length (mixturesOf i t)) (drop whyAtomsAt out′) ≡ map (lackedIn i t) (mixturesOf i t)
     unfolding mixturesOf lackedIn reasonNumbers padded
     atoms-written =
         let xs : List ℕ = map (lackedIn i t) (mixturesOf i t) in
@@ -120,11 +121,11 @@ module _ (i t links steps out : List ℕ) (a : Asked i t) (l : length links ≡ 
     -- each mixture lacks an atom of the tag
     small-told : Bytes i → (j : ℕ) → j < length (mixturesOf i t) → lackedIn i t (getD (mixturesOf i t) j 0) < tagWidth
     small-told y j l =
-        let k : j < getD (whyEffect i t links steps out) 8 0 = omega (arith, ap (λ (x : List ℕ). getD x 8 0) e, count-told) in
+        let k : j < getD (whyEffect i t links steps out) whyCountAt 0 = omega (arith, ap (λ (x : List ℕ). getD x 8 0) e, count-told) in
         let r = why-certifies i t links steps out y why-given .reaches j k in
         omega (arith, reaches-low (policyIn i) (accepted-sound i y (a .accepted)) _ _ _ r, ap (λ (x : List ℕ). getD x (9 + j) 0) e, atom-in i t out′ atoms-written j l)
 
-    pub why-told : Bytes i → length out′ ≡ whyLength → Told i t out′
+    pub why-told : Bytes i → length out′ ≡ whyLength → WhyNumbers i t out′
     unfolding reasonNumbers
     why-told y z =
         record {
@@ -148,20 +149,23 @@ module _ (i t links steps out : List ℕ) (a : Asked i t) (l : length links ≡ 
         let s : steps′ ≡ atEnd xs steps = g ∙ rw (eq-eqb (whyRefusal i t links steps out) 0 why-given) refl in
         ap₂ (λ (n : ℕ) (z : List ℕ). drop n z) (why-first ∙ ap (λ (n : ℕ). n - length xs) (sym m)) s ∙ end-back xs steps
 
-pub rule-shown : (why steps front : List ℕ) → front ≡ opened (ascii "rule") (ruleFields (getD why 2 0) (getD why 5 0) (getD why 6 0) (getD why 3 0) (getD why 4 0))
-    → ended front (drop (getD why 7 0) steps) ≡ ruleTold why steps
+pub rule-shown : (why steps front : List ℕ)
+    → front
+    ≡ opened (ascii "rule")
+    (ruleFields (getD why whyKindAt 0) (getD why whyRuleAt 0) (getD why whyOwnerAt 0) (getD why whyRecordAt 0) (getD why whyHolderAt 0))
+    → ended front (drop (getD why whyChainAt 0) steps) ≡ ruleTold why steps
 unfolding ruleTold
 rule-shown why steps front e =
-    ap (λ (y : List ℕ). ended y (drop (getD why 7 0) steps)) e
-    ∙ rule-text (getD why 2 0) (getD why 5 0) (getD why 6 0) (getD why 3 0) (getD why 4 0) (drop (getD why 7 0) steps)
+    ap (λ (y : List ℕ). ended y (drop (getD why whyChainAt 0) steps)) e
+    ∙ rule-text (getD why whyKindAt 0) (getD why whyRuleAt 0) (getD why whyOwnerAt 0) (getD why whyRecordAt 0) (getD why whyHolderAt 0) (drop (getD why whyChainAt 0) steps)
 
-pub rule-is-told : (i t why steps : List ℕ) → Told i t why → drop (getD why 7 0) steps ≡ reasonIn i t .chain → ruleTold why steps ≡ ruleText i t
+pub rule-is-told : (i t why steps : List ℕ) → WhyNumbers i t why → drop (getD why whyChainAt 0) steps ≡ reasonIn i t .chain → ruleTold why steps ≡ ruleText i t
 unfolding ruleTold ruleText
 rule-is-told i t why steps h e = rw (h .kind, h .rule, h .owner, h .made, h .holder, e) refl
 
 -- the lines of an explanation, one behind the other
-pub explained : (i t why steps front : List ℕ) (n a b d e : ℕ) (blocked : Bool) → Told i t why → drop (getD why 7 0) steps ≡ reasonIn i t .chain → blocked ≡ isBlocked (answered i t)
-    → front ≡ foundLine blocked n (getD why 0 0) → Handed front a b → Handed (ruleTold why steps) b d → Handed (mixturesText i t) d e → Handed (explanationText i t n) a e
+pub explained : (i t why steps front : List ℕ) (n a b d e : ℕ) (blocked : Bool) → WhyNumbers i t why → drop (getD why whyChainAt 0) steps ≡ reasonIn i t .chain → blocked ≡ isBlocked (answered i t)
+    → front ≡ foundLine blocked n (getD why whyReceiverAt 0) → Handed front a b → Handed (ruleTold why steps) b d → Handed (mixturesText i t) d e → Handed (explanationText i t n) a e
 unfolding explanationText
 explained i t why steps front n a b d e blocked h g k f x y z =
     handed-then (handed-as (f ∙ ap₂ (λ (p : Bool) (c : ℕ). foundLine p n c) k (h .receiver)) x)

@@ -13,7 +13,7 @@ ghost use Rattle.image.specs.Limits.{containerLimit};
 ghost use Rattle.image.specs.Policy.{ruleAt};
 ghost use Rattle.image.specs.Image.{checkOf, policyIn};
 ghost use Rattle.session.specs.Session.{startOf};
-ghost use Rattle.certificate.specs.Whys.{answered};
+ghost use Rattle.certificate.specs.Whys.{answered, whyChainAt, whyAtomsAt};
 ghost use Rattle.answers.specs.Answers.{isBlocked};
 ghost use Rattle.listing.specs.Lines.{leading, policyLine};
 ghost use Rattle.explanations.specs.Lines.{stepFields};
@@ -21,9 +21,18 @@ ghost use Rattle.explanations.specs.Buffer.{ended};
 ghost use Rattle.files.specs.Calls as calls;
 ghost use Rattle.files.specs.Calls.{DoneOrTold, Handed};
 ghost use Rattle.explain.specs.Texts.{wayText, mixturesOf, mixturesText, explanationText, isForbidden, traceText};
-ghost use Rattle.explain.specs.Runs.{traceLimit, recordLimit, Asked, Told, ruleTold, mixtureText, RecordsShown, TraceShown, ExplanationsShown};
+ghost use Rattle.explain.specs.Runs.{traceSize, recordLimit, Asked, WhyNumbers, ruleTold, mixtureText, RecordsShown, TraceExplained, ExplanationsShown};
 use answers::Answer;
+use certificate::WHY_ATOMS_AT;
+use certificate::WHY_CHAIN_AT;
+use certificate::WHY_COUNT_AT;
+use certificate::WHY_HOLDER_AT;
+use certificate::WHY_KIND_AT;
 use certificate::WHY_LENGTH;
+use certificate::WHY_OWNER_AT;
+use certificate::WHY_RECEIVER_AT;
+use certificate::WHY_RECORD_AT;
+use certificate::WHY_RULE_AT;
 use explanations::BUFFER_SIZE;
 use records::RECORD_LENGTH;
 use session::SESSION_LENGTH;
@@ -34,32 +43,12 @@ const POLICY_ROOM: usize = image::IMAGE_LIMIT + 1;
 // The most records of a trace, its bytes, and one byte more: a longer file is told and not read further.
 const RECORD_LIMIT: usize = 131072;
 
-const TRACE_LIMIT: usize = RECORD_LIMIT * RECORD_LENGTH;
+const TRACE_SIZE: usize = RECORD_LIMIT * RECORD_LENGTH;
 
-const TRACE_ROOM: usize = TRACE_LIMIT + 1;
+const TRACE_ROOM: usize = TRACE_SIZE + 1;
 
 // The links that so many records need.
 const LINKS_LENGTH: usize = witness::FIRST_NODE + 2 * RECORD_LIMIT;
-
-// The places in the numbers of `why`: the receiver; the rule's origin, the record and the holder of that, its number, its owner, where the
-// steps of its chain stand; the number of its mixtures, and the atoms that these lack.
-const RECEIVER: usize = 0;
-
-const ORIGIN: usize = 2;
-
-const MADE: usize = 3;
-
-const HOLDER: usize = 4;
-
-const RULE: usize = 5;
-
-const OWNER: usize = 6;
-
-const FIRST: usize = 7;
-
-const COUNT: usize = 8;
-
-const ATOMS: usize = 9;
 
 // ---- lines
 
@@ -122,7 +111,7 @@ fn show_way(
     out: &mut [u8; BUFFER_SIZE],
     sent: &mut u64,
 ) -> bool
-    requires { ⌜ (checkOf (now image) ≡ 0) × (length (now trace) ≤ traceLimit) × (c < containerLimit) × (atom < tagWidth) ⌝ }
+    requires { ⌜ (checkOf (now image) ≡ 0) × (length (now trace) ≤ traceSize) × (c < containerLimit) × (atom < tagWidth) ⌝ }
     ensures { λ r. ⌜ DoneOrTold r (Handed (wayText (now (image .entry)) (now (trace .entry)) c atom) (now (sent .entry)) (now (sent .exit))) ⌝ }
 {
     let found = witness::explain(image, trace, c, atom, links, steps);
@@ -132,10 +121,10 @@ fn show_way(
 
 // Whether an earlier mixture lacks the same atom as mixture number j.
 fn lacked_before(why: &[u64], j: usize) -> bool
-    requires { ⌜ 9 + j < length (now why) ⌝ }
-    ensures { λ r. ⌜ r ≡ elem (getD (now (why .entry)) (9 + j) 0) (take j (drop 9 (now (why .entry)))) ⌝ }
+    requires { ⌜ whyAtomsAt + j < length (now why) ⌝ }
+    ensures { λ r. ⌜ r ≡ elem (getD (now (why .entry)) (whyAtomsAt + j) 0) (take j (drop whyAtomsAt (now (why .entry)))) ⌝ }
 {
-    explanations::is_among(&why[ATOMS..ATOMS + j], why[ATOMS + j])
+    explanations::is_among(&why[WHY_ATOMS_AT..WHY_ATOMS_AT + j], why[WHY_ATOMS_AT + j])
 }
 
 // A mixture, the atom that it lacks and, unless an earlier one lacks the same, how that came to the receiver.
@@ -149,11 +138,11 @@ fn show_mixture(
     out: &mut [u8; BUFFER_SIZE],
     sent: &mut u64,
 ) -> bool
-    requires { ⌜ Asked (now image) (now trace) × Told (now image) (now trace) (now why) × (j < length (mixturesOf (now image) (now trace))) ⌝ }
+    requires { ⌜ Asked (now image) (now trace) × WhyNumbers (now image) (now trace) (now why) × (j < length (mixturesOf (now image) (now trace))) ⌝ }
     ensures { λ r. ⌜ DoneOrTold r (Handed (mixtureText (now (image .entry)) (now (trace .entry)) j) (now (sent .entry)) (now (sent .exit))) ⌝ }
 {
-    let atom = why[ATOMS + j];
-    let mixture = mixture_of(image, why[RULE] as usize, j);
+    let atom = why[WHY_ATOMS_AT + j];
+    let mixture = mixture_of(image, why[WHY_RULE_AT] as usize, j);
     let end = explanations::put_lacks(out, 0, mixture, atom);
     if !files::write_front(out, end, sent) {
         return false;
@@ -164,7 +153,7 @@ fn show_mixture(
     show_way(
         image,
         trace,
-        why[RECEIVER] as usize,
+        why[WHY_RECEIVER_AT] as usize,
         atom as usize,
         links,
         steps,
@@ -183,10 +172,10 @@ fn show_mixtures(
     out: &mut [u8; BUFFER_SIZE],
     sent: &mut u64,
 ) -> bool
-    requires { ⌜ Asked (now image) (now trace) × Told (now image) (now trace) (now why) ⌝ }
+    requires { ⌜ Asked (now image) (now trace) × WhyNumbers (now image) (now trace) (now why) ⌝ }
     ensures { λ r. ⌜ DoneOrTold r (Handed (mixturesText (now (image .entry)) (now (trace .entry))) (now (sent .entry)) (now (sent .exit))) ⌝ }
 {
-    let count = why[COUNT] as usize;
+    let count = why[WHY_COUNT_AT] as usize;
     let mut j: usize = 0;
     while j < count {
         if !show_mixture(image, trace, why, j, links, steps, out, sent) {
@@ -204,19 +193,19 @@ fn show_rule(
     out: &mut [u8; BUFFER_SIZE],
     sent: &mut u64,
 ) -> bool
-    requires { ⌜ getD (now why) 7 0 ≤ recordLimit ⌝ }
+    requires { ⌜ getD (now why) whyChainAt 0 ≤ recordLimit ⌝ }
     ensures { λ r. ⌜ DoneOrTold r (Handed (ruleTold (now (why .entry)) (now (steps .entry))) (now (sent .entry)) (now (sent .exit))) ⌝ }
 {
     let end = explanations::put_rule(
         out,
         0,
-        why[ORIGIN],
-        why[RULE],
-        why[OWNER],
-        why[MADE],
-        why[HOLDER],
+        why[WHY_KIND_AT],
+        why[WHY_RULE_AT],
+        why[WHY_OWNER_AT],
+        why[WHY_RECORD_AT],
+        why[WHY_HOLDER_AT],
     );
-    hand_line(end, steps, why[FIRST] as usize, out, sent)
+    hand_line(end, steps, why[WHY_CHAIN_AT] as usize, out, sent)
 }
 
 // The last record of a trace, which is answered by an alert or blocked.
@@ -235,7 +224,7 @@ fn show_explanation(
 {
     let mut told = [0u64; WHY_LENGTH];
     certificate::why(image, trace, links, steps, &mut told);
-    let end = explanations::put_found(out, 0, blocked, n, told[RECEIVER]);
+    let end = explanations::put_found(out, 0, blocked, n, told[WHY_RECEIVER_AT]);
     if !files::write_front(out, end, sent) {
         return false;
     }
@@ -258,7 +247,7 @@ fn show_record(
     out: &mut [u8; BUFFER_SIZE],
     sent: &mut u64,
 ) -> bool
-    requires { ⌜ (checkOf (now image) ≡ 0) × (length (now trace) ≤ traceLimit) × (answer ≡ answered (now image) (now trace)) ⌝ }
+    requires { ⌜ (checkOf (now image) ≡ 0) × (length (now trace) ≤ traceSize) × (answer ≡ answered (now image) (now trace)) ⌝ }
     ensures { λ r. ⌜ DoneOrTold r (Handed (cond (isForbidden answer) (explanationText (now (image .entry)) (now (trace .entry)) n) []) (now (sent .entry)) (now (sent .exit))) ⌝ }
 {
     if !answers::is_forbidden(answer) {
@@ -304,7 +293,7 @@ fn show_records(
     out: &mut [u8; BUFFER_SIZE],
     sent: &mut u64,
 ) -> Progress
-    requires { ⌜ (checkOf (now image) ≡ 0) × (length (now trace) ≤ traceLimit) × (now session ≡ startOf (policyIn (now image))) ⌝ }
+    requires { ⌜ (checkOf (now image) ≡ 0) × (length (now trace) ≤ traceSize) × (now session ≡ startOf (policyIn (now image))) ⌝ }
     ensures { λ r. ⌜ DoneOrTold (r .good) (RecordsShown (now (image .entry)) (now (trace .entry)) (r .records) (r .explained) (now (sent .entry)) (now (sent .exit))) ⌝ }
 {
     let mut at: usize = 0;
@@ -350,7 +339,7 @@ fn show_trace(
     out: &mut [u8; BUFFER_SIZE],
     sent: &mut u64,
 ) -> bool
-    requires { ⌜ (checkOf (now image) ≡ 0) × (length (now trace) ≤ traceLimit) × (now session ≡ startOf (policyIn (now image))) ⌝ }
+    requires { ⌜ (checkOf (now image) ≡ 0) × (length (now trace) ≤ traceSize) × (now session ≡ startOf (policyIn (now image))) ⌝ }
     ensures { λ r. ⌜ DoneOrTold r (Handed (traceText (now (image .entry)) (now (trace .entry))) (now (sent .entry)) (now (sent .exit))) ⌝ }
 {
     let run = show_records(image, trace, session, links, steps, out, sent);
@@ -380,15 +369,15 @@ fn show_file(
     out: &mut [u8; BUFFER_SIZE],
     sent: &mut u64,
 ) -> bool
-    requires { ⌜ (checkOf (now image) ≡ 0) × (now session ≡ startOf (policyIn (now image))) × (length (now trace) ≡ traceLimit + 1) ⌝ }
-    ensures { λ r. ⌜ DoneOrTold r (TraceShown (now (image .entry)) (now (sent .entry)) (now (sent .exit))) ⌝ }
+    requires { ⌜ (checkOf (now image) ≡ 0) × (now session ≡ startOf (policyIn (now image))) × (length (now trace) ≡ traceSize + 1) ⌝ }
+    ensures { λ r. ⌜ DoneOrTold r (TraceExplained (now (image .entry)) (now (sent .entry)) (now (sent .exit))) ⌝ }
 {
     let loaded = files::load(b"trace.bin", trace);
     if !loaded.good {
         return false;
     }
     let n = loaded.size;
-    if TRACE_LIMIT < n {
+    if TRACE_SIZE < n {
         tell_too_long();
         return false;
     }

@@ -1,10 +1,10 @@
 -- A loop that writes rows one behind the other, and a part that is lent.
 use Prim.Native.Nat.{ℕ, _+_, _-_, _≤_, _<_}
-use mathlib.Core.Path.{_≡_, refl, sym, ap, _∙_}
+use mathlib.Core.Path.{_≡_, refl, sym, ap, ap₂, _∙_}
 use mathlib.Core.List.{List, [], _++_, append-assoc, append-nil}
 use native.Mathlib.Omega.{arith}
 use lib.ListN.{length, getD, take, drop, length-append, length-take, length-drop, drop-of-length-le}
-use lib.Seq.{take-all, drop-at, drop-drop, length-take-le}
+use lib.Seq.{take-all, take-at, drop-at, drop-drop, length-take-le}
 use borrow.Rule.Slice.PartMut.{putMid}
 use Rattle.lists.specs.Lists.{joined}
 use Rattle.lists.proofs.Joined.{joined-more, joined-part}
@@ -87,6 +87,13 @@ wrote-front {x} {y} {before} {mid} {after} {at} {next} h p q =
     }
 
 -- a buffer that is written whole
+-- the front of an array that was written from its start
+pub front-written : {x before after : List ℕ} {end : ℕ} → Wrote x before after 0 end → take (end - 0) after ≡ x
+unfolding overwritten
+front-written {x} {before} {after} {end} w =
+    let e : end - 0 ≡ length x = omega (arith, w .ends) in
+    ap₂ (λ (k : ℕ) (l : List ℕ). take k l) e (w .buffer) ∙ take-at x (drop (0 + length x) before) (length x) refl
+
 pub wrote-whole : {x before after : List ℕ} {next : ℕ} → length before ≡ length x → Wrote x before after 0 next → after ≡ x
 unfolding overwritten
 wrote-whole {x} {before} e w =

@@ -17,7 +17,7 @@ use Rattle.answers.specs.declared.Answer.{Answer}
 use Rattle.answers.specs.Answers.{isQuiet, isAlert, isBlocked, isRefused, accepted, receiverOf, quiet, alert}
 use Rattle.answers.specs.Tallies.{countOf}
 use Rattle.answers.proofs.Cases.{one, one-case, accepted-cases, alert-accepted, blocked-given}
-use Rattle.rules.specs.Rules.{covers, coverPlace}
+use Rattle.rules.specs.Rules.{covers}
 use Rattle.image.specs.Limits.{containerLimit}
 use Rattle.image.specs.Policy.{Policy}
 use Rattle.chains.specs.History.{Step, History, stepCount, receiver}
@@ -79,11 +79,11 @@ module _ (s r : List ℕ) (h : isAlert (stepAnswer s r) ≡ true) where
   alert-receiver : receiverOf (stepAnswer s r) ≡ receiver (stepAsked r)
   alert-receiver =
       ap receiverOf (answer-judged s r accepts alert-judged)
-      ∙ by (covers (entry (view s) (stepAsked r) .row .permit) (entry (view s) (stepAsked r) .row .tag))
+      ∙ by (covers (entry (view s) (stepAsked r) .row .permit) (entry (view s) (stepAsked r) .row .tag)) _ _
     where
-      by : (b : Bool) → receiverOf (cond b quiet alert (receiver (stepAsked r)) (entry (view s) (stepAsked r) .row .tag) (coverPlace (entry (view s) (stepAsked r) .row .permit) (entry (view s) (stepAsked r) .row .tag))) ≡ receiver (stepAsked r)
-      by true = refl
-      by false = refl
+      by : (b : Bool) (tag position : ℕ) → receiverOf (cond b quiet alert (receiver (stepAsked r)) tag position) ≡ receiver (stepAsked r)
+      by true tag position = refl
+      by false tag position = refl
 
   alert-container : receiverOf (stepAnswer s r) < containerLimit
   alert-container = rw alert-receiver (step-receiver s r (answer-accepted s r .0 accepts .0))

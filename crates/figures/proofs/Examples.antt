@@ -48,7 +48,8 @@ too-long = refl
 spelled : (traceLine 0 (figuresOf given) ++ (traceLine 1 (figuresOf given) ++ []))
     ++ monthTotalLine (sumOf (counting (figuresOf given)) (sumOf (counting (figuresOf given)) noFigures))
     ≡ ascii "00.bin 5 1 1 0 200 0 1 1\n01.bin 5 1 1 0 200 0 1 1\ntotal 10 2 2 0 200 0 1 2\n"
-unfolding traceLine tooMany counting figuresOf testAt countOf alertAt noFigures sumOf figuresLine figureFields monthTotalLine nameOf rateFields alertFields countFields fieldsFrom containerFields line decimal decimalIn digits digit ascii
+unfolding traceLine tooMany counting figuresOf testAt countOf alertAt noFigures sumOf figuresLine figureFields monthTotalLine nameOf rateFields
+    alertFields countFields fieldsFrom containerFields line decimal decimalIn digits digit ascii
 spelled = refl
 
 pub month : monthText image (traceBytes ∷ traceBytes ∷ []) ≡ ascii "00.bin 5 1 1 0 200 0 1 1\n01.bin 5 1 1 0 200 0 1 1\ntotal 10 2 2 0 200 0 1 2\n"

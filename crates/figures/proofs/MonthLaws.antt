@@ -121,7 +121,8 @@ few n h = ltb-false recordLimit n h
 trace-within : (s t : List ℕ) → tooMany (traceFigures s t .records) ≡ false → FiguresWithin (traceFigures s t) recordLimit
 unfolding traceFigures figuresOf
 trace-within s t h =
-    within-more (figuresOf (runAnswers s (traceRecords t))) (length (runAnswers s (traceRecords t))) recordLimit (few (length (runAnswers s (traceRecords t))) h) (answers-within (runAnswers s (traceRecords t)))
+    let given = runAnswers s (traceRecords t) in
+    within-more (figuresOf given) (length given) recordLimit (few (length given) h) (answers-within given)
 
 pub records-held : (f : Figures) → f .records < 2 ^ 64 → countersOf f .records ≡ f .records
 unfolding countersOf

@@ -122,7 +122,11 @@ pub fn add_part(
     alerted: &mut [u32],
     begun: u64,
 ) -> u64
-    ensures { λ r. ⌜ (counters r (now (counts .exit)) (now (alerted .exit)) ≡ partCounters (counters begun (now (counts .entry)) (now (alerted .entry))) (now (session .entry)) (now (part .entry))) × (now (session .exit) ≡ partSession (now (session .entry)) (now (part .entry))) ⌝ }
+    ensures { λ r. ⌜
+        (counters r (now (counts .exit)) (now (alerted .exit))
+        ≡ partCounters (counters begun (now (counts .entry)) (now (alerted .entry))) (now (session .entry)) (now (part .entry)))
+        × (now (session .exit) ≡ partSession (now (session .entry)) (now (part .entry)))
+        ⌝ }
 {
     let mut records = begun;
     let mut at: usize = 0;
@@ -163,7 +167,10 @@ pub fn add_total(
     alerted: &[u32; CONTAINER_LIMIT],
     records: u64,
 ) -> u64
-    ensures { λ r. ⌜ counters r (now (totals .exit)) (now (sums .exit)) ≡ totalWith (counters total (now (totals .entry)) (now (sums .entry))) (counters records (now (counts .entry)) (now (alerted .entry))) ⌝ }
+    ensures { λ r. ⌜
+        counters r (now (totals .exit)) (now (sums .exit))
+        ≡ totalWith (counters total (now (totals .entry)) (now (sums .entry))) (counters records (now (counts .entry)) (now (alerted .entry)))
+        ⌝ }
 {
     if too_long(records) {
         return total;

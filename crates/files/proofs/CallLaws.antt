@@ -15,7 +15,8 @@ use lib.IntN.{ℤ}
 use Rattle.files.specs.declared.Opened.{Opened}
 use Rattle.files.specs.declared.Opened.the-variants as opened
 use Rattle.files.specs.declared.Part.{Part}
-use Rattle.files.specs.Calls.{Told, DoneOrTold, Handed, handed-none, handed-then, handed-as, Taken, taken-none, taken-then, taken-as, EndsAt, Absent, WroteSome, ReadSome, PartRead, FileLoaded, OpenedAs, OpenedFile}
+use Rattle.files.specs.Calls.{Told, DoneOrTold, Handed, handed-none, handed-then, handed-as, Taken, taken-none, taken-then}
+use Rattle.files.specs.Calls.{taken-as, EndsAt, Absent, WroteSome, ReadSome, PartRead, FileLoaded, OpenedAs, OpenedFile}
 
 -- ---- done, or told
 
@@ -112,7 +113,9 @@ module _ (name begun : List ℕ) (a : ℕ) (buffer : List ℕ) (b done : ℕ) (h
             record {
               within = omega (arith, same, h .within);
               long = same ∙ h .long;
-              taken = subst (λ (x : ℕ). Taken name (take done (putMid done (length buffer - done) buffer ys)) a x) (sym v) (taken-as (sym (take-put done (length buffer - done) buffer ys (h .within))) (h .taken));
+              taken =
+                  subst (λ (x : ℕ). Taken name (take done (putMid done (length buffer - done) buffer ys)) a x) (sym v)
+                  (taken-as (sym (take-put done (length buffer - done) buffer ys (h .within))) (h .taken));
             }
 
     -- no byte where there was room: the file ends

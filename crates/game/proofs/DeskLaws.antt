@@ -64,7 +64,11 @@ module _ (r b l : ℕ) (p : Position) (z : Searched r b p) {moves : ℕ} (e : mo
   set-reaches {x} f h = at (leastBelow (λ k. has moves k && appendsTo b k) rightCount) (least-some (λ k. has moves k && appendsTo b k) rightCount (sym f ∙ h))
     where
       at : (k : ℕ) → Least (λ k. has moves k && appendsTo b k) rightCount k → true ≡ deskWins r b l p
-      at k w = sym (desk-adds r b l p (z .apart) (z .some) ∙ some-at (additionWins r b l p) rightCount k (w .below) (wins (sym (in-set p k e (w .below)) ∙ and-0 (has moves k) (appendsTo b k) (w .passes))))
+      at k w =
+          sym
+          (desk-adds r b l p (z .apart) (z .some)
+          ∙ some-at (additionWins r b l p) rightCount k (w .below)
+          (wins (sym (in-set p k e (w .below)) ∙ and-0 (has moves k) (appendsTo b k) (w .passes))))
         where
           wins : adds p k ≡ true → additionWins r b l p k ≡ true
           wins h =

@@ -81,7 +81,8 @@ module _ (reads writes : List ℕ) (objects a b rounds withdrawals : ℕ) where
     pub lost : deskWins rounds b withdrawals p ≡ false → given ≡ withoutMove 0
     unfolding outcomeOf firstWinning
     lost h =
-        let e : firstWinning rounds b withdrawals p ≡ moveCount = least-none (moveWins rounds b withdrawals p) moveCount (λ j i. none-at (moveWins rounds b withdrawals p) moveCount j (sym turn ∙ h) i) in
+        let e : firstWinning rounds b withdrawals p ≡ moveCount =
+        least-none (moveWins rounds b withdrawals p) moveCount (λ j i. none-at (moveWins rounds b withdrawals p) moveCount j (sym turn ∙ h) i) in
         sym (played reads writes objects a b rounds withdrawals (u .0) (u .1)) ∙ rw (le-ltb k moveCount (omega (arith, e)))
 
   -- ---- the four cases

@@ -118,7 +118,9 @@ module _ (reads writes : List ℕ) (objects a : ℕ) (even : length writes ≡ l
   unfolding opening
   opening-sourced l = record {
     rights = λ k m h. sym (bits-has (rightIn reads writes) rightCount k m) ∙ h;
-    objectsFrom = λ o h. subst (Composed reads writes objects a) (eqb-true a o (sym (has-single a o) ∙ h)) (unfold granted in (step l l (or-0 (eqb a a) (subjectCarries reads writes a a) (eq-eqb a a refl))));
+    objectsFrom = λ o h.
+        subst (Composed reads writes objects a) (eqb-true a o (sym (has-single a o) ∙ h))
+        (unfold granted in (step l l (or-0 (eqb a a) (subjectCarries reads writes a a) (eq-eqb a a refl))));
     subjectsFrom = λ s h. clash h (has-zero s);
   }
 
@@ -204,7 +206,9 @@ module _ (reads writes : List ℕ) (b : ℕ) where
           subst (λ (y : Position). has (y .subjects) s ≡ true) (sym (read-hands p reading l (ap (has (p .objects)) eo ∙ h))) (with-holds es)
         where
           with-holds : subjectOf reading ≡ s → has (withSubject p (subjectOf reading) .subjects) s ≡ true
-          with-holds e = unfold withSubject in (has-or (p .subjects) (2 ^ subjectOf reading) s ∙ or-1 (has (p .subjects) s) (has (2 ^ subjectOf reading) s) (has-single (subjectOf reading) s ∙ eq-eqb (subjectOf reading) s e))
+          with-holds e = unfold withSubject in
+              (has-or (p .subjects) (2 ^ subjectOf reading) s
+              ∙ or-1 (has (p .subjects) s) (has (2 ^ subjectOf reading) s) (has-single (subjectOf reading) s ∙ eq-eqb (subjectOf reading) s e))
 
       appending-legal : legal (moved p reading) appending ≡ true
       appending-legal =

@@ -139,7 +139,9 @@ module _ (p : Position) (k : ℕ) where
   pub adds-right : adds p k ≡ true → has (p .rights) k ≡ true
   unfolding adds
   adds-right h =
-      and-0 (has (p .rights) k) (cond (ltb k readCount) (has (p .objects) (objectOf k) && not (has (p .subjects) (subjectOf k))) (has (p .subjects) (subjectOf k) && not (has (p .objects) (objectOf k)))) h
+      and-0 (has (p .rights) k)
+      (cond (ltb k readCount) (has (p .objects) (objectOf k) && not (has (p .subjects) (subjectOf k)))
+      (has (p .subjects) (subjectOf k) && not (has (p .objects) (objectOf k)))) h
 
   pub adds-legal : k < rightCount → adds p k ≡ true → legal p k ≡ true
   adds-legal l h = legal-is p k l ∙ adds-right h

@@ -48,7 +48,8 @@ longer (suc f) = by (longer f)
             more : (k : ℕ) → Least (moveIn f b l p) moveCount k → someBelow (moveIn (suc (suc f)) b l p) moveCount ≡ true
             more k w =
                 some-at (moveIn (suc (suc f)) b l p) moveCount k (w .below)
-                (and-in (and-0 (legal p k) (reached b (moved p k) || guardIn f b l (moved p k)) (w .passes)) (or-more (reached b (moved p k)) (ih .guard b l (moved p k)) (and-1 (legal p k) (w .passes))))
+                (and-in (and-0 (legal p k) (reached b (moved p k) || guardIn f b l (moved p k)) (w .passes))
+                (or-more (reached b (moved p k)) (ih .guard b l (moved p k)) (and-1 (legal p k) (w .passes))))
 
         guards : (b l : ℕ) (p : Position)
             → (deskIn f b l p && cond (eqb l 0) true (allBelow (replyIn f b l p) rightCount)) ≡ true

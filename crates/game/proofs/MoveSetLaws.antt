@@ -39,8 +39,10 @@ all-tabled = refl
 pub table-is : (s : ℕ) → s < 8 → (getD table s 0 ≡ toFirstObject s) × (getD table s 0 ≤ 73)
 unfolding tabled
 table-is s l =
-    let h : (eqb (getD table s 0) (toFirstObject s) && leb (getD table s 0) 73) ≡ true = all-at tabled 8 s all-tabled l in
-    (eqb-true (getD table s 0) (toFirstObject s) (and-0 (eqb (getD table s 0) (toFirstObject s)) (leb (getD table s 0) 73) h), leb-true (getD table s 0) 73 (and-1 (eqb (getD table s 0) (toFirstObject s)) h))
+    let h : (eqb (getD table s 0) (toFirstObject s) && leb (getD table s 0) 73) ≡ true = all-at tabled 8 s all-tabled l in (
+      eqb-true (getD table s 0) (toFirstObject s) (and-0 (eqb (getD table s 0) (toFirstObject s)) (leb (getD table s 0) 73) h),
+      leb-true (getD table s 0) 73 (and-1 (eqb (getD table s 0) (toFirstObject s)) h),
+    )
 
 pub reads-fit : (x o : ℕ) → x ≤ 73 → o < 8 → x * o ≤ 511
 reads-fit x o h l = let m : o ≤ 7 = omega arith in mul-le-mul h m

@@ -103,7 +103,9 @@ gathering-start reads writes = record { place = omega arith; done = λ k l. has-
 module _ (reads writes : List ℕ) (z : Rows reads writes) where
   pub gathering-next : (rights s : ℕ) → Gathering reads writes rights s → s < length reads
       → Gathering reads writes (bitOr rights ((getD reads s 0 + 512 * getD writes s 0) * 2 ^ (3 * s) % 4294967296)) (s + 1)
-  gathering-next rights s g l = record { place = omega arith; done = done; small = or-lt rightCount rights (placedRow s (getD reads s 0) (getD writes s 0)) (g .small) (row-fits s (getD reads s 0) (getD writes s 0) ls (z .smallReads s) (z .smallWrites s)) }
+  gathering-next rights s g l =
+      let fits = row-fits s (getD reads s 0) (getD writes s 0) ls (z .smallReads s) (z .smallWrites s) in
+      record { place = omega arith; done = done; small = or-lt rightCount rights (placedRow s (getD reads s 0) (getD writes s 0)) (g .small) fits }
     where
       ls : s < sideLimit
       ls = omega (arith, z .few)
@@ -115,7 +117,9 @@ module _ (reads writes : List ℕ) (z : Rows reads writes) where
           ∙ ap (λ (x : Bool). x || inRow s (getD reads s 0) (getD writes s 0) k) (g .done k m)
           ∙ by (ℕ-discrete (subjectOf k) s) (decLt (subjectOf k) s)
         where
-          by : Dec (subjectOf k ≡ s) → Dec (subjectOf k < s) → ((ltb (subjectOf k) s && rightIn reads writes k) || inRow s (getD reads s 0) (getD writes s 0) k) ≡ (ltb (subjectOf k) (s + 1) && rightIn reads writes k)
+          by : Dec (subjectOf k ≡ s) → Dec (subjectOf k < s)
+              → ((ltb (subjectOf k) s && rightIn reads writes k) || inRow s (getD reads s 0) (getD writes s 0) k)
+              ≡ (ltb (subjectOf k) (s + 1) && rightIn reads writes k)
           by (yes e) d = rw (le-ltb (subjectOf k) s (omega arith), lt-ltb (subjectOf k) (s + 1) (omega arith)) (right-row reads writes k s e)
           by (no n) (yes i) =
               rw (lt-ltb (subjectOf k) s i, lt-ltb (subjectOf k) (s + 1) (omega arith), other-row s (getD reads s 0) (getD writes s 0) k n) (or-none (rightIn reads writes k))

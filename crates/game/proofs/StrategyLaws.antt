@@ -43,7 +43,9 @@ move-parts r b l p k h = (and-0 (legal p k) (reached b (moved p k) || guardLoses
 -- after a move that wins, given a strategy wherever the desk then wins
 module _ (r b : ℕ) (ih : (l : ℕ) (q : Position) → deskWins r b l q ≡ true → DeskForces b r l q) where
   replied : (l : ℕ) (q : Position) → guardLoses (suc r) b l q ≡ true → Through b r l q
-  replied l q h = onward (ih l q (and-0 (deskWins r b l q) (cond (eqb l 0) true (allBelow (replyLoses (suc r) b l q) rightCount)) z)) (λ j m g w. ih (l - 1) (withdrawn q j) (each (and-1 (deskWins r b l q) z) j m g w))
+  replied l q h =
+      onward (ih l q (and-0 (deskWins r b l q) (cond (eqb l 0) true (allBelow (replyLoses (suc r) b l q) rightCount)) z))
+      (λ j m g w. ih (l - 1) (withdrawn q j) (each (and-1 (deskWins r b l q) z) j m g w))
     where
       z : (deskWins r b l q && cond (eqb l 0) true (allBelow (replyLoses (suc r) b l q) rightCount)) ≡ true
       z = sym (guard-next r b l q) ∙ h

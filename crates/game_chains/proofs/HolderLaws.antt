@@ -12,7 +12,7 @@ use Rattle.lists.proofs.Bools.{and-in, and-0, and-1, or-0, or-1, or-cases}
 use Rattle.lists.proofs.Every.{every-0, every-1}
 use Rattle.image.specs.Policy.{Policy}
 use Rattle.matrix.specs.Flows.{has}
-use Rattle.chains.specs.History.{History, _▸_, read, append}
+use Rattle.chains.specs.History.{Step, History, _▸_, read, append}
 use Rattle.chains.specs.Chains.{Item, dataAtom, Carries, readAtom, appendAny, Ends, Chain}
 use Rattle.chains.proofs.ChainLaws.{chain-snoc, chain-stay, chain-carry}
 use Rattle.game.specs.declared.Position.{Position}
@@ -36,36 +36,33 @@ read-ends = elim [ ]
 append-ends : {p o c : ℕ} {x : Item} → Ends (append p o) c x → ⊥
 append-ends = elim [ ]
 
+-- a chain after a step that carries all data from one container to another and ends nothing: one from before, or one into the first,
+-- carried to the second
+module _ (P : Policy) (h : History) (a : ℕ) (t : Step) (source target : ℕ)
+    (only : (b c : ℕ) (x : Item) → Carries t b x c (dataAtom a) → (b ≡ source) × (x ≡ dataAtom a) × (c ≡ target))
+    (keeps : (c : ℕ) (x : Item) → Ends t c x → ⊥) (carries : Carries t source (dataAtom a) target (dataAtom a)) where
+  carried-chain : (c : ℕ) → Chain P (h ▸ t) (dataAtom a) c ↔ (Chain P h (dataAtom a) c ⊎ ((c ≡ target) × Chain P h (dataAtom a) source))
+  carried-chain c = (λ w. to (chain-snoc P h t (dataAtom a) c w), from)
+    where
+      to : (Chain P h (dataAtom a) c × ¬ Ends t c (dataAtom a)) ⊎ ((b : ℕ) × (x : Item) × Chain P h x b × Carries t b x c (dataAtom a))
+          → Chain P h (dataAtom a) c ⊎ ((c ≡ target) × Chain P h (dataAtom a) source)
+      to (inl (w, n)) = inl w
+      to (inr (b, x, w, g)) =
+          let e = only b c x g in
+          inr (e .2, subst (λ (y : Item). Chain P h y source) (e .1) (subst (λ (i : ℕ). Chain P h x i) (e .0) w))
+
+      from : Chain P h (dataAtom a) c ⊎ ((c ≡ target) × Chain P h (dataAtom a) source) → Chain P (h ▸ t) (dataAtom a) c
+      from (inl w) = chain-stay P h t (dataAtom a) c w (keeps c (dataAtom a))
+      from (inr (e, w)) = subst (Chain P (h ▸ t) (dataAtom a)) (sym e) (chain-carry P h t (dataAtom a) (dataAtom a) source target w carries)
+
 module _ (P : Policy) (h : History) (a : ℕ) where
-  -- a chain after a read: one from before, or one into the object, carried to the process
+  -- after a read: from the object to the process
   read-chain : (p o c : ℕ) → Chain P (h ▸ read p o) (dataAtom a) c ↔ (Chain P h (dataAtom a) c ⊎ ((c ≡ p) × Chain P h (dataAtom a) o))
-  read-chain p o c = (λ w. to (chain-snoc P h (read p o) (dataAtom a) c w), from)
-    where
-      to : (Chain P h (dataAtom a) c × ¬ Ends (read p o) c (dataAtom a)) ⊎ ((b : ℕ) × (x : Item) × Chain P h x b × Carries (read p o) b x c (dataAtom a))
-          → Chain P h (dataAtom a) c ⊎ ((c ≡ p) × Chain P h (dataAtom a) o)
-      to (inl (w, n)) = inl w
-      to (inr (b, x, w, g)) =
-          let e = read-carries g in
-          inr (e .2, subst (λ (y : Item). Chain P h y o) (e .1) (subst (λ (i : ℕ). Chain P h x i) (e .0) w))
+  read-chain p o = carried-chain P h a (read p o) o p (λ b c x. read-carries) (λ c x. read-ends) readAtom
 
-      from : Chain P h (dataAtom a) c ⊎ ((c ≡ p) × Chain P h (dataAtom a) o) → Chain P (h ▸ read p o) (dataAtom a) c
-      from (inl w) = chain-stay P h (read p o) (dataAtom a) c w read-ends
-      from (inr (e, w)) = subst (Chain P (h ▸ read p o) (dataAtom a)) (sym e) (chain-carry P h (read p o) (dataAtom a) (dataAtom a) o p w readAtom)
-
-  -- the same after an append, from the process to the object
+  -- after an append: from the process to the object
   append-chain : (p o c : ℕ) → Chain P (h ▸ append p o) (dataAtom a) c ↔ (Chain P h (dataAtom a) c ⊎ ((c ≡ o) × Chain P h (dataAtom a) p))
-  append-chain p o c = (λ w. to (chain-snoc P h (append p o) (dataAtom a) c w), from)
-    where
-      to : (Chain P h (dataAtom a) c × ¬ Ends (append p o) c (dataAtom a)) ⊎ ((b : ℕ) × (x : Item) × Chain P h x b × Carries (append p o) b x c (dataAtom a))
-          → Chain P h (dataAtom a) c ⊎ ((c ≡ o) × Chain P h (dataAtom a) p)
-      to (inl (w, n)) = inl w
-      to (inr (b, x, w, g)) =
-          let e = append-carries g in
-          inr (e .2, subst (λ (y : Item). Chain P h y p) (e .1) (subst (λ (i : ℕ). Chain P h x i) (e .0) w))
-
-      from : Chain P h (dataAtom a) c ⊎ ((c ≡ o) × Chain P h (dataAtom a) p) → Chain P (h ▸ append p o) (dataAtom a) c
-      from (inl w) = chain-stay P h (append p o) (dataAtom a) c w append-ends
-      from (inr (e, w)) = subst (Chain P (h ▸ append p o) (dataAtom a)) (sym e) (chain-carry P h (append p o) (dataAtom a) (dataAtom a) p o w appendAny)
+  append-chain p o = carried-chain P h a (append p o) p o (λ b c x. append-carries) (λ c x. append-ends) appendAny
 
 -- ---- a test that holds before, or by another one now
 

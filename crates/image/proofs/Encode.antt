@@ -85,10 +85,13 @@ container-fits n c h g = by (kind-low n c g) (isFile (c .kind)) g
   where
     file : c .kind < 256 ^ size8 → ((ltb (c .atom) dataWidth || eqb (c .atom) noAtom) && (named n (c .permit) && named n (c .run))) ≡ true → Fits c
     file e k =
+        let a : (ltb (c .atom) dataWidth || eqb (c .atom) noAtom) ≡ true = and-0 _ (named n (c .permit) && named n (c .run)) k in
         let g : (named n (c .permit) && named n (c .run)) ≡ true = and-1 (ltb (c .atom) dataWidth || eqb (c .atom) noAtom) k in
         record {
           kind = e;
-          atom = ⊎-elim (λ p. omega (arith, ltb-true (c .atom) dataWidth p)) (λ p. omega (arith, eqb-true (c .atom) noAtom p)) (or-cases (ltb (c .atom) dataWidth) (and-0 (ltb (c .atom) dataWidth || eqb (c .atom) noAtom) (named n (c .permit) && named n (c .run)) k));
+          atom =
+              ⊎-elim (λ p. omega (arith, ltb-true (c .atom) dataWidth p)) (λ p. omega (arith, eqb-true (c .atom) noAtom p))
+              (or-cases (ltb (c .atom) dataWidth) a);
           permit = named-fits n (c .permit) h (and-0 (named n (c .permit)) (named n (c .run)) g);
           run = named-fits n (c .run) h (and-1 (named n (c .permit)) g);
         }
@@ -192,7 +195,8 @@ spans-fit first (r ∷ rules) owners h k =
     (and-in (lt-ltb first (256 ^ size16) (omega arith)) (and-in (lt-ltb (length r) (256 ^ size16) (omega arith)) (head-fits owners k)))
     (spans-fit (first + length r) rules (drop 1 owners) (omega arith) (every-drop ownerFits 1 owners k))
 
-spans-good : (m from first : ℕ) (rules : List (List ℕ)) (owners : List ℕ) → from ≤ first → first + length (joined rules) ≤ m → every ruleGood rules ≡ true → spansGood m from (spansOf first rules owners) ≡ true
+spans-good : (m from first : ℕ) (rules : List (List ℕ)) (owners : List ℕ)
+    → from ≤ first → first + length (joined rules) ≤ m → every ruleGood rules ≡ true → spansGood m from (spansOf first rules owners) ≡ true
 unfolding spansGood spansOf joined
 spans-good m from first [] owners l h k = refl
 spans-good m from first (r ∷ rules) owners l h k =
@@ -236,7 +240,9 @@ module _ (p : Policy) (h : Sound p) where
 
   c-back : containersIn c ≡ p .containers
   unfolding c containersIn
-  c-back = section-back containerSize containerBytes container-wide (omega arith) (containerGood (length (p .rules))) containerIn (container-back (length (p .rules)) (h .fewRules)) (p .containers) (h .containersGood)
+  c-back =
+      section-back containerSize containerBytes container-wide (omega arith) (containerGood (length (p .rules))) containerIn
+      (container-back (length (p .rules)) (h .fewRules)) (p .containers) (h .containersGood)
 
   u : List ℕ
   u = joined (map (bytesOf userSize) (p .users))

@@ -59,7 +59,9 @@ module _ (t us : List Use) (g : Firsts t us) (r : Use) where
         by (yes m) = rw (List·getD-append t (r ∷ []) freeUse k m) (f k m)
         by (no m) = let e : k ≡ length t = omega (arith, length-append t (r ∷ [])) in rw (e, getD-append-seam t r [] freeUse) p
 
-    new-rising : (j k : ℕ) → j < k → k < length (t ++ (r ∷ [])) → positionBy sameUse (getD (t ++ (r ∷ [])) j freeUse) (us ++ (r ∷ [])) < positionBy sameUse (getD (t ++ (r ∷ [])) k freeUse) (us ++ (r ∷ []))
+    new-rising : (j k : ℕ)
+        → j < k → k < length (t ++ (r ∷ []))
+        → positionBy sameUse (getD (t ++ (r ∷ [])) j freeUse) (us ++ (r ∷ [])) < positionBy sameUse (getD (t ++ (r ∷ [])) k freeUse) (us ++ (r ∷ []))
     new-rising j k l m = by (decLt k (length t))
       where
         by : Dec (k < length t) → positionBy sameUse (getD (t ++ (r ∷ [])) j freeUse) (us ++ (r ∷ [])) < positionBy sameUse (getD (t ++ (r ∷ [])) k freeUse) (us ++ (r ∷ []))

@@ -43,7 +43,10 @@ settled-noted t r s h = by (sameUse r freeUse || knownBy sameUse r t)
   where
     by : (b : Bool) → (sameUse s freeUse || knownBy sameUse s (cond b t (t ++ (r ∷ [])))) ≡ true
     by true = h
-    by false = ⊎-elim (λ p. or-0 (sameUse s freeUse) (knownBy sameUse s (t ++ (r ∷ []))) p) (λ p. or-1 (sameUse s freeUse) (knownBy sameUse s (t ++ (r ∷ []))) (known-more sameUse s t (r ∷ []) p)) (or-cases (sameUse s freeUse) h)
+    by false =
+        ⊎-elim (or-0 (sameUse s freeUse) (knownBy sameUse s (t ++ (r ∷ []))))
+        (λ p. or-1 (sameUse s freeUse) (knownBy sameUse s (t ++ (r ∷ []))) (known-more sameUse s t (r ∷ []) p))
+        (or-cases (sameUse s freeUse) h)
 
 pub settled-itself : (t : List Use) (r : Use) → settled (noted t r) r ≡ true
 unfolding settled noted
@@ -160,11 +163,17 @@ module _ (t : List Use) (n : ℕ) (h : named (length t) n ≡ true) where
       by false k = map-at (λ u. u .owner) t n freeUse noOwner (⊎-elim (λ p. ltb-true n (length t) p) (λ p. clash p refl) (or-cases (ltb n (length t)) k))
 
 module _ (t : List Use) (few : length t ≤ unrestrictedNumber) (r : Use) (h : settled t r ≡ true) where
+  -- `numberOf t r`, with the test whether r is free apart
+  abbrev numberAs : Bool → ℕ
+  numberAs free = cond free unrestrictedNumber (positionBy sameUse r t)
+
   pub number-use : useIn t (numberOf t r) ≡ r
   unfolding useIn numberOf settled
   number-use = by (sameUse r freeUse) refl h
     where
-      by : (b : Bool) → sameUse r freeUse ≡ b → (b || knownBy sameUse r t) ≡ true → cond (eqb (cond b unrestrictedNumber (positionBy sameUse r t)) unrestrictedNumber) freeUse (getD t (cond b unrestrictedNumber (positionBy sameUse r t)) freeUse) ≡ r
+      by : (b : Bool)
+          → sameUse r freeUse ≡ b → (b || knownBy sameUse r t) ≡ true
+          → cond (eqb (numberAs b) unrestrictedNumber) freeUse (getD t (numberAs b) freeUse) ≡ r
       by true e k = sym (use-eq r freeUse e)
       by false e k =
           let l : positionBy sameUse r t < length t = position-lt sameUse r t k in
@@ -174,7 +183,7 @@ module _ (t : List Use) (few : length t ≤ unrestrictedNumber) (r : Use) (h : s
   unfolding named numberOf settled
   number-named = by (sameUse r freeUse) h
     where
-      by : (b : Bool) → (b || knownBy sameUse r t) ≡ true → (ltb (cond b unrestrictedNumber (positionBy sameUse r t)) (length t) || eqb (cond b unrestrictedNumber (positionBy sameUse r t)) unrestrictedNumber) ≡ true
+      by : (b : Bool) → (b || knownBy sameUse r t) ≡ true → (ltb (numberAs b) (length t) || eqb (numberAs b) unrestrictedNumber) ≡ true
       by true k = or-1 (ltb unrestrictedNumber (length t)) true refl
       by false k = or-0 (ltb (positionBy sameUse r t) (length t)) (eqb (positionBy sameUse r t) unrestrictedNumber) (lt-ltb (positionBy sameUse r t) (length t) (position-lt sameUse r t k))
 

@@ -12,7 +12,8 @@ use Rattle.lists.specs.Lists.{every}
 use Rattle.lists.proofs.Every.{every-0, every-1, every-nil, every-cons, every-append, every-map}
 use Rattle.image.specs.Limits.{unrestrictedNumber, noOwner}
 use Rattle.image.specs.Policy.{Container, Policy, ownerAt}
-use Rattle.image.specs.Normal.{Place, Meaning, normalAt, placeOf, meaning, Use, OwnedPlace, Owned, useAt, ownedPlace, owned, placeUses, uses, ownersAt, writtenBy, writtenUses, policyOf, normalPolicy}
+use Rattle.image.specs.Normal.{Place, Meaning, normalAt, placeOf, meaning, Use, OwnedPlace, Owned, useAt, ownedPlace}
+use Rattle.image.specs.Normal.{owned, placeUses, uses, ownersAt, writtenBy, writtenUses, policyOf, normalPolicy}
 use Rattle.image.proofs.Numbering.{numbered-every}
 
 -- ---- without the owners

@@ -48,22 +48,39 @@ pub mixture-at : (m : List ℕ) (k : ℕ) → k < length m / mixtureSize → fie
 unfolding mixturesIn field
 mixture-at m k h = sym (record-at numberIn mixtureSize k m 0 h)
 
+-- the fields of rule record n
+abbrev pub ruleFirst : List ℕ → ℕ → ℕ
+ruleFirst r n = field r (n * ruleSize) size16
+
+abbrev pub ruleCount : List ℕ → ℕ → ℕ
+ruleCount r n = field r (n * ruleSize + ruleCountAt) size16
+
+abbrev pub ruleOwner : List ℕ → ℕ → ℕ
+ruleOwner r n = field r (n * ruleSize + ruleOwnerAt) size16
+
+pub first-record : (r : List ℕ) (n : ℕ) → spanIn (take ruleSize (drop (n * ruleSize) r)) .first ≡ ruleFirst r n
+unfolding spanIn
+first-record r n =
+    let z : n * ruleSize + 0 ≡ n * ruleSize = omega arith in
+    field-record r (n * ruleSize) ruleSize ruleFirstAt size16 (omega arith) ∙ ap (λ (x : ℕ). field r x size16) z
+
+pub count-record : (r : List ℕ) (n : ℕ) → spanIn (take ruleSize (drop (n * ruleSize) r)) .count ≡ ruleCount r n
+unfolding spanIn
+count-record r n = field-record r (n * ruleSize) ruleSize ruleCountAt size16 (omega arith)
+
+pub owner-record : (r : List ℕ) (n : ℕ) → spanIn (take ruleSize (drop (n * ruleSize) r)) .owner ≡ ruleOwner r n
+unfolding spanIn
+owner-record r n = field-record r (n * ruleSize) ruleSize ruleOwnerAt size16 (omega arith)
+
 span-zero : Span
 span-zero = record { first = 0; count = 0; owner = noOwner }
 
-span-at : (r : List ℕ) (n : ℕ) → n < length r / ruleSize → getD (spansIn r) n span-zero ≡ record { first = field r (n * ruleSize) size16; count = field r (n * ruleSize + ruleCountAt) size16; owner = field r (n * ruleSize + ruleOwnerAt) size16 }
-unfolding spansIn spanIn
-span-at r n h = record-at spanIn ruleSize n r span-zero h ∙ parts
-  where
-    z : n * ruleSize + 0 ≡ n * ruleSize
-    z = omega arith
-
-    parts : spanIn (take ruleSize (drop (n * ruleSize) r)) ≡ record { first = field r (n * ruleSize) size16; count = field r (n * ruleSize + ruleCountAt) size16; owner = field r (n * ruleSize + ruleOwnerAt) size16 }
-    parts =
-        let e : field (take ruleSize (drop (n * ruleSize) r)) ruleFirstAt size16 ≡ field r (n * ruleSize) size16 = field-record r (n * ruleSize) ruleSize ruleFirstAt size16 (omega arith) ∙ ap (λ (x : ℕ). field r x size16) z in
-        let f : field (take ruleSize (drop (n * ruleSize) r)) ruleCountAt size16 ≡ field r (n * ruleSize + ruleCountAt) size16 = field-record r (n * ruleSize) ruleSize ruleCountAt size16 (omega arith) in
-        let g : field (take ruleSize (drop (n * ruleSize) r)) ruleOwnerAt size16 ≡ field r (n * ruleSize + ruleOwnerAt) size16 = field-record r (n * ruleSize) ruleSize ruleOwnerAt size16 (omega arith) in
-        λ i. record { first = e i; count = f i; owner = g i }
+span-at : (r : List ℕ) (n : ℕ) → n < length r / ruleSize
+    → getD (spansIn r) n span-zero ≡ record { first = ruleFirst r n; count = ruleCount r n; owner = ruleOwner r n }
+unfolding spansIn
+span-at r n h =
+    record-at spanIn ruleSize n r span-zero h
+    ∙ (λ i. record { first = first-record r n i; count = count-record r n i; owner = owner-record r n i })
 
 good-at : (m from : ℕ) (rs : List Span) (n : ℕ) (d : Span) → spansGood m from rs ≡ true → n < length rs → (getD rs n d .count ≤ mixtureLimit) × (getD rs n d .first + getD rs n d .count ≤ m)
 unfolding spansGood
@@ -78,13 +95,13 @@ module _ (r m : List ℕ) (h : ruleRecordsGood r m ≡ true) (n : ℕ) (l : n < 
   inside : n < length (spansIn r)
   inside = omega (arith, spans-count r)
 
-  pub rule-fits : (field r (n * ruleSize + ruleCountAt) size16 ≤ mixtureLimit) × (field r (n * ruleSize) size16 + field r (n * ruleSize + ruleCountAt) size16 ≤ length m / mixtureSize)
+  pub rule-fits : (ruleCount r n ≤ mixtureLimit) × (ruleFirst r n + ruleCount r n ≤ length m / mixtureSize)
   unfolding ruleRecordsGood
   rule-fits =
       let g = good-at (length m / mixtureSize) 0 (spansIn r) n span-zero h inside in
       (rw (span-at r n l) at (g .0), rw (span-at r n l) at (g .1))
 
-  pub rule-at : getD (rulesIn r m) n [] ≡ take (field r (n * ruleSize + ruleCountAt) size16) (drop (field r (n * ruleSize) size16) (mixturesIn m))
+  pub rule-at : getD (rulesIn r m) n [] ≡ take (ruleCount r n) (drop (ruleFirst r n) (mixturesIn m))
   unfolding rulesIn
   rule-at = map-at (ruleIn (mixturesIn m)) (spansIn r) n span-zero [] inside ∙ ap (ruleIn (mixturesIn m)) (span-at r n l) ∙ (unfold ruleIn in refl)
 
@@ -97,11 +114,7 @@ owners-are r = by (records ruleSize r)
     by [] = refl
     by (x ∷ l) = ap (λ (k : List ℕ). spanIn x .owner ∷ k) (by l)
 
-pub owner-record : (r : List ℕ) (n : ℕ) → spanIn (take ruleSize (drop (n * ruleSize) r)) .owner ≡ field r (n * ruleSize + ruleOwnerAt) size16
-unfolding spanIn
-owner-record r n = field-record r (n * ruleSize) ruleSize ruleOwnerAt size16 (omega arith)
-
 -- the owner of rule n
-pub owner-at : (r : List ℕ) (n : ℕ) → n < length r / ruleSize → getD (ownersIn r) n noOwner ≡ field r (n * ruleSize + ruleOwnerAt) size16
+pub owner-at : (r : List ℕ) (n : ℕ) → n < length r / ruleSize → getD (ownersIn r) n noOwner ≡ ruleOwner r n
 unfolding ownersIn
 owner-at r n l = map-at (λ s. s .owner) (spansIn r) n span-zero noOwner (omega (arith, spans-count r)) ∙ ap (λ (s : Span). s .owner) (span-at r n l)

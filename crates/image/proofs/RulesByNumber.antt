@@ -1,5 +1,5 @@
 -- A rule of the image, read mixture by mixture.
-use Prim.Native.Nat.{ℕ, _+_, _-_, _*_, _/_, _≤_, _<_}
+use Prim.Native.Nat.{ℕ, _+_, _-_, _/_, _≤_, _<_}
 use mathlib.Core.Path.{_≡_, refl, sym, ap, ap₂, _∙_}
 use mathlib.Core.List.{List, [], _∷_}
 use native.Mathlib.Omega.{arith}
@@ -15,15 +15,14 @@ use Rattle.rules.specs.Rules.{normal, unrestricted}
 use Rattle.rules.specs.Answers.{boundedOf, tagWidth, mixtureLimit}
 use Rattle.rule_words.specs.Words.{wordsOf}
 use Rattle.rule_words.proofs.WordLaws.{bounded-words}
-use Rattle.fields.specs.Bytes.{field}
 use Rattle.image.specs.Policy.{unrestrictedRule, ruleAt, named}
 use Rattle.image.specs.Image.{mixturesIn, rulesIn, ruleRecordsGood}
 use Rattle.image.specs.Normal.{normalAt}
 use Rattle.rules.proofs.RuleLaws.{normal-length}
 use native.Mathlib.Decide.{ℕ-discrete}
 use Rattle.image.proofs.WrittenMeaning.{normal-unrestricted}
-use Rattle.image.proofs.RecordsByPlace.{mixtures-count, rule-at, rule-fits}
-use Rattle.image.specs.Limits.{ruleSize, mixtureSize, size16, ruleCountAt, unrestrictedNumber}
+use Rattle.image.proofs.RecordsByPlace.{mixtures-count, ruleFirst, ruleCount, rule-at, rule-fits}
+use Rattle.image.specs.Limits.{ruleSize, mixtureSize, unrestrictedNumber}
 
 -- the mixtures from first on
 module _ (m : List ℕ) (first n : ℕ) (h : first + n ≤ length m / mixtureSize) where
@@ -36,7 +35,7 @@ module _ (m : List ℕ) (first n : ℕ) (h : first + n ≤ length m / mixtureSiz
 -- ---- a rule by its number
 
 pub own-rule : (r m : List ℕ) (n first count : ℕ) → ruleRecordsGood r m ≡ true → n < length r / ruleSize
-    → first ≡ field r (n * ruleSize) size16 → count ≡ field r (n * ruleSize + ruleCountAt) size16 → take count (drop first (mixturesIn m)) ≡ getD (rulesIn r m) n []
+    → first ≡ ruleFirst r n → count ≡ ruleCount r n → take count (drop first (mixturesIn m)) ≡ getD (rulesIn r m) n []
 own-rule r m n first count h l e f = ap₂ (λ (k a : ℕ). take k (drop a (mixturesIn m))) f e ∙ sym (rule-at r m h n l)
 
 unrestricted-at : (rules : List (List ℕ)) (n : ℕ) → n ≡ unrestrictedNumber → normalAt rules n ≡ unrestricted tagWidth
@@ -47,7 +46,8 @@ unrestricted-one : length (unrestricted tagWidth) ≤ mixtureLimit
 unfolding unrestricted
 unrestricted-one = omega arith
 
-pub unrestricted-words : (rules : List (List ℕ)) (n : ℕ) (b : Bounded) (out : List ℕ) → n ≡ unrestrictedNumber → b ≡ boundedOf (unrestricted tagWidth) → out ≡ b .count ∷ b .mixtures → out ≡ wordsOf (normalAt rules n)
+pub unrestricted-words : (rules : List (List ℕ)) (n : ℕ) (b : Bounded) (out : List ℕ)
+    → n ≡ unrestrictedNumber → b ≡ boundedOf (unrestricted tagWidth) → out ≡ b .count ∷ b .mixtures → out ≡ wordsOf (normalAt rules n)
 unrestricted-words rules n b out e f h = h ∙ bounded-words (unrestricted tagWidth) b f unrestricted-one ∙ ap wordsOf (sym (unrestricted-at rules n e))
 
 pub named-own : (k n : ℕ) → named k n ≡ true → (n ≡ unrestrictedNumber → ⊥) → n < k
@@ -68,4 +68,9 @@ normal-short r m n h k = by (ℕ-discrete n unrestrictedNumber)
     by (no d) =
         let l : n < length r / ruleSize = named-own (length r / ruleSize) n k d in
         rw (← own-normal (rulesIn r m) n d, rule-at r m h n l)
-        (omega (arith, normal-length (take (field r (n * ruleSize + ruleCountAt) size16) (drop (field r (n * ruleSize) size16) (mixturesIn m))), length-take (field r (n * ruleSize + ruleCountAt) size16) (drop (field r (n * ruleSize) size16) (mixturesIn m)), rule-fits r m h n l))
+        (omega (
+          arith,
+          normal-length (take (ruleCount r n) (drop (ruleFirst r n) (mixturesIn m))),
+          length-take (ruleCount r n) (drop (ruleFirst r n) (mixturesIn m)),
+          rule-fits r m h n l,
+        ))

@@ -25,11 +25,22 @@ use Rattle.lists.proofs.Every.{every-elem, every-nil, every-cons, every-map, ev
 unfoldable pub formGood : List ℕ → Bool
 formGood r = ruleGood r && sameList (normal r) r
 
-unfoldable pub shapeGood : Place → Bool
-shapeGood p =
-    cond (isFile (p .kind))
+-- the shape of a place, with the test whether it is a file apart
+abbrev pub shapeAs : Bool → Place → Bool
+shapeAs file p =
+    cond file
     (ltb (p .atom) dataWidth || eqb (p .atom) noAtom)
     ((isVolatile (p .kind) || isProcess (p .kind)) && (eqb (p .atom) noAtom && (sameList (p .permit) unrestrictedRule && sameList (p .run) unrestrictedRule)))
+
+unfoldable pub shapeGood : Place → Bool
+shapeGood p = shapeAs (isFile (p .kind)) p
+
+-- `containerGood n c`, with the test whether it is a file apart
+abbrev pub containerAs : Bool → ℕ → Container → Bool
+containerAs file n c =
+    cond file
+    ((ltb (c .atom) dataWidth || eqb (c .atom) noAtom) && (named n (c .permit) && named n (c .run)))
+    ((isVolatile (c .kind) || isProcess (c .kind)) && (eqb (c .atom) noAtom && (eqb (c .permit) unrestrictedNumber && eqb (c .run) unrestrictedNumber)))
 
 unfoldable pub placeGood : Place → Bool
 placeGood p = shapeGood p && (formGood (p .permit) && formGood (p .run))
@@ -94,7 +105,7 @@ pub container-named : (n : ℕ) (c : Container) → containerGood n c ≡ true �
 unfolding containerGood
 container-named n c = by (isFile (c .kind))
   where
-    by : (b : Bool) → cond b ((ltb (c .atom) dataWidth || eqb (c .atom) noAtom) && (named n (c .permit) && named n (c .run))) ((isVolatile (c .kind) || isProcess (c .kind)) && (eqb (c .atom) noAtom && (eqb (c .permit) unrestrictedNumber && eqb (c .run) unrestrictedNumber))) ≡ true → (named n (c .permit) ≡ true) × (named n (c .run) ≡ true)
+    by : (b : Bool) → containerAs b n c ≡ true → (named n (c .permit) ≡ true) × (named n (c .run) ≡ true)
     by true k =
         let g : (named n (c .permit) && named n (c .run)) ≡ true = and-1 (ltb (c .atom) dataWidth || eqb (c .atom) noAtom) k in
         (and-0 (named n (c .permit)) (named n (c .run)) g, and-1 (named n (c .permit)) g)
@@ -113,8 +124,7 @@ container-shape rules c = by (isFile (c .kind))
     n : ℕ
     n = length rules
 
-    by : (b : Bool) → cond b ((ltb (c .atom) dataWidth || eqb (c .atom) noAtom) && (named n (c .permit) && named n (c .run))) ((isVolatile (c .kind) || isProcess (c .kind)) && (eqb (c .atom) noAtom && (eqb (c .permit) unrestrictedNumber && eqb (c .run) unrestrictedNumber))) ≡ true
-        → cond b (ltb (c .atom) dataWidth || eqb (c .atom) noAtom) ((isVolatile (c .kind) || isProcess (c .kind)) && (eqb (c .atom) noAtom && (sameList (normalAt rules (c .permit)) unrestrictedRule && sameList (normalAt rules (c .run)) unrestrictedRule))) ≡ true
+    by : (b : Bool) → containerAs b n c ≡ true → shapeAs b (placeOf rules c) ≡ true
     by true k = and-0 (ltb (c .atom) dataWidth || eqb (c .atom) noAtom) (named n (c .permit) && named n (c .run)) k
     by false k =
         let g : (eqb (c .atom) noAtom && (eqb (c .permit) unrestrictedNumber && eqb (c .run) unrestrictedNumber)) ≡ true = and-1 (isVolatile (c .kind) || isProcess (c .kind)) k in
@@ -144,7 +154,7 @@ pub container-atom : (n : ℕ) (c : Container) → containerGood n c ≡ true �
 unfolding containerGood
 container-atom n c = by (isFile (c .kind))
   where
-    by : (b : Bool) → cond b ((ltb (c .atom) dataWidth || eqb (c .atom) noAtom) && (named n (c .permit) && named n (c .run))) ((isVolatile (c .kind) || isProcess (c .kind)) && (eqb (c .atom) noAtom && (eqb (c .permit) unrestrictedNumber && eqb (c .run) unrestrictedNumber))) ≡ true → (ltb (c .atom) dataWidth || eqb (c .atom) noAtom) ≡ true
+    by : (b : Bool) → containerAs b n c ≡ true → (ltb (c .atom) dataWidth || eqb (c .atom) noAtom) ≡ true
     by true k = and-0 (ltb (c .atom) dataWidth || eqb (c .atom) noAtom) (named n (c .permit) && named n (c .run)) k
     by false k =
         or-1 (ltb (c .atom) dataWidth) (eqb (c .atom) noAtom)

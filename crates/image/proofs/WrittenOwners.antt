@@ -34,17 +34,21 @@ use Rattle.image.specs.Normal.{
   policyOf,
 }
 use Rattle.image.proofs.Numbering.{use-refl, settled, all-settled, numbered-every, numbered-few, number-mixtures, number-owner, number-named}
-use Rattle.image.proofs.WrittenMeaning.{formGood, form-rule, form-normal, normal-unrestricted, named-form, container-named}
+use Rattle.image.proofs.WrittenMeaning.{containerAs, formGood, form-rule, form-normal, normal-unrestricted, named-form, container-named}
 
 -- a rule in normal form with an owner among n users
 unfoldable pub useGood : ℕ → Use → Bool
 useGood n u = formGood (u .mixtures) && ownerGood n (u .owner)
 
-unfoldable pub shapeOwned : OwnedPlace → Bool
-shapeOwned p =
-    cond (isFile (p .kind))
+-- the shape of a place, with the test whether it is a file apart
+abbrev pub ownedAs : Bool → OwnedPlace → Bool
+ownedAs file p =
+    cond file
     (ltb (p .atom) dataWidth || eqb (p .atom) noAtom)
     ((isVolatile (p .kind) || isProcess (p .kind)) && (eqb (p .atom) noAtom && (sameUse (p .permit) freeUse && sameUse (p .run) freeUse)))
+
+unfoldable pub shapeOwned : OwnedPlace → Bool
+shapeOwned p = ownedAs (isFile (p .kind)) p
 
 unfoldable pub placeOwned : ℕ → OwnedPlace → Bool
 placeOwned n p = shapeOwned p && (useGood n (p .permit) && useGood n (p .run))
@@ -76,7 +80,8 @@ unfolding usesOf
 uses-length [] owners = refl
 uses-length (r ∷ rules) owners = ap suc (uses-length rules (drop 1 owners))
 
-after-first : (owners : List ℕ) (n : ℕ) → getD (drop 1 owners) n noOwner ≡ getD owners (suc n) noOwner
+-- behind the first owner
+pub after-first : (owners : List ℕ) (n : ℕ) → getD (drop 1 owners) n noOwner ≡ getD owners (suc n) noOwner
 after-first [] n = refl
 after-first (o ∷ owners) n = refl
 
@@ -88,7 +93,7 @@ uses-known (r ∷ rules) owners zero h =
     or-0 (sameUse (record { owner = getD owners 0 noOwner; mixtures = normal r }) (record { owner = getD owners 0 noOwner; mixtures = normal r })) _
     (use-refl (record { owner = getD owners 0 noOwner; mixtures = normal r }))
 uses-known (r ∷ rules) owners (suc n) h =
-    let ih : knownBy sameUse (record { owner = getD (drop 1 owners) n noOwner; mixtures = normal (getD rules n []) }) (usesOf rules (drop 1 owners)) ≡ true = uses-known rules (drop 1 owners) n (omega arith) in
+    let ih = uses-known rules (drop 1 owners) n (omega arith) in
     let e : getD (drop 1 owners) n noOwner ≡ getD owners (suc n) noOwner = after-first owners n in
     or-1 (sameUse (record { owner = getD owners (suc n) noOwner; mixtures = normal (getD rules n []) }) (record { owner = getD owners 0 noOwner; mixtures = normal r })) _
     (rw e at ih)
@@ -112,13 +117,16 @@ module _ (p : Policy) (h : Sound p) (n : ℕ) (k : named (length (p .rules)) n �
   unfolding useGood useAt
   use-named = and-in (named-form (p .rules) (h .rulesGood) n k) owner-named
 
+  -- `useAt p n`, with the test whether n names no rule apart
+  abbrev useAs : Bool → Use
+  useAs none = record { owner = cond none noOwner (getD (p .owners) n noOwner); mixtures = normal (cond none unrestrictedRule (getD (p .rules) n [])) }
+
   use-settled : settled (usesOf (p .rules) (p .owners)) (useAt p n) ≡ true
   unfolding settled useAt normalAt ruleAt ownerAt named
   use-settled = by (eqb n unrestrictedNumber) k
     where
       by : (b : Bool) → (ltb n (length (p .rules)) || b) ≡ true
-          → (sameUse (record { owner = cond b noOwner (getD (p .owners) n noOwner); mixtures = normal (cond b unrestrictedRule (getD (p .rules) n [])) }) freeUse
-          || knownBy sameUse (record { owner = cond b noOwner (getD (p .owners) n noOwner); mixtures = normal (cond b unrestrictedRule (getD (p .rules) n [])) }) (usesOf (p .rules) (p .owners))) ≡ true
+          → (sameUse (useAs b) freeUse || knownBy sameUse (useAs b) (usesOf (p .rules) (p .owners))) ≡ true
       by true j =
           or-0 (sameUse (record { owner = noOwner; mixtures = normal unrestrictedRule }) freeUse)
           (knownBy sameUse (record { owner = noOwner; mixtures = normal unrestrictedRule }) (usesOf (p .rules) (p .owners))) free-itself
@@ -137,8 +145,7 @@ container-shape : (p : Policy) (n : ℕ) (c : Container) → containerGood n c �
 unfolding containerGood shapeOwned ownedPlace
 container-shape p n c = by (isFile (c .kind))
   where
-    by : (b : Bool) → cond b ((ltb (c .atom) dataWidth || eqb (c .atom) noAtom) && (named n (c .permit) && named n (c .run))) ((isVolatile (c .kind) || isProcess (c .kind)) && (eqb (c .atom) noAtom && (eqb (c .permit) unrestrictedNumber && eqb (c .run) unrestrictedNumber))) ≡ true
-        → cond b (ltb (c .atom) dataWidth || eqb (c .atom) noAtom) ((isVolatile (c .kind) || isProcess (c .kind)) && (eqb (c .atom) noAtom && (sameUse (useAt p (c .permit)) freeUse && sameUse (useAt p (c .run)) freeUse))) ≡ true
+    by : (b : Bool) → containerAs b n c ≡ true → ownedAs b (ownedPlace p c) ≡ true
     by true k = and-0 (ltb (c .atom) dataWidth || eqb (c .atom) noAtom) (named n (c .permit) && named n (c .run)) k
     by false k =
         let g : (eqb (c .atom) noAtom && (eqb (c .permit) unrestrictedNumber && eqb (c .run) unrestrictedNumber)) ≡ true = and-1 (isVolatile (c .kind) || isProcess (c .kind)) k in
@@ -259,9 +266,7 @@ module _ (n : ℕ) (t : List Use) (few : length t ≤ unrestrictedNumber) (m : O
   unfolding containerGood containerOf placeOwned shapeOwned placeSettled
   place-container p h = by (isFile (p .kind)) (and-0 (shapeOwned p) (useGood n (p .permit) && useGood n (p .run)) (and-0 (placeOwned n p) (placeSettled t p) h)) (and-1 (placeOwned n p) h)
     where
-      by : (b : Bool) → cond b (ltb (p .atom) dataWidth || eqb (p .atom) noAtom) ((isVolatile (p .kind) || isProcess (p .kind)) && (eqb (p .atom) noAtom && (sameUse (p .permit) freeUse && sameUse (p .run) freeUse))) ≡ true
-          → (settled t (p .permit) && settled t (p .run)) ≡ true
-          → cond b ((ltb (p .atom) dataWidth || eqb (p .atom) noAtom) && (named (length t) (numberOf t (p .permit)) && named (length t) (numberOf t (p .run)))) ((isVolatile (p .kind) || isProcess (p .kind)) && (eqb (p .atom) noAtom && (eqb (numberOf t (p .permit)) unrestrictedNumber && eqb (numberOf t (p .run)) unrestrictedNumber))) ≡ true
+      by : (b : Bool) → ownedAs b p ≡ true → (settled t (p .permit) && settled t (p .run)) ≡ true → containerAs b (length t) (containerOf t p) ≡ true
       by true k s = and-in k (and-in (number-named t few (p .permit) (and-0 (settled t (p .permit)) (settled t (p .run)) s)) (number-named t few (p .run) (and-1 (settled t (p .permit)) s)))
       by false k s =
           let g : (eqb (p .atom) noAtom && (sameUse (p .permit) freeUse && sameUse (p .run) freeUse)) ≡ true = and-1 (isVolatile (p .kind) || isProcess (p .kind)) k in
@@ -347,8 +352,9 @@ module _ (m : Owned) (h : Ownable m) where
   written-owns : owned (writtenBy t m) ≡ m
   unfolding owned writtenBy
   written-owns =
-      let e : map (ownedPlace (writtenBy t m)) (map (containerOf t) (m .places)) ≡ m .places = map-back (λ p. placeOwned n p && placeSettled t p) (containerOf t) (ownedPlace (writtenBy t m)) (m .places) (place-back n t t-few m) places-both in
-      let f : map (useAt (writtenBy t m)) (map (numberOf t) (m .users)) ≡ m .users = map-back (λ u. useGood n u && settled t u) (numberOf t) (useAt (writtenBy t m)) (m .users) (use-back n t t-few m) users-both in
+      let w = writtenBy t m in
+      let e = map-back (λ p. placeOwned n p && placeSettled t p) (containerOf t) (ownedPlace w) (m .places) (place-back n t t-few m) places-both in
+      let f = map-back (λ u. useGood n u && settled t u) (numberOf t) (useAt w) (m .users) (use-back n t t-few m) users-both in
       λ i. record { places = e i; users = f i }
 
   pub policy-sound : Sound (policyOf m)

@@ -54,7 +54,9 @@ module _ {A : Type 0} (same : A → A → Bool) where
   position-stays r [] vs h = clash h refl
   position-stays r (x ∷ us) vs h = by (same r x) h (position-stays r us vs)
     where
-      by : (b : Bool) → (b || knownBy same r us) ≡ true → (knownBy same r us ≡ true → positionBy same r (us ++ vs) ≡ positionBy same r us) → cond b 0 (suc (positionBy same r (us ++ vs))) ≡ cond b 0 (suc (positionBy same r us))
+      by : (b : Bool)
+          → (b || knownBy same r us) ≡ true → (knownBy same r us ≡ true → positionBy same r (us ++ vs) ≡ positionBy same r us)
+          → cond b 0 (suc (positionBy same r (us ++ vs))) ≡ cond b 0 (suc (positionBy same r us))
       by true k ih = refl
       by false k ih = ap suc (ih k)
 

@@ -17,5 +17,6 @@ writes = 1 ∷ 2 ∷ 10 ∷ []
 
 -- "3 flows, first 0 to 3"
 pub flows : matrixVerdict reads writes 4 ≡ record { number = 1; count = 3; source = 0; target = 3 }
-unfolding matrixVerdict matrixConditions firstFailed unlessRefused matrixGood rowsWithin every countGood has atom judgedBy consistent someBelow ungrantedFrom ungranted composed within granted subjectCarries flowCount sumBelow countBelow firstSource firstTarget leastBelow
+unfolding matrixVerdict matrixConditions firstFailed unlessRefused matrixGood rowsWithin every countGood has atom judgedBy consistent someBelow
+    ungrantedFrom ungranted composed within granted subjectCarries flowCount sumBelow countBelow firstSource firstTarget leastBelow
 flows = refl

@@ -35,10 +35,14 @@ Flow reads writes n a b = Composed reads writes n a b × (granted reads writes a
 module _ (reads writes : List ℕ) (n : ℕ) where
   pub ungranted-flow : (a b : ℕ) → a < n → b < n → (ungranted reads writes n a b ≡ true) ↔ Flow reads writes n a b
   unfolding ungranted
-  ungranted-flow a b p q = (
-    (λ h. (composed-path reads writes n a b p q .0 (and-0 (composed reads writes n a b) (not (granted reads writes a b)) h), not-true (granted reads writes a b) (and-1 (composed reads writes n a b) h))),
-    (λ f. and-in (composed-path reads writes n a b p q .1 (f .0)) (ap not (f .1))),
-  )
+  ungranted-flow a b p q =
+      let path = composed-path reads writes n a b p q in (
+        (λ h. (
+          path .0 (and-0 (composed reads writes n a b) (not (granted reads writes a b)) h),
+          not-true (granted reads writes a b) (and-1 (composed reads writes n a b) h),
+        )),
+        (λ f. and-in (path .1 (f .0)) (ap not (f .1))),
+      )
 
   pub flow-ungranted : (a b : ℕ) → Flow reads writes n a b → ungranted reads writes n a b ≡ true
   flow-ungranted a b f = ungranted-flow a b (path-source (f .0)) (path-target (f .0)) .1 f

@@ -54,7 +54,7 @@ granting-take reads writes a row s g h t =
     one : (b : ℕ) → (has (bitOr row (getD writes s 0)) b || subjectCarries (drop (s + 1) reads) (drop (s + 1) writes) a b)
         ≡ (has row b || subjectCarries (drop s reads) (drop s writes) a b)
     one b =
-        let n : subjectCarries (drop s reads) (drop s writes) a b ≡ (has (getD reads s 0) a && has (getD writes s 0) b || subjectCarries (drop (s + 1) reads) (drop (s + 1) writes) a b) = carries-next reads writes a b s h (omega arith) in
+        let n = carries-next reads writes a b s h (omega (arith, g .even)) in
         rw (has-or row (getD writes s 0) b, n, has-is (getD reads s 0) a t) (or-assoc (has row b) (has (getD writes s 0) b) (subjectCarries (drop (s + 1) reads) (drop (s + 1) writes) a b))
 
 pub granting-skip : (reads writes : List ℕ) (a row s : ℕ) → Granting reads writes a row s → s < length reads
@@ -69,7 +69,7 @@ granting-skip reads writes a row s g h t =
     one : (b : ℕ) → (has row b || subjectCarries (drop (s + 1) reads) (drop (s + 1) writes) a b)
         ≡ (has row b || subjectCarries (drop s reads) (drop s writes) a b)
     one b =
-        let n : subjectCarries (drop s reads) (drop s writes) a b ≡ (has (getD reads s 0) a && has (getD writes s 0) b || subjectCarries (drop (s + 1) reads) (drop (s + 1) writes) a b) = carries-next reads writes a b s h (omega arith) in
+        let n = carries-next reads writes a b s h (omega (arith, g .even)) in
         rw (n, has-not (getD reads s 0) a t)
 
 pub granting-end : (reads writes : List ℕ) (a row s : ℕ) → Granting reads writes a row s → length reads ≤ s → (b : ℕ) → has row b ≡ granted reads writes a b
@@ -266,7 +266,9 @@ granted-end reads writes n before rows a s h =
 abbrev pub JoinedAt : List ℕ → ℕ → ℕ → ℕ → Type 0
 JoinedAt before k i x = x ≡ joinedAt k (getD before k 0) (getD before i 0)
 
-pub joined-next : (n : ℕ) (before rows : List ℕ) (k a v : ℕ) → Stored (JoinedAt before k) n before rows a → a < n → v ≡ joinedAt k (getD before k 0) (getD rows a 0) → Stored (JoinedAt before k) n before (set rows a v) (a + 1)
+pub joined-next : (n : ℕ) (before rows : List ℕ) (k a v : ℕ)
+    → Stored (JoinedAt before k) n before rows a → a < n → v ≡ joinedAt k (getD before k 0) (getD rows a 0)
+    → Stored (JoinedAt before k) n before (set rows a v) (a + 1)
 joined-next n before rows k a v s h e =
     stored-next (JoinedAt before k) n before rows a v s h (e ∙ ap (λ (x : ℕ). joinedAt k (getD before k 0) x) (s .rest a (omega arith)))
 

@@ -22,7 +22,8 @@ use Rattle.matrix.specs.declared.Consistency.{Consistency}
 use Rattle.matrix.specs.declared.Consistency.the-variants.{Refused, Consistent, Inconsistent}
 use Rattle.matrix.specs.Flows.{has, subjectCarries, granted, within, composed, rowsWithin, matrixGood}
 use Rattle.lists.specs.Counting.{countBelow, sumBelow, leastBelow}
-use Rattle.matrix.specs.Verdicts.{ungranted, ungrantedFrom, flowCount, firstSource, firstTarget, consistent, judgedBy, ConsistencyValues, consistencyValues, matrixConditions, unlessRefused, matrixVerdict}
+use Rattle.matrix.specs.Verdicts.{ungranted, ungrantedFrom, flowCount, firstSource, firstTarget, consistent, judgedBy, ConsistencyValues}
+use Rattle.matrix.specs.Verdicts.{consistencyValues, matrixConditions, unlessRefused, matrixVerdict}
 use Rattle.matrix.specs.Limits.{objectLimit}
 use Rattle.matrix.specs.Rows.{bitAt, spelling, Closed}
 use Rattle.matrix.proofs.RowBits.{has-is, has-not, has-above, has-without}
@@ -199,8 +200,9 @@ module _ (reads writes rows : List ℕ) (n : ℕ) (good : matrixGood reads write
       by : (a b : ℕ) → a < n → Dec (b < objectLimit) → bitAt (spelling (within (granted reads writes) n) n rows) a b ≡ within (granted reads writes) n a b
       by a b l (yes m) = spelling-bits (within (granted reads writes) n) n rows a b l m
       by a b l (no m) =
+          let g = good-parts reads writes n good in
           spelling-above (within (granted reads writes) n) n rows a b l (omega arith)
-          ∙ sym (within-none (granted reads writes) n n a b (omega arith) l (λ i p. granted-beyond reads writes n i b (good-parts reads writes n good .writesGood) p (omega (arith, good-parts reads writes n good .few))))
+          ∙ sym (within-none (granted reads writes) n n a b (omega arith) l (λ i p. granted-beyond reads writes n i b (g .writesGood) p (omega (arith, g .few))))
 
 -- ---- the verdict
 

@@ -60,7 +60,9 @@ module _ (σ : State) where
       back (q, r, v, e, ne, nu) =
           let ep : q ≡ p = sym (ap (λ (t : Step). entry σ t .process) e) in
           let eu : v ≡ u = sym (some-inj (ap (λ (t : Step). entry σ t .user) e)) in
-          rw (ne-eqb (σ .row p .behalf) nobody (subst (λ (x : ℕ). σ .row x .behalf ≢ nobody) ep ne), ne-eqb (σ .row p .behalf) u (subst (λ (x : ℕ). σ .row p .behalf ≢ x) eu (subst (λ (x : ℕ). σ .row x .behalf ≢ v) ep nu)))
+          let some : σ .row p .behalf ≢ nobody = subst (λ (x : ℕ). σ .row x .behalf ≢ nobody) ep ne in
+          let other : σ .row p .behalf ≢ v = subst (λ (x : ℕ). σ .row x .behalf ≢ v) ep nu in
+          rw (ne-eqb (σ .row p .behalf) nobody some, ne-eqb (σ .row p .behalf) u (subst (λ (x : ℕ). σ .row p .behalf ≢ x) eu other))
   behalf-fails (newVolatile p o) = (λ e. clash refl e, λ x. absurd (none-other (newVolatile p o) refl x))
   behalf-fails (end p) = (λ e. clash refl e, λ x. absurd (none-other (end p) refl x))
   behalf-fails (delete p o) = (λ e. clash refl e, λ x. absurd (none-other (delete p o) refl x))

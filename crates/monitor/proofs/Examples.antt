@@ -13,7 +13,8 @@ use Rattle.fields.specs.Bytes.{numberIn, bytesOf, field}
 use Rattle.image.specs.Policy.{Container, Policy, unrestrictedRule, ruleAt}
 use Rattle.image.specs.Normal.{normalAt, placeOf, meaning}
 use Rattle.image.proofs.KindLaws.{process-used, free-kinds}
-use Rattle.session.specs.Rows.{Row, rowWords, freeWords, permitWords, runWords, rowOf, behalfGood, containerRowGood, userWords, isDeclared, userRuleWords, userRuleOf, userRowGood, containerRow, userRow, putRow}
+use Rattle.session.specs.Rows.{Row, rowWords, freeWords, permitWords, runWords, rowOf, behalfGood, containerRowGood, userWords}
+use Rattle.session.specs.Rows.{isDeclared, userRuleWords, userRuleOf, userRowGood, containerRow, userRow, putRow}
 use Rattle.rule_words.specs.Words.{allZero, keptWell, ruleOf, wordsOf, isNormal}
 use Rattle.session.specs.Session.{startTag, startRow, placeWords, filled, sessionOf, startOf, sessionLengthGood}
 use Rattle.answers.specs.Answers.{quiet, alert, blocked, refused}
@@ -268,7 +269,23 @@ unfolding holds dataOf runningOf covers coverFrom coverPlace elem distinct heldI
     processGood objectGood kindGood freeGood userGood behalfFits meetGood earlyConditions tableConditions sessionConditions
     madeAnswer madeEffect blocks newFileRow requestIn userFits ownObject numbersGood recordGood sessionLengthGood stepAsked stepConditions refusalOf
     stepAnswer stepEffect stepOn runAnswers
-checked-runs = record { forkItself = refl; execHolding = refl; execKeeping = refl; readHolding = refl; leaving = refl; leavingRefused = refl; behalf = refl; guarding = refl; guardedElsewhere = refl; guardedOver = refl; positions = refl; meetOver = refl; listing = refl; shortSession = refl }
+checked-runs =
+    record {
+      forkItself = refl;
+      execHolding = refl;
+      execKeeping = refl;
+      readHolding = refl;
+      leaving = refl;
+      leavingRefused = refl;
+      behalf = refl;
+      guarding = refl;
+      guardedElsewhere = refl;
+      guardedOver = refl;
+      positions = refl;
+      meetOver = refl;
+      listing = refl;
+      shortSession = refl;
+    }
 
 -- ---- the same of any rows
 

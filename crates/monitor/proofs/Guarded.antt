@@ -70,8 +70,9 @@ module _ (s r : List ℕ) where
     pub blocked-answer : stepAnswer s r ≡ blocked (receiver (stepAsked r)) (entry (view s) (stepAsked r) .row .tag) noPosition
     unfolding alerts
     blocked-answer =
+        let uncovered = not-true (covers (row .permit) (row .tag)) (and-1 (judged (stepAsked r)) (blocks-alerts (stepAsked r) row blocking)) in
         made-answer s r blocked-unrefused ∙ verdict-blocked (stepAsked r) row blocking
-        ∙ ap (blocked (receiver (stepAsked r)) (row .tag)) (place-missed (row .permit) (row .tag) (not-true (covers (row .permit) (row .tag)) (and-1 (judged (stepAsked r)) (blocks-alerts (stepAsked r) row blocking))))
+        ∙ ap (blocked (receiver (stepAsked r)) (row .tag)) (place-missed (row .permit) (row .tag) uncovered)
 
     -- "and changes nothing"
     pub blocked-nothing : stepEffect s r ≡ s

@@ -135,11 +135,6 @@ stop-numbered s (x ∷ rs) g = by (isQuiet (stepAnswer s x)) (stop-numbered (ste
 
 -- ---- a trace
 
-pub length-run : (s : List ℕ) (rs : List (List ℕ)) → length (runAnswers s rs) ≡ length rs
-unfolding runAnswers
-length-run s [] = refl
-length-run s (r ∷ rs) = ap suc (length-run (stepOn s r .0) rs)
-
 pub ran-good : (s t : List ℕ) → sessionLengthGood s ≡ true → ran s t ≡ record { answer = stopAnswer (runAnswers s (traceRecords t)); taken = stopCount (runAnswers s (traceRecords t)) }
 unfolding ran
 ran-good s t g = rw g

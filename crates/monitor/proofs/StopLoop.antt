@@ -90,8 +90,10 @@ module _ (s₀ t s x s′ : List ℕ) (taken at : ℕ) (a : Answer) (h : Running
   -- it goes on
   pub run-next : isQuiet a ≡ true → length s′ ≡ length s → Running s₀ t s′ (taken + 1) (at + length x)
   run-next q le =
-      let e : StopsAt s (traceRecords (drop at t)) (stopAnswer (runAnswers s′ (traceRecords (drop (at + length x) t)))) (suc (stopCount (runAnswers s′ (traceRecords (drop (at + length x) t))))) (stopEffect s′ (traceRecords (drop (at + length x) t)))
-      = rw (next, se) (stops-later s x (traceRecords (drop (at + length x) t)) (rw ae at q)) in
+      let rest : List (List ℕ) = traceRecords (drop (at + length x) t) in
+      let given = runAnswers s′ rest in
+      let e : StopsAt s (traceRecords (drop at t)) (stopAnswer given) (suc (stopCount given)) (stopEffect s′ rest)
+      = rw (next, se) (stops-later s x rest (rw ae at q)) in
       record {
         good = h .good;
         long = le ∙ h .long;

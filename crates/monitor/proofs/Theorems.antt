@@ -48,7 +48,8 @@ use Rattle.operations.proofs.PlacedRows.{Valid, placed-row, placed-other, place
 use Rattle.monitor.specs.Steps.{stepAsked, stepConditions, refusalOf, stepAnswer, stepEffect}
 use Rattle.monitor.specs.Runs.{stepOn, runAnswers, runEffect, historyIn}
 use Rattle.monitor.specs.Stops.{ran, ranEffect}
-use Rattle.monitor.proofs.StepLaws.{numbers, refused-at, refused-answer, refused-effect, step-long, step-record, step-receiver, step-laid, effect-long, made-answer, made-effect, answered, answered-zero, accepted-zero, accepted-free, faithful}
+use Rattle.monitor.proofs.StepLaws.{numbers, refused-at, refused-answer, refused-effect, step-long, step-record, step-receiver, step-laid, effect-long}
+use Rattle.monitor.proofs.StepLaws.{made-answer, made-effect, answered, answered-zero, accepted-zero, accepted-free, faithful}
 use Rattle.monitor.proofs.AnswerNumbers as answers
 use Rattle.monitor.proofs.AnswerPositions as positions
 use Rattle.monitor.proofs.AnswerNumbers.{verdict-put, new-quiet}
@@ -57,7 +58,8 @@ use Rattle.monitor.proofs.StartView.{start-valid, start-view, begun-dec
 use Rattle.monitor.proofs.UserLaws.{Users, reached-recorded}
 use Rattle.monitor.proofs.RunHistories.{valid-run, never-10, runEffect-append}
 use Rattle.monitor.proofs.DemandLaws.{alert-at, tag-at, alert-last}
-use Rattle.monitor.proofs.StopLaws.{stopped, all-quiet, quiet-stop, length-run, ran-good, ran-alert, number-9, number-0, number-256, number-257, answers-split, effect-split}
+use Rattle.monitor.proofs.TraceCuts.{answers-length}
+use Rattle.monitor.proofs.StopLaws.{stopped, all-quiet, quiet-stop, ran-good, ran-alert, number-9, number-0, number-256, number-257, answers-split, effect-split}
 
 -- ---- DEMAND 3 (the paper, "Chains")
 
@@ -159,7 +161,7 @@ module _ (s t : List ℕ) (g : sessionLengthGood s ≡ true) where
       → (ran s t .answer ≡ quiet 0 0 0) × (ran s t .taken ≡ length (traceRecords t)) × (every isQuiet (runAnswers s (traceRecords t)) ≡ true)
   ran-through q =
       let h = all-quiet (runAnswers s (traceRecords t)) (rw (ran-good s t g) at q) in
-      rw (ran-good s t g) (h .0, h .1 ∙ length-run s (traceRecords t), h .2)
+      rw (ran-good s t g) (h .0, h .1 ∙ answers-length s (traceRecords t), h .2)
 
 -- The rest of the bytes, run on the session that is left, goes on where it stopped.
 pub ran-on : (s t : List ℕ)

@@ -18,7 +18,8 @@ use Rattle.session.specs.Limits.{nobody}
 use Rattle.session.specs.Rows.{Row}
 use Rattle.session.specs.Session.{startRow, startOf}
 use Rattle.chains.specs.History.{Step, read, write, append, exec, fork, newFile, newVolatile, end, delete, receiver}
-use Rattle.chains.specs.Table.{State, freeRow, readRow, writeRow, appendRow, execRow, forkRow, newFileRow, newVolatileRow, entry, isSome, processGood, userGood, tableConditions, blocks, placed, left, operate, startRowOf, begin}
+use Rattle.chains.specs.Table.{State, freeRow, readRow, writeRow, appendRow, execRow, forkRow, newFileRow, newVolatileRow, entry, isSome}
+use Rattle.chains.specs.Table.{processGood, userGood, tableConditions, blocks, placed, left, operate, startRowOf, begin}
 use Rattle.chains.proofs.TableStates.{Passed, passed, operate-done, operate-given}
 use Rattle.chains.proofs.ThreeAnswers.{left-put, left-blocked}
 use Rattle.records.specs.Records.{stepOf}

@@ -84,7 +84,9 @@ fn show_trace(
     sent: &mut u64,
 ) -> Progress
     requires { ⌜ OpenedAs (now name) fd × (checkOf (now policy) ≡ 0) × (length (now session) ≡ sessionLength) ⌝ }
-    ensures { λ r. ⌜ DoneOrTold (r .good) (TraceShown n (now (name .entry)) (startOf (policyIn (now (policy .entry)))) (counters total (now (totals .entry)) (now (sums .entry))) (counters (r .records) (now (totals .exit)) (now (sums .exit))) (now (sent .entry)) (now (sent .exit))) ⌝ }
+    ensures { λ r. ⌜ DoneOrTold (r .good)
+        (TraceShown n (now (name .entry)) (startOf (policyIn (now (policy .entry)))) (counters total (now (totals .entry)) (now (sums .entry)))
+        (counters (r .records) (now (totals .exit)) (now (sums .exit))) (now (sent .entry)) (now (sent .exit))) ⌝ }
 {
     let mut counts = [0u32; COUNT_LIMIT];
     let mut alerted = [0u32; CONTAINER_LIMIT];
@@ -113,7 +115,9 @@ fn show_traces(
     sent: &mut u64,
 ) -> Progress
     requires { ⌜ (checkOf (now policy) ≡ 0) × (length (now session) ≡ sessionLength) × (now totals ≡ noCounters .counts) × (now sums ≡ noCounters .alerted) ⌝ }
-    ensures { λ r. ⌜ DoneOrTold (r .good) (TracesShown (startOf (policyIn (now (policy .entry)))) (counters (r .records) (now (totals .exit)) (now (sums .exit))) (now (sent .entry)) (now (sent .exit))) ⌝ }
+    ensures { λ r. ⌜ DoneOrTold (r .good)
+        (TracesShown (startOf (policyIn (now (policy .entry)))) (counters (r .records) (now (totals .exit)) (now (sums .exit)))
+        (now (sent .entry)) (now (sent .exit))) ⌝ }
 {
     let mut total: u64 = 0;
     let mut n: usize = 0;

@@ -15,6 +15,7 @@ use Rattle.lists.proofs.Bools.{and-0, and-1, or-1, or-cases, clash}
 use Rattle.lists.specs.Lists.{elem}
 use Rattle.image.specs.Limits.{unrestrictedNumber}
 use Rattle.image.specs.Policy.{named}
+use Rattle.image.proofs.RulesByNumber.{named-own}
 use Rattle.normaliser.specs.Writer.{useLimit}
 use Rattle.normaliser.specs.Tables.{classAt, classNamed, withClass, withClasses, indexOf, placeIn, Ordered, Placeable, found, newNumber}
 
@@ -186,10 +187,6 @@ pub class-some : (classes : List ℕ) (k : ℕ) → (k ≡ unrestrictedNumber �
 unfolding classAt
 class-some classes k d = rw (ne-eqb k unrestrictedNumber d)
 
-pub named-some : (n k : ℕ) → named n k ≡ true → (k ≡ unrestrictedNumber → ⊥) → k < n
-unfolding named
-named-some n k h d = ⊎-elim (λ p. ltb-true k n p) (λ p. absurd (d (eqb-true k unrestrictedNumber p))) (or-cases (ltb k n) h)
-
 -- ---- the function `place`
 
 module _ {classes order ranks : List ℕ} {m k : ℕ} (p : Placeable classes order ranks m k) where
@@ -197,14 +194,14 @@ module _ {classes order ranks : List ℕ} {m k : ℕ} (p : Placeable classes ord
   place-none e = sym (with-class-none (take m order) (classAt classes k) (class-none classes k e))
 
   pub place-known : (k ≡ unrestrictedNumber → ⊥) → k < length classes
-  place-known d = named-some (length classes) k (p .known) d
+  place-known d = named-own (length classes) k (p .known) d
 
   pub place-unlimited : (k ≡ unrestrictedNumber → ⊥) → getD classes k 0 ≡ unrestrictedNumber → take m order ≡ withClass (take m order) (classAt classes k)
   place-unlimited d e = sym (with-class-none (take m order) (classAt classes k) (class-some classes k d ∙ e))
 
 module _ {classes order ranks : List ℕ} {m k : ℕ} (p : Placeable classes order ranks m k) (d : k ≡ unrestrictedNumber → ⊥) (f : getD classes k 0 ≡ unrestrictedNumber → ⊥) where
   pub class-small : getD classes k 0 < length ranks
-  class-small = named-some (length ranks) (getD classes k 0) (rw (class-some classes k d) at (p .small)) f
+  class-small = named-own (length ranks) (getD classes k 0) (rw (class-some classes k d) at (p .small)) f
 
   pub place-old : (getD ranks (getD classes k 0) 0 ≡ 0 → ⊥) → take m order ≡ withClass (take m order) (classAt classes k)
   place-old n =
@@ -240,7 +237,7 @@ module _ (classes ranks : List ℕ) (k : ℕ) (h : found classes ranks k ≡ tru
 
   pub number-known : (k ≡ unrestrictedNumber → ⊥) → k < length classes
   unfolding found
-  number-known d = named-some (length classes) k (and-0 (named (length classes) k) _ h) d
+  number-known d = named-own (length classes) k (and-0 (named (length classes) k) _ h) d
 
   module _ (d : k ≡ unrestrictedNumber → ⊥) where
     pub number-unlimited : getD classes k 0 ≡ unrestrictedNumber → unrestrictedNumber ≡ newNumber classes ranks k
@@ -253,7 +250,7 @@ module _ (classes ranks : List ℕ) (k : ℕ) (h : found classes ranks k ≡ tru
 
     module _ (f : getD classes k 0 ≡ unrestrictedNumber → ⊥) where
       pub number-small : getD classes k 0 < length ranks
-      number-small = named-some (length ranks) (getD classes k 0) (and-0 (named (length ranks) (getD classes k 0)) _ rest) f
+      number-small = named-own (length ranks) (getD classes k 0) (and-0 (named (length ranks) (getD classes k 0)) _ rest) f
 
       pub number-positive : 1 ≤ getD ranks (getD classes k 0) 0
       number-positive =

@@ -28,7 +28,8 @@ use Rattle.normaliser.specs.Sections.{ownedRule, ownedIn, SectionsAccept
 use Rattle.normaliser.proofs.RuleForms.{shortUse, row-long, row-put}
 use Rattle.normaliser.proofs.WriterLaws.{sound-usable, words-length, words-tabled, words-answered, sound-wrote}
 
-every-place : (f : Use → Bool) (xs : List Use) → ((k : ℕ) → k < length xs → f (getD xs k freeUse) ≡ true) → every f xs ≡ true
+-- a test that the use at every place passes
+pub every-place : (f : Use → Bool) (xs : List Use) → ((k : ℕ) → k < length xs → f (getD xs k freeUse) ≡ true) → every f xs ≡ true
 every-place f [] h = every-nil f
 every-place f (x ∷ xs) h = every-cons f x xs (h 0 (omega arith)) (every-place f xs (λ k l. h (suc k) (omega arith)))
 

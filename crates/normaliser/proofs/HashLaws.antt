@@ -203,7 +203,9 @@ same-class forms j k e = rw e
 pub class-old : (forms classes : List ℕ) (j k : ℕ) → Classified forms classes k → j < k → true ≡ sameList (wordsAt forms k) (wordsAt forms j) → getD classes j 0 ≡ classOf forms k
 class-old forms classes j k t l s = t .is j l ∙ same-class forms j k (same-eq (wordsAt forms k) (wordsAt forms j) (sym s))
 
-pub class-sought : (forms : List ℕ) (k r first : ℕ) → r ≡ cond (sameUse (formIn (wordsAt forms k)) freeUse) unrestrictedNumber first → first ≡ position (wordsAt forms k) (records formWidth forms) → r ≡ classOf forms k
+pub class-sought : (forms : List ℕ) (k r first : ℕ)
+    → r ≡ cond (sameUse (formIn (wordsAt forms k)) freeUse) unrestrictedNumber first → first ≡ position (wordsAt forms k) (records formWidth forms)
+    → r ≡ classOf forms k
 unfolding classOf useOf
 class-sought forms k r first e f = e ∙ ap (cond (sameUse (formIn (wordsAt forms k)) freeUse) unrestrictedNumber) f
 

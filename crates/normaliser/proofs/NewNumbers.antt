@@ -20,7 +20,8 @@ use Rattle.image.proofs.Numbering.{settled, all-settled, numbered-every, number
 use Rattle.normaliser.specs.Tables.{useOf, formAt, formGood, Classified, classAt, classNamed, withClasses, placeIn, Ordered, newNumber, found}
 use Rattle.normaliser.specs.Writer.{formWidth, formsIn, policyGiven, policyAt, containerUses, Tabled}
 use Rattle.normaliser.specs.Sections.{renumbered}
-use Rattle.normaliser.proofs.FirstUse.{named-some, classes-append}
+use Rattle.normaliser.proofs.FirstUse.{classes-append}
+use Rattle.image.proofs.RulesByNumber.{named-own}
 use Rattle.normaliser.proofs.Classes.{settled-at, number-unrestricted, place-number, all-numbered, restricted, numbered-restricted}
 use Rattle.normaliser.proofs.SectionRows.{uses-both}
 use Rattle.normaliser.proofs.RuleForms.{shortUse, forms-count, form-at, form-short, count-form, class-at, use-at}
@@ -129,7 +130,7 @@ module _ (containers users forms : List ℕ) (t : Tabled containers users forms)
   number-small r h =
       let a : settled F r ≡ true = and-0 (settled F r) (not (sameUse r freeUse)) h in
       let d : sameUse r freeUse ≡ false = not-true (sameUse r freeUse) (and-1 (settled F r) h) in
-      named-some (length F) (numberOf F r) (number-named F few r a)
+      named-own (length F) (numberOf F r) (number-named F few r a)
       (λ e. clash (sym (number-unrestricted F few r a) ∙ eq-eqb (numberOf F r) unrestrictedNumber e) d)
 
   T-both : every (λ r. settled F r && restricted r) T ≡ true
@@ -202,7 +203,7 @@ module _ (containers users forms : List ℕ) (t : Tabled containers users forms)
 
         place-is : sameUse (useAt P k) freeUse ≡ false → getD ranks (classAt classes k) 0 ≡ suc (positionBy sameUse (useAt P k) T)
         place-is d =
-            let l : classAt classes k < length F = named-some (length F) (classAt classes k) (class-named k h) (λ q. clash (sym is-none ∙ eq-eqb (classAt classes k) unrestrictedNumber q) d) in
+            let l : classAt classes k < length F = named-own (length F) (classAt classes k) (class-named k h) (λ q. clash (sym is-none ∙ eq-eqb (classAt classes k) unrestrictedNumber q) d) in
             g .is (classAt classes k) (omega (arith, room))
             ∙ ap₂ placeIn (class-normal k h) e
             ∙ place-number F few (useAt P k) T (settled-normal k h) T-settled
@@ -226,27 +227,36 @@ module _ (containers users forms : List ℕ) (t : Tabled containers users forms)
             by true d = or-0 (eqb (classAt classes k) unrestrictedNumber) (ltb 0 (getD ranks (classAt classes k) 0)) (is-none ∙ d)
             by false d = or-1 (eqb (classAt classes k) unrestrictedNumber) (ltb 0 (getD ranks (classAt classes k) 0)) (lt-ltb 0 (getD ranks (classAt classes k) 0) (omega (arith, place-is d)))
 
-      both : every (λ k. named (length F) k && settled T (useAt P k)) ks ≡ true
+      -- k names a rule that is in the table
+      abbrev known : ℕ → Bool
+      known k = named (length F) k && settled T (useAt P k)
+
+      both : every known ks ≡ true
       both = every-both (named (length F)) (λ k. settled T (useAt P k)) ks all-named uses-placed
 
       -- each use has its number
       pub all-found : length F ≤ length classes → every (found classes ranks) ks ≡ true
-      all-found w = every-imp (λ k. named (length F) k && settled T (useAt P k)) (found classes ranks) ks
+      all-found w = every-imp known (found classes ranks) ks
           (λ k h. number-found k (and-0 (named (length F) k) (settled T (useAt P k)) h) (and-1 (named (length F) k) h) w) both
 
       -- it is that of the normal policy
       pub containers-are : map (renumbered classes ranks) (containersIn containers) ≡ map (containerOf T) (map (ownedPlace P) (containersIn containers))
-      containers-are = go (containersIn containers) (uses-both (λ k. named (length F) k && settled T (useAt P k)) (containersIn containers) (every-left (λ k. named (length F) k && settled T (useAt P k)) (containerUses (containersIn containers)) (usersIn users) both))
+      containers-are =
+          go (containersIn containers)
+          (uses-both known (containersIn containers) (every-left known (containerUses (containersIn containers)) (usersIn users) both))
         where
-          number : (k : ℕ) → (named (length F) k && settled T (useAt P k)) ≡ true → newNumber classes ranks k ≡ numberOf T (useAt P k)
+          number : (k : ℕ) → known k ≡ true → newNumber classes ranks k ≡ numberOf T (useAt P k)
           number k h = number-at k (and-0 (named (length F) k) (settled T (useAt P k)) h) (and-1 (named (length F) k) h)
 
-          one : (c : Container) → ((named (length F) (c .permit) && settled T (useAt P (c .permit))) && (named (length F) (c .run) && settled T (useAt P (c .run)))) ≡ true → renumbered classes ranks c ≡ containerOf T (ownedPlace P c)
+          one : (c : Container) → (known (c .permit) && known (c .run)) ≡ true → renumbered classes ranks c ≡ containerOf T (ownedPlace P c)
           one c h =
+              let permit = number (c .permit) (and-0 (known (c .permit)) (known (c .run)) h) in
+              let run = number (c .run) (and-1 (known (c .permit)) h) in
               unfold renumbered containerOf ownedPlace in
-              (λ i. record { kind = c .kind; atom = c .atom; permit = number (c .permit) (and-0 (named (length F) (c .permit) && settled T (useAt P (c .permit))) (named (length F) (c .run) && settled T (useAt P (c .run))) h) i; run = number (c .run) (and-1 (named (length F) (c .permit) && settled T (useAt P (c .permit))) h) i })
+              (λ i. record { kind = c .kind; atom = c .atom; permit = permit i; run = run i })
 
-          go : (cs : List Container) → every (λ c. (named (length F) (c .permit) && settled T (useAt P (c .permit))) && (named (length F) (c .run) && settled T (useAt P (c .run)))) cs ≡ true → map (renumbered classes ranks) cs ≡ map (containerOf T) (map (ownedPlace P) cs)
+          go : (cs : List Container) → every (λ c. known (c .permit) && known (c .run)) cs ≡ true
+              → map (renumbered classes ranks) cs ≡ map (containerOf T) (map (ownedPlace P) cs)
           go [] h = refl
           go (c ∷ cs) h =
               ap₂ _∷_ (one c (every-0 (λ c. (named (length F) (c .permit) && settled T (useAt P (c .permit))) && (named (length F) (c .run) && settled T (useAt P (c .run)))) c cs h))

@@ -30,7 +30,8 @@ use Rattle.image.proofs.Numbering.{use-refl, use-eq, useIn, mixtures-in, owner-
 use Rattle.normaliser.specs.Hashes.{wordsAt}
 use Rattle.normaliser.specs.Tables.{useOf, formAt, classOf, Classified, classAt}
 use Rattle.normaliser.specs.Writer.{formWidth, formRow, formIn, useLimit, policyGiven, formsIn, policyAt, formKept, Tabled}
-use Rattle.normaliser.proofs.FirstUse.{class-none, class-some, named-some}
+use Rattle.normaliser.proofs.FirstUse.{class-none, class-some}
+use Rattle.image.proofs.RulesByNumber.{named-own}
 
 map-id : {A : Type 0} (xs : List A) → map (λ x. x) xs ≡ xs
 map-id [] = refl
@@ -120,7 +121,9 @@ module _ (forms : List ℕ) where
   module _ (good : every formKept (records formWidth forms) ≡ true) where
     rows-words : map formRow (formsIn forms) ≡ records formWidth forms
     unfolding formsIn
-    rows-words = map-back (λ ws. wide formWidth ws && formKept ws) formIn formRow (records formWidth forms) one (every-both (wide formWidth) formKept (records formWidth forms) (records-wide formWidth forms) good)
+    rows-words =
+        map-back (λ ws. wide formWidth ws && formKept ws) formIn formRow (records formWidth forms) one
+        (every-both (wide formWidth) formKept (records formWidth forms) (records-wide formWidth forms) good)
       where
         one : (ws : List ℕ) → (wide formWidth ws && formKept ws) ≡ true → formRow (formIn ws) ≡ ws
         one ws h = sym (kept-row ws (wide-length formWidth ws (and-0 (wide formWidth ws) (formKept ws) h)) (and-1 (wide formWidth ws) h))
@@ -181,7 +184,7 @@ module _ (forms : List ℕ) where
           by : Dec (k ≡ unrestrictedNumber) → classAt classes k ≡ numberOf (formsIn forms) (useIn (formsIn forms) k)
           by (yes e) = class-none classes k e ∙ sym (ap (numberOf (formsIn forms)) (none e) ∙ number-free)
           by (no d) =
-              let l : k < length forms / formWidth = omega (arith, named-some (length (formsIn forms)) k h d, forms-count) in
+              let l : k < length forms / formWidth = omega (arith, named-own (length (formsIn forms)) k h d, forms-count) in
               class-some classes k d ∙ told .is k l ∙ class-number k l ∙ ap (numberOf (formsIn forms)) (sym (some d))
 
     -- the rules stand in normal form
@@ -189,10 +192,12 @@ module _ (forms : List ℕ) where
     unfolding useIn freeUse
     in-normal k h = by (ℕ-discrete k unrestrictedNumber)
       where
-        by : Dec (k ≡ unrestrictedNumber) → normal (cond (eqb k unrestrictedNumber) freeUse (getD (formsIn forms) k freeUse) .mixtures) ≡ cond (eqb k unrestrictedNumber) freeUse (getD (formsIn forms) k freeUse) .mixtures
+        by : Dec (k ≡ unrestrictedNumber)
+            → normal (cond (eqb k unrestrictedNumber) freeUse (getD (formsIn forms) k freeUse) .mixtures)
+            ≡ cond (eqb k unrestrictedNumber) freeUse (getD (formsIn forms) k freeUse) .mixtures
         by (yes e) = rw (eq-eqb k unrestrictedNumber e) normal-unrestricted
         by (no d) =
-            let l : k < length forms / formWidth = omega (arith, named-some (length (formsIn forms)) k h d, forms-count) in
+            let l : k < length forms / formWidth = omega (arith, named-own (length (formsIn forms)) k h d, forms-count) in
             rw (ne-eqb k unrestrictedNumber d, form-at k l) (form-normal k l)
 
     -- the uses of the policy are the rules of the table

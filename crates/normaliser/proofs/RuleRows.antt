@@ -20,6 +20,7 @@ use Rattle.fields.proofs.ByteLaws.{bytes-length, joined-length}
 use Rattle.fields.proofs.FieldLaws.{take-mid}
 use Rattle.fields.proofs.RowWriting.{RowsWritten, rows-start, rows-room, rows-next}
 use Rattle.rule_words.specs.Words.{ruleWidth, ruleOf}
+use Rattle.image.proofs.WrittenOwners.{after-first}
 use Rattle.normaliser.specs.Writer.{formWidth, formIn}
 use Rattle.image.specs.Limits.{noOwner, ruleSize, mixtureSize}
 use Rattle.image.specs.Image.{Span}
@@ -79,16 +80,13 @@ form-part forms v h =
 pub rule-here : (forms order : List ℕ) (j : ℕ) → every (formGood forms) order ≡ true → j < length order → RuleHere forms (getD order j 0)
 rule-here forms order j h l =
     let g : formGood forms (getD order j 0) ≡ true = every-getD (formGood forms) order j 0 l h in
-    record { inside = form-in forms (getD order j 0) g; small = form-small forms (getD order j 0) g; count = form-count forms (getD order j 0) g; owner = owner-is forms (getD order j 0) g; part = form-part forms (getD order j 0) g }
+    let k : ℕ = getD order j 0 in
+    record { inside = form-in forms k g; small = form-small forms k g; count = form-count forms k g; owner = owner-is forms k g; part = form-part forms k g }
 
 -- ---- rules one behind the other
 
 nothing : Span
 nothing = record { first = 0; count = 0; owner = noOwner }
-
-after-first : (owners : List ℕ) (j : ℕ) → getD (drop 1 owners) j noOwner ≡ getD owners (suc j) noOwner
-after-first [] j = refl
-after-first (o ∷ owners) j = refl
 
 spans-at : (f : ℕ) (rules : List (List ℕ)) (owners : List ℕ) (j : ℕ) → j < length rules
     → getD (spansOf f rules owners) j nothing ≡ record { first = f + length (joined (take j rules)); count = length (getD rules j []); owner = getD owners j noOwner }

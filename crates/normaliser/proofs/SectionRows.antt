@@ -33,24 +33,38 @@ use Rattle.normaliser.proofs.FirstUse.{Placing, placing-start, placing-
 none : Container
 none = record { kind = 0; atom = 0; permit = 0; run = 0 }
 
+-- the fields of container i
+abbrev pub containerKind : List ℕ → ℕ → ℕ
+containerKind s i = field s (i * containerSize) 1
+
+abbrev pub containerAtom : List ℕ → ℕ → ℕ
+containerAtom s i = field s (i * containerSize + 1) 1
+
+abbrev pub containerPermit : List ℕ → ℕ → ℕ
+containerPermit s i = field s (i * containerSize + 2) 2
+
+abbrev pub containerRun : List ℕ → ℕ → ℕ
+containerRun s i = field s (i * containerSize + 4) 2
+
 -- container i, read from the section
 pub containerAt : List ℕ → ℕ → Container
-containerAt s i = record { kind = field s (i * containerSize) 1; atom = field s (i * containerSize + 1) 1; permit = field s (i * containerSize + 2) 2; run = field s (i * containerSize + 4) 2 }
+containerAt s i = record { kind = containerKind s i; atom = containerAtom s i; permit = containerPermit s i; run = containerRun s i }
 
 container-at : (s : List ℕ) (i : ℕ) → i < length s / containerSize → getD (containersIn s) i none ≡ containerAt s i
 unfolding containersIn containerAt containerIn
 container-at s i h = record-at containerIn containerSize i s none h ∙ parts
   where
+    at : (k w : ℕ) → k + w ≤ containerSize → field (take containerSize (drop (i * containerSize) s)) k w ≡ field s (i * containerSize + k) w
+    at k w l = field-record s (i * containerSize) containerSize k w l
+
     z : i * containerSize + 0 ≡ i * containerSize
     z = omega arith
 
-    parts : containerIn (take containerSize (drop (i * containerSize) s)) ≡ record { kind = field s (i * containerSize) 1; atom = field s (i * containerSize + 1) 1; permit = field s (i * containerSize + 2) 2; run = field s (i * containerSize + 4) 2 }
-    parts =
-        let a : field (take containerSize (drop (i * containerSize) s)) 0 1 ≡ field s (i * containerSize) 1 = field-record s (i * containerSize) containerSize 0 1 (omega arith) ∙ ap (λ (x : ℕ). field s x 1) z in
-        let b : field (take containerSize (drop (i * containerSize) s)) 1 1 ≡ field s (i * containerSize + 1) 1 = field-record s (i * containerSize) containerSize 1 1 (omega arith) in
-        let d : field (take containerSize (drop (i * containerSize) s)) 2 2 ≡ field s (i * containerSize + 2) 2 = field-record s (i * containerSize) containerSize 2 2 (omega arith) in
-        let e : field (take containerSize (drop (i * containerSize) s)) 4 2 ≡ field s (i * containerSize + 4) 2 = field-record s (i * containerSize) containerSize 4 2 (omega arith) in
-        λ j. record { kind = a j; atom = b j; permit = d j; run = e j }
+    kind : field (take containerSize (drop (i * containerSize) s)) 0 1 ≡ containerKind s i
+    kind = at 0 1 (omega arith) ∙ ap (λ (x : ℕ). field s x 1) z
+
+    parts : containerIn (take containerSize (drop (i * containerSize) s)) ≡ containerAt s i
+    parts = λ j. record { kind = kind j; atom = at 1 1 (omega arith) j; permit = at 2 2 (omega arith) j; run = at 4 2 (omega arith) j }
 
 pub user-at : (s : List ℕ) (i : ℕ) → i < length s / userSize → getD (usersIn s) i 0 ≡ field s (i * userSize) 2
 unfolding usersIn field
@@ -67,13 +81,15 @@ uses-both f (c ∷ cs) h =
     (uses-both f cs (every-1 f (c .run) (containerUses cs) k))
 
 -- what holds of each use holds of the two of container i
-pub both-at : (f : ℕ → Bool) (s : List ℕ) (i : ℕ) → i < length s / containerSize → every f (containerUses (containersIn s)) ≡ true → (f (field s (i * containerSize + 2) 2) ≡ true) × (f (field s (i * containerSize + 4) 2) ≡ true)
+pub both-at : (f : ℕ → Bool) (s : List ℕ) (i : ℕ)
+    → i < length s / containerSize → every f (containerUses (containersIn s)) ≡ true
+    → (f (containerPermit s i) ≡ true) × (f (containerRun s i) ≡ true)
 unfolding containerAt
 both-at f s i l h =
     let g : (f (getD (containersIn s) i none .permit) && f (getD (containersIn s) i none .run)) ≡ true =
     every-getD (λ c. f (c .permit) && f (c .run)) (containersIn s) i none (omega (arith, containers-count s)) (uses-both f (containersIn s) h) in
-    let k : (f (field s (i * containerSize + 2) 2) && f (field s (i * containerSize + 4) 2)) ≡ true = rw (container-at s i l) at g in
-    (and-0 (f (field s (i * containerSize + 2) 2)) (f (field s (i * containerSize + 4) 2)) k, and-1 (f (field s (i * containerSize + 2) 2)) k)
+    let k : (f (containerPermit s i) && f (containerRun s i)) ≡ true = rw (container-at s i l) at g in
+    (and-0 (f (containerPermit s i)) (f (containerRun s i)) k, and-1 (f (containerPermit s i)) k)
 
 pub one-at : (f : ℕ → Bool) (s : List ℕ) (i : ℕ) → i < length s / userSize → every f (usersIn s) ≡ true → f (field s (i * userSize) 2) ≡ true
 one-at f s i l h = rw (user-at s i l) at (every-getD f (usersIn s) i 0 (omega (arith, users-count s)) h)
@@ -123,8 +139,9 @@ containing-start containers classes order ranks g h =
 
 module _ {containers classes whole order₀ ranks₀ order ranks : List ℕ} {n m i : ℕ} (g : Containing containers classes whole order₀ ranks₀ order ranks n m i) where
   pub containing-first : i < n
-      → Placing (classAt classes (field containers (i * containerSize + 2) 2) ∷ classAt classes (field containers (i * containerSize + 4) 2) ∷ map (classAt classes) (containerUses (drop (i + 1) (containersIn containers))))
-      whole order₀ ranks₀ order ranks m
+      → Placing
+      (classAt classes (containerPermit containers i) ∷ classAt classes (containerRun containers i)
+      ∷ map (classAt classes) (containerUses (drop (i + 1) (containersIn containers)))) whole order₀ ranks₀ order ranks m
   unfolding containerUses containerAt
   containing-first l =
       let k : i < length containers / containerSize = omega (arith, g .count) in
@@ -188,30 +205,40 @@ module _ (containers classes ranks : List ℕ) where
       ∙ ap (λ (n : ℕ). n * containerSize) (length-map (containersIn containers) (renumbered classes ranks) ∙ containers-count containers)
 
   pub container-row : (i : ℕ) → i < length containers / containerSize → {permit run : ℕ}
-      → permit ≡ newNumber classes ranks (field containers (i * containerSize + 2) 2) → run ≡ newNumber classes ranks (field containers (i * containerSize + 4) 2)
-      → containerBytes (record { kind = field containers (i * containerSize) 1; atom = field containers (i * containerSize + 1) 1; permit = permit; run = run }) ≡ getD containerRows i []
+      → permit ≡ newNumber classes ranks (containerPermit containers i) → run ≡ newNumber classes ranks (containerRun containers i)
+      → containerBytes (record { kind = containerKind containers i; atom = containerAtom containers i; permit = permit; run = run }) ≡ getD containerRows i []
   container-row i l {permit} {run} p r =
-      sym (map-at containerBytes (map (renumbered classes ranks) (containersIn containers)) i (renumbered classes ranks none) [] (omega (arith, length-map (containersIn containers) (renumbered classes ranks), containers-count containers))
-      ∙ ap containerBytes (map-at (renumbered classes ranks) (containersIn containers) i none (renumbered classes ranks none) (omega (arith, containers-count containers)) ∙ ap (renumbered classes ranks) (container-at containers i l) ∙ sym there))
+      sym (map-at containerBytes (map (renumbered classes ranks) (containersIn containers)) i (renumbered classes ranks none) [] inside ∙ ap containerBytes one)
     where
-      there : record { kind = field containers (i * containerSize) 1; atom = field containers (i * containerSize + 1) 1; permit = permit; run = run } ≡ renumbered classes ranks (containerAt containers i)
+      inside : i < length (map (renumbered classes ranks) (containersIn containers))
+      inside = omega (arith, length-map (containersIn containers) (renumbered classes ranks), containers-count containers)
+
+      there : record { kind = containerKind containers i; atom = containerAtom containers i; permit = permit; run = run } ≡ renumbered classes ranks (containerAt containers i)
       there =
           unfold renumbered containerAt in
-          (λ j. record { kind = field containers (i * containerSize) 1; atom = field containers (i * containerSize + 1) 1; permit = p j; run = r j })
+          (λ j. record { kind = containerKind containers i; atom = containerAtom containers i; permit = p j; run = r j })
+
+      one : getD (map (renumbered classes ranks) (containersIn containers)) i (renumbered classes ranks none)
+          ≡ record { kind = containerKind containers i; atom = containerAtom containers i; permit = permit; run = run }
+      one =
+          map-at (renumbered classes ranks) (containersIn containers) i none (renumbered classes ranks none) (omega (arith, containers-count containers))
+          ∙ ap (renumbered classes ranks) (container-at containers i l) ∙ sym there
 
   module _ {before out : List ℕ} {start at i : ℕ} (g : RowsWritten containerRows before start out at i) (l : i < length containers / containerSize) where
     pub container-room : at + containerSize ≤ length out
     container-room =
+        let permit : ℕ = newNumber classes ranks (containerPermit containers i) in
+        let run : ℕ = newNumber classes ranks (containerRun containers i) in
         omega (
           arith,
           rows-room g (omega (arith, container-rows)),
-          ap length (container-row i l {permit = newNumber classes ranks (field containers (i * containerSize + 2) 2)} {run = newNumber classes ranks (field containers (i * containerSize + 4) 2)} refl refl),
-          container-wide (record { kind = field containers (i * containerSize) 1; atom = field containers (i * containerSize + 1) 1; permit = newNumber classes ranks (field containers (i * containerSize + 2) 2); run = newNumber classes ranks (field containers (i * containerSize + 4) 2) }),
+          ap length (container-row i l {permit = permit} {run = run} refl refl),
+          container-wide (record { kind = containerKind containers i; atom = containerAtom containers i; permit = permit; run = run }),
         )
 
     pub container-next : {permit run next : ℕ} {after : List ℕ}
-        → permit ≡ newNumber classes ranks (field containers (i * containerSize + 2) 2) → run ≡ newNumber classes ranks (field containers (i * containerSize + 4) 2)
-        → Wrote (containerBytes (record { kind = field containers (i * containerSize) 1; atom = field containers (i * containerSize + 1) 1; permit = permit; run = run })) out after at next
+        → permit ≡ newNumber classes ranks (containerPermit containers i) → run ≡ newNumber classes ranks (containerRun containers i)
+        → Wrote (containerBytes (record { kind = containerKind containers i; atom = containerAtom containers i; permit = permit; run = run })) out after at next
         → RowsWritten containerRows before start after next (i + 1)
     container-next p r w = rows-next g (omega (arith, container-rows)) (container-row i l p r) w
 

@@ -145,18 +145,22 @@ module _ (containers users forms : List ℕ) (t : Tabled containers users forms)
     abbrev userPart : List ℕ
     userPart = joined (map (bytesOf userSize) (map (numberOf rules) (map (useAt policy) (usersIn users))))
 
+    -- the image of these two sections and of these rules
+    abbrev written : List ℕ → List ℕ → List (List ℕ) → List ℕ → List ℕ
+    written c u mixtures owners = framed c u (joined (map spanBytes (spansOf 0 mixtures owners))) (joined (map (bytesOf mixtureSize) (joined mixtures)))
+
     -- the sections from the tables are those of the normal policy
     pub image-is : framed (containerSection containers classes ranks) (userSection users classes ranks) (ruleSection forms (take m order)) (mixtureSection forms (take m order)) ≡ normalImage policy
     unfolding normalImage containerSection userSection ruleSection mixtureSection mixtureBytes
     image-is =
-        ap₂ (λ (c u : List ℕ). framed c u (joined (map spanBytes (spansOf 0 (map (formAt forms) (take m order)) (map (formOwner forms) (take m order))))) (joined (map (bytesOf mixtureSize) (joined (map (formAt forms) (take m order))))))
+        ap₂ (λ (c u : List ℕ). written c u (map (formAt forms) (take m order)) (map (formOwner forms) (take m order)))
         (ap (λ (x : List Container). joined (map containerBytes x)) (new.containers-are containers users forms t classes (n .told) order ranks m (n .ordered) numbers ranksRoom))
         (ap (λ (x : List ℕ). joined (map (bytesOf userSize) x)) (new.users-are containers users forms t classes (n .told) order ranks m (n .ordered) numbers ranksRoom))
-        ∙ ap₂ (λ (x : List (List ℕ)) (o : List ℕ). framed containerPart userPart (joined (map spanBytes (spansOf 0 x o))) (joined (map (bytesOf mixtureSize) (joined x)))) written-mixtures written-owners
+        ∙ ap₂ (written containerPart userPart) written-mixtures written-owners
         ∙ back
         ∙ ap encode (sym normal-is)
       where
-        back : framed containerPart userPart (joined (map spanBytes (spansOf 0 (map (λ u. u .mixtures) rules) (map (λ u. u .owner) rules)))) (joined (map (bytesOf mixtureSize) (joined (map (λ u. u .mixtures) rules)))) ≡ encode (writtenBy rules (owned policy))
+        back : written containerPart userPart (map (λ u. u .mixtures) rules) (map (λ u. u .owner) rules) ≡ encode (writtenBy rules (owned policy))
         back = unfold encode writtenBy owned policyAt policyGiven in refl
 
     -- ---- the answer

@@ -53,7 +53,9 @@ module _ (i out : List ℕ) where
   refusal-small = small (firstFailed cs) normal-among
     where
       small : (n : ℕ) → elem n (0 ∷ lentLength ∷ imageLength ∷ sections ∷ recordCount ∷ ruleRecord ∷ containerRecord ∷ userRule ∷ []) ≡ true → n < headerSize
-      small n h = ltb-true n headerSize (every-elem (λ k. ltb k headerSize) (0 ∷ lentLength ∷ imageLength ∷ sections ∷ recordCount ∷ ruleRecord ∷ containerRecord ∷ userRule ∷ []) n (unfold every in refl) h)
+      small n h =
+          let numbers : List ℕ = 0 ∷ lentLength ∷ imageLength ∷ sections ∷ recordCount ∷ ruleRecord ∷ containerRecord ∷ userRule ∷ [] in
+          ltb-true n headerSize (every-elem (λ k. ltb k headerSize) numbers n (unfold every in refl) h)
 
   module _ (b : Bytes i) where
     -- a refusal number is answered exactly if it is the refusal

@@ -29,7 +29,8 @@ use Rattle.image.proofs.FramedSections.{part-0, part-1}
 use Rattle.fields.proofs.ByteLaws.{bytes-length, joined-length}
 use Rattle.image.proofs.WrittenMeaning.{container-named}
 use Rattle.image.proofs.WrittenOwners.{owned-ownable, policy-sound}
-use Rattle.normaliser.specs.Writer.{policyGiven, unowned, formWidth, formRow, normalUse, formWords, formIn, formsIn, policyAt, containerUses, Usable, formKept, Tabled, rulesNeeded, writerAnswer, writerEffect, Answered}
+use Rattle.normaliser.specs.Writer.{policyGiven, unowned, formWidth, formRow, normalUse, formWords, formIn, formsIn, policyAt, containerUses}
+use Rattle.normaliser.specs.Writer.{Usable, formKept, Tabled, rulesNeeded, writerAnswer, writerEffect, Answered}
 use Rattle.normaliser.proofs.RuleForms.{shortUse, row-long, row-form}
 use Rattle.normaliser.proofs.NewNumbers.{every-unmap}
 
@@ -120,7 +121,9 @@ module _ (containers users : List ℕ) (rules : List Use) where
   unfolding owned policyGiven
   owned-normal =
       λ i. record {
-        places = each (ownedPlace (policyGiven containers users (map normalUse rules))) (ownedPlace (policyGiven containers users rules)) place-normal (policyGiven containers users rules .containers) i;
+        places =
+            each (ownedPlace (policyGiven containers users (map normalUse rules))) (ownedPlace (policyGiven containers users rules)) place-normal
+            (policyGiven containers users rules .containers) i;
         users = each (useAt (policyGiven containers users (map normalUse rules))) (useAt (policyGiven containers users rules)) use-normal (policyGiven containers users rules .users) i;
       }
 

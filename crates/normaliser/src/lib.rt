@@ -247,8 +247,15 @@ fn place_containers(
     order: &mut [u16],
     ranks: &mut [u16],
 ) -> usize
-    requires { ⌜ (every (classNamed (now classes) (length (now ranks))) (containerUses (containersIn (now containers))) ≡ true) × (length (withClasses [] (map (classAt (now classes)) (containerUses (containersIn (now containers))))) ≤ length (now order)) × Ordered (now order) (now ranks) 0 ⌝ }
-    ensures { λ r. ⌜ (take r (now (order .exit)) ≡ withClasses [] (map (classAt (now (classes .entry))) (containerUses (containersIn (now (containers .entry)))))) × Ordered (now (order .exit)) (now (ranks .exit)) r ⌝ }
+    requires { ⌜
+        (every (classNamed (now classes) (length (now ranks))) (containerUses (containersIn (now containers))) ≡ true)
+        × (length (withClasses [] (map (classAt (now classes)) (containerUses (containersIn (now containers))))) ≤ length (now order))
+        × Ordered (now order) (now ranks) 0
+        ⌝ }
+    ensures { λ r. ⌜
+        (take r (now (order .exit)) ≡ withClasses [] (map (classAt (now (classes .entry))) (containerUses (containersIn (now (containers .entry))))))
+        × Ordered (now (order .exit)) (now (ranks .exit)) r
+        ⌝ }
 {
     let n = containers.len() / image::CONTAINER_SIZE;
     let mut m: usize = 0;
@@ -272,8 +279,15 @@ fn place_users(
     ranks: &mut [u16],
     m: usize,
 ) -> usize
-    requires { ⌜ (every (classNamed (now classes) (length (now ranks))) (usersIn (now users)) ≡ true) × (length (withClasses (take m (now order)) (map (classAt (now classes)) (usersIn (now users)))) ≤ length (now order)) × Ordered (now order) (now ranks) m ⌝ }
-    ensures { λ r. ⌜ (take r (now (order .exit)) ≡ withClasses (take m (now (order .entry))) (map (classAt (now (classes .entry))) (usersIn (now (users .entry))))) × Ordered (now (order .exit)) (now (ranks .exit)) r ⌝ }
+    requires { ⌜
+        (every (classNamed (now classes) (length (now ranks))) (usersIn (now users)) ≡ true)
+        × (length (withClasses (take m (now order)) (map (classAt (now classes)) (usersIn (now users)))) ≤ length (now order))
+        × Ordered (now order) (now ranks) m
+        ⌝ }
+    ensures { λ r. ⌜
+        (take r (now (order .exit)) ≡ withClasses (take m (now (order .entry))) (map (classAt (now (classes .entry))) (usersIn (now (users .entry)))))
+        × Ordered (now (order .exit)) (now (ranks .exit)) r
+        ⌝ }
 {
     let n = users.len() / image::USER_SIZE;
     let mut k = m;
@@ -313,7 +327,10 @@ fn write_containers(
     classes: &[u16],
     ranks: &[u16],
 ) -> usize
-    requires { ⌜ (start + length (now containers) / containerSize * containerSize ≤ length (now out)) × (every (found (now classes) (now ranks)) (containerUses (containersIn (now containers))) ≡ true) ⌝ }
+    requires { ⌜
+        (start + length (now containers) / containerSize * containerSize ≤ length (now out))
+        × (every (found (now classes) (now ranks)) (containerUses (containersIn (now containers))) ≡ true)
+        ⌝ }
     ensures { λ r. ⌜ Wrote (containerSection (now (containers .entry)) (now (classes .entry)) (now (ranks .entry))) (now (out .entry)) (now (out .exit)) start r ⌝ }
 {
     let n = containers.len() / image::CONTAINER_SIZE;
@@ -423,7 +440,14 @@ fn write_image(
     order: &[u16],
 ) -> usize
     requires { ⌜ Writable (now containers) (now users) (now forms) (now classes) (now ranks) (now order) (now out) ⌝ }
-    ensures { λ r. ⌜ Wrote (framed (containerSection (now (containers .entry)) (now (classes .entry)) (now (ranks .entry))) (userSection (now (users .entry)) (now (classes .entry)) (now (ranks .entry))) (ruleSection (now (forms .entry)) (now (order .entry))) (mixtureSection (now (forms .entry)) (now (order .entry)))) (now (out .entry)) (now (out .exit)) 0 r ⌝ }
+    ensures { λ r. ⌜
+        Wrote
+        (framed (containerSection (now (containers .entry)) (now (classes .entry)) (now (ranks .entry)))
+        (userSection (now (users .entry)) (now (classes .entry)) (now (ranks .entry)))
+        (ruleSection (now (forms .entry)) (now (order .entry)))
+        (mixtureSection (now (forms .entry)) (now (order .entry))))
+        (now (out .entry)) (now (out .exit)) 0 r
+        ⌝ }
 {
     let a = image::HEADER_SIZE;
     let b = write_containers(out, a, containers, classes, ranks);
@@ -546,7 +570,10 @@ fn rewrite_few(
     out: &mut [u8],
 ) -> usize
     requires { ⌜ SectionsAccepted (now containers) (now users) (now rules) (now mixtures) × (length (now rules) / ruleSize ≤ fewRules) × (outputBound ≤ length (now out)) ⌝ }
-    ensures { λ r. ⌜ Wrote (normalImage (policyGiven (now (containers .entry)) (now (users .entry)) (ownedIn (now (rules .entry)) (now (mixtures .entry))))) (now (out .entry)) (now (out .exit)) 0 r ⌝ }
+    ensures { λ r. ⌜
+        Wrote (normalImage (policyGiven (now (containers .entry)) (now (users .entry)) (ownedIn (now (rules .entry)) (now (mixtures .entry)))))
+        (now (out .entry)) (now (out .exit)) 0 r
+        ⌝ }
 {
     let mut forms = [0u64; FEW_WORDS];
     let n = rules.len() / image::RULE_SIZE * FORM_WIDTH;
@@ -563,7 +590,10 @@ fn rewrite_many(
     out: &mut [u8],
 ) -> usize
     requires { ⌜ SectionsAccepted (now containers) (now users) (now rules) (now mixtures) × (outputBound ≤ length (now out)) ⌝ }
-    ensures { λ r. ⌜ Wrote (normalImage (policyGiven (now (containers .entry)) (now (users .entry)) (ownedIn (now (rules .entry)) (now (mixtures .entry))))) (now (out .entry)) (now (out .exit)) 0 r ⌝ }
+    ensures { λ r. ⌜
+        Wrote (normalImage (policyGiven (now (containers .entry)) (now (users .entry)) (ownedIn (now (rules .entry)) (now (mixtures .entry)))))
+        (now (out .entry)) (now (out .exit)) 0 r
+        ⌝ }
 {
     let mut forms = [0u64; MANY_WORDS];
     let n = rules.len() / image::RULE_SIZE * FORM_WIDTH;
@@ -574,7 +604,10 @@ fn rewrite_many(
 // The normal image of the policy of an image's sections: its length.
 fn rewrite(containers: &[u8], users: &[u8], rules: &[u8], mixtures: &[u8], out: &mut [u8]) -> usize
     requires { ⌜ SectionsAccepted (now containers) (now users) (now rules) (now mixtures) × (outputBound ≤ length (now out)) ⌝ }
-    ensures { λ r. ⌜ Wrote (normalImage (policyGiven (now (containers .entry)) (now (users .entry)) (ownedIn (now (rules .entry)) (now (mixtures .entry))))) (now (out .entry)) (now (out .exit)) 0 r ⌝ }
+    ensures { λ r. ⌜
+        Wrote (normalImage (policyGiven (now (containers .entry)) (now (users .entry)) (ownedIn (now (rules .entry)) (now (mixtures .entry)))))
+        (now (out .entry)) (now (out .exit)) 0 r
+        ⌝ }
 {
     if rules.len() / image::RULE_SIZE <= FEW_RULES {
         rewrite_few(containers, users, rules, mixtures, out)

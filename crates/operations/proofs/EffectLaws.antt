@@ -33,11 +33,13 @@ use Rattle.image.proofs.KindLaws.{process-free, is-process}
 use Rattle.chains.specs.Table.{freeRow, readRow, writeRow, appendRow, execRow, forkRow, newFileRow, newVolatileRow, ruleOr, entry, fits, meetGood, alerts, blocks, verdict}
 use Rattle.operations.specs.View.{view}
 use Rattle.operations.specs.Effects.{madeAnswer, madeEffect}
-use Rattle.operations.specs.EarlyTests.{Ready, UsedAt, Kept, wordsFrom, contentWords, newWords, coverVerdict, coverAnswer, guardsAt, lateAnswer, lateEffect, sharedRun, absorbed, absorbAnswer, absorbEffect, withheldAnswer, launchTag, launchAnswer, launchEffect}
+use Rattle.operations.specs.EarlyTests.{Ready, UsedAt, Kept, wordsFrom, contentWords, newWords, coverVerdict, coverAnswer, guardsAt, lateAnswer, lateEffect}
+use Rattle.operations.specs.EarlyTests.{sharedRun, absorbed, absorbAnswer, absorbEffect, withheldAnswer, launchTag, launchAnswer, launchEffect}
 use Rattle.operations.proofs.ViewLaws.{view-row}
 use Rattle.operations.proofs.RefusalTests.{kind-read}
 use Rattle.operations.proofs.ReadyLaws.{process-kind, ready-process, ready-object, ready-user}
-use Rattle.operations.proofs.RowSteps.{KeptAs, words-lent, permit-kept, row-used, row-counts, row-long, run-kept, run-single, user-kept-as, met, content-row, new-row, fits-short, fits-made, rule-short}
+use Rattle.operations.proofs.RowSteps.{KeptAs, words-lent, permit-kept, row-used, row-counts, row-long, run-kept, run-single}
+use Rattle.operations.proofs.RowSteps.{user-kept-as, met, content-row, new-row, fits-short, fits-made, rule-short}
 
 -- the answer a and the session s₁ afterwards are as the step t asks
 abbrev pub Done : List ℕ → Step → Answer → List ℕ → Type 0
@@ -97,7 +99,10 @@ verdict-covers : (t : Step) (w : Row) → blocks t w ≡ false → judged t ≡ 
 unfolding verdict alerts coverAnswer
 verdict-covers t w f j = rw (f, j) (by (covers (w .permit) (w .tag)))
   where
-    by : (b : Bool) → _≡_ {A = Answer} (Given (coverVerdict b) (received (receiver t) (w .tag) (coverPlace (w .permit) (w .tag)))) (cond (not b) alert quiet (receiver t) (w .tag) (coverPlace (w .permit) (w .tag)))
+    k : ℕ
+    k = coverPlace (w .permit) (w .tag)
+
+    by : (b : Bool) → _≡_ {A = Answer} (Given (coverVerdict b) (received (receiver t) (w .tag) k)) (cond (not b) alert quiet (receiver t) (w .tag) k)
     by true = refl
     by false = refl
 
@@ -130,7 +135,9 @@ unfolding lateAnswer lateEffect
 refused-done s t g = (rw g, rw g)
 
 module _ (s : List ℕ) (t : Step) (g : meetGood (view s) t ≡ true) where
-  put-done : blocks t (entry (view s) t .row) ≡ false → (a : Answer) (ws : List ℕ) → a ≡ verdict t (entry (view s) t .row) → ws ≡ rowWords (entry (view s) t .row) → Done s t a (returned s (receiver t) ws)
+  put-done : blocks t (entry (view s) t .row) ≡ false
+      → (a : Answer) (ws : List ℕ) → a ≡ verdict t (entry (view s) t .row) → ws ≡ rowWords (entry (view s) t .row)
+      → Done s t a (returned s (receiver t) ws)
   unfolding lateAnswer lateEffect madeAnswer madeEffect
   put-done f a ws ea e = (rw g ea, row-returned s (receiver t) ws ∙ rw (g, f, e))
 
@@ -201,7 +208,8 @@ module _ (s : List ℕ) (c d t : ℕ) (h : UsedAt s c) (m : Bounded) (em : m ≡
   withheld-fits f a ea = ea ∙ rw (shared-fits ∙ f)
 
 -- what an absorbing step is answered, and does, is what the table says
-module _ (s : List ℕ) (c d t : ℕ) (step : Step) (j : judged step ≡ true) (er : receiver step ≡ c) (ew : entry (view s) step .row ≡ absorbed s c d t) (eg : meetGood (view s) step ≡ fits (sharedRun s c d)) where
+module _ (s : List ℕ) (c d t : ℕ) (step : Step) (j : judged step ≡ true) (er : receiver step ≡ c) (ew : entry (view s) step .row ≡ absorbed s c d t)
+    (eg : meetGood (view s) step ≡ fits (sharedRun s c d)) where
   -- it does not block
   module _ (f : blocks step (absorbed s c d t) ≡ false) where
     absorb-answer : absorbAnswer s c d t ≡ lateAnswer s step
@@ -294,8 +302,10 @@ module _ (s : List ℕ) (p o : ℕ) where
   fork-fit h m em =
       (lent-long s o (h .long) (h .object), bounded-rule (view s .row p .permit) m em (permit-short s p (ready-process s (fork p o) h)) .0)
 
-  pub fork-done : Ready s (fork p o) → (m : Bounded) → m ≡ boundedOf (view s .row p .permit) → (n : Bounded) → n ≡ boundedOf (view s .row p .run) → (t : ℕ) → t ≡ view s .row p .tag → (b : ℕ) → b ≡ view s .row p .behalf → (a : Answer) (ws : List ℕ)
-      → a ≡ coverAnswer o (take (m .count) (m .mixtures)) t → ws ≡ newWords processKind t m n b → Done s (fork p o) a (returned s o ws)
+  pub fork-done : Ready s (fork p o)
+      → (m : Bounded) → m ≡ boundedOf (view s .row p .permit) → (n : Bounded) → n ≡ boundedOf (view s .row p .run) → (t : ℕ) → t ≡ view s .row p .tag
+      → (b : ℕ) → b ≡ view s .row p .behalf → (a : Answer) (ws : List ℕ) → a ≡ coverAnswer o (take (m .count) (m .mixtures)) t
+      → ws ≡ newWords processKind t m n b → Done s (fork p o) a (returned s o ws)
   unfolding entry forkRow meetGood every
   fork-done h m em n en t et b eb a ws ea ew =
       let up : UsedAt s p = ready-process s (fork p o) h in
@@ -354,7 +364,8 @@ module _ (s : List ℕ) (p o u : ℕ) (h : Ready s (exec p o u)) (m : Bounded) (
   exec-done f a s₁ (ea, es) =
       let ws : List ℕ = newWords processKind (launchTag s p o) m (boundedOf (view s .row o .run)) u in
       let d : Done s (exec p o u) a (returned s p ws) =
-      replace-done s (exec p o u) (exec-meet ∙ f) (execRow (view s .row p) (view s .row o) (ruleOr (view s .user u)) u) refl m (boundedOf (view s .row o .run)) a ws refl (process-kind s (exec p o u) h) em (exec-short f) refl
+      replace-done s (exec p o u) (exec-meet ∙ f) (execRow (view s .row p) (view s .row o) (ruleOr (view s .user u)) u) refl m
+      (boundedOf (view s .row o .run)) a ws refl (process-kind s (exec p o u) h) em (exec-short f) refl
       (run-short s o (ready-object s (exec p o u) h refl)) ea refl in
       (d .0, es ∙ sym (row-returned s p ws) ∙ d .1)
 

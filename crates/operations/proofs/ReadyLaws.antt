@@ -1,7 +1,7 @@
 -- What a step that is not refused by 10 to 14 or 18 finds: the rows of p, o and u.
 use Prim.Native.Nat.{ℕ}
 use mathlib.Core.Path.{_≡_, refl, sym, ap, _∙_}
-use mathlib.Core.Bool.{Bool, true, false, not, cond, _&&_, _||_}
+use mathlib.Core.Bool.{Bool, true, false, cond, _&&_}
 use mathlib.Core.List.{List}
 use mathlib.Core.Option.{some, none}
 use Rattle.rules.specs.Sets.{atom}
@@ -13,6 +13,7 @@ use Rattle.image.specs.Limits.{processKind, isProcess, kindIn, freeKind}
 use Rattle.session.specs.Rows.{Row, rowOf, userRuleOf, containerRow, userRow, containerRowGood, isDeclared}
 use Rattle.chains.specs.History.{Step, read, write, append, exec, fork, newFile, newVolatile, end, delete}
 use Rattle.chains.specs.Table.{State, needsFree, entry, isSome, processGood, objectGood, kindGood, freeGood, userGood, earlyConditions}
+use Rattle.chains.proofs.TableStates.{either-way}
 use Rattle.image.proofs.KindLaws.{kind-used, process-used, process-is}
 use Rattle.operations.specs.View.{view}
 use Rattle.operations.specs.Effects.{userNamedGood, rowsGood}
@@ -27,10 +28,6 @@ pub record Tests (s : List ℕ) (t : Step) : Type 0 where
   pub object : objectGood (view s) t ≡ true
   pub user : userGood (view s) t ≡ true
 
-both : (b g : Bool) → (b || g) ≡ true → (not b || g) ≡ true → g ≡ true
-both true g h k = k
-both false g h k = h
-
 pub tests : (s : List ℕ) (t : Step) → firstFailed (firstConditions s t) ≡ 0 → Tests s t
 tests s t e = of (given-none (firstConditions s t) numbers .0 e)
   where
@@ -41,7 +38,7 @@ tests s t e = of (given-none (firstConditions s t) numbers .0 e)
     of = unfold firstConditions earlyConditions in (λ h. record {
       rows = h .0;
       process = h .1 .0;
-      object = both (needsFree (entry (view s) t .need)) (objectGood (view s) t) (unfold kindGood in (h .1 .1 .0)) (unfold freeGood in (h .1 .1 .1 .0));
+      object = either-way (needsFree (entry (view s) t .need)) (objectGood (view s) t) (unfold kindGood in (h .1 .1 .0)) (unfold freeGood in (h .1 .1 .1 .0));
       user = h .1 .1 .1 .1 .0;
     })
 

@@ -198,7 +198,8 @@ module _ (s : List ℕ) (q : Request) (a : Asked q) where
 pub object-kind : (s : List ℕ) (q : Request) → Asked q → (b : Bool) → b ≡ rowsGood s (stepIn q) → not b ≡ false → getD s (q .o * rowWidth + kindAt) 0 ≤ lastKind
 unfolding rowOf
 object-kind s q a b r h =
-    rw (kind-read s (q .o)) (good-kind (containerRow s (q .o)) (and-0 (containerRowGood (containerRow s (q .o))) _ (and-1 (containerRowGood (containerRow s (q .p))) (sym (opened s q a) ∙ passes-test r h))))
+    let rest = and-1 (containerRowGood (containerRow s (q .p))) (sym (opened s q a) ∙ passes-test r h) in
+    rw (kind-read s (q .o)) (good-kind (containerRow s (q .o)) (and-0 (containerRowGood (containerRow s (q .o))) _ rest))
 
 -- a request names a user below 16 if its code names one
 pub user-low : (s : List ℕ) (q : Request) (k : Code) → Named s q → k ≡ codeAt (q .code) → not (k .user) ≡ false → q .u < userLimit

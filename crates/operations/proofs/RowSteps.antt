@@ -107,7 +107,14 @@ module _ (s : List ℕ) (c : ℕ) (h : UsedAt s c) where
 
   -- another tag and run rule, as a row
   pub content-row : (t : ℕ) (r : List ℕ) (m : Bounded) → m ≡ boundedOf r → length r ≤ mixtureLimit
-      → contentWords (containerRow s c) t m ≡ rowWords (record { kind = rowOf (containerRow s c) .kind; tag = t; permit = rowOf (containerRow s c) .permit; run = r; behalf = rowOf (containerRow s c) .behalf })
+      → contentWords (containerRow s c) t m
+      ≡ rowWords (record {
+        kind = rowOf (containerRow s c) .kind;
+        tag = t;
+        permit = rowOf (containerRow s c) .permit;
+        run = r;
+        behalf = rowOf (containerRow s c) .behalf;
+      })
   unfolding contentWords boundedWords rowWords rowOf
   content-row t r m e l = ap₂ (λ (x y : List ℕ). getD (containerRow s c) kindAt 0 ∷ t ∷ (x ++ (y ++ (getD (containerRow s c) behalfAt 0 ∷ [])))) permit-kept-words (bounded-words r m e l)
 
@@ -209,8 +216,11 @@ rule-short s u h = rw (view-user s u (h .low), h .declared) (good-declared (user
 
 -- ---- the words of a rule, copied as they stand
 
-words-behind : (ws : List ℕ) → length ws ≡ ruleWidth
-    → getD ws 1 0 ∷ getD ws 2 0 ∷ getD ws 3 0 ∷ getD ws 4 0 ∷ getD ws 5 0 ∷ getD ws 6 0 ∷ getD ws 7 0 ∷ getD ws 8 0 ∷ [] ≡ drop 1 ws
+-- the words behind the first
+abbrev pub behind : List ℕ → List ℕ
+behind ws = getD ws 1 0 ∷ getD ws 2 0 ∷ getD ws 3 0 ∷ getD ws 4 0 ∷ getD ws 5 0 ∷ getD ws 6 0 ∷ getD ws 7 0 ∷ getD ws 8 0 ∷ []
+
+words-behind : (ws : List ℕ) → length ws ≡ ruleWidth → behind ws ≡ drop 1 ws
 words-behind ws l =
     sym
     (drop-cons ws 1 0 (omega arith)
@@ -231,7 +241,7 @@ words-behind ws l =
     ∙ ap (λ (x : List ℕ). getD ws 8 0 ∷ x) (drop-of-length-le ws {i = 9} (omega arith))))))))))
 
 pub words-copied : (ws : List ℕ) → Kept ws
-    → _≡_ {A = Bounded} (record { fits = true; count = getD ws 0 0; mixtures = getD ws 1 0 ∷ getD ws 2 0 ∷ getD ws 3 0 ∷ getD ws 4 0 ∷ getD ws 5 0 ∷ getD ws 6 0 ∷ getD ws 7 0 ∷ getD ws 8 0 ∷ [] }) (boundedOf (ruleOf ws))
+    → _≡_ {A = Bounded} (record { fits = true; count = getD ws 0 0; mixtures = behind ws }) (boundedOf (ruleOf ws))
 unfolding wordsOf
 words-copied ws k =
     bounded-fits (ruleOf ws) (ruleOf ws) _ (getD ws 0 0) refl
@@ -384,7 +394,8 @@ judged-small row rule k t h e f =
     let l : length rule ≤ mixtureLimit = rw e (omega (arith, h .1, rule-length (permitWords row) (h .0) (h .1))) in
     omega (arith, f, place-limit rule t (omega arith))
 
-pub judged-by : (row rule : List ℕ) (c k : ℕ) (v : Verdict) → Readable (permitWords row) → rule ≡ ruleOf (permitWords row) → k ≡ coverPlace rule (getD row tagAt 0) → v ≡ coverVerdict (not (eqb k noPosition))
+pub judged-by : (row rule : List ℕ) (c k : ℕ) (v : Verdict) → Readable (permitWords row) → rule ≡ ruleOf (permitWords row)
+    → k ≡ coverPlace rule (getD row tagAt 0) → v ≡ coverVerdict (not (eqb k noPosition))
     → _≡_ {A = Answer} (Given v (received c (getD row tagAt 0) k)) (coverAnswer c (rowOf row .permit) (rowOf row .tag))
 unfolding coverAnswer rowOf
 judged-by row rule c k v h e f g =

@@ -8,9 +8,11 @@ use mathlib.Core.Option.{some}
 use lib.ListN.{replicate}
 use Rattle.fields.specs.Ascii.{ascii}
 use Rattle.lists.specs.Lists.{every, joined, sameList, knownBy}
-use Rattle.profiles.specs.Profiles.{mode-r, mode-w, mode-ix, mode-Ux, newline, modeText, modesText, profileWord, profileEnd, modesStart, modesEnd, profileLine, entryLine, endLine, isBetween, isDigit, isLetter, isPathByte, pathGood, modesGood, entryGood}
+use Rattle.profiles.specs.Profiles.{mode-r, mode-w, mode-ix, mode-Ux, newline, modeText, modesText, profileWord, profileEnd, modesStart, modesEnd}
+use Rattle.profiles.specs.Profiles.{profileLine, entryLine, endLine, isBetween, isDigit, isLetter, isPathByte, pathGood, modesGood, entryGood}
 use Rattle.profiles.specs.Tokens.{starts, tokensFrom, tokens}
-use Rattle.profiles.specs.Reading.{lineText, lineGood, pathByteIn, pathIn, modeAmong, allModes, modeIn, modesIn, entryIn, linesToTry, lineAmong, lineIn, linesIn, linesText, behindLine, parsed, profilesOf, readingOf}
+use Rattle.profiles.specs.Reading.{lineText, lineGood, pathByteIn, pathIn, modeAmong, allModes, modeIn, modesIn, entryIn}
+use Rattle.profiles.specs.Reading.{linesToTry, lineAmong, lineIn, linesIn, linesText, behindLine, parsed, profilesOf, readingOf}
 use Rattle.profiles.specs.Texts.{noRepeat, profiledOnce, readsWell, textGood}
 
 -- each with byte 10 behind it
@@ -65,7 +67,9 @@ pub record Examples : Type 0 where
 
 pub examples : Examples
 unfolding ascii modeText modesText profileWord profileEnd modesStart modesEnd profileLine entryLine endLine
-    isDigit isLetter isBetween isPathByte pathGood modesGood entryGood starts tokensFrom tokens lineText lineGood pathByteIn pathIn modeAmong allModes modeIn modesIn entryIn linesToTry lineAmong lineIn linesIn linesText behindLine parsed profilesOf readingOf knownBy noRepeat profiledOnce readsWell textGood every joined sameList
+    isDigit isLetter isBetween isPathByte pathGood modesGood entryGood starts tokensFrom tokens lineText lineGood pathByteIn pathIn
+    modeAmong allModes modeIn modesIn entryIn linesToTry lineAmong lineIn linesIn linesText behindLine parsed profilesOf readingOf knownBy
+    noRepeat profiledOnce readsWell textGood every joined sameList
 examples =
     record {
       no-profile = refl;

@@ -7,7 +7,8 @@ use Rattle.fields.specs.Ascii.{ascii}
 use Rattle.lists.specs.Lists.{every, joined}
 use Rattle.lists.proofs.Bools.{and-in, and-0, and-1, clash}
 use Rattle.lists.proofs.Every.{every-0, every-1, every-nil, every-cons}
-use Rattle.profiles.specs.Profiles.{Mode, PathEntry, Profile, modeText, modesText, profileWord, profileEnd, modesStart, modesEnd, profileLine, entryLine, endLine, entriesText, textOfOne, textOf, pathGood, modesGood, entryGood, profileGood}
+use Rattle.profiles.specs.Profiles.{Mode, PathEntry, Profile, modeText, modesText, profileWord, profileEnd, modesStart, modesEnd, profileLine}
+use Rattle.profiles.specs.Profiles.{entryLine, endLine, entriesText, textOfOne, textOf, pathGood, modesGood, entryGood, profileGood}
 use Rattle.profiles.specs.Grammar.{Grammar, ModesIn, lastMode, nextMode, EntriesIn, noEntry, nextEntry, ProfilesIn, noProfile, nextProfile}
 
 -- ---- modes

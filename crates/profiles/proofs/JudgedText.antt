@@ -173,14 +173,18 @@ module _ (t : List ℕ) (seen : List (List ℕ)) (b : Bool) (at : ℕ) where
 -- ---- one line of the text more
 
 module _ (t : List ℕ) (seen : List (List ℕ)) (at : ℕ) (i : at < length t) where
+  -- whether all that stands behind this line is lines
+  abbrev behindWhole : Line → Bool
+  behindWhole l = eqb (length (linesText (linesIn (drop (at + length (lineText l)) t)))) (length (drop (at + length (lineText l)) t))
+
   module _ (p : List ℕ) (e : lineIn (drop at t) ≡ some (opens p)) where
     pub profile-inside : leftGood t seen true at ≡ false
     unfolding linesJudged
-    profile-inside = left-line t seen true at (opens p) i e ∙ and-false (eqb (length (linesText (linesIn (drop (at + length (lineText (opens p))) t)))) (length (drop (at + length (lineText (opens p))) t)))
+    profile-inside = left-line t seen true at (opens p) i e ∙ and-false (behindWhole (opens p))
 
     pub profile-again : known p seen ≡ true → leftGood t seen false at ≡ false
     unfolding linesJudged
-    profile-again h = left-line t seen false at (opens p) i e ∙ rw h (and-false (eqb (length (linesText (linesIn (drop (at + length (lineText (opens p))) t)))) (length (drop (at + length (lineText (opens p))) t))))
+    profile-again h = left-line t seen false at (opens p) i e ∙ rw h (and-false (behindWhole (opens p)))
 
     pub profile-new : known p seen ≡ false → leftGood t seen false at ≡ leftGood t (seen ++ (p ∷ [])) true (at + length (lineText (opens p)))
     unfolding linesJudged leftGood
@@ -189,7 +193,7 @@ module _ (t : List ℕ) (seen : List (List ℕ)) (at : ℕ) (i : at < length t) 
   module _ (x : PathEntry) (e : lineIn (drop at t) ≡ some (enters x)) where
     pub entry-outside : leftGood t seen false at ≡ false
     unfolding linesJudged
-    entry-outside = left-line t seen false at (enters x) i e ∙ and-false (eqb (length (linesText (linesIn (drop (at + length (lineText (enters x))) t)))) (length (drop (at + length (lineText (enters x))) t)))
+    entry-outside = left-line t seen false at (enters x) i e ∙ and-false (behindWhole (enters x))
 
     pub entry-inside : leftGood t seen true at ≡ leftGood t seen true (at + length (lineText (enters x)))
     unfolding linesJudged leftGood
@@ -198,7 +202,7 @@ module _ (t : List ℕ) (seen : List (List ℕ)) (at : ℕ) (i : at < length t) 
   module _ (e : lineIn (drop at t) ≡ some closes) where
     pub end-outside : leftGood t seen false at ≡ false
     unfolding linesJudged
-    end-outside = left-line t seen false at closes i e ∙ and-false (eqb (length (linesText (linesIn (drop (at + length (lineText closes)) t)))) (length (drop (at + length (lineText closes)) t)))
+    end-outside = left-line t seen false at closes i e ∙ and-false (behindWhole closes)
 
     pub end-inside : leftGood t seen true at ≡ leftGood t seen false (at + length (lineText closes))
     unfolding linesJudged leftGood

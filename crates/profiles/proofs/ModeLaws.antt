@@ -35,7 +35,8 @@ two-scanned m n true = λ i. record { bit = modeBit m; width = sym n i }
 two-scanned m n false = refl
 
 -- a byte that begins no mode
-pub no-mode : (b : ℕ) → (b ≡ 114 → ⊥) → (b ≡ 119 → ⊥) → (b ≡ 97 → ⊥) → (b ≡ 108 → ⊥) → (b ≡ 109 → ⊥) → (b ≡ 105 → ⊥) → (b ≡ 112 → ⊥) → (b ≡ 80 → ⊥) → (b ≡ 117 → ⊥) → (b ≡ 85 → ⊥) → (u : List ℕ) → modeIn (b ∷ u) ≡ none
+pub no-mode : (b : ℕ) → (b ≡ 114 → ⊥) → (b ≡ 119 → ⊥) → (b ≡ 97 → ⊥) → (b ≡ 108 → ⊥) → (b ≡ 109 → ⊥) → (b ≡ 105 → ⊥) → (b ≡ 112 → ⊥) → (b ≡ 80 → ⊥)
+    → (b ≡ 117 → ⊥) → (b ≡ 85 → ⊥) → (u : List ℕ) → modeIn (b ∷ u) ≡ none
 unfolding modeIn modeAmong allModes modeText ascii starts
 no-mode b n0 n1 n2 n3 n4 n5 n6 n7 n8 n9 u =
     rw (

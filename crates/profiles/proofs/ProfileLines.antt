@@ -14,9 +14,12 @@ use Rattle.lists.specs.Lists.{every, joined}
 use Rattle.lists.proofs.Bools.{and-in, and-0, and-1, clash, refuted}
 use Rattle.lists.proofs.Every.{every-cons, every-all}
 use Rattle.lists.proofs.Places.{some-inj, none-some}
-use Rattle.profiles.specs.Profiles.{Mode, mode-r, mode-w, mode-a, mode-l, mode-m, mode-ix, mode-px, mode-Px, mode-ux, mode-Ux, PathEntry, slash, modeText, modesText, profileWord, profileEnd, modesStart, modesEnd, profileLine, entryLine, endLine, isBetween, isDigit, isLetter, isPathByte, pathGood, modesGood, entryGood}
+use Rattle.profiles.specs.Profiles.{Mode, mode-r, mode-w, mode-a, mode-l, mode-m, mode-ix, mode-px, mode-Px, mode-ux, mode-Ux}
+use Rattle.profiles.specs.Profiles.{PathEntry, slash, modeText, modesText, profileWord, profileEnd, modesStart, modesEnd, profileLine}
+use Rattle.profiles.specs.Profiles.{entryLine, endLine, isBetween, isDigit, isLetter, isPathByte, pathGood, modesGood, entryGood}
 use Rattle.profiles.specs.Tokens.{starts, tokens}
-use Rattle.profiles.specs.Reading.{Line, opens, enters, closes, lineText, lineGood, pathByteIn, byteText, pathIn, modeAmong, allModes, modeIn, modesIn, entryIn, linesToTry, lineAmong, lineIn, linesIn, linesText}
+use Rattle.profiles.specs.Reading.{Line, opens, enters, closes, lineText, lineGood, pathByteIn, byteText, pathIn, modeAmong}
+use Rattle.profiles.specs.Reading.{allModes, modeIn, modesIn, entryIn, linesToTry, lineAmong, lineIn, linesIn, linesText}
 use Rattle.profiles.proofs.TokenLaws.{starts-split, starts-seam, tokens-front, tokens-every, tokens-back}
 
 -- ---- paths

@@ -14,7 +14,8 @@ use Rattle.lists.proofs.Every.{every-0, every-1, every-nil, every-cons}
 use Rattle.lists.proofs.Places.{some-inj, none-some}
 use Rattle.profiles.specs.Profiles.{PathEntry, Profile, entriesText, textOfOne, textOf, entryGood, profileGood, profileLine, entryLine, endLine, pathGood}
 use Rattle.profiles.specs.Grammar.{Grammar}
-use Rattle.profiles.specs.Reading.{Line, opens, enters, closes, lineText, lineGood, entryLines, linesOf, lineIn, linesIn, linesText, Parsed, outside, inside, broken, behindLine, parsed, profilesOf, readingOf}
+use Rattle.profiles.specs.Reading.{Line, opens, enters, closes, lineText, lineGood, entryLines, linesOf, lineIn, linesIn}
+use Rattle.profiles.specs.Reading.{linesText, Parsed, outside, inside, broken, behindLine, parsed, profilesOf, readingOf}
 use Rattle.profiles.proofs.TokenLaws.{starts-split}
 use Rattle.profiles.proofs.ProfileLines.{lines-front, lines-good, lines-back, line-front, line-long}
 

@@ -102,5 +102,6 @@ module _ {A : Type 0} (next : List ℕ → Option A) (text : A → List ℕ) whe
   tokens-back f long back [] r h e = tokens-stop r e
   tokens-back f long back (a ∷ xs) r h e =
       ap (tokens next text) (append-assoc (text a) (joined (map text xs)) r)
-      ∙ tokens-step (text a ++ (joined (map text xs) ++ r)) a (back a (joined (map text xs) ++ r) (every-0 f a xs h)) (omega (arith, length-append (text a) (joined (map text xs) ++ r), long a)) (long a)
+      ∙ tokens-step (text a ++ (joined (map text xs) ++ r)) a (back a (joined (map text xs) ++ r) (every-0 f a xs h))
+      (omega (arith, length-append (text a) (joined (map text xs) ++ r), long a)) (long a)
       ∙ ap (λ (ys : List A). a ∷ ys) (ap (tokens next text) (drop-append-seam (text a) (joined (map text xs) ++ r)) ∙ tokens-back f long back xs r (every-1 f a xs h) e)

@@ -7,7 +7,8 @@ use mathlib.Core.Option.{Option, none, some}
 use lib.Dec.{eqb}
 use lib.ListN.{length, drop}
 use Rattle.lists.specs.Lists.{joined}
-use Rattle.profiles.specs.Profiles.{Mode, mode-r, mode-w, mode-a, mode-l, mode-m, mode-ix, mode-px, mode-Px, mode-ux, mode-Ux, PathEntry, Profile, modeText, profileWord, profileLine, entryLine, endLine, isPathByte, pathGood, entryGood}
+use Rattle.profiles.specs.Profiles.{Mode, mode-r, mode-w, mode-a, mode-l, mode-m, mode-ix, mode-px, mode-Px, mode-ux, mode-Ux, PathEntry}
+use Rattle.profiles.specs.Profiles.{Profile, modeText, profileWord, profileLine, entryLine, endLine, isPathByte, pathGood, entryGood}
 use Rattle.profiles.specs.Tokens.{starts, tokens}
 
 -- ---- lines

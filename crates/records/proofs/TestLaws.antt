@@ -14,7 +14,8 @@ use Rattle.fields.specs.Bytes.{field}
 use Rattle.records.specs.declared.Code.{Code}
 use Rattle.records.specs.declared.Request.{Request}
 use Rattle.records.specs.Codes.{codeCount, isCode, codeAt, noCode}
-use Rattle.records.specs.Records.{recordLength, recordCodeAt, recordZeroAt, recordProcessAt, recordObjectAt, recordUserAt, codeSize, numberSize, noUser, requestIn, userFits, ownObject, numbersGood, recordGood, needIn}
+use Rattle.records.specs.Records.{recordLength, recordCodeAt, recordZeroAt, recordProcessAt, recordObjectAt, recordUserAt, codeSize}
+use Rattle.records.specs.Records.{numberSize, noUser, requestIn, userFits, ownObject, numbersGood, recordGood, needIn}
 
 -- ---- the four fields
 
@@ -42,7 +43,10 @@ or-low a b =
     (λ h.
     let l : bitOr a b < containerLimit = ltb-true (bitOr a b) containerLimit h in
     and-in (lt-ltb a containerLimit (omega (arith, l, or-add-and a b, and-le-r a b))) (lt-ltb b containerLimit (omega (arith, l, or-add-and a b, and-le-l a b))))
-    (λ h. lt-ltb (bitOr a b) containerLimit (or-lt 8 a b (ltb-true a containerLimit (and-0 (ltb a containerLimit) (ltb b containerLimit) h)) (ltb-true b containerLimit (and-1 (ltb a containerLimit) h))))
+    (λ h.
+    let l : a < containerLimit = ltb-true a containerLimit (and-0 (ltb a containerLimit) (ltb b containerLimit) h) in
+    let k : b < containerLimit = ltb-true b containerLimit (and-1 (ltb a containerLimit) h) in
+    lt-ltb (bitOr a b) containerLimit (or-lt 8 a b l k))
 
 module _ (q : Request) where
   told : numbersGood q ≡ (userFits q && (ltb (bitOr (q .p) (q .o)) containerLimit && ownObject q))

@@ -34,8 +34,12 @@ covers-refines (m ∷ r) s f =
 pub refines-meet : (r s : List ℕ) → normal r ≡ r → refines r s ≡ true → r ≡ meet r s
 unfolding meet
 refines-meet r s e h =
-    sym e
-    ∙ normal-unique r (intersections r s) (λ t. same-test (covers r t) (covers r t && covers s t) (λ c. and-in c (refines-covers r s h t c)) (and-0 (covers r t) (covers s t)) ∙ sym (covers-intersections r s t))
+    sym e ∙ normal-unique r (intersections r s) (λ t. both t ∙ sym (covers-intersections r s t))
+  where
+    both : (t : ℕ) → covers r t ≡ (covers r t && covers s t)
+    both t =
+        same-test (covers r t) (covers r t && covers s t) (λ c. and-in c (refines-covers r s h t c))
+        (and-0 (covers r t) (covers s t))
 
 -- ---- a rule that is read one mixture at a time
 

@@ -1,7 +1,7 @@
 -- The rows of the records of an image that is not refused.
 use Prim.Native.Nat.{ℕ, _+_, _-_, _*_, _/_, _≤_, _<_}
 use mathlib.Core.Path.{_≡_, sym, ap, ap₂, _∙_}
-use mathlib.Core.Bool.{true, _||_}
+use mathlib.Core.Bool.{Bool, true, _||_}
 use mathlib.Core.List.{List, [], _∷_, _++_, map}
 use native.Mathlib.Omega.{arith}
 use native.Mathlib.Nat.{add-sub-cancel-left}
@@ -27,7 +27,8 @@ use Rattle.session.specs.Limits.{rowWidth, userWidth, nobody}
 use Rattle.session.specs.Rows.{rowWords, userWords}
 use Rattle.session.specs.Session.{filled, startTag, startRow, placeWords}
 use Rattle.session.proofs.RowMeaning.{row-length, user-length}
-use Rattle.session.proofs.RowsOfOneWidth.{wide, Rowed, rowed-next, rowed-end}
+use Rattle.fields.proofs.WidthRows.{wide}
+use Rattle.session.proofs.RowsOfOneWidth.{Rowed, rowed-next, rowed-end}
 
 -- ---- users
 
@@ -83,7 +84,10 @@ module _ (r rules m : List ℕ) (good : containerGood (length rules / ruleSize) 
   unfolding containerIn
   atom-good = container-atom (length rules / ruleSize) (containerIn r) good
 
-  pub container-row : (k t : ℕ) (p q : List ℕ) → k ≡ field r containerKindAt size8 → t ≡ startTag (field r containerAtomAt size8) → p ≡ wordsOf (normalAt (rulesIn rules m) (field r containerPermitAt size16)) → q ≡ wordsOf (normalAt (rulesIn rules m) (field r containerRunAt size16))
+  pub container-row : (k t : ℕ) (p q : List ℕ)
+      → k ≡ field r containerKindAt size8 → t ≡ startTag (field r containerAtomAt size8)
+      → p ≡ wordsOf (normalAt (rulesIn rules m) (field r containerPermitAt size16))
+      → q ≡ wordsOf (normalAt (rulesIn rules m) (field r containerRunAt size16))
       → k ∷ t ∷ (p ++ (q ++ (nobody ∷ []))) ≡ placeWords (placeOf (rulesIn rules m) (containerIn r))
   unfolding placeWords rowWords startRow placeOf containerIn
   container-row k t p q e f g h =
@@ -111,10 +115,17 @@ module _ (cs rules m : List ℕ) (good : every (containerGood (length rules / ru
   pub containers-wide : every (wide rowWidth) (containerRows cs rules m) ≡ true
   unfolding wide
   containers-wide =
-      every-map (λ p. eqb (length (placeWords p)) rowWidth) (wide rowWidth) placeWords (map (placeOf (rulesIn rules m)) (containersIn cs)) (λ p h. h)
-      (every-map (containerGood (length rules / ruleSize)) (λ p. eqb (length (placeWords p)) rowWidth) (placeOf (rulesIn rules m)) (containersIn cs) (λ c h. eq-eqb (length (placeWords (placeOf (rulesIn rules m) c))) rowWidth (one-wide c h)) good)
+      every-map rowWide (wide rowWidth) placeWords (map (placeOf (rulesIn rules m)) (containersIn cs)) (λ p h. h)
+      (every-map (containerGood (length rules / ruleSize)) rowWide (placeOf (rulesIn rules m)) (containersIn cs)
+      (λ c h. eq-eqb (length (placeWords (placeOf (rulesIn rules m) c))) rowWidth (one-wide c h)) good)
+    where
+      rowWide : Place → Bool
+      rowWide p = eqb (length (placeWords p)) rowWidth
 
-  pub container-given : (i : ℕ) → i < length cs / containerSize → placeWords (placeOf (rulesIn rules m) (containerIn (take containerSize (drop (i * containerSize) cs)))) ≡ getD (containerRows cs rules m) i (replicate rowWidth 0)
+  pub container-given : (i : ℕ)
+      → i < length cs / containerSize
+      → placeWords (placeOf (rulesIn rules m) (containerIn (take containerSize (drop (i * containerSize) cs))))
+      ≡ getD (containerRows cs rules m) i (replicate rowWidth 0)
   unfolding containersIn
   container-given i l =
       let z : Container = record { kind = 0; atom = 0; permit = 0; run = 0 } in
@@ -128,7 +139,9 @@ module _ (cs rules m : List ℕ) (good : every (containerGood (length rules / ru
   container-rows = omega (arith, containers-count cs, length-map (containersIn cs) (placeOf (rulesIn rules m)), length-map (map (placeOf (rulesIn rules m)) (containersIn cs)) placeWords)
 
   module _ (out₀ out : List ℕ) (i : ℕ) (g : Rowed rowWidth containerLimit (containerRows cs rules m) out₀ out i) where
-    pub containers-next : i < containerLimit → i < length cs / containerSize → (row : List ℕ) → row ≡ placeWords (placeOf (rulesIn rules m) (containerIn (take containerSize (drop (i * containerSize) cs))))
+    pub containers-next : i < containerLimit
+        → i < length cs / containerSize → (row : List ℕ)
+        → row ≡ placeWords (placeOf (rulesIn rules m) (containerIn (take containerSize (drop (i * containerSize) cs))))
         → Rowed rowWidth containerLimit (containerRows cs rules m) out₀ (putMid (i * rowWidth) (i * rowWidth + rowWidth - i * rowWidth) out row) (i + 1)
     containers-next h l row e = rw add-sub-cancel-left (rowed-next rowWidth containerLimit (containerRows cs rules m) containers-wide out₀ out i g h row (e ∙ container-given i l))
 

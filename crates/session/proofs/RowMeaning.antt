@@ -15,7 +15,8 @@ use Rattle.rules.specs.Answers.{mixtureLimit}
 use Rattle.image.specs.Limits.{lastKind, isFree, usedKind}
 use Rattle.session.specs.Limits.{rowWidth, userWidth, kindAt, tagAt, permitAt, runAt, behalfAt, nobody, declaredAt, userRuleAt, declared}
 use Rattle.rule_words.specs.Words.{ruleWidth, ruleOf, wordsOf, allZero, keptWell}
-use Rattle.session.specs.Rows.{Row, rowWords, freeWords, permitWords, runWords, rowOf, behalfGood, containerRowGood, InUse, userWords, undeclaredWords, isDeclared, userRuleWords, userRuleOf, userRowGood}
+use Rattle.session.specs.Rows.{Row, rowWords, freeWords, permitWords, runWords, rowOf, behalfGood, containerRowGood, InUse}
+use Rattle.session.specs.Rows.{userWords, undeclaredWords, isDeclared, userRuleWords, userRuleOf, userRowGood}
 use Rattle.rule_words.proofs.ZeroLaws.{zeros, zero-is}
 use Rattle.rule_words.proofs.KeptWords.{words-kept, kept-count, kept-normal, kept-short, kept-words}
 use Rattle.rule_words.proofs.WordLaws.{words-rule, words-nine}
@@ -66,7 +67,7 @@ module _ (w : Row) (p : length (w .permit) ≤ mixtureLimit) (r : length (w .run
       said e f row-behalf
     where
       said : ruleOf (permitWords (rowWords w)) ≡ w .permit → ruleOf (runWords (rowWords w)) ≡ w .run → getD (rowWords w) behalfAt 0 ≡ w .behalf
-          → record { kind = getD (rowWords w) kindAt 0; tag = getD (rowWords w) tagAt 0; permit = ruleOf (permitWords (rowWords w)); run = ruleOf (runWords (rowWords w)); behalf = getD (rowWords w) behalfAt 0 } ≡ w
+          → rowOf (rowWords w) ≡ w
       said e f g = unfold rowWords in (λ i. record { kind = w .kind; tag = w .tag; permit = e i; run = f i; behalf = g i })
 
 pub row-good : (w : Row) → InUse w → containerRowGood (rowWords w) ≡ true
@@ -74,7 +75,17 @@ unfolding containerRowGood
 row-good w u =
     let p : length (w .permit) ≤ mixtureLimit = u .permitShort in
     let r : length (w .run) ≤ mixtureLimit = u .runShort in
-    rw (row-kind w, used-free (w .kind) (u .used), row-permit w p r, row-run w p r, u .used, words-kept (w .permit) p (u .permitNormal), words-kept (w .run) r (u .runNormal), row-behalf w p r, u .behalfKept)
+    rw (
+      row-kind w,
+      used-free (w .kind) (u .used),
+      row-permit w p r,
+      row-run w p r,
+      u .used,
+      words-kept (w .permit) p (u .permitNormal),
+      words-kept (w .run) r (u .runNormal),
+      row-behalf w p r,
+      u .behalfKept,
+    )
 
 -- ---- a free row
 

@@ -6,24 +6,17 @@ use mathlib.Core.List.{List, [], _∷_, _++_, append-nil, append-assoc}
 use native.Mathlib.Omega.{arith}
 use native.Mathlib.Nat.{suc-mul, add-mul, mul-le-mul-right}
 use native.Mathlib.Numerals.{add-one}
-use lib.Dec.{eqb, leb}
+use lib.Dec.{leb}
 use lib.ListN.{length, getD, take, drop, replicate, length-append, length-replicate, length-take, length-drop, List·getD-eq-default}
 use lib.Seq.{take-at, drop-at, drop-drop, drop-append-add}
-use borrow.Author.Tests.{eqb-true, leb-true}
+use borrow.Author.Tests.{leb-true}
 use borrow.Rule.Slice.PartMut.{putMid, same-len-mid}
 use Rattle.lists.proofs.Bools.{and-0, and-1}
 use Rattle.lists.specs.Lists.{every}
+use Rattle.fields.proofs.WidthRows.{wide, wide-length}
 use Rattle.rule_words.proofs.ZeroLaws.{drop-zeros}
 use Rattle.lists.proofs.Every.{every-0, every-1, every-imp, append-apart}
 use Rattle.session.specs.Session.{filled}
-
--- a row of w numbers
-unfoldable pub wide : ℕ → List ℕ → Bool
-wide w r = eqb (length r) w
-
-pub wide-length : (w : ℕ) (r : List ℕ) → wide w r ≡ true → length r ≡ w
-unfolding wide
-wide-length w r h = eqb-true (length r) w h
 
 pub filled-length : (w n : ℕ) (rows : List (List ℕ)) → every (wide w) rows ≡ true → length (filled w n rows) ≡ n * w
 unfolding filled

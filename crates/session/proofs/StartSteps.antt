@@ -82,15 +82,18 @@ module _ (s z : List ℕ) (h : length s ≡ sessionLength) (e : z ≡ replicate 
 
 two-parts : (s a b : List ℕ) → length s ≡ sessionLength → length a ≡ usersAt → putMid usersAt (sessionLength - usersAt) (putMid 0 usersAt s a) b ≡ a ++ b
 two-parts s a b h e =
+    let none : drop (usersAt + (sessionLength - usersAt)) s ≡ [] = drop-of-length-le s {i = usersAt + (sessionLength - usersAt)} (omega arith) in
     let f : drop (sessionLength - usersAt) (drop usersAt (a ++ drop usersAt s)) ≡ [] =
-    ap (drop (sessionLength - usersAt)) (drop-at a (drop usersAt s) usersAt e) ∙ drop-drop (sessionLength - usersAt) usersAt s ∙ drop-of-length-le s {i = usersAt + (sessionLength - usersAt)} (omega arith) in
+    ap (drop (sessionLength - usersAt)) (drop-at a (drop usersAt s) usersAt e) ∙ drop-drop (sessionLength - usersAt) usersAt s ∙ none in
     ap₂ (λ (x y : List ℕ). x ++ (b ++ y)) (take-at a (drop usersAt s) usersAt e) f ∙ ap (λ (x : List ℕ). a ++ x) (append-nil b)
 
 start-is : (i : List ℕ) → rowsPart i ++ usersPart i ≡ startOf (policyIn i)
 unfolding startOf sessionOf meaning policyIn rowsPart usersPart
 start-is i = refl
 
-pub both-parts : (i s a b : List ℕ) → checkOf i ≡ 0 → length s ≡ sessionLength → a ≡ rowsPart i → b ≡ usersPart i → putMid usersAt (sessionLength - usersAt) (putMid 0 usersAt s a) b ≡ startOf (policyIn i)
+pub both-parts : (i s a b : List ℕ)
+    → checkOf i ≡ 0 → length s ≡ sessionLength → a ≡ rowsPart i → b ≡ usersPart i
+    → putMid usersAt (sessionLength - usersAt) (putMid 0 usersAt s a) b ≡ startOf (policyIn i)
 both-parts i s a b h l e f = two-parts s a b l (ap length e ∙ rows-part-length i h) ∙ ap₂ (λ (x y : List ℕ). x ++ y) e f ∙ start-is i
 
 -- ---- the answers

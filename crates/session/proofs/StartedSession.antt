@@ -23,7 +23,8 @@ use Rattle.session.specs.Limits.{sessionLength, rowWidth, userWidth, use
 use Rattle.session.specs.Rows.{Row, rowWords, rowOf, InUse, userWords, userRuleOf, containerRow, userRow}
 use Rattle.session.specs.Session.{filled, startTag, startRow, placeWords, sessionOf}
 use Rattle.session.proofs.RowMeaning.{nobody-good, row-length, row-words, row-kind, user-length, user-words}
-use Rattle.session.proofs.RowsOfOneWidth.{wide, used, all-wide, filled-length, filled-row, filled-apart}
+use Rattle.fields.proofs.WidthRows.{wide}
+use Rattle.session.proofs.RowsOfOneWidth.{used, all-wide, filled-length, filled-row, filled-apart}
 
 -- ---- what a good place and a good rule say
 
@@ -94,10 +95,11 @@ module _ (m : Meaning) (h : Encodable m) where
   pub session-row : (c : ℕ) → c < containerLimit → containerRow (sessionOf m) c ≡ getD (map placeWords (m .places)) c (replicate rowWidth 0)
   unfolding containerRow sessionOf
   session-row c l =
-      let k : rowWidth ≤ length (drop (c * rowWidth) (filled rowWidth containerLimit (map placeWords (m .places)))) =
-      omega (arith, length-drop (c * rowWidth) (filled rowWidth containerLimit (map placeWords (m .places))), rows-length) in
-      ap (take rowWidth) (drop-append-le (c * rowWidth) (filled rowWidth containerLimit (map placeWords (m .places))) (filled userWidth userLimit (map userWords (m .users))) (omega (arith, rows-length)))
-      ∙ take-append-le rowWidth (drop (c * rowWidth) (filled rowWidth containerLimit (map placeWords (m .places)))) (filled userWidth userLimit (map userWords (m .users))) k
+      let rows : List ℕ = filled rowWidth containerLimit (map placeWords (m .places)) in
+      let users : List ℕ = filled userWidth userLimit (map userWords (m .users)) in
+      let k : rowWidth ≤ length (drop (c * rowWidth) rows) = omega (arith, length-drop (c * rowWidth) rows, rows-length) in
+      ap (take rowWidth) (drop-append-le (c * rowWidth) rows users (omega (arith, rows-length)))
+      ∙ take-append-le rowWidth (drop (c * rowWidth) rows) users k
       ∙ filled-row rowWidth containerLimit (map placeWords (m .places)) c rows-wide l
 
   -- the row of user u
@@ -149,8 +151,9 @@ user-apart r s h k e = sym (user-words r (form-short r h)) ∙ ap userRuleOf e �
 pub session-apart : (m n : Meaning) → Encodable m → Encodable n → sessionOf m ≡ sessionOf n → m ≡ n
 unfolding sessionOf
 session-apart m n h k e =
-    let q = append-apart (filled rowWidth containerLimit (map placeWords (m .places))) (filled rowWidth containerLimit (map placeWords (n .places))) (filled userWidth userLimit (map userWords (m .users))) (filled userWidth userLimit (map userWords (n .users)))
-    (rows-length m h ∙ sym (rows-length n k)) e in
+    let rows : Meaning → List ℕ = λ x. filled rowWidth containerLimit (map placeWords (x .places)) in
+    let users : Meaning → List ℕ = λ x. filled userWidth userLimit (map userWords (x .users)) in
+    let q = append-apart (rows m) (rows n) (users m) (users n) (rows-length m h ∙ sym (rows-length n k)) e in
     let lm : length (map placeWords (m .places)) ≤ containerLimit = omega (arith, length-map (m .places) placeWords, h .fewPlaces) in
     let ln : length (map placeWords (n .places)) ≤ containerLimit = omega (arith, length-map (n .places) placeWords, k .fewPlaces) in
     let um : length (map userWords (m .users)) ≤ userLimit = omega (arith, length-map (m .users) userWords, h .fewUsers) in

@@ -70,7 +70,12 @@ table-numbers σ t = refl
 
 pub accepts : (s r : List ℕ) (t : Step) → Valid s → stepOf r ≡ some t → firstFailed (tableConditions (view s) t) ≡ 0 → isRefused (stepOn s r .1) ≡ false
 unfolding stepOn tableConditions earlyConditions
-accepts s r t v e z = answer-given s r .1 (not-refused s r .1 (length-good s .1 (v .long), (good, (rows, tail (subst (λ (u : Step). firstFailed (tableConditions (view s) u) ≡ 0) (sym (spelled-good r t e .1)) z)))))
+accepts s r t v e z =
+    answer-given s r .1
+    (not-refused s r .1 (
+      length-good s .1 (v .long),
+      (good, (rows, tail (subst (λ (u : Step). firstFailed (tableConditions (view s) u) ≡ 0) (sym (spelled-good r t e .1)) z))),
+    ))
   where
     good : recordGood r ≡ true
     good = spelled-good r t e .0

@@ -92,7 +92,11 @@ module _ (reads writes : List ℕ) (objects : ℕ) (good : matrixGood reads writ
   P-is = derived-read reads writes objects good .1
 
   P-sound : Sound P
-  P-sound = subst Sound (sym P-is) (unfold normalPolicy in policy-sound (owned (derivedPolicy reads writes objects)) (owned-ownable (derivedPolicy reads writes objects) (derived-sound reads writes objects good)))
+  P-sound =
+      subst Sound (sym P-is)
+      (unfold normalPolicy in
+      policy-sound (owned (derivedPolicy reads writes objects))
+      (owned-ownable (derivedPolicy reads writes objects) (derived-sound reads writes objects good)))
 
   pub valid : Valid (startOf P)
   valid = start-valid P P-sound

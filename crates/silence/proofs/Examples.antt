@@ -18,7 +18,8 @@ use Rattle.fields.specs.Bytes.{numberIn, bytesOf, field}
 use Rattle.image.specs.Policy.{Policy, unrestrictedRule}
 use Rattle.image.specs.Image.{policyIn}
 use Rattle.image.specs.Normal.{Place, meaning}
-use Rattle.session.specs.Rows.{rowWords, freeWords, permitWords, runWords, rowOf, behalfGood, containerRowGood, userWords, isDeclared, userRuleWords, userRuleOf, userRowGood, containerRow, userRow, putRow}
+use Rattle.session.specs.Rows.{rowWords, freeWords, permitWords, runWords, rowOf, behalfGood, containerRowGood, userWords}
+use Rattle.session.specs.Rows.{isDeclared, userRuleWords, userRuleOf, userRowGood, containerRow, userRow, putRow}
 use Rattle.rule_words.specs.Words.{allZero, keptWell, ruleOf, wordsOf, isNormal}
 use Rattle.session.specs.Session.{startTag, startRow, placeWords, filled, sessionOf, startOf, sessionLengthGood}
 use Rattle.matrix.specs.Flows.{rowsWithin, countGood, matrixGood, has, subjectCarries, granted, within, composed}

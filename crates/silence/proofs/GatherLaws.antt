@@ -200,7 +200,8 @@ module _ (reads writes : List ℕ) (n : ℕ) (even : length writes ≡ length re
           W : Way m b
           W = way m b (composed-path reads writes n m b (omega arith) lb .0 t)
 
-          at : (σ : State) → Holding reads writes n σ → Owning σ → (a : ℕ) → a < suc m → composed reads writes n a b ≡ true → Dec (a ≡ m) → atom (after operate (after operate σ (G .steps)) (W .steps) .row b .tag) a ≡ 1
+          at : (σ : State) → Holding reads writes n σ → Owning σ → (a : ℕ) → a < suc m → composed reads writes n a b ≡ true → Dec (a ≡ m)
+              → atom (after operate (after operate σ (G .steps)) (W .steps) .row b .tag) a ≡ 1
           at σ H O a l c (yes e) = W .brings _ (G .kept σ H) a (subst (λ (x : ℕ). atom (after operate σ (G .steps) .row x .tag) a ≡ 1) e (G .grown σ H a a (O a (omega (arith, l, lm)))))
           at σ H O a l c (no d) = W .grown _ (G .kept σ H) b a (G .all σ H O a (omega (arith, l, d)) c)
 
@@ -247,7 +248,11 @@ module _ (reads writes : List ℕ) (n : ℕ) (even : length writes ≡ length re
 
   pub alone-quiet : (b : ℕ) → b < n → writerMixtures reads writes b ≡ [] → quietObject reads writes n b ≡ true
   unfolding quietObject permitOf sourcesOf
-  alone-quiet b l h = rw h (unfold orAlone covers in (or-0 (holds (2 ^ b) (bitsOf (λ a. composed reads writes n a b) n)) false (atoms-holds (2 ^ b) _ (λ k. on k (ℕ-discrete (atom (bitsOf (λ a. composed reads writes n a b) n) k) 1) (decLt k n)))))
+  alone-quiet b l h =
+      rw h
+      (unfold orAlone covers in
+      (or-0 (holds (2 ^ b) (bitsOf (λ a. composed reads writes n a b) n)) false
+      (atoms-holds (2 ^ b) _ (λ k. on k (ℕ-discrete (atom (bitsOf (λ a. composed reads writes n a b) n) k) 1) (decLt k n)))))
     where
       on : (k : ℕ) → Dec (atom (bitsOf (λ a. composed reads writes n a b) n) k ≡ 1) → Dec (k < n) → atom (bitsOf (λ a. composed reads writes n a b) n) k ≤ atom (2 ^ b) k
       on k (no d) m = omega (arith, atom-le (bitsOf (λ a. composed reads writes n a b) n) k)
@@ -302,7 +307,10 @@ module _ (reads writes : List ℕ) (n : ℕ) (even : length writes ≡ length re
     last-uncovered : covers (entry gathered lastStep .row .permit) (entry gathered lastStep .row .tag) ≡ false
     last-uncovered =
         refuted (covers (entry gathered lastStep .row .permit) (entry gathered lastStep .row .tag)) (λ t.
-        clash (covers-part (permitOf reads writes b) (sourcesOf reads writes n b) (entry gathered lastStep .row .tag) full (sym (covers-normal (permitOf reads writes b) (entry gathered lastStep .row .tag)) ∙ subst (λ (r : List ℕ). covers r (entry gathered lastStep .row .tag) ≡ true) same t)) (unfold quietObject in fails))
+        clash
+        (covers-part (permitOf reads writes b) (sourcesOf reads writes n b) (entry gathered lastStep .row .tag) full
+        (sym (covers-normal (permitOf reads writes b) (entry gathered lastStep .row .tag))
+        ∙ subst (λ (r : List ℕ). covers r (entry gathered lastStep .row .tag) ≡ true) same t)) (unfold quietObject in fails))
       where
         same : entry gathered lastStep .row .permit ≡ normal (permitOf reads writes b)
         same = unfold entry appendRow in (G .kept σ H .object b lb .permit)

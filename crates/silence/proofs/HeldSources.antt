@@ -139,7 +139,9 @@ module _ (reads writes : List ℕ) (n : ℕ) (even : length writes ≡ length re
     }
       where
         at : (i : ℕ) → i < length reads → Dec (i ≡ s) → SubjectRow reads writes n i (cond (eqb (n + i) (n + s)) w (σ .row (n + i)))
-        at i m (yes e) = subst (λ (x : Bool). SubjectRow reads writes n i (cond x w (σ .row (n + i)))) (sym (eq-eqb (n + i) (n + s) (ap (λ (x : ℕ). n + x) e))) (subst (λ (x : ℕ). SubjectRow reads writes n x w) (sym e) W)
+        at i m (yes e) =
+            subst (λ (x : Bool). SubjectRow reads writes n i (cond x w (σ .row (n + i)))) (sym (eq-eqb (n + i) (n + s) (ap (λ (x : ℕ). n + x) e)))
+            (subst (λ (x : ℕ). SubjectRow reads writes n x w) (sym e) W)
         at i m (no d) = subst (λ (x : Bool). SubjectRow reads writes n i (cond x w (σ .row (n + i)))) (sym (ne-eqb (n + i) (n + s) (λ e. d (omega (arith, e))))) (H .subject i m)
 
     put-object : (b : ℕ) → b < n → (w : Row) → ObjectRow reads writes n b w → Holding reads writes n (placed σ b w)
@@ -159,7 +161,9 @@ module _ (reads writes : List ℕ) (n : ℕ) (even : length writes ≡ length re
       kind = H .subject s l .kind;
       permit = H .subject s l .permit;
       run = rw (H .subject s l .run, H .object k m .run) unrestricted-meet;
-      sources = λ d e. ⊎-elim (H .subject s l .sources d) (λ q. (k, m, h, H .object k m .sources d (data-has dataWidth (σ .row k .tag) d .0 q .1))) (or-has (σ .row (n + s) .tag) (dataOf dataWidth (σ .row k .tag)) d .0 e);
+      sources = λ d e.
+          ⊎-elim (H .subject s l .sources d) (λ q. (k, m, h, H .object k m .sources d (data-has dataWidth (σ .row k .tag) d .0 q .1)))
+          (or-has (σ .row (n + s) .tag) (dataOf dataWidth (σ .row k .tag)) d .0 e);
     }
 
     write-row : (s k : ℕ) → s < length reads → k < n → has (getD writes s 0) k ≡ true → ObjectRow reads writes n k (writeRow (σ .row (n + s)) (σ .row k))

@@ -67,7 +67,8 @@ module _ {S R : Type 0} (op : S → R → S × Answer) (stepOf : R → Option St
       ap (λ (x : State × Answer). not (isAlert (x .1))) (operate-done σ t (passes reads writes n even few σ H t a))
       ∙ ap (λ (x : Answer). not (isAlert x)) (verdict-quiet t (entry σ t .row) q)
 
-  quiet-run : ((b : ℕ) → b < n → quietObject reads writes n b ≡ true) → (σ : S) → Valid σ → Holding reads writes n (view σ) → (rs : List R) → AllAllowed stepOf reads writes n rs → noAlert (answers op σ rs) ≡ true
+  quiet-run : ((b : ℕ) → b < n → quietObject reads writes n b ≡ true) → (σ : S) → Valid σ → Holding reads writes n (view σ) → (rs : List R)
+      → AllAllowed stepOf reads writes n rs → noAlert (answers op σ rs) ≡ true
   unfolding noAlert every
   quiet-run q σ v H [] A = refl
   quiet-run q σ v H (r ∷ rs) ((t, e, a), A) =
@@ -153,6 +154,7 @@ module _ {S R : Type 0} (op : S → R → S × Answer) (stepOf : R → Option St
         to : silent reads writes n ≡ true → (rs : List R) → AllAllowed stepOf reads writes n rs → noAlert (answers op σ rs) ≡ true
         to e rs A = quiet-run (λ b l. all-at (quietObject reads writes n) n b (unfold silent in e) l) σ v H rs A
 
-        from : ((rs : List R) → AllAllowed stepOf reads writes n rs → noAlert (answers op σ rs) ≡ true) → (silent reads writes n ≡ true) ⊎ (silent reads writes n ≡ false) → silent reads writes n ≡ true
+        from : ((rs : List R) → AllAllowed stepOf reads writes n rs → noAlert (answers op σ rs) ≡ true)
+            → (silent reads writes n ≡ true) ⊎ (silent reads writes n ≡ false) → silent reads writes n ≡ true
         from h (inl e) = e
         from h (inr e) = let k : Alerting σ = not-silent-alerts σ v H O e in clash (k .alert) (quiet-last σ (k .front) (k .last) (h (k .front ++ (k .last ∷ [])) (k .allowed)))

@@ -76,7 +76,14 @@ module _ (reads writes : List ℕ) (n b : ℕ) (lb : b < n) where
           ⊎ ((s : ℕ) × (s < length reads) × (has (getD writes s 0) b ≡ true) × ((a : ℕ) → Composed reads writes n a b → (a ≡ b) ⊎ (has (getD reads s 0) a ≡ true)))
       by m f (inl e) = inl (λ a c. single a (ℕ-discrete a b) (subst (λ (x : ℕ). atom x a ≡ 1) e (f a c)))
       by m f (inr (s, l, w, e)) =
-          inr (s, l, w, λ a c. ⊎-elim (λ h. inr (atom-has (getD reads s 0) a h)) (λ h. inl (single a (ℕ-discrete a b) h)) (or-has (getD reads s 0) (2 ^ b) a .0 (subst (λ (x : ℕ). atom x a ≡ 1) e (f a c))))
+          inr (
+            s,
+            l,
+            w,
+            λ a c.
+                ⊎-elim (λ h. inr (atom-has (getD reads s 0) a h)) (λ h. inl (single a (ℕ-discrete a b) h))
+                (or-has (getD reads s 0) (2 ^ b) a .0 (subst (λ (x : ℕ). atom x a ≡ 1) e (f a c))),
+          )
 
 -- the mixture of a writer is in the permit rule
 mixture-in : (reads writes : List ℕ) (b s : ℕ) → s < length reads → length writes ≡ length reads → has (getD writes s 0) b ≡ true
@@ -84,7 +91,11 @@ mixture-in : (reads writes : List ℕ) (b s : ℕ) → s < length reads → leng
 unfolding writerMixtures
 mixture-in [] writes b s l e w = absurd (omega arith)
 mixture-in (x ∷ reads) [] b s l e w = absurd (omega arith)
-mixture-in (x ∷ reads) (y ∷ writes) b zero l e w = rw w (unfold elem in (or-0 (eqb (bitOr x (2 ^ b)) (bitOr x (2 ^ b))) (elem (bitOr x (2 ^ b)) (writerMixtures reads writes b)) (eq-eqb (bitOr x (2 ^ b)) (bitOr x (2 ^ b)) refl)))
+mixture-in (x ∷ reads) (y ∷ writes) b zero l e w =
+    rw w
+    (unfold elem in
+    (or-0 (eqb (bitOr x (2 ^ b)) (bitOr x (2 ^ b))) (elem (bitOr x (2 ^ b)) (writerMixtures reads writes b))
+    (eq-eqb (bitOr x (2 ^ b)) (bitOr x (2 ^ b)) refl)))
 mixture-in (x ∷ reads) (y ∷ writes) b (suc s) l e w = by (has y b) (mixture-in reads writes b s (omega arith) (omega arith) w)
   where
     by : (t : Bool) → elem (bitOr (getD reads s 0) (2 ^ b)) (writerMixtures reads writes b) ≡ true
@@ -116,7 +127,10 @@ module _ (reads writes : List ℕ) (n b : ℕ) (even : length writes ≡ length 
   reads-quiet (s, l, w, f) =
       covers-in (orAlone b (writerMixtures reads writes b)) (sourcesOf reads writes n b) (bitOr (getD reads s 0) (2 ^ b))
       (in-alone b (bitOr (getD reads s 0) (2 ^ b)) (writerMixtures reads writes b) (mixture-in reads writes b s l even w))
-      (λ k e. or-has (getD reads s 0) (2 ^ b) k .1 (⊎-elim (λ q. inr (subst (λ (x : ℕ). atom (2 ^ b) x ≡ 1) (sym q) (single-same b))) (λ q. inl (has-atom (getD reads s 0) k q)) (f k (source-out k e))))
+      (λ k e.
+      or-has (getD reads s 0) (2 ^ b) k .1
+      (⊎-elim (λ q. inr (subst (λ (x : ℕ). atom (2 ^ b) x ≡ 1) (sym q) (single-same b))) (λ q. inl (has-atom (getD reads s 0) k q))
+      (f k (source-out k e))))
 
   -- an object is quiet exactly if, where it has a writer, one reads every other source
   pub quiet-exactly : (quietObject reads writes n b ≡ true)
@@ -134,7 +148,9 @@ module _ (reads writes : List ℕ) (n b : ℕ) (even : length writes ≡ length 
 -- silent is stronger than consistent
 pub silent-consistent : (reads writes : List ℕ) (n : ℕ) → length writes ≡ length reads → silent reads writes n ≡ true → consistent reads writes n ≡ true
 unfolding silent
-silent-consistent reads writes n even q = consistent-granted reads writes n .1 (λ a b c. by a b (quiet-words reads writes n b (path-target c) (all-at (quietObject reads writes n) n b q (path-target c))) c)
+silent-consistent reads writes n even q =
+    consistent-granted reads writes n .1
+    (λ a b c. by a b (quiet-words reads writes n b (path-target c) (all-at (quietObject reads writes n) n b q (path-target c))) c)
   where
     by : (a b : ℕ)
         → ((a : ℕ) → Composed reads writes n a b → a ≡ b)

@@ -68,7 +68,8 @@ module _ {reads writes : List ℕ} {b tag s : ℕ} (g : Permitting reads writes 
       rw (drop-cons reads s 0 l, drop-cons writes s 0 p, add-one)
 
   -- subject s, by whether it writes b
-  turn : (x : Bool) → s < length reads → has (getD writes s 0) b ≡ x → covers (permitOf reads writes b) tag ≡ (covers (cond x (bitOr (getD reads s 0) (2 ^ b) ∷ Behind) Behind) tag || holds (2 ^ b) tag)
+  turn : (x : Bool) → s < length reads → has (getD writes s 0) b ≡ x
+      → covers (permitOf reads writes b) tag ≡ (covers (cond x (bitOr (getD reads s 0) (2 ^ b) ∷ Behind) Behind) tag || holds (2 ^ b) tag)
   turn x l h =
       g .rest
       ∙ ap (λ (ms : List ℕ). covers ms tag || holds (2 ^ b) tag)

@@ -73,13 +73,17 @@ module _ (reads writes : List ℕ) (objects : ℕ) (good : matrixGood reads writ
   -- Each record that the matrix allows is accepted, wherever it stands.
   pub allowed-accepted : (rs : List (List ℕ)) → AllAllowed stepOf reads writes objects rs → every accepted (runAnswers (startOf P) rs) ≡ true
   unfolding runAnswers
-  allowed-accepted rs A = monitors.all-accepted stepOn stepOf view Valid faithful accepts reads writes objects even few (startOf P) (valid reads writes objects good) (holding reads writes objects good) rs A
+  allowed-accepted rs A =
+      monitors.all-accepted stepOn stepOf view Valid faithful accepts reads writes objects even few (startOf P) (valid reads writes objects good)
+      (holding reads writes objects good) rs A
 
   -- SILENT exactly when no session from the derived policy, of accesses that the matrix allows, raises an alert.
   pub silent-exactly : (silent reads writes objects ≡ true)
       ↔ ((rs : List (List ℕ)) → AllAllowed stepOf reads writes objects rs → noAlert (runAnswers (startOf P) rs) ≡ true)
   unfolding runAnswers
-  silent-exactly = monitors.silent-exactly stepOn stepOf view Valid faithful accepts reads writes objects even few (spell reads writes objects good) (startOf P) (valid reads writes objects good) (holding reads writes objects good) (owning reads writes objects good)
+  silent-exactly =
+      monitors.silent-exactly stepOn stepOf view Valid faithful accepts reads writes objects even few (spell reads writes objects good) (startOf P)
+      (valid reads writes objects good) (holding reads writes objects good) (owning reads writes objects good)
 
   -- Not silent: there are allowed records of which the last is answered by an alert.
   pub not-silent-alerts : silent reads writes objects ≡ false
@@ -87,7 +91,8 @@ module _ (reads writes : List ℕ) (objects : ℕ) (good : matrixGood reads writ
   unfolding runEffect
   not-silent-alerts e =
       let k : monitors.Alerting stepOn stepOf view Valid faithful accepts reads writes objects even few (startOf P) =
-      monitors.not-silent-alerts stepOn stepOf view Valid faithful accepts reads writes objects even few (spell reads writes objects good) (startOf P) (valid reads writes objects good) (holding reads writes objects good) (owning reads writes objects good) e in
+      monitors.not-silent-alerts stepOn stepOf view Valid faithful accepts reads writes objects even few (spell reads writes objects good) (startOf P)
+      (valid reads writes objects good) (holding reads writes objects good) (owning reads writes objects good) e in
       (k .front, k .last, k .allowed, unfold stepOn in (k .alert))
 
   -- The same of the table itself, on steps.
@@ -137,7 +142,9 @@ module _ (reads writes : List ℕ) (objects : ℕ) (good : matrixGood reads writ
       to e rs r A f = clash (last-forbidden rs r A .1 f) quiet
         where
           quiet : isAlert (stepAnswer (runEffect (startOf P) rs) r) ≡ false
-          quiet = unfold runEffect stepOn in (monitors.quiet-last stepOn stepOf view Valid faithful accepts reads writes objects even few (startOf P) rs r (unfold runAnswers in (silent-exactly .0 e (rs ++ (r ∷ [])) A)))
+          quiet = unfold runEffect stepOn in
+              (monitors.quiet-last stepOn stepOf view Valid faithful accepts reads writes objects even few (startOf P) rs r
+              (unfold runAnswers in (silent-exactly .0 e (rs ++ (r ∷ [])) A)))
 
       from : ((rs : List (List ℕ)) (r : List ℕ) → AllAllowed stepOf reads writes objects (rs ++ (r ∷ []))
           → ¬ Forbidden P (historyIn (rs ++ (r ∷ [])) (runAnswers (startOf P) (rs ++ (r ∷ [])))) (receiver (stepAsked r)))

@@ -121,7 +121,8 @@ module _ (s t : List ℕ) (last : ℕ) (ks : List ℕ) where
     snoc-accepted =
         ap (every accepted) snoc-answers
         ∙ every-append accepted (runAnswers s (recordsAt t ks)) (stepAnswer (runEffect s (recordsAt t ks)) (recordAt t last) ∷ []) front-accepted
-        (every-cons accepted (stepAnswer (runEffect s (recordsAt t ks)) (recordAt t last)) [] (alert-accepted (stepAnswer (runEffect s (recordsAt t ks)) (recordAt t last)) last-alerts) (every-nil accepted))
+        (every-cons accepted (stepAnswer (runEffect s (recordsAt t ks)) (recordAt t last)) []
+        (alert-accepted (stepAnswer (runEffect s (recordsAt t ks)) (recordAt t last)) last-alerts) (every-nil accepted))
 
 counts-in : (s t : List ℕ) (last : ℕ) (ks : List ℕ) → every accepted (runAnswers s (recordsAt t ks)) ≡ true
     → isAlert (stepAnswer (runEffect s (recordsAt t ks)) (recordAt t last)) ≡ true → cutCounts s t last ks ≡ true
@@ -230,10 +231,13 @@ short s t h = ⊎-elim (λ g. clash (whole-counts s t g) (short-counts s t h)) (
 -- ---- the cut's last record is forbidden
 
 alert-judged : (s r : List ℕ) → isAlert (stepAnswer s r) ≡ true → judged (stepAsked r) ≡ true
-alert-judged s r h = ⊎-elim (λ j. j) (λ j. clash h (ap isAlert (made-answer s r (accepted-zero s r (alert-accepted (stepAnswer s r) h)) ∙ new-quiet (view s) (stepAsked r) j))) (decide (judged (stepAsked r)))
+alert-judged s r h =
+    ⊎-elim (λ j. j) (λ j. clash h (ap isAlert (made-answer s r (accepted-zero s r (alert-accepted (stepAnswer s r) h)) ∙ new-quiet (view s) (stepAsked r) j)))
+    (decide (judged (stepAsked r)))
 
 pub forbidden : (image t : List ℕ) → Bytes image → checkOf image ≡ 0 → traceGood (startOf (policyIn image)) t ≡ true
-    → Forbidden (policyIn image) (historyIn (recordsAt t (positionsOf image t)) (runAnswers (startOf (policyIn image)) (recordsAt t (positionsOf image t)))) (receiver (stepAsked (recordAt t (lastOf t))))
+    → Forbidden (policyIn image) (historyIn (recordsAt t (positionsOf image t)) (runAnswers (startOf (policyIn image)) (recordsAt t (positionsOf image t))))
+    (receiver (stepAsked (recordAt t (lastOf t))))
 unfolding positionsOf keptOf
 forbidden image t bytes ok g =
     let s : List ℕ = startOf (policyIn image) in
@@ -285,13 +289,15 @@ module _ (i t out : List ℕ) where
 
   pub trace-refused : (trimRefusal i t out ≡ trimTrace) ↔ ((leb trimLimit (length out) ≡ true) × (checkOf i ≡ 0) × (traceGood (startOf (policyIn i)) t ≡ false))
   trace-refused = (
-    by-tests (λ x. x ≡ trimTrace → (leb trimLimit (length out) ≡ true) × (checkOf i ≡ 0) × (traceGood (startOf (policyIn i)) t ≡ false)) (λ h e. absurd (omega (arith, e))) (λ r c e. absurd (never-22 e)) (λ r o h e. (r, o, h)) (λ r o h e. absurd (omega (arith, e))),
+    by-tests (λ x. x ≡ trimTrace → (leb trimLimit (length out) ≡ true) × (checkOf i ≡ 0) × (traceGood (startOf (policyIn i)) t ≡ false))
+        (λ h e. absurd (omega (arith, e))) (λ r c e. absurd (never-22 e)) (λ r o h e. (r, o, h)) (λ r o h e. absurd (omega (arith, e))),
     λ h. refusal-trace i t out (leb-true trimLimit (length out) (h .0)) (h .1) (h .2),
   )
 
   pub none-refused : (trimRefusal i t out ≡ 0) ↔ ((leb trimLimit (length out) ≡ true) × (checkOf i ≡ 0) × (traceGood (startOf (policyIn i)) t ≡ true))
   none-refused = (
-    by-tests (λ x. x ≡ 0 → (leb trimLimit (length out) ≡ true) × (checkOf i ≡ 0) × (traceGood (startOf (policyIn i)) t ≡ true)) (λ h e. absurd (omega (arith, e))) (λ r c e. absurd (c e)) (λ r o h e. absurd (omega (arith, e))) (λ r o h e. (r, o, h)),
+    by-tests (λ x. x ≡ 0 → (leb trimLimit (length out) ≡ true) × (checkOf i ≡ 0) × (traceGood (startOf (policyIn i)) t ≡ true))
+        (λ h e. absurd (omega (arith, e))) (λ r c e. absurd (c e)) (λ r o h e. absurd (omega (arith, e))) (λ r o h e. (r, o, h)),
     λ h. refusal-good i t out (leb-true trimLimit (length out) (h .0)) (h .1) (h .2),
   )
 

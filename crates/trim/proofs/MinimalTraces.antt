@@ -154,7 +154,9 @@ module _ (counts : List ℕ → Bool) where
   unfolding trimIn
   trim-next zero ks l s = absurd (omega arith)
   trim-next (suc n) ks l s =
-      let e : sameList (pass counts ks) ks ≡ false = refuted (sameList (pass counts ks) ks) (λ q. let z : length (pass counts ks) ≡ length ks = ap length (same-eq (pass counts ks) ks q) in omega (arith, z, s)) in
+      let e : sameList (pass counts ks) ks ≡ false =
+      refuted (sameList (pass counts ks) ks)
+      (λ q. let z : length (pass counts ks) ≡ length ks = ap length (same-eq (pass counts ks) ks q) in omega (arith, z, s)) in
       rw e (trim-same n (length (pass counts ks)) (pass counts ks) (omega arith) (omega arith))
 
   -- a pass that drops nothing is the last

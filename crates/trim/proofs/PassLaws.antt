@@ -94,7 +94,8 @@ module _ (s₀ t ps₀ : List ℕ) (n last m : ℕ) (before work ps : List ℕ) 
       ∙ ap (λ (b : List ℕ). cutCounts b t last (drop (i + 1) (take n ps))) (sym (g .state)) ∙ sym e
 
   one : passFrom (cutCounts s₀ t last) (take kept ps) (drop i (take n ps))
-      ≡ cond (cutCounts s₀ t last (take kept ps ++ drop (i + 1) (take n ps))) (passFrom (cutCounts s₀ t last) (take kept ps) (drop (i + 1) (take n ps))) (passFrom (cutCounts s₀ t last) (take kept ps ++ (getD ps i 0 ∷ [])) (drop (i + 1) (take n ps)))
+      ≡ cond (cutCounts s₀ t last (take kept ps ++ drop (i + 1) (take n ps))) (passFrom (cutCounts s₀ t last) (take kept ps) (drop (i + 1) (take n ps)))
+      (passFrom (cutCounts s₀ t last) (take kept ps ++ (getD ps i 0 ∷ [])) (drop (i + 1) (take n ps)))
   unfolding passFrom
   one = ap (passFrom (cutCounts s₀ t last) (take kept ps)) next
 

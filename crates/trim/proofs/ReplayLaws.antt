@@ -71,7 +71,10 @@ module _ (s₀ t ks s x s′ : List ℕ) (i : ℕ) (a : Answer) (g : Replaying s
         fits = g .fits;
         long = le ∙ g .long;
         told = (let e : every accepted (runAnswers s (recordsAt t (drop i ks))) ≡ every accepted (runAnswers s′ (recordsAt t (drop (i + 1) ks))) = now ∙ rw h in sym e ∙ g .told);
-        left = (let e : runEffect s (recordsAt t (drop i ks)) ≡ runEffect s′ (recordsAt t (drop (i + 1) ks)) = rw (records-next t ks i l, effect-next s (recordAt t (getD ks i 0)) (recordsAt t (drop (i + 1) ks)), se, xe) in sym e ∙ g .left);
+        left =
+            (let e : runEffect s (recordsAt t (drop i ks)) ≡ runEffect s′ (recordsAt t (drop (i + 1) ks)) =
+            rw (records-next t ks i l, effect-next s (recordAt t (getD ks i 0)) (recordsAt t (drop (i + 1) ks)), se, xe) in
+            sym e ∙ g .left);
         stays = same;
       }
 
@@ -145,13 +148,19 @@ pub counts-split : (s t : List ℕ) (last : ℕ) (xs ys : List ℕ) → every ac
 unfolding cutCounts
 counts-split s t last xs ys h =
     let m : recordsAt t (xs ++ ys) ≡ recordsAt t xs ++ recordsAt t ys = records-append t xs ys in
-    rw (m, runAnswers-append s (recordsAt t xs) (recordsAt t ys), runEffect-append s (recordsAt t xs) (recordsAt t ys), every-split (runAnswers s (recordsAt t xs)) (runAnswers (runEffect s (recordsAt t xs)) (recordsAt t ys)) h)
+    rw (
+      m,
+      runAnswers-append s (recordsAt t xs) (recordsAt t ys),
+      runEffect-append s (recordsAt t xs) (recordsAt t ys),
+      every-split (runAnswers s (recordsAt t xs)) (runAnswers (runEffect s (recordsAt t xs)) (recordsAt t ys)) h,
+    )
 
 -- records in front of a cut that counts are accepted
 pub counts-front : (s t : List ℕ) (last : ℕ) (xs ys : List ℕ) → cutCounts s t last (xs ++ ys) ≡ true → every accepted (runAnswers s (recordsAt t xs)) ≡ true
 unfolding cutCounts
 counts-front s t last xs ys h =
-    let e : every accepted (runAnswers s (recordsAt t (xs ++ ys))) ≡ true = and-0 (every accepted (runAnswers s (recordsAt t (xs ++ ys)))) (isAlert (stepAnswer (runEffect s (recordsAt t (xs ++ ys))) (recordAt t last))) h in
+    let e : every accepted (runAnswers s (recordsAt t (xs ++ ys))) ≡ true =
+    and-0 (every accepted (runAnswers s (recordsAt t (xs ++ ys)))) (isAlert (stepAnswer (runEffect s (recordsAt t (xs ++ ys))) (recordAt t last))) h in
     let g : every accepted (runAnswers s (recordsAt t xs) ++ runAnswers (runEffect s (recordsAt t xs)) (recordsAt t ys)) ≡ true
     = sym (ap (every accepted) (ap (runAnswers s) (records-append t xs ys) ∙ runAnswers-append s (recordsAt t xs) (recordsAt t ys))) ∙ e in
     every-left accepted (runAnswers s (recordsAt t xs)) (runAnswers (runEffect s (recordsAt t xs)) (recordsAt t ys)) g

@@ -81,7 +81,8 @@ module _ (s t : List ℕ) (g : traceGood s t ≡ true) where
 -- ---- demand 3 of the cut: its last record is forbidden in the history of the cut
 
 pub kept-forbidden : (image t : List ℕ) → Bytes image → checkOf image ≡ 0 → traceGood (startOf (policyIn image)) t ≡ true
-    → Forbidden (policyIn image) (historyIn (recordsAt t (positionsOf image t)) (runAnswers (startOf (policyIn image)) (recordsAt t (positionsOf image t)))) (receiver (stepAsked (recordAt t (lastOf t))))
+    → Forbidden (policyIn image) (historyIn (recordsAt t (positionsOf image t)) (runAnswers (startOf (policyIn image)) (recordsAt t (positionsOf image t))))
+    (receiver (stepAsked (recordAt t (lastOf t))))
 kept-forbidden = facts.forbidden
 
 -- ---- each refusal has its condition, and is given only under it

@@ -1,7 +1,7 @@
 -- The refusals in their order, and what the function answers and leaves.
 use Prim.Native.Nat.{ℕ, _-_, _≤_, _<_}
 use native.Mathlib.Omega.{arith}
-use mathlib.Core.Path.{_≡_, refl, sym, ap, _∙_}
+use mathlib.Core.Path.{_≡_, sym, ap, _∙_}
 use mathlib.Core.Logic.{_≢_}
 use mathlib.Core.Bool.{true, false}
 use mathlib.Core.List.{List, [], _∷_, _++_}
@@ -9,25 +9,18 @@ use lib.Dec.{leb}
 use lib.ListN.{length, take, drop}
 use lib.Seq.{length-take-le}
 use borrow.Author.Tests.{eq-eqb, ne-eqb, le-leb, leb-true}
-use Rattle.lists.specs.Lists.{elem}
-use Rattle.lists.specs.Conditions.{Condition, _orRefuse_, firstFailed, AllHold, numbersOf, numbersDistinct}
+use Rattle.lists.specs.Conditions.{Condition, _orRefuse_, firstFailed}
 use Rattle.lists.proofs.Bools.{refuted}
-use Rattle.lists.proofs.Conditions.{passed, failed, none-left, first-stops, first-passed, given-none}
+use Rattle.lists.proofs.Conditions.{passed, failed, none-left, first-stops, first-passed}
 use Rattle.answers.specs.Refusals.{lentLength, trimTrace}
 use Rattle.fields.specs.Writing.{overwritten}
+use Rattle.image.proofs.ImageRefusals.{refused-by-none}
 use Rattle.image.specs.Image.{policyIn, imageConditions, checkOf}
 use Rattle.session.specs.Session.{startOf}
 use Rattle.trim.specs.declared.Trimmed.{Trimmed}
 use Rattle.trim.specs.Trims.{trimLimit, cutCounts, lastOf, frontOf, keptOf, traceGood, trimConditions, trimRefusal, positionsOf, trimAnswer, trimEffect}
 use Rattle.trim.specs.Replays.{wholeTrace, Found}
 use Rattle.trim.proofs.WholeTraces.{whole-good, part-refused}
-
-image-held : (i : List ℕ) → checkOf i ≡ 0 → AllHold (imageConditions i)
-unfolding checkOf
-image-held i e = given-none (imageConditions i) numbers .0 e
-  where
-    numbers : numbersDistinct (numbersOf (imageConditions i)) ≡ true
-    numbers = unfold numbersDistinct numbersOf imageConditions elem in refl
 
 module _ (i t out : List ℕ) where
   abbrev traceTest : Condition
@@ -52,7 +45,7 @@ module _ (i t out : List ℕ) where
 
     module _ (ok : checkOf i ≡ 0) where
       held : trimRefusal i t out ≡ firstFailed (traceTest ∷ [])
-      held = room ∙ first-passed (imageConditions i) (traceTest ∷ []) (image-held i ok)
+      held = room ∙ first-passed (imageConditions i) (traceTest ∷ []) (refused-by-none i .0 ok)
 
       pub refusal-trace : traceGood (startOf (policyIn i)) t ≡ false → trimRefusal i t out ≡ trimTrace
       refusal-trace h = held ∙ failed traceTest [] h

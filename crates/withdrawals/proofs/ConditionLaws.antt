@@ -88,12 +88,14 @@ some-beyond n others rows g = (to, λ u. refuted (rowsHeld others rows) (λ h. c
       where
         on : (s : ℕ) → Miss (λ k. not (has (getD rows s 0) k && not (has (getD others s 0) k))) n → SomeBeyond rows others
         on s u =
-            let e : (has (getD rows s 0) (u .place) && not (has (getD others s 0) (u .place))) ≡ true = not-false (has (getD rows s 0) (u .place) && not (has (getD others s 0) (u .place))) (u .fails) in
+            let there = has (getD rows s 0) (u .place) in
+            let held = has (getD others s 0) (u .place) in
+            let e : (there && not held) ≡ true = not-false (there && not held) (u .fails) in
             record {
               subject = s;
               object = u .place;
-              there = and-0 (has (getD rows s 0) (u .place)) (not (has (getD others s 0) (u .place))) e;
-              lacking = not-true (has (getD others s 0) (u .place)) (and-1 (has (getD rows s 0) (u .place)) e);
+              there = and-0 there (not held) e;
+              lacking = not-true held (and-1 there e);
             }
 
 and-fails : (a b : Bool) → (a && b) ≡ false → (a ≡ false) ⊎ (b ≡ false)
@@ -197,36 +199,49 @@ module _ (old rows : List ℕ) (s k : ℕ) where
       by false e f = clash refl f
 
 module _ (old required proposed : Matrix) (c : Comparable old required proposed) where
+  -- whether each flow is granted once a right to read, to write, has returned
+  abbrev readReturns : ℕ → ℕ → Bool
+  readReturns s k = consistent (withRight (proposed .reads) s k) (proposed .writes) (proposed .objects)
+
+  abbrev writeReturns : ℕ → ℕ → Bool
+  writeReturns s k = consistent (proposed .reads) (withRight (proposed .writes) s k) (proposed .objects)
+
+  -- neither right may return
+  abbrev bothNeeded : ℕ → ℕ → Bool
+  bothNeeded s k = readNeeded old proposed s k && writeNeeded old proposed s k
+
   pub each-needed : (minimal old proposed ≡ true) ↔ EachNeeded old proposed
   unfolding minimal subjectNeeded readNeeded writeNeeded
   each-needed = (λ h. (reads h, writes h), back)
     where
-      both : minimal old proposed ≡ true → (s k : ℕ) → s < length (proposed .reads) → k < proposed .objects → (readNeeded old proposed s k && writeNeeded old proposed s k) ≡ true
-      both h s k l m = all-at (λ k. readNeeded old proposed s k && writeNeeded old proposed s k) (proposed .objects) k (all-at (subjectNeeded old proposed) (length (proposed .reads)) s h l) m
+      both : minimal old proposed ≡ true → (s k : ℕ) → s < length (proposed .reads) → k < proposed .objects → bothNeeded s k ≡ true
+      both h s k l m = all-at (bothNeeded s) (proposed .objects) k (all-at (subjectNeeded old proposed) (length (proposed .reads)) s h l) m
 
-      reads : minimal old proposed ≡ true → (s k : ℕ) → bitAt (old .reads) s k ≡ true → bitAt (proposed .reads) s k ≡ false → SomeUngranted (withRight (proposed .reads) s k) (proposed .writes) (proposed .objects)
+      reads : minimal old proposed ≡ true → (s k : ℕ) → bitAt (old .reads) s k ≡ true → bitAt (proposed .reads) s k ≡ false
+          → SomeUngranted (withRight (proposed .reads) s k) (proposed .writes) (proposed .objects)
       reads h s k p q =
           let g = good-parts (old .reads) (old .writes) (old .objects) (c .oldGood) in
           let l : s < length (proposed .reads) = omega (arith, right-subject (old .reads) s k p, c .proposedSubjects) in
           let m : k < proposed .objects = omega (arith, right-object (old .objects) (old .reads) s k (g .readsGood) p, c .proposedObjects) in
           some-ungranted (withRight (proposed .reads) s k) (proposed .writes) (proposed .objects) .0
-          (needed-by (old .reads) (proposed .reads) s k (consistent (withRight (proposed .reads) s k) (proposed .writes) (proposed .objects)) (and-0 (readNeeded old proposed s k) (writeNeeded old proposed s k) (both h s k l m)) p q)
+          (needed-by (old .reads) (proposed .reads) s k (readReturns s k) (and-0 (readNeeded old proposed s k) (writeNeeded old proposed s k) (both h s k l m)) p q)
 
-      writes : minimal old proposed ≡ true → (s k : ℕ) → bitAt (old .writes) s k ≡ true → bitAt (proposed .writes) s k ≡ false → SomeUngranted (proposed .reads) (withRight (proposed .writes) s k) (proposed .objects)
+      writes : minimal old proposed ≡ true → (s k : ℕ) → bitAt (old .writes) s k ≡ true → bitAt (proposed .writes) s k ≡ false
+          → SomeUngranted (proposed .reads) (withRight (proposed .writes) s k) (proposed .objects)
       writes h s k p q =
           let g = good-parts (old .reads) (old .writes) (old .objects) (c .oldGood) in
           let l : s < length (proposed .reads) = omega (arith, right-subject (old .writes) s k p, g .even, c .proposedSubjects) in
           let m : k < proposed .objects = omega (arith, right-object (old .objects) (old .writes) s k (g .writesGood) p, c .proposedObjects) in
           some-ungranted (proposed .reads) (withRight (proposed .writes) s k) (proposed .objects) .0
-          (needed-by (old .writes) (proposed .writes) s k (consistent (proposed .reads) (withRight (proposed .writes) s k) (proposed .objects)) (and-1 (readNeeded old proposed s k) (both h s k l m)) p q)
+          (needed-by (old .writes) (proposed .writes) s k (writeReturns s k) (and-1 (readNeeded old proposed s k) (both h s k l m)) p q)
 
       back : EachNeeded old proposed → minimal old proposed ≡ true
       back f =
           all-in (subjectNeeded old proposed) (length (proposed .reads))
-          (λ s l. all-in (λ k. readNeeded old proposed s k && writeNeeded old proposed s k) (proposed .objects)
+          (λ s l. all-in (bothNeeded s) (proposed .objects)
           (λ k m. and-in
-          (needed-from (old .reads) (proposed .reads) s k (consistent (withRight (proposed .reads) s k) (proposed .writes) (proposed .objects)) (λ p q. some-ungranted (withRight (proposed .reads) s k) (proposed .writes) (proposed .objects) .1 (f .0 s k p q)))
-          (needed-from (old .writes) (proposed .writes) s k (consistent (proposed .reads) (withRight (proposed .writes) s k) (proposed .objects)) (λ p q. some-ungranted (proposed .reads) (withRight (proposed .writes) s k) (proposed .objects) .1 (f .1 s k p q)))))
+          (needed-from (old .reads) (proposed .reads) s k (readReturns s k) (λ p q. some-ungranted (withRight (proposed .reads) s k) (proposed .writes) (proposed .objects) .1 (f .0 s k p q)))
+          (needed-from (old .writes) (proposed .writes) s k (writeReturns s k) (λ p q. some-ungranted (proposed .reads) (withRight (proposed .writes) s k) (proposed .objects) .1 (f .1 s k p q)))))
 
   -- a flow that is not granted, where each is
   no-flow : {X : Type 0} (reads writes : List ℕ) (n : ℕ) → AllGranted reads writes n → SomeUngranted reads writes n → X
@@ -246,14 +261,14 @@ module _ (old required proposed : Matrix) (c : Comparable old required proposed)
 
       found : (s k : ℕ) → (readNeeded old proposed s k ≡ false) ⊎ (writeNeeded old proposed s k ≡ false) → SomeReturns old proposed
       found s k (inl h) =
-          let w = not-needed (old .reads) (proposed .reads) s k (consistent (withRight (proposed .reads) s k) (proposed .writes) (proposed .objects)) h in
+          let w = not-needed (old .reads) (proposed .reads) s k (readReturns s k) h in
           inl
           (record {
             right = record { subject = s; object = k; there = w .0; lacking = w .1 .0 };
             granted = consistent-granted (withRight (proposed .reads) s k) (proposed .writes) (proposed .objects) .0 (w .1 .1);
           })
       found s k (inr h) =
-          let w = not-needed (old .writes) (proposed .writes) s k (consistent (proposed .reads) (withRight (proposed .writes) s k) (proposed .objects)) h in
+          let w = not-needed (old .writes) (proposed .writes) s k (writeReturns s k) h in
           inr
           (record {
             right = record { subject = s; object = k; there = w .0; lacking = w .1 .0 };
@@ -263,5 +278,5 @@ module _ (old required proposed : Matrix) (c : Comparable old required proposed)
       to : minimal old proposed ≡ false → SomeReturns old proposed
       to h =
           let m : Miss (subjectNeeded old proposed) (length (proposed .reads)) = all-miss (subjectNeeded old proposed) (length (proposed .reads)) h in
-          let u : Miss (λ k. readNeeded old proposed (m .place) k && writeNeeded old proposed (m .place) k) (proposed .objects) = all-miss (λ k. readNeeded old proposed (m .place) k && writeNeeded old proposed (m .place) k) (proposed .objects) (m .fails) in
+          let u : Miss (bothNeeded (m .place)) (proposed .objects) = all-miss (bothNeeded (m .place)) (proposed .objects) (m .fails) in
           found (m .place) (u .place) (and-fails (readNeeded old proposed (m .place) (u .place)) (writeNeeded old proposed (m .place) (u .place)) (u .fails))

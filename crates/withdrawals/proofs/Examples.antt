@@ -9,7 +9,8 @@ use Rattle.matrix.specs.Flows.{rowsWithin, countGood, matrixGood, has, subjectC
 use Rattle.lists.specs.Counting.{someBelow, allBelow}
 use Rattle.matrix.specs.Verdicts.{ungranted, ungrantedFrom, consistent}
 use Rattle.matrix.specs.Rows.{bitAt}
-use Rattle.withdrawals.specs.Judgements.{sameCounts, comparable, rowsHeld, noneAdded, allKept, staysConsistent, withdrawn, withRight, readNeeded, writeNeeded, subjectNeeded, minimal, judgementConditions, judgementOf}
+use Rattle.withdrawals.specs.Judgements.{sameCounts, comparable, rowsHeld, noneAdded, allKept, staysConsistent, withdrawn, withRight}
+use Rattle.withdrawals.specs.Judgements.{readNeeded, writeNeeded, subjectNeeded, minimal, judgementConditions, judgementOf}
 
 -- ---- a consistent matrix, of which a smaller one is accepted though more rights would also be consistent
 
@@ -24,7 +25,9 @@ unfolding consistent someBelow ungrantedFrom ungranted composed within granted s
 old-consistent = refl
 
 pub smaller-accepted : judgementOf old nothing (matrixOf (3 ∷ 5 ∷ []) (7 ∷ 4 ∷ []) 3) ≡ 0
-unfolding judgementOf judgementConditions firstFailed comparable wellFormed sameCounts matrixGood rowsWithin every countGood has atom noneAdded allKept rowsHeld allBelow holds staysConsistent consistent someBelow ungrantedFrom ungranted composed within granted subjectCarries minimal subjectNeeded readNeeded writeNeeded withdrawn withRight bitAt
+unfolding judgementOf judgementConditions firstFailed comparable wellFormed sameCounts matrixGood rowsWithin every countGood has atom
+    noneAdded allKept rowsHeld allBelow holds staysConsistent consistent someBelow ungrantedFrom ungranted composed within granted
+    subjectCarries minimal subjectNeeded readNeeded writeNeeded withdrawn withRight bitAt
 smaller-accepted = refl
 
 -- ---- document 004's Table 1: five subjects, seven objects
@@ -35,27 +38,30 @@ table = matrixOf (3 ∷ 3 ∷ 28 ∷ 28 ∷ 32 ∷ []) (28 ∷ 28 ∷ 96 ∷ 96 
 abbrev nothingOfIt : Matrix
 nothingOfIt = matrixOf (0 ∷ 0 ∷ 0 ∷ 0 ∷ 0 ∷ []) (0 ∷ 0 ∷ 0 ∷ 0 ∷ 0 ∷ []) 7
 
--- nothing withdrawn: it is not consistent
-pub table-itself : judgementOf table nothingOfIt table ≡ 3
-unfolding judgementOf judgementConditions firstFailed comparable wellFormed sameCounts matrixGood rowsWithin every countGood has atom noneAdded allKept rowsHeld allBelow holds staysConsistent consistent someBelow ungrantedFrom ungranted composed within granted subjectCarries minimal subjectNeeded readNeeded writeNeeded withdrawn withRight bitAt
-table-itself = refl
-
 -- its solution: the six rights to read that s3 and s4 have
-pub six-withdrawn : judgementOf table nothingOfIt (matrixOf (3 ∷ 3 ∷ 0 ∷ 0 ∷ 32 ∷ []) (28 ∷ 28 ∷ 96 ∷ 96 ∷ 0 ∷ []) 7) ≡ 0
-unfolding judgementOf judgementConditions firstFailed comparable wellFormed sameCounts matrixGood rowsWithin every countGood has atom noneAdded allKept rowsHeld allBelow holds staysConsistent consistent someBelow ungrantedFrom ungranted composed within granted subjectCarries minimal subjectNeeded readNeeded writeNeeded withdrawn withRight bitAt
-six-withdrawn = refl
+abbrev sixWithdrawn : Matrix
+sixWithdrawn = matrixOf (3 ∷ 3 ∷ 0 ∷ 0 ∷ 32 ∷ []) (28 ∷ 28 ∷ 96 ∷ 96 ∷ 0 ∷ []) 7
 
 -- against confidentiality vulnerabilities alone: the rights to read that s1, s2 and s5 have; that of s5 may return
-pub five-withdrawn : judgementOf table nothingOfIt (matrixOf (0 ∷ 0 ∷ 28 ∷ 28 ∷ 0 ∷ []) (28 ∷ 28 ∷ 96 ∷ 96 ∷ 0 ∷ []) 7) ≡ 4
-unfolding judgementOf judgementConditions firstFailed comparable wellFormed sameCounts matrixGood rowsWithin every countGood has atom noneAdded allKept rowsHeld allBelow holds staysConsistent consistent someBelow ungrantedFrom ungranted composed within granted subjectCarries minimal subjectNeeded readNeeded writeNeeded withdrawn withRight bitAt
-five-withdrawn = refl
+abbrev fiveWithdrawn : Matrix
+fiveWithdrawn = matrixOf (0 ∷ 0 ∷ 28 ∷ 28 ∷ 0 ∷ []) (28 ∷ 28 ∷ 96 ∷ 96 ∷ 0 ∷ []) 7
 
 -- against integrity vulnerabilities alone: the rights to write that s3 and s4 have
-pub four-withdrawn : judgementOf table nothingOfIt (matrixOf (3 ∷ 3 ∷ 28 ∷ 28 ∷ 32 ∷ []) (28 ∷ 28 ∷ 0 ∷ 0 ∷ 0 ∷ []) 7) ≡ 0
-unfolding judgementOf judgementConditions firstFailed comparable wellFormed sameCounts matrixGood rowsWithin every countGood has atom noneAdded allKept rowsHeld allBelow holds staysConsistent consistent someBelow ungrantedFrom ungranted composed within granted subjectCarries minimal subjectNeeded readNeeded writeNeeded withdrawn withRight bitAt
-four-withdrawn = refl
+abbrev fourWithdrawn : Matrix
+fourWithdrawn = matrixOf (3 ∷ 3 ∷ 28 ∷ 28 ∷ 32 ∷ []) (28 ∷ 28 ∷ 0 ∷ 0 ∷ 0 ∷ []) 7
 
 -- one after the other, all nine
-pub nine-withdrawn : judgementOf table nothingOfIt (matrixOf (0 ∷ 0 ∷ 28 ∷ 28 ∷ 0 ∷ []) (28 ∷ 28 ∷ 0 ∷ 0 ∷ 0 ∷ []) 7) ≡ 4
-unfolding judgementOf judgementConditions firstFailed comparable wellFormed sameCounts matrixGood rowsWithin every countGood has atom noneAdded allKept rowsHeld allBelow holds staysConsistent consistent someBelow ungrantedFrom ungranted composed within granted subjectCarries minimal subjectNeeded readNeeded writeNeeded withdrawn withRight bitAt
-nine-withdrawn = refl
+abbrev nineWithdrawn : Matrix
+nineWithdrawn = matrixOf (0 ∷ 0 ∷ 28 ∷ 28 ∷ 0 ∷ []) (28 ∷ 28 ∷ 0 ∷ 0 ∷ 0 ∷ []) 7
+
+-- with nothing withdrawn it is not consistent
+pub table-judged :
+    (judgementOf table nothingOfIt table ≡ 3)
+    × (judgementOf table nothingOfIt sixWithdrawn ≡ 0)
+    × (judgementOf table nothingOfIt fiveWithdrawn ≡ 4)
+    × (judgementOf table nothingOfIt fourWithdrawn ≡ 0)
+    × (judgementOf table nothingOfIt nineWithdrawn ≡ 4)
+unfolding judgementOf judgementConditions firstFailed comparable wellFormed sameCounts matrixGood rowsWithin every countGood has atom
+    noneAdded allKept rowsHeld allBelow holds staysConsistent consistent someBelow ungrantedFrom ungranted composed within granted
+    subjectCarries minimal subjectNeeded readNeeded writeNeeded withdrawn withRight bitAt
+table-judged = (refl, refl, refl, refl, refl)

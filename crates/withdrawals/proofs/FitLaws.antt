@@ -78,13 +78,18 @@ module _ (rows : List ℕ) (n targets : ℕ) where
         none : (y : ℕ) → bitAt rows y b ≡ false → (has targets y && bitAt rows y b) ≡ false
         none y e = rw e (and-false (has targets y))
 
+    -- an object that a leads to and that is a source
+    abbrev common : ℕ → ℕ → ℕ → Bool
+    common sources a x = has (getD rows a 0) x && has sources x
+
     leads-test : (sources a : ℕ) → a < n → leadsTo (bitAt rows) n sources a ≡ true → eqb (bitAnd (getD rows a 0) sources) 0 ≡ false
     unfolding leadsTo bitAt
-    leads-test sources a l h = ne-eqb (bitAnd (getD rows a 0) sources) 0 (λ z. clash (hit (least-some (λ x. has (getD rows a 0) x && has sources x) n h)) (ap (λ (m : ℕ). has m (leastBelow (λ x. has (getD rows a 0) x && has sources x) n)) z ∙ none-in-zero (leastBelow (λ x. has (getD rows a 0) x && has sources x) n)))
+    leads-test sources a l h =
+        ne-eqb (bitAnd (getD rows a 0) sources) 0
+        (λ z. clash (hit (least-some (common sources a) n h)) (ap (λ (m : ℕ). has m (leastBelow (common sources a) n)) z ∙ none-in-zero (leastBelow (common sources a) n)))
       where
-        hit : Least (λ x. has (getD rows a 0) x && has sources x) n (leastBelow (λ x. has (getD rows a 0) x && has sources x) n)
-            → has (bitAnd (getD rows a 0) sources) (leastBelow (λ x. has (getD rows a 0) x && has sources x) n) ≡ true
-        hit u = has-and (getD rows a 0) sources (leastBelow (λ x. has (getD rows a 0) x && has sources x) n) ∙ u .passes
+        hit : Least (common sources a) n (leastBelow (common sources a) n) → has (bitAnd (getD rows a 0) sources) (leastBelow (common sources a) n) ≡ true
+        hit u = has-and (getD rows a 0) sources (leastBelow (common sources a) n) ∙ u .passes
 
     leads-none : (sources a : ℕ) → a < n → leadsTo (bitAt rows) n sources a ≡ false → eqb (bitAnd (getD rows a 0) sources) 0 ≡ true
     unfolding leadsTo bitAt

@@ -14,7 +14,8 @@ use Rattle.matrix.specs.Verdicts.{consistent}
 use Rattle.matrix.proofs.GoodLaws.{good-parts}
 use Rattle.withdrawals.specs.declared.Judgement.{Judgement}
 use Rattle.withdrawals.specs.declared.Judgement.the-variants.{Accepted, RightAdded, RightLost, Inconsistent, NotMinimal, Refused}
-use Rattle.withdrawals.specs.Judgements.{sameCounts, comparable, rowsHeld, noneAdded, allKept, staysConsistent, readNeeded, writeNeeded, subjectNeeded, minimal, judgementConditions, judgementOf, judgementNumber}
+use Rattle.withdrawals.specs.Judgements.{sameCounts, comparable, rowsHeld, noneAdded, allKept, staysConsistent, readNeeded}
+use Rattle.withdrawals.specs.Judgements.{writeNeeded, subjectNeeded, minimal, judgementConditions, judgementOf, judgementNumber}
 use Rattle.withdrawals.specs.Rights.{Comparable}
 use Rattle.withdrawals.specs.Returns.{Proposed, flowJudgement}
 

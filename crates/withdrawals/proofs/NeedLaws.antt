@@ -123,5 +123,7 @@ module _ (oldReads oldWrites reads writes flows : List ℕ) (n : ℕ) (j : Judgi
       all-same (objectNeeded (bitAt flows) n (bitAnd (getD oldReads s 0) (2 ^ 32 - 1 - getD reads s 0)) (bitAnd (getD oldWrites s 0) (2 ^ 32 - 1 - getD writes s 0)) (getD reads s 0) (getD writes s 0))
       (λ k. readNeeded (matrixOf oldReads oldWrites n) (matrixOf reads writes n) s k && writeNeeded (matrixOf oldReads oldWrites n) (matrixOf reads writes n) s k) n
       (λ k m. ap₂ (λ (x y : Bool). x && y)
-      (ap₂ (λ (x y : Bool). cond x (not y) true) (lost-is oldReads reads s k p u) (returning (withRight reads s k) writes (2 ^ k) (getD writes s 0) (λ a b. granted-read reads writes s k a b l (j .proposed .even))))
-      (ap₂ (λ (x y : Bool). cond x (not y) true) (lost-is oldWrites writes s k q v) (returning reads (withRight writes s k) (getD reads s 0) (2 ^ k) (λ a b. granted-write reads writes s k a b l (j .proposed .even)))))
+      (ap₂ (λ (x y : Bool). cond x (not y) true) (lost-is oldReads reads s k p u)
+      (returning (withRight reads s k) writes (2 ^ k) (getD writes s 0) (λ a b. granted-read reads writes s k a b l (j .proposed .even))))
+      (ap₂ (λ (x y : Bool). cond x (not y) true) (lost-is oldWrites writes s k q v)
+      (returning reads (withRight writes s k) (getD reads s 0) (2 ^ k) (λ a b. granted-write reads writes s k a b l (j .proposed .even)))))

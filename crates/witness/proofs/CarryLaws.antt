@@ -5,22 +5,17 @@ use mathlib.Core.Bool.{Bool, true}
 use mathlib.Core.List.{List}
 use lib.ListN.{getD, set}
 use Rattle.image.specs.Limits.{containerLimit}
-use Rattle.chains.specs.History.{Step, read, write, append, exec, fork, newFile, newVolatile, end, delete, receiver}
+use Rattle.chains.specs.History.{Step, receiver}
 use Rattle.witness.specs.Links.{nodeOf}
 use Rattle.witness.specs.Nodes.{mainSource, runningSource, nextNode, endsMain, endsRunning, heldAfter, linksAfter}
+use Rattle.witness.proofs.StepCases.{each-step}
 
 -- a running atom is ended as a run rule is
 running-ended : (s : Step) → endsMain true s ≡ endsRunning s
 unfolding endsMain endsRunning
-running-ended (read p o) = refl
-running-ended (write p o) = refl
-running-ended (append p o) = refl
-running-ended (exec p o u) = refl
-running-ended (fork p o) = refl
-running-ended (newFile p o u) = refl
-running-ended (newVolatile p o) = refl
-running-ended (end p) = refl
-running-ended (delete p o) = refl
+running-ended =
+    each-step (λ s. endsMain true s ≡ endsRunning s)
+    (λ p o. refl) (λ p o. refl) (λ p o. refl) (λ p o u. refl) (λ p o. refl) (λ p o u. refl) (λ p o. refl) (λ p. refl) (λ p o. refl)
 
 pub carried : (b : Bool) (held links : List ℕ) (n : ℕ) (s : Step) (to main running mn rn : ℕ) (em er : Bool)
     → to ≡ receiver s → main ≡ mainSource b held s → running ≡ runningSource b held s → em ≡ endsMain b s → er ≡ endsMain true s

@@ -2,19 +2,19 @@
 use Prim.Native.Nat.{ℕ, _+_, _*_, _-_, _/_, _%_, _≤_, _<_}
 use native.Mathlib.Omega.{arith}
 use native.Mathlib.Decide.{decLt}
-use mathlib.Core.Path.{_≡_, refl, sym, _∙_}
+use mathlib.Core.Path.{_≡_, sym, _∙_}
 use mathlib.Core.Logic.{_≢_}
 use mathlib.Core.Bool.{true, false, cond, _&&_}
 use mathlib.Core.List.{List, [], _∷_, _++_}
 use lib.Dec.{leb, ltb}
 use lib.ListN.{length, getD}
 use borrow.Author.Tests.{eq-eqb, ne-eqb, le-leb, leb-true, lt-ltb, le-ltb}
-use Rattle.lists.specs.Lists.{elem}
-use Rattle.lists.specs.Conditions.{Condition, _orRefuse_, firstFailed, AllHold, numbersOf, numbersDistinct}
+use Rattle.lists.specs.Conditions.{Condition, _orRefuse_, firstFailed}
 use Rattle.lists.proofs.Bools.{refuted, and-in, and-0, and-1}
-use Rattle.lists.proofs.Conditions.{passed, failed, none-left, first-stops, first-passed, given-none}
+use Rattle.lists.proofs.Conditions.{passed, failed, none-left, first-stops, first-passed}
 use Rattle.answers.specs.Refusals.{lentLength, explainBounds}
 use Rattle.rules.specs.Answers.{dataWidth, tagWidth}
+use Rattle.image.proofs.ImageRefusals.{refused-by-none}
 use Rattle.image.specs.Limits.{containerLimit}
 use Rattle.image.specs.Policy.{Policy}
 use Rattle.image.specs.Image.{imageConditions, checkOf}
@@ -110,13 +110,6 @@ both-there c k l m = and-in (lt-ltb c containerLimit l) (lt-ltb k tagWidth m)
 
 -- ---- the conditions in their order
 
-image-held : (i : List ℕ) → checkOf i ≡ 0 → AllHold (imageConditions i)
-unfolding checkOf
-image-held i e = given-none (imageConditions i) numbers .0 e
-  where
-    numbers : numbersDistinct (numbersOf (imageConditions i)) ≡ true
-    numbers = unfold numbersDistinct numbersOf imageConditions elem in refl
-
 module _ (i t : List ℕ) (c k : ℕ) (links steps : List ℕ) where
   abbrev askedTest : Condition
   askedTest = askedGood c k orRefuse explainBounds
@@ -136,7 +129,7 @@ module _ (i t : List ℕ) (c k : ℕ) (links steps : List ℕ) where
 
     module _ (ok : checkOf i ≡ 0) where
       held : explainRefusal i t c k links steps ≡ firstFailed (askedTest ∷ [])
-      held = room ∙ first-passed (imageConditions i) (askedTest ∷ []) (image-held i ok)
+      held = room ∙ first-passed (imageConditions i) (askedTest ∷ []) (refused-by-none i .0 ok)
 
       pub refusal-24 : askedGood c k ≡ false → explainRefusal i t c k links steps ≡ explainBounds
       refusal-24 h = held ∙ failed askedTest [] h

@@ -1,5 +1,6 @@
 -- Theorems is the file to read: what is proved of chains that are shown. The others prove it.
 pub mod Theorems
+pub mod StepCases
 pub mod LeadLaws
 pub mod WitnessLaws
 pub mod FirstChains

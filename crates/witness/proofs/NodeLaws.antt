@@ -20,6 +20,7 @@ use Rattle.witness.specs.Witness.{Source, takesUp, endsItem, Witness, st
 use Rattle.witness.specs.Links.{firstNode, nodeOf, formOf, nodeAfter, chainNode, Family, ofAtom, ofRule, takenLink, mainLink, runningLink, linksAt}
 use Rattle.witness.specs.Nodes.{heldLength, placeOf, isRule, sourceNode, mainSource, runningSource, takenNode, nextNode}
 use Rattle.witness.specs.Nodes.{endsMain, endsRunning, heldAfter, linksAfter, LeadsBack, Stored, OfFamily, Tracked}
+use Rattle.witness.proofs.StepCases.{each-step}
 
 module _ (ns : List ℕ) where
   -- ---- links that agree below a bound
@@ -99,75 +100,39 @@ module _ (ns : List ℕ) where
 
 main-atom : (held : List ℕ) (s : Step) (d : ℕ) → sourceNode held (takesUp s (dataAtom d)) ≡ mainSource false held s
 unfolding mainSource
-main-atom held (read p o) d = refl
-main-atom held (write p o) d = refl
-main-atom held (append p o) d = refl
-main-atom held (exec p o u) d = refl
-main-atom held (fork p o) d = refl
-main-atom held (newFile p o u) d = refl
-main-atom held (newVolatile p o) d = refl
-main-atom held (end p) d = refl
-main-atom held (delete p o) d = refl
+main-atom held s d =
+    each-step (λ x. sourceNode held (takesUp x (dataAtom d)) ≡ mainSource false held x)
+    (λ p o. refl) (λ p o. refl) (λ p o. refl) (λ p o u. refl) (λ p o. refl) (λ p o u. refl) (λ p o. refl) (λ p. refl) (λ p o. refl) s
 
 main-rule : (held : List ℕ) (s : Step) (r : List ℕ) → sourceNode held (takesUp s (runRule r)) ≡ mainSource true held s
 unfolding mainSource
-main-rule held (read p o) r = refl
-main-rule held (write p o) r = refl
-main-rule held (append p o) r = refl
-main-rule held (exec p o u) r = refl
-main-rule held (fork p o) r = refl
-main-rule held (newFile p o u) r = refl
-main-rule held (newVolatile p o) r = refl
-main-rule held (end p) r = refl
-main-rule held (delete p o) r = refl
+main-rule held s r =
+    each-step (λ x. sourceNode held (takesUp x (runRule r)) ≡ mainSource true held x)
+    (λ p o. refl) (λ p o. refl) (λ p o. refl) (λ p o u. refl) (λ p o. refl) (λ p o u. refl) (λ p o. refl) (λ p. refl) (λ p o. refl) s
 
 running-atom : (held : List ℕ) (s : Step) (d : ℕ) → sourceNode held (takesUp s (runningAtom d)) ≡ runningSource false held s
 unfolding runningSource
-running-atom held (read p o) d = refl
-running-atom held (write p o) d = refl
-running-atom held (append p o) d = refl
-running-atom held (exec p o u) d = refl
-running-atom held (fork p o) d = refl
-running-atom held (newFile p o u) d = refl
-running-atom held (newVolatile p o) d = refl
-running-atom held (end p) d = refl
-running-atom held (delete p o) d = refl
+running-atom held s d =
+    each-step (λ x. sourceNode held (takesUp x (runningAtom d)) ≡ runningSource false held x)
+    (λ p o. refl) (λ p o. refl) (λ p o. refl) (λ p o u. refl) (λ p o. refl) (λ p o u. refl) (λ p o. refl) (λ p. refl) (λ p o. refl) s
 
 ends-atom : (s : Step) (d : ℕ) → endsItem s (dataAtom d) ≡ endsMain false s
 unfolding endsMain
-ends-atom (read p o) d = refl
-ends-atom (write p o) d = refl
-ends-atom (append p o) d = refl
-ends-atom (exec p o u) d = refl
-ends-atom (fork p o) d = refl
-ends-atom (newFile p o u) d = refl
-ends-atom (newVolatile p o) d = refl
-ends-atom (end p) d = refl
-ends-atom (delete p o) d = refl
+ends-atom s d =
+    each-step (λ x. endsItem x (dataAtom d) ≡ endsMain false x)
+    (λ p o. refl) (λ p o. refl) (λ p o. refl) (λ p o u. refl) (λ p o. refl) (λ p o u. refl) (λ p o. refl) (λ p. refl) (λ p o. refl) s
 
 ends-rule : (s : Step) (r : List ℕ) → endsItem s (runRule r) ≡ endsMain true s
 unfolding endsMain
-ends-rule (read p o) r = refl
-ends-rule (write p o) r = refl
-ends-rule (append p o) r = refl
-ends-rule (exec p o u) r = refl
-ends-rule (fork p o) r = refl
-ends-rule (newFile p o u) r = refl
-ends-rule (newVolatile p o) r = refl
-ends-rule (end p) r = refl
-ends-rule (delete p o) r = refl
+ends-rule s r =
+    each-step (λ x. endsItem x (runRule r) ≡ endsMain true x)
+    (λ p o. refl) (λ p o. refl) (λ p o. refl) (λ p o u. refl) (λ p o. refl) (λ p o u. refl) (λ p o. refl) (λ p. refl) (λ p o. refl) s
 
 ends-running : (s : Step) (d : ℕ) → endsItem s (runningAtom d) ≡ endsRunning s
 unfolding endsRunning
-ends-running (read p o) d = refl
-ends-running (write p o) d = refl
-ends-running (append p o) d = refl
-ends-running (exec p o u) d = refl
-ends-running (fork p o) d = refl
-ends-running (newFile p o u) d = refl
-ends-running (newVolatile p o) d = refl
-ends-running (end p) d = refl
-ends-running (delete p o) d = refl
+ends-running s d =
+    each-step (λ x. endsItem x (runningAtom d) ≡ endsRunning x)
+    (λ p o. refl) (λ p o. refl) (λ p o. refl) (λ p o u. refl) (λ p o. refl) (λ p o u. refl) (λ p o. refl) (λ p. refl) (λ p o. refl) s
 
 -- ---- what is taken up is of the family
 

@@ -7,7 +7,7 @@ use mathlib.Core.Bool.{Bool, true, false, not, cond}
 use mathlib.Core.List.{List, [], _∷_, _++_, map, append-nil}
 use mathlib.Core.Logic.{_⊎_, inl, inr}
 use mathlib.Core.Option.{Option, none, some}
-use lib.ListN.{length, take, drop, getD, getElem?, length-take, length-drop}
+use lib.ListN.{length, take, drop, getD, getElem?, length-take, length-drop, List·getD-append}
 use lib.Seq.{take-take}
 use Rattle.lists.proofs.Places.{none-some}
 use Rattle.answers.specs.Answers.{accepted, isRefused, isBlocked}
@@ -41,11 +41,6 @@ at-last [] (suc k) x xs e = absurd (omega (arith, ap length e))
 at-last (y ∷ l) zero x xs e = ap (λ l. getElem? l 0) e
 at-last (y ∷ l) (suc k) x xs e = at-last l k x xs e
 
-getD-left : (xs ys : List ℕ) (i : ℕ) → i < length xs → getD (xs ++ ys) i 0 ≡ getD xs i 0
-getD-left [] ys i l = absurd (omega arith)
-getD-left (x ∷ xs) ys zero l = refl
-getD-left (x ∷ xs) ys (suc i) l = getD-left xs ys i (omega arith)
-
 getD-right : (xs : List ℕ) (y : ℕ) (ys : List ℕ) (i : ℕ) → i ≡ length xs → getD (xs ++ (y ∷ ys)) i 0 ≡ y
 getD-right [] y ys i e = rw e
 getD-right (x ∷ xs) y ys i e = rw e (getD-right xs y ys (length xs) refl)
@@ -73,7 +68,10 @@ numbers-size h n s (r ∷ rs) =
   where
     on : (b : Bool) → accepted (stepAnswer s r) ≡ b → stepCount h + length (cond b (n ∷ numbersFrom (suc n) (stepEffect s r) rs) (numbersFrom (suc n) (stepEffect s r) rs))
         ≡ stepCount (extend h (stepOf r) (accepted (stepAnswer s r))) + length (numbersFrom (suc n) (stepEffect s r) rs)
-    on true e = let z : stepCount (extend h (stepOf r) (accepted (stepAnswer s r))) ≡ suc (stepCount h) = size-next h s r ∙ ap (λ (b : Bool). cond b (suc (stepCount h)) (stepCount h)) e in omega (arith, z)
+    on true e =
+        let z : stepCount (extend h (stepOf r) (accepted (stepAnswer s r))) ≡ suc (stepCount h)
+        = size-next h s r ∙ ap (λ (b : Bool). cond b (suc (stepCount h)) (stepCount h)) e in
+        omega (arith, z)
     on false e = let z : stepCount (extend h (stepOf r) (accepted (stepAnswer s r))) ≡ stepCount h = size-next h s r ∙ ap (λ (b : Bool). cond b (suc (stepCount h)) (stepCount h)) e in omega (arith, z)
 
 numbers-bound : (n : ℕ) (s : List ℕ) (rs : List (List ℕ)) (i : ℕ) → i < length (numbersFrom n s rs)
@@ -271,16 +269,16 @@ module _ (s : List ℕ) (rs : List (List ℕ)) where
           → getD (acceptedNumbers s (frontOf rs) ++ ((length rs - 1) ∷ [])) i 0 < getD (acceptedNumbers s (frontOf rs) ++ ((length rs - 1) ∷ [])) j 0
       up i j l (yes q) m =
           rw (
-            getD-left (acceptedNumbers s (frontOf rs)) ((length rs - 1) ∷ []) i (omega (arith, l, q, front-size)),
+            List·getD-append (acceptedNumbers s (frontOf rs)) ((length rs - 1) ∷ []) 0 i (omega (arith, l, q, front-size)),
             getD-right (acceptedNumbers s (frontOf rs))
                 (length rs - 1) [] j (omega (arith, q, front-size)),
           )
           (front-below i (omega (arith, l, q)))
       up i j l (no q) m =
           rw (
-            getD-left (acceptedNumbers s (frontOf rs)) ((length rs - 1) ∷ []) i (omega (arith, l, m, front-size)),
-            getD-left (acceptedNumbers s (frontOf rs))
-                ((length rs - 1) ∷ []) j (omega (arith, m, q, front-size)),
+            List·getD-append (acceptedNumbers s (frontOf rs)) ((length rs - 1) ∷ []) 0 i (omega (arith, l, m, front-size)),
+            List·getD-append (acceptedNumbers s (frontOf rs))
+                ((length rs - 1) ∷ []) 0 j (omega (arith, m, q, front-size)),
           )
           (front-rise i j l (omega (arith, m, q)))
 
@@ -290,7 +288,7 @@ module _ (s : List ℕ) (rs : List (List ℕ)) where
           rw (getD-right (acceptedNumbers s (frontOf rs)) (length rs - 1) [] i (omega (arith, q, front-size)))
           (last-step r more e g (historyOf stepOn stepOf s (frontOf rs) ▸ stepAsked r) i (inl (q, refl)))
       of i l (no q) =
-          rw (getD-left (acceptedNumbers s (frontOf rs)) ((length rs - 1) ∷ []) i (omega (arith, l, q, front-size)))
+          rw (List·getD-append (acceptedNumbers s (frontOf rs)) ((length rs - 1) ∷ []) 0 i (omega (arith, l, q, front-size)))
           (front-step i (omega (arith, l, q)) (historyOf stepOn stepOf s (frontOf rs) ▸ stepAsked r) (λ t a. inr a))
 
   pub explained-told : Told (toldHistory s rs) s rs (toldNumbers s rs)

@@ -1,7 +1,6 @@
 -- The nodes that are held after a trace stand for the chains of its history, and the links are those that are left.
 use Prim.Native.Nat.{ℕ, suc, zero, _+_, _-_, _/_, _%_, _≤_, _<_}
 use native.Mathlib.Omega.{arith}
-use native.Mathlib.Decide.{decLt}
 use mathlib.Core.Path.{_≡_, refl, sym, subst, _∙_, ap}
 use mathlib.Core.Bool.{Bool, true, false, not, cond}
 use mathlib.Core.List.{List, [], _∷_, _++_, append-nil}
@@ -28,6 +27,7 @@ use Rattle.witness.specs.Links.{nodeOf, Family, ofAtom, linksAt, linksFr
 use Rattle.witness.specs.Nodes.{heldLength, isRule, heldAfter, linksAfter, isStep, Tracks, tracks, tracksOn, isLast, tracksAll, Tracked}
 use Rattle.witness.proofs.NodeLaws.{StepWithin, tracked-skip, tracked-next, links-next}
 use Rattle.witness.proofs.StepSources.{within}
+use Rattle.witness.proofs.TraceParts.{followed-whole, left-before}
 
 -- a step of the history is not refused
 pub step-given : (told : Bool) (a : Answer) → isStep told a ≡ true → isRefused a ≡ false
@@ -237,9 +237,6 @@ module _ (b told : Bool) (trace : List ℕ) (t₀ : Tracks) (s₀ s : List ℕ) 
     (x s′ : List ℕ) (t′ : Tracks) (last : Bool) (xe : x ≡ take recordLength (drop at trace))
     (le : last ≡ isLast told (traceRecords (drop (at + length x) trace))) (se : s′ ≡ stepEffect s x)
     (te : t′ ≡ tracksOn b last t (at / recordLength) s x) where
-  next-count : (at + length x < length trace) → length x ≡ recordLength
-  next-count m = omega (arith, ap length xe, length-take recordLength (drop at trace), length-drop at trace)
-
   next-same : tracksAll b told t′ (suc (at / recordLength)) s′ (traceRecords (drop (at + length x) trace)) ≡ tracksAll b told t₀ 0 s₀ (traceRecords trace)
   unfolding tracksAll
   next-same = rw (te, le, se, xe) (rw (next-record trace at l) at (h .same))
@@ -250,25 +247,18 @@ module _ (b told : Bool) (trace : List ℕ) (t₀ : Tracks) (s₀ s : List ℕ) 
   renumber t n m s [] e = refl
   renumber t n m s (r ∷ rs) e = let z : n ≡ m = e (omega arith) in rw z
 
-  behind-some : (0 < length (traceRecords (drop (at + length x) trace))) → at + length x < length trace
-  behind-some m = on (decLt (at + length x) (length trace))
-    where
-      on : Dec (at + length x < length trace) → at + length x < length trace
-      on (yes z) = z
-      on (no z) = absurd (omega (arith, m, ap length (no-record trace (at + length x) (omega arith))))
-
   pub tracking-next : length s′ ≡ length s → length (t′ .held) ≡ length (t .held) → length (t′ .links) ≡ length (t .links)
       → Tracking b told trace t₀ s₀ s′ t′ (at + length x)
   tracking-next es eh el =
       record {
         inside = record-length trace x at l xe .1;
-        whole = λ m. omega (arith, next-count m, h .whole l);
+        whole = λ m. omega (arith, followed-whole trace x at xe m, h .whole l);
         session = es ∙ h .session;
         longHeld = eh ∙ h .longHeld;
         longLinks = el ∙ h .longLinks;
         same =
             renumber t′ ((at + length x) / recordLength) (suc (at / recordLength)) s′ (traceRecords (drop (at + length x) trace))
-            (λ m. omega (arith, next-count (behind-some m), h .whole l))
+            (λ m. omega (arith, followed-whole trace x at xe (left-before trace (at + length x) m), h .whole l))
             ∙ next-same;
       }
 

@@ -20,6 +20,10 @@ FOLDER has policy.bin and the traces 00.bin to 63.bin, up to the first that is m
 TRACE are files, and - is standard input. A trace whose folder says by policy.sha256 that it was made for another policy is told, and counts as not
 followed.";
 
+const REPORT_INPUTS: &str = "\
+FOLDER has policy.bin and trace.bin, or the traces of a month, 00.bin to 63.bin, or both, and the names, if there are any; it is this folder if
+nothing is named. The page needs no network. What is not in it is told, and counts as not followed.";
+
 /// A subcommand that runs a proved program on files.
 fn proved(name: &'static str, about: &'static str, inputs: &'static str, most: usize) -> Command {
     let (value, usage) = match name {
@@ -107,10 +111,71 @@ fn matrix() -> Command {
         .after_help(MATRIX)
 }
 
-/// A subcommand whose arguments go on to a program that has its own.
-fn passed(name: &'static str, about: &'static str) -> Command {
-    let rest = Arg::new("arguments").num_args(0..).value_hint(ValueHint::AnyPath).help("What the program itself takes");
-    Command::new(name).about(about).disable_help_flag(true).arg(rest)
+/// The words of the program `policy`, for completions; a test compares them with its help.
+const POLICY_WORDS: [&str; 13] = [
+    "check", "normal", "show", "profiles", "upgrade", "compose", "trim", "explain", "make", "ask", "diff", "lint",
+    "help",
+];
+
+/// The options of the program `record`, for completions; a test compares them with its help.
+const RECORD_OPTIONS: [&str; 15] = [
+    "story",
+    "guard",
+    "log",
+    "out",
+    "folder",
+    "uid",
+    "keep",
+    "state",
+    "allow-missing",
+    "strict",
+    "why",
+    "quiet-why",
+    "json",
+    "pass-status",
+    "version",
+];
+
+/// A subcommand whose arguments go on to a program that reads them itself: what is said of them here is for completions.
+fn passed(name: &'static str, about: &'static str, known: impl IntoIterator<Item = Arg>) -> Command {
+    let rest = Arg::new("arguments").num_args(0..).value_hint(ValueHint::AnyPath).hide(true);
+    let usage = format!("yaslaurel {name} ..");
+    Command::new(name).about(about).override_usage(usage).disable_help_flag(true).args(known).arg(rest)
+}
+
+/// The subcommand of the program `policy`.
+fn policy() -> Command {
+    let word = Arg::new("word").value_parser(POLICY_WORDS).hide(true);
+    passed("policy", "Make, check, show, compose, explain, ask and compare policies (yaslaurel policy help)", [word])
+}
+
+/// The subcommand of the program `record`.
+fn record() -> Command {
+    let options = RECORD_OPTIONS.map(|name| Arg::new(name).long(name).action(ArgAction::SetTrue).hide(true));
+    passed("record", "Watch a real program (yaslaurel record help)", options)
+}
+
+/// The subcommand that writes a page.
+fn report() -> Command {
+    let folder = Arg::new("folder")
+        .value_name("FOLDER")
+        .default_value(".")
+        .value_parser(value_parser!(PathBuf))
+        .value_hint(ValueHint::DirPath)
+        .help("The policy, its traces and its names");
+    let output = Arg::new("output")
+        .short('o')
+        .long("output")
+        .value_name("FILE")
+        .default_value("report.html")
+        .value_parser(value_parser!(PathBuf))
+        .value_hint(ValueHint::FilePath)
+        .help("Where the page is written");
+    Command::new("report")
+        .about("Write one page of a folder's traces, to look at in a browser")
+        .arg(folder)
+        .arg(output)
+        .after_help(format!("{REPORT_INPUTS}\n\n{STATUSES}"))
 }
 
 /// The command with its subcommands.
@@ -128,12 +193,20 @@ pub fn command() -> Command {
         .subcommand(proved("watch", "List what comes of each record of a trace", INPUTS, 2))
         .subcommand(proved("month", "Print the figures of many traces", MONTH_INPUTS, 65))
         .subcommand(proved("explain", "Say of each alert which rule forbids it and how it came to that", INPUTS, 2))
+        .subcommand(report())
         .subcommand(matrix())
-        .subcommand(passed(
-            "policy",
-            "Make, check, show, compose, explain, ask and compare policies (yaslaurel policy help)",
-        ))
-        .subcommand(passed("record", "Watch a real program (yaslaurel record help)"))
+        .subcommand(policy())
+        .subcommand(record())
         .subcommand(Command::new("completions").about("Print the completions for a shell").arg(shell))
         .after_help(STATUSES)
+}
+
+#[cfg(test)]
+mod tests {
+    use super::*;
+
+    #[test]
+    fn the_arguments_go_together() {
+        command().debug_assert();
+    }
 }

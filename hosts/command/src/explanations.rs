@@ -2,8 +2,7 @@
 
 use serde_json::{json, Map, Value};
 
-use crate::line::{refused_object, refused_policy, Fields, Reader};
-use crate::status::Outcome;
+use crate::line::{Fields, Progress, Reader};
 
 /// The owner of a rule that nobody owns.
 const NOBODY: u64 = 65535;
@@ -13,9 +12,7 @@ const NOBODY: u64 = 65535;
 pub struct Explanations {
     /// The explanation whose lines come; its object is whole when the next begins.
     open: Option<Value>,
-    begun: bool,
-    ended: bool,
-    refused_policy: bool,
+    progress: Progress,
     explained: u64,
 }
 
@@ -93,7 +90,7 @@ impl Explanations {
         if explained != self.explained {
             return Err(format!("expected {} explained, by the lines above", self.explained));
         }
-        self.ended = true;
+        self.progress.ended = true;
         Ok(json!({ "kind": "total", "records": records, "explained": explained }))
     }
 }
@@ -106,16 +103,11 @@ fn push(list: &mut Value, value: Value) {
 }
 
 impl Reader for Explanations {
-    fn take(&mut self, line: &str) -> Result<Vec<Value>, String> {
-        if self.ended {
-            return Err("expected nothing behind the last line".into());
-        }
-        if !std::mem::replace(&mut self.begun, true) {
-            if let Some(number) = refused_policy(line)? {
-                (self.ended, self.refused_policy) = (true, true);
-                return Ok(vec![refused_object(number)]);
-            }
-        }
+    fn progress(&mut self) -> &mut Progress {
+        &mut self.progress
+    }
+
+    fn line(&mut self, line: &str) -> Result<Vec<Value>, String> {
         let mut fields = Fields::new(line);
         match fields.word("the word of a line")? {
             kind @ ("alert" | "blocked") => Ok(self.begin(kind, fields)?.into_iter().collect()),
@@ -127,12 +119,8 @@ impl Reader for Explanations {
         }
     }
 
-    fn complete(&self) -> bool {
-        self.ended
-    }
-
-    fn outcome(&self) -> Outcome {
-        Outcome { alerts: self.explained > 0, policy_refused: self.refused_policy, ..Outcome::default() }
+    fn found(&self) -> (bool, bool) {
+        (self.explained > 0, false)
     }
 }
 

@@ -2,8 +2,7 @@
 
 use serde_json::{json, Map, Value};
 
-use crate::line::{meaning, refused_object, refused_policy, Fields, Reader};
-use crate::status::Outcome;
+use crate::line::{meaning, Fields, Progress, Reader};
 
 /// The counts of a line, in their order.
 const COUNTS: [&str; 4] = ["accepted", "alerts", "refused", "blocked"];
@@ -54,8 +53,7 @@ pub struct Figures {
     /// The traces by what the arguments call them.
     traces: Vec<String>,
     lines: usize,
-    ended: bool,
-    refused_policy: bool,
+    progress: Progress,
     /// Whether some trace is left out.
     left_out: bool,
     sums: [u64; COUNTS.len()],
@@ -64,8 +62,8 @@ pub struct Figures {
 impl Figures {
     /// The figures of these traces.
     pub fn new(traces: Vec<String>) -> Figures {
-        let sums = [0; COUNTS.len()];
-        Figures { traces, lines: 0, ended: false, refused_policy: false, left_out: false, sums }
+        let (progress, sums) = (Progress::default(), [0; COUNTS.len()]);
+        Figures { traces, lines: 0, progress, left_out: false, sums }
     }
 
     /// The line of a trace.
@@ -100,7 +98,7 @@ impl Figures {
         if counted.counts != self.sums {
             return Err(format!("expected the sums of the lines above, {:?}", self.sums));
         }
-        self.ended = true;
+        self.progress.ended = true;
         let mut object = Map::from_iter([("kind".to_string(), Value::from("total"))]);
         counted.fill(&mut object);
         Ok(Value::Object(object))
@@ -108,26 +106,16 @@ impl Figures {
 }
 
 impl Reader for Figures {
-    fn take(&mut self, line: &str) -> Result<Vec<Value>, String> {
-        if self.ended {
-            return Err("expected nothing behind the last line".into());
-        }
-        if let (0, Some(number)) = (self.lines, refused_policy(line)?) {
-            (self.ended, self.refused_policy) = (true, true);
-            return Ok(vec![refused_object(number)]);
-        }
-        let object = if line.starts_with("total ") { self.total(line) } else { self.trace(line) };
-        object.map(|object| vec![object])
+    fn progress(&mut self) -> &mut Progress {
+        &mut self.progress
     }
 
-    fn complete(&self) -> bool {
-        self.ended
+    fn line(&mut self, line: &str) -> Result<Vec<Value>, String> {
+        Ok(vec![if line.starts_with("total ") { self.total(line)? } else { self.trace(line)? }])
     }
 
-    fn outcome(&self) -> Outcome {
-        let alerts = self.sums[ALERTS] + self.sums[BLOCKED] > 0;
-        let gaps = self.sums[REFUSED] > 0 || self.left_out;
-        Outcome { alerts, gaps, policy_refused: self.refused_policy, own: None }
+    fn found(&self) -> (bool, bool) {
+        (self.sums[ALERTS] + self.sums[BLOCKED] > 0, self.sums[REFUSED] > 0 || self.left_out)
     }
 }
 

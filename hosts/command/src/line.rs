@@ -7,16 +7,59 @@ use yaslaurel::Refusal;
 
 use crate::status::Outcome;
 
+/// How far the lines of a program have come.
+#[derive(Debug, Default)]
+pub struct Progress {
+    begun: bool,
+    /// Whether the last line has come.
+    pub ended: bool,
+    policy_refused: bool,
+}
+
+impl Progress {
+    /// Before each line: none may stand behind the last. The first may say that the policy is refused, by its object, and is the last then.
+    fn next(&mut self, line: &str) -> Result<Option<Value>, String> {
+        if self.ended {
+            return Err("expected nothing behind the last line".into());
+        }
+        if std::mem::replace(&mut self.begun, true) {
+            return Ok(None);
+        }
+        let refused = refused_policy(line)?;
+        (self.ended, self.policy_refused) = (refused.is_some(), refused.is_some());
+        Ok(refused)
+    }
+}
+
 /// What reads the lines of a program.
 pub trait Reader {
+    /// How far the lines have come.
+    fn progress(&mut self) -> &mut Progress;
+
+    /// Takes a line that does not say that the policy is refused.
+    fn line(&mut self, line: &str) -> Result<Vec<Value>, String>;
+
+    /// Whether there were alerts or blocked accesses, and whether something was refused or left out.
+    fn found(&self) -> (bool, bool);
+
     /// Takes the next line, and gives the objects that it ends. An error says what was expected.
-    fn take(&mut self, line: &str) -> Result<Vec<Value>, String>;
+    fn take(&mut self, line: &str) -> Result<Vec<Value>, String> {
+        match self.progress().next(line)? {
+            Some(object) => Ok(vec![object]),
+            None => self.line(line),
+        }
+    }
 
     /// Whether the last line has come.
-    fn complete(&self) -> bool;
+    fn complete(&mut self) -> bool {
+        self.progress().ended
+    }
 
     /// What came of the run.
-    fn outcome(&self) -> Outcome;
+    fn outcome(&mut self) -> Outcome {
+        let (alerts, gaps) = self.found();
+        Outcome { alerts, gaps, policy_refused: self.progress().policy_refused, own: None }
+    }
 }
 
 /// The fields of a line, one after the other.
@@ -79,13 +122,13 @@ impl<'a> Fields<'a> {
     }
 }
 
-/// The number in a line `policy refused NUMBER`; nothing for another line.
-pub fn refused_policy(line: &str) -> Result<Option<u32>, String> {
+/// The object of a line `policy refused NUMBER`; nothing for another line.
+fn refused_policy(line: &str) -> Result<Option<Value>, String> {
     let Some(rest) = line.strip_prefix("policy refused ") else { return Ok(None) };
     let mut fields = Fields::new(rest);
     let number = fields.number("the number of a refusal")?;
     fields.end()?;
-    Ok(Some(number))
+    Ok(Some(json!({ "kind": "policy refused", "refusal": number, "meaning": meaning(number) })))
 }
 
 /// What a refusal means, in the library's words; of 19, which only the month program gives, in the words of `docs/FORMATS.md`.
@@ -98,9 +141,4 @@ pub fn meaning(number: u32) -> Value {
         let text = refusal.to_string();
         text.split_once(": ").map_or(text.clone(), |(_, meaning)| meaning.to_string()).into()
     })
-}
-
-/// The object of a refused policy.
-pub fn refused_object(number: u32) -> Value {
-    json!({ "kind": "policy refused", "refusal": number, "meaning": meaning(number) })
 }

@@ -2,17 +2,49 @@
 
 use serde_json::{json, Value};
 
-use crate::line::{meaning, refused_object, refused_policy, Fields, Reader};
-use crate::status::Outcome;
+use crate::line::{meaning, Fields, Progress, Reader};
 
 const HEADING: &str = "step op p o verdict at tag pos";
+
+/// What stands behind the verdict of a line.
+enum Answer<'a> {
+    Given { at: u32, tag: &'a str, pos: u32 },
+    Refused(u32),
+}
+
+/// What stands behind a verdict.
+fn answer<'a>(fields: &mut Fields<'a>, verdict: &str) -> Result<Answer<'a>, String> {
+    if verdict == "refused" {
+        return Ok(Answer::Refused(fields.number("the number of a refusal")?));
+    }
+    let (at, tag) = (fields.number("a container")?, fields.set("a tag")?);
+    Ok(Answer::Given { at, tag, pos: fields.number("a position")? })
+}
+
+impl Answer<'_> {
+    /// Puts the fields into an object.
+    fn fill(&self, object: &mut Value) {
+        match *self {
+            Answer::Given { at, tag, pos } => {
+                object["at"] = at.into();
+                object["tag"] = tag.into();
+                object["pos"] = pos.into();
+            }
+            Answer::Refused(number) => {
+                object["refusal"] = number.into();
+                object["meaning"] = meaning(number);
+            }
+        }
+    }
+}
 
 /// The listing so far.
 #[derive(Debug, Default)]
 pub struct Listing {
+    progress: Progress,
     headed: bool,
-    ended: bool,
-    refused_policy: bool,
+    /// Whether objects are wanted.
+    objects: bool,
     steps: u64,
     alerts: u64,
     blocked: u64,
@@ -20,8 +52,13 @@ pub struct Listing {
 }
 
 impl Listing {
+    /// The listing so far: none. Objects are made only if they are wanted: a listing may have millions of lines.
+    pub fn new(objects: bool) -> Listing {
+        Listing { objects, ..Listing::default() }
+    }
+
     /// A line of a step.
-    fn step(&mut self, line: &str) -> Result<Value, String> {
+    fn step(&mut self, line: &str) -> Result<Vec<Value>, String> {
         let mut fields = Fields::new(line);
         let step: u64 = fields.number("the number of a step")?;
         if step != self.steps + 1 {
@@ -31,27 +68,21 @@ impl Listing {
         let op = fields.word("an operation")?;
         let (p, o): (u32, u32) = (fields.number("p")?, fields.number("o")?);
         let verdict = fields.word("a verdict")?;
-        let object = match verdict {
-            "quiet" | "alert" | "blocked" => {
-                let (at, tag): (u32, _) = (fields.number("a container")?, fields.set("a tag")?);
-                let pos: u32 = fields.number("a position")?;
-                json!({ "kind": "step", "step": step, "op": op, "p": p, "o": o, "verdict": verdict, "at": at, "tag": tag, "pos": pos })
-            }
-            "refused" => {
-                let refusal: u32 = fields.number("the number of a refusal")?;
-                let meaning = meaning(refusal);
-                json!({ "kind": "step", "step": step, "op": op, "p": p, "o": o, "verdict": verdict, "refusal": refusal, "meaning": meaning })
-            }
-            other => return Err(format!("expected quiet, alert, blocked or refused, found `{other}`")),
-        };
         match verdict {
+            "quiet" => {}
             "alert" => self.alerts += 1,
             "blocked" => self.blocked += 1,
             "refused" => self.refused += 1,
-            _ => {}
+            other => return Err(format!("expected quiet, alert, blocked or refused, found `{other}`")),
         }
+        let answer = answer(&mut fields, verdict)?;
         fields.end()?;
-        Ok(object)
+        let object = self.objects.then(|| {
+            let mut object = json!({ "kind": "step", "step": step, "op": op, "p": p, "o": o, "verdict": verdict });
+            answer.fill(&mut object);
+            object
+        });
+        Ok(object.into_iter().collect())
     }
 
     /// The last line, which must have the counts of the lines above it.
@@ -68,35 +99,29 @@ impl Listing {
             let counts = format!("total {} alerts {} refused {}", self.steps, self.alerts, self.refused);
             return Err(format!("expected `{counts}`, by the lines above"));
         }
-        self.ended = true;
+        self.progress.ended = true;
         Ok(json!({ "kind": "total", "records": records, "alerts": alerts, "refused": refused }))
     }
 }
 
 impl Reader for Listing {
-    fn take(&mut self, line: &str) -> Result<Vec<Value>, String> {
-        if self.ended {
-            return Err("expected nothing behind the last line".into());
-        }
+    fn progress(&mut self) -> &mut Progress {
+        &mut self.progress
+    }
+
+    fn line(&mut self, line: &str) -> Result<Vec<Value>, String> {
         if !self.headed {
-            self.headed = true;
-            if let Some(number) = refused_policy(line)? {
-                (self.ended, self.refused_policy) = (true, true);
-                return Ok(vec![refused_object(number)]);
-            }
-            return if line == HEADING { Ok(Vec::new()) } else { Err(format!("expected `{HEADING}`")) };
+            self.headed = line == HEADING;
+            return if self.headed { Ok(Vec::new()) } else { Err(format!("expected `{HEADING}`")) };
         }
-        let object = if line.starts_with("total ") { self.total(line) } else { self.step(line) };
-        object.map(|object| vec![object])
+        if line.starts_with("total ") {
+            return Ok(vec![self.total(line)?]);
+        }
+        self.step(line)
     }
 
-    fn complete(&self) -> bool {
-        self.ended
-    }
-
-    fn outcome(&self) -> Outcome {
-        let (alerts, gaps) = (self.alerts + self.blocked > 0, self.refused > 0);
-        Outcome { alerts, gaps, policy_refused: self.refused_policy, own: None }
+    fn found(&self) -> (bool, bool) {
+        (self.alerts + self.blocked > 0, self.refused > 0)
     }
 }
 

@@ -1,6 +1,7 @@
 //! The command `yaslaurel`: runs the programs of Yaslaurel, which are proved (`watch`, `month`, `explain`) or hosts themselves (`policy`,
-//! `record`), tests whether what they print is whole, and gives an exit status. It is no part of what is proved: what it adds is the
-//! arguments, the status and the lines of JSON. `docs/COMMAND.md` has them. `matrix` asks the library itself (`docs/ANALYSIS.md`).
+//! `record`), tests whether what they print is whole, and gives an exit status; `report` writes a page and `matrix` asks the library itself
+//! (`docs/ANALYSIS.md`). It is no part of what is proved: what it adds is the arguments, the status, the lines of JSON and the page. `docs/COMMAND.md`
+//! has them.
 
 #![warn(missing_docs)]
 
@@ -11,8 +12,10 @@ mod inputs;
 mod line;
 mod listing;
 mod matrix;
+mod page;
 mod pass;
 mod program;
+mod signals;
 mod status;
 
 use std::env;
@@ -35,7 +38,7 @@ fn run_proved(name: &str, matches: &ArgMatches) -> Result<Outcome, Failure> {
     let form = if name == "month" { Form::Month } else { Form::Trace };
     let inputs = Inputs::open(&paths, form)?;
     let mut reader: Box<dyn Reader> = match name {
-        "watch" => Box::new(listing::Listing::default()),
+        "watch" => Box::new(listing::Listing::new(json)),
         "month" => Box::new(figures::Figures::new(inputs.traces())),
         _ => Box::new(explanations::Explanations::default()),
     };
@@ -54,6 +57,13 @@ fn print_completions(matches: &ArgMatches) -> Result<Outcome, Failure> {
     let mut text = Vec::new();
     clap_complete::generate(shell, &mut arguments::command(), "yaslaurel", &mut text);
     print_text(&text)
+}
+
+/// Writes the page of a folder.
+fn write_page(matches: &ArgMatches) -> Result<Outcome, Failure> {
+    let (line, outcome) = page::write(matches)?;
+    print_text(line.as_bytes())?;
+    Ok(outcome)
 }
 
 /// Prints a text to standard output.
@@ -91,6 +101,7 @@ fn run(arguments: &[OsString]) -> Result<Outcome, Failure> {
         Ok(matches) => match matches.subcommand() {
             Some(("completions", matches)) => print_completions(matches),
             Some(("matrix", matches)) => run_matrix(matches),
+            Some(("report", matches)) => write_page(matches),
             Some((name, matches)) => run_proved(name, matches),
             None => Err(Failure::new("a subcommand is missing; see yaslaurel --help")),
         },
@@ -101,6 +112,7 @@ fn run(arguments: &[OsString]) -> Result<Outcome, Failure> {
     }
 }
 
+/// Ends with the status of what was done, and tells a failure.
 fn main() -> ExitCode {
     let arguments: Vec<OsString> = env::args_os().collect();
     match run(&arguments) {

@@ -10,6 +10,7 @@ use std::thread;
 
 use crate::inputs::Inputs;
 use crate::line::Reader;
+use crate::signals;
 use crate::status::{tell, Failure};
 
 /// How much of standard input is handed on at once.
@@ -83,6 +84,7 @@ fn tell_lines(said: ChildStderr, names: &[(String, String)]) {
 fn stop(child: &mut Child) {
     let _ = child.kill();
     let _ = child.wait();
+    signals::ended();
 }
 
 /// Runs a proved program on its inputs, and prints its lines, or what the reader makes of them. Whether the last line has come.
@@ -95,6 +97,7 @@ pub fn run(name: &str, program: &Path, inputs: &Inputs, reader: &mut dyn Reader,
         .stderr(Stdio::piped())
         .spawn()
         .map_err(|error| Failure::file(program, error))?;
+    signals::end_instead(child.id());
     let fault = InputFault::default();
     if let Some(to) = child.stdin.take() {
         let fault = Arc::clone(&fault);
@@ -108,6 +111,7 @@ pub fn run(name: &str, program: &Path, inputs: &Inputs, reader: &mut dyn Reader,
         return Err(failure);
     }
     let status = child.wait().map_err(|error| Failure::file(program, error))?;
+    signals::ended();
     // What it has told comes before what is told of it.
     let _ = teller.join();
     if let Some(failure) = ended_badly(name, status) {

@@ -92,7 +92,7 @@ impl Asking<'_> {
         let told = steps.iter().enumerate().map(|(place, (operation, answer))| {
             names.accepted(place + 1, *operation);
             let verdict = if answer.verdict == Verdict::Alert { "alert" } else { "quiet" };
-            (words(self.policy, &names.names, place + 1, *operation), verdict)
+            (words(self.policy, names.names(), place + 1, *operation), verdict)
         });
         told.collect()
     }

@@ -334,7 +334,7 @@ impl<'a> Explanations<'a> {
 
     fn explanation(&self, access: Access) -> Result<Explanation, ExplainError> {
         let trace = &self.trace[..self.judged * record::LENGTH];
-        let (policy, image, names) = (self.policy, self.image, &self.names.names);
+        let (policy, image, names) = (self.policy, self.image, self.names.names());
         Asked { policy, image, trace, names, access, all: self.all }.explanation().map_err(ExplainError::Policy)
     }
 

@@ -30,7 +30,7 @@ pub use explain::{digraph, list, Asked, ExplainError, Explanation, Explanations}
 pub use folder::{fit, read_holders, read_names, source_names, write_folder, Fit, NamesBeside};
 pub use form::text_form;
 pub use lint::{line_json, lint, LintError};
-pub use names::NamesByStep;
+pub use names::{FolderNames, NamesByStep};
 pub use profiles::{name_paths, profile_paths, ProfileFault};
 pub use show::show;
 pub use steps::{Holder, Step, Steps};

@@ -54,8 +54,8 @@ them from FOLDER, or from the folder of their first file if its digests have tha
 POLICY, FIRST and SECOND are images, stories, or folders as policy make writes them.
 
 Exit status: 0 done, for ask never, for diff equal, for lint nothing told; 1 for ask quietly or with an alert, for diff a difference, for lint something
-told; 2 for ask not found; 4 the image, the text or the story is refused, or the step is none to trim or explain; 5 a failure: wrong
-arguments, a file that cannot be read, an output that cannot be written. What is refused or fails is told on
+told; 2 for ask not found; 4 the image, the text or the story is refused, names are of another policy, or the step is none to trim or
+explain; 5 a failure: wrong arguments, a file that cannot be read, an output that cannot be written. What is refused or fails is told on
 standard error.
 ";
 
@@ -240,6 +240,7 @@ fn write_made(old: (&Arguments, &[u8]), image: &[u8], named: Option<&Path>) -> R
     write_named(old.0, image, folder.map(|_| &policy))
 }
 
+/// Says whether an image is accepted, and what it has.
 fn check(arguments: &Arguments) -> Result<(), Failure> {
     let image = arguments.load()?;
     let policy = Policy::from_image(&image).map_err(|refusal| arguments.refused(&image, refusal))?;
@@ -263,6 +264,7 @@ fn image_arguments(word: &str, arguments: &[OsString]) -> Result<(Arguments, Opt
     Ok((Arguments { file, option: out.map(PathBuf::from) }, names.map(PathBuf::from)))
 }
 
+/// Writes the normal image of an image.
 fn normal(arguments: &[OsString]) -> Result<(), Failure> {
     let (arguments, names) = image_arguments("normal", arguments)?;
     let old = arguments.load()?;
@@ -270,11 +272,13 @@ fn normal(arguments: &[OsString]) -> Result<(), Failure> {
     write_made((&arguments, &old), &image, names.as_deref())
 }
 
+/// Prints an image as a story.
 fn show_image(arguments: &Arguments) -> Result<(), Failure> {
     let image = arguments.load()?;
     print(show(&named_policy(arguments, &image, arguments.option.as_deref())?).as_bytes())
 }
 
+/// Writes the image of a text of profiles, with its paths as names.
 fn profiles(arguments: &Arguments) -> Result<(), Failure> {
     let text = arguments.load()?;
     let paths = profile_paths(&text);
@@ -288,6 +292,7 @@ fn profiles(arguments: &Arguments) -> Result<(), Failure> {
     write_named(arguments, &image, Some(&policy))
 }
 
+/// Writes an image of the edition before owners as one of this.
 fn upgrade(arguments: &[OsString]) -> Result<(), Failure> {
     let (arguments, names) = image_arguments("upgrade", arguments)?;
     let old = arguments.load()?;
@@ -305,7 +310,7 @@ fn at_fault(arguments: &Arguments, errors: &[LineError]) -> Failure {
     Refused(lines.join("\n"))
 }
 
-/// Writes the files of a story.
+/// Writes the files of a story, or tells its lines at fault.
 fn make(arguments: &Arguments) -> Result<(), Failure> {
     let story = Story::read_all(&arguments.load()?).map_err(|errors| at_fault(arguments, &errors))?;
     let folder = arguments.option.as_deref().unwrap_or(Path::new("."));
@@ -355,6 +360,7 @@ fn read_consenting(consent: &Arguments, names: Option<&Path>) -> Result<Vec<u8>,
     bytes.map_err(|error| Refused(format!("{}:{error}", consent.file.display())))
 }
 
+/// Writes what two policies permit together.
 fn compose(arguments: &[OsString]) -> Result<(), Failure> {
     let ([first, second, consent], [names, out]) = files_and_options("compose", arguments, ["-n", "-o"])?;
     let first = Arguments { file: first, option: out.map(PathBuf::from) };

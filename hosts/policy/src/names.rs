@@ -80,19 +80,28 @@ impl NamesByStep {
 }
 
 /// Names by step while a trace goes on, from the holders that a folder lists.
-pub(crate) struct FolderNames<'a> {
+#[derive(Clone, Debug)]
+pub struct FolderNames<'a> {
     /// By number: the names of its holders, one after the other.
     holders: Vec<Vec<&'a str>>,
-    pub names: NamesByStep,
+    names: NamesByStep,
 }
 
 impl FolderNames<'_> {
+    /// The containers of a policy, before any step, with the holders of numbers in the order in which they come.
+    #[must_use]
     pub fn new<'a>(policy: &Policy, holders: &'a [Holder]) -> FolderNames<'a> {
         let mut by_number = vec![Vec::new(); CONTAINERS.most];
         for holder in holders {
             by_number[usize::from(holder.number)].push(&holder.name[..]);
         }
         FolderNames { holders: by_number, names: NamesByStep::new(policy) }
+    }
+
+    /// The names up to the last step that was noted.
+    #[must_use]
+    pub fn names(&self) -> &NamesByStep {
+        &self.names
     }
 
     /// Notes who takes a number by an accepted operation: the next holder of it that is known, else one named after its kind.

@@ -129,7 +129,7 @@ fn front(
         }
         let operation = Operation::try_from(bytes).expect("an accepted record is well formed");
         names.accepted(step, operation);
-        found.accepted.push((step, bytes.to_vec(), words(policy, &names.names, step, operation)));
+        found.accepted.push((step, bytes.to_vec(), words(policy, names.names(), step, operation)));
         if verdict == Verdict::Alert && at.map_or(true, |at| at == step) {
             return Ok(found);
         }

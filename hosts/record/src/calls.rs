@@ -50,6 +50,7 @@ pub fn ended(recorder: &mut Recorder, process: ProcessId, call: &Call, value: i6
     match meaning {
         Meaning::Nothing | Meaning::Clones | Meaning::Changes(_) | Meaning::MakesLink(_) | Meaning::ReadsLink(_) => {}
         Meaning::Signals(_) | Meaning::Filters | Meaning::ReadsLog | Meaning::Semaphores => {}
+        Meaning::Limits | Meaning::OpensHandle => {}
         Meaning::Reads(_) | Meaning::Writes(_) | Meaning::Sends | Meaning::SendsMessages | Meaning::Moves { .. } => {
             run.data(meaning, value);
         }

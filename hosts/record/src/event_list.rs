@@ -14,11 +14,13 @@ const NAMED_PIPE: &str = "named-pipe";
 const PASSING: &str = "passing";
 const NONE: &str = "-";
 
+/// A text as an event list has it.
 pub fn escaped(text: &[u8]) -> String {
     let plain = |byte: u8| (b' '..=b'~').contains(&byte) && byte != b'\\';
     text.iter().map(|byte| if plain(*byte) { char::from(*byte).to_string() } else { format!("\\{byte:02x}") }).collect()
 }
 
+/// The text that stands for another.
 pub fn unescaped(text: &str) -> Option<Vec<u8>> {
     let mut rest = text.bytes();
     let mut plain = Vec::with_capacity(text.len());
@@ -32,6 +34,7 @@ pub fn unescaped(text: &str) -> Option<Vec<u8>> {
     Some(plain)
 }
 
+/// The word for a way.
 fn way(flow: &Flow) -> &'static str {
     match flow.way {
         Way::In => "in",
@@ -39,6 +42,7 @@ fn way(flow: &Flow) -> &'static str {
     }
 }
 
+/// A number, or `-` for none.
 fn number_or_none(number: Option<impl ToString>) -> String {
     number.map_or_else(|| NONE.to_string(), |number| number.to_string())
 }
@@ -84,16 +88,19 @@ pub fn write(out: &mut dyn Write, event: &Event) -> io::Result<()> {
 struct Fields<'a>(&'a str);
 
 impl<'a> Fields<'a> {
+    /// The next field.
     fn next(&mut self) -> Option<&'a str> {
         let (field, rest) = self.0.split_once(' ').unwrap_or((self.0, ""));
         self.0 = rest;
         (!field.is_empty()).then_some(field)
     }
 
+    /// The next field as a number.
     fn number<T: std::str::FromStr>(&mut self) -> Option<T> {
         self.next()?.parse().ok()
     }
 
+    /// A number, or `-` for none.
     fn number_or_none<T: std::str::FromStr>(&mut self) -> Option<Option<T>> {
         match self.next()? {
             NONE => Some(None),
@@ -101,6 +108,7 @@ impl<'a> Fields<'a> {
         }
     }
 
+    /// The next field as a truth value.
     fn flag(&mut self) -> Option<bool> {
         match self.next()? {
             "0" => Some(false),
@@ -109,6 +117,7 @@ impl<'a> Fields<'a> {
         }
     }
 
+    /// The next two fields as a flow.
     fn flow(&mut self) -> Option<Flow> {
         let way = match self.next()? {
             "in" => Way::In,
@@ -118,6 +127,7 @@ impl<'a> Fields<'a> {
         Some(Flow { way, object: self.number()? })
     }
 
+    /// The next field as a sort of objects.
     fn sort(&mut self) -> Option<Sort> {
         match self.next()? {
             FILE => Some(Sort::File),
@@ -132,6 +142,7 @@ impl<'a> Fields<'a> {
         unescaped(std::mem::take(&mut self.0))
     }
 
+    /// All that is left, as words.
     fn words(&mut self) -> Option<String> {
         String::from_utf8(self.text()?).ok()
     }

@@ -5,7 +5,7 @@ use std::collections::HashMap;
 
 use policy_text::{Access, Asked, NamesByStep};
 use yaslaurel::layout::record;
-use yaslaurel::{Operation, Policy};
+use yaslaurel::{Operation, Policy, Verdict};
 
 /// How many alerts of containers of one name are explained, and how many of a run.
 const OF_A_NAME: usize = 8;
@@ -21,23 +21,28 @@ pub enum Reason {
     Remark(String),
 }
 
+/// A number, and which of its holders.
+type Holder = (u8, usize);
+
 /// The records and names of a run, and what was explained so far.
 pub struct Explainer {
     image: Vec<u8>,
     trace: Vec<u8>,
     pub names: NamesByStep,
-    /// By number and holder: the step that was explained last, and what the container held then.
-    last: HashMap<(u8, usize), (usize, u64)>,
+    /// The step that was explained last, and what the container held then.
+    last: HashMap<Holder, (usize, u64)>,
     /// By name: how many were explained, and the step of the last.
     of_name: HashMap<String, (usize, usize)>,
+    /// By process, receiver and what that would hold: the step of the blocked access that was explained.
+    blocked: HashMap<(Holder, Holder, u64), usize>,
     explained: usize,
 }
 
 impl Explainer {
     pub fn new(policy: &Policy) -> Explainer {
-        let (last, of_name) = Default::default();
+        let (last, of_name, blocked) = Default::default();
         let names = NamesByStep::new(policy);
-        Explainer { image: policy.image(), trace: Vec::new(), names, last, of_name, explained: 0 }
+        Explainer { image: policy.image(), trace: Vec::new(), names, last, of_name, blocked, explained: 0 }
     }
 
     /// Takes up the record of an operation.
@@ -52,6 +57,18 @@ impl Explainer {
         self.trace.len() / record::LENGTH
     }
 
+    /// The process whose access was blocked: programs try the same in several ways, one behind the other.
+    fn blocked_by(&self, access: Access, step: usize) -> Option<Holder> {
+        match access.operation {
+            Operation::Write { process, .. } | Operation::Append { process, .. }
+                if access.verdict == Verdict::Blocked =>
+            {
+                Some((process, self.names.place(process, step)))
+            }
+            _ => None,
+        }
+    }
+
     /// The reason of an alert, which the last record has given. An alert at a container that was explained with the same sources, by an access
     /// that brought nothing new, has the same reason; an exec brings other rules.
     pub fn reason(&mut self, policy: &Policy, access: Access) -> Reason {
@@ -62,6 +79,10 @@ impl Explainer {
             if access.brought() == 0 && !exec {
                 return Reason::Remark(format!("explained at step {step}"));
             }
+        }
+        let again = self.blocked_by(access, step).map(|process| (process, holder, access.tag));
+        if let Some(step) = again.and_then(|again| self.blocked.get(&again)) {
+            return Reason::Remark(format!("explained at step {step}"));
         }
         let name = self.names.at(access.receiver, step).to_string();
         let of_name = self.of_name.entry(name.clone()).or_default();
@@ -81,6 +102,7 @@ impl Explainer {
                 self.explained += 1;
                 *of_name = (of_name.0 + 1, step);
                 self.last.insert(holder, (step, access.tag));
+                self.blocked.extend(again.map(|again| (again, step)));
                 Reason::Lines(explanation.lines())
             }
             Err(refusal) => Reason::Remark(format!("not explained: {refusal}")),
@@ -92,7 +114,7 @@ impl Explainer {
 mod tests {
     use super::*;
     use policy_text::held_before;
-    use yaslaurel::{Mixture, Session, Verdict};
+    use yaslaurel::{Mixture, Session};
 
     /// A policy of a source, a process and so many files that may hold nothing of it.
     fn policy(files: usize) -> Policy {

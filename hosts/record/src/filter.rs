@@ -18,18 +18,22 @@ const ARGUMENTS: u32 = 16;
 /// The bit that marks calls of the x32 convention.
 const X32: u32 = 0x4000_0000;
 
+/// An instruction of the filter.
 fn instruction(code: u16, jt: u8, jf: u8, k: u32) -> Instruction {
     Instruction { code, jt, jf, k }
 }
 
+/// The call runs free.
 fn free() -> Instruction {
     instruction(RETURN, 0, 0, libc::SECCOMP_RET_ALLOW)
 }
 
+/// The call stops.
 fn stopped() -> Instruction {
     instruction(RETURN, 0, 0, libc::SECCOMP_RET_TRACE)
 }
 
+/// Loads the low half of an argument.
 fn argument(place: u32) -> Instruction {
     instruction(LOAD, 0, 0, ARGUMENTS + 8 * place)
 }
@@ -42,6 +46,7 @@ fn runs_free(name: &str, guard: bool) -> bool {
             || name == "fork"
             || name == "vfork"
             || !guard && (table::moves_descriptors(meaning) || matches!(meaning, Meaning::Changes(_)))
+            || !guard && name == "setrlimit"
     })
 }
 
@@ -49,6 +54,14 @@ fn runs_free(name: &str, guard: bool) -> bool {
 fn stops_by(name: &str, place: u32, bits: i32) -> Vec<Instruction> {
     let Some(number) = numbers::number(name) else { return Vec::new() };
     let test = [argument(place), instruction(ANY_BIT, 1, 0, bits as u32), free(), stopped()];
+    [&[instruction(EQUAL, 0, test.len() as u8, number)][..], &test].concat()
+}
+
+/// A call that stops only if an argument is not 0.
+fn stops_unless_zero(name: &str, place: u32) -> Vec<Instruction> {
+    let Some(number) = numbers::number(name) else { return Vec::new() };
+    let high = instruction(LOAD, 0, 0, ARGUMENTS + 8 * place + 4);
+    let test = [argument(place), instruction(EQUAL, 0, 3, 0), high, instruction(EQUAL, 0, 1, 0), free(), stopped()];
     [&[instruction(EQUAL, 0, test.len() as u8, number)][..], &test].concat()
 }
 
@@ -83,6 +96,8 @@ pub fn build(guard: bool) -> Vec<Instruction> {
     filter.extend(stops_by("open", 1, made));
     filter.extend(stops_by("openat", 2, made));
     filter.extend(stops_by("clone", 0, libc::CLONE_UNTRACED));
+    filter.extend(stops_by("open_by_handle_at", 2, libc::O_TRUNC));
+    filter.extend(stops_unless_zero("prlimit64", 2));
     filter.extend(mappings());
     filter.push(stopped());
     filter

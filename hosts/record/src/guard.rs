@@ -16,13 +16,13 @@ use crate::event::{Event, ObjectId, TaskId, Way};
 use crate::look::{self, Key, Seen};
 use crate::meaning::{After, Then};
 use crate::path;
+use crate::resolve::{parts, path_of, LINK_LIMIT};
 use crate::stops::Tracer;
 use crate::sys::{self, Tid};
 use crate::table::{self, Meaning};
 
 /// How long other tasks may take to stop.
 const PATIENCE: Duration = Duration::from_secs(2);
-const LINK_LIMIT: usize = 40;
 
 /// A truncation at an open of a guarded file, which waits for the first write.
 pub struct Truncation {
@@ -70,30 +70,26 @@ struct Change {
     becomes: Option<Vec<u8>>,
 }
 
+/// Device and inode at a path.
 fn identity(path: &[u8]) -> Option<(u64, u64)> {
     let status = sys::status(&CString::new(path).ok()?, true).ok()?;
     Some((status.device, status.inode))
 }
 
+/// The folder and the name that a path of a task has.
 fn place(task: Tid, folder: i32, address: u64) -> Option<Place> {
     let text = look::text(task, address)?;
     let end = text.iter().rposition(|byte| *byte != b'/').map_or(0, |place| place + 1);
     let text = &text[..end];
     let begin = text.iter().rposition(|byte| *byte == b'/').map_or(0, |place| place + 1);
     let (above, name) = text.split_at(begin);
-    let above = look::path_of(task, folder, if above.is_empty() { b"." } else { above });
+    let above = path_of(task, folder, if above.is_empty() { b"." } else { above }, true);
     let path = [&above[..], b"/", name].concat();
     Some(Place { folder: identity(&above)?, name: name.to_vec(), path })
 }
 
 /// The names on the way of an absolute path, links followed.
 fn points(path: &[u8]) -> Vec<Point> {
-    let parts = |path: &[u8]| {
-        path.split(|byte| *byte == b'/')
-            .filter(|part| !part.is_empty() && *part != b".")
-            .map(<[u8]>::to_vec)
-            .collect::<Vec<_>>()
-    };
     let mut left: VecDeque<Vec<u8>> = parts(path).into();
     let (mut here, mut found, mut links) = (b"/".to_vec(), Vec::new(), 0);
     while let Some(name) = left.pop_front() {
@@ -132,6 +128,9 @@ impl Tracer {
             Meaning::Moves { to, .. } => self.guards_move(task, meaning, arguments, descriptor(to)),
             Meaning::ControlsDevice if table::control(arguments[1] as u32).clones() => {
                 self.guards_move(task, meaning, arguments, descriptor(0))
+            }
+            Meaning::ControlsDevice if table::control(arguments[1] as u32) == table::Control::ChangesFile => {
+                self.guards_write(task, descriptor(0))
             }
             Meaning::Truncates => {
                 self.guards_write(task, descriptor(0)).map(|then| self.then_emptied(task, then, arguments))
@@ -172,6 +171,7 @@ impl Tracer {
         }
     }
 
+    /// Whether two tasks have one memory.
     fn same_memory(&self, one: Tid, other: Tid) -> bool {
         let memory = |task: &Tid| self.tasks.get(task).map(|task| task.memory);
         memory(&one) == memory(&other)
@@ -203,6 +203,7 @@ impl Tracer {
         }
     }
 
+    /// A call that cannot be judged is refused.
     fn not_judged(&mut self, task: Tid) -> Then {
         self.tell(format!("a call of process {task} is refused, since other tasks did not stop while it was judged"));
         Then::Refuse(libc::EPERM)
@@ -224,6 +225,7 @@ impl Tracer {
         Then::Wait(After::Nothing)
     }
 
+    /// Makes the truncations of an object that wait.
     fn truncate(&mut self, object: ObjectId) {
         let (now, later) =
             std::mem::take(&mut self.truncations).into_iter().partition(|waiting| waiting.object == object);
@@ -240,7 +242,7 @@ impl Tracer {
     fn then_emptied(&mut self, task: Tid, then: Then, arguments: &[u64; 6]) -> Then {
         match (then, look::descriptor(task, arguments[0] as i32)) {
             (Then::Wait(_), Seen::Object(found)) if arguments[1] == 0 => match self.known(&found.key) {
-                Some(object) => Then::Wait(After::Truncate(object)),
+                Some(object) => Then::Wait(After::Truncate { object, since: self.ledger.events() }),
                 None => Then::Wait(After::Nothing),
             },
             (then, _) => then,
@@ -321,7 +323,7 @@ impl Tracer {
     /// The truncation of an open is taken out: it is made at the end of the open, if the file is no guarded one, else with the first
     /// write.
     fn guards_open(&mut self, task: Tid, at: usize, arguments: &[u64; 6]) -> Option<Then> {
-        let number = self.call_number(task)?;
+        let number = self.number;
         let flags = self.open_flags(task, at, arguments);
         if number == libc::SYS_openat2 && (flags & libc::O_TRUNC != 0 || !self.is_alone(task)) {
             // Its flags stand in memory; programs go on with the other calls.
@@ -358,8 +360,9 @@ impl Tracer {
             Ok(descriptor) => {
                 self.truncations.push(Truncation { object, key, descriptor });
                 if !self.ledger.guards(object) {
-                    self.emit(Event::Emptied { object });
+                    let since = self.ledger.events();
                     self.truncate(object);
+                    self.emptied(object, since);
                 }
             }
             Err(error) => self.tell(format!("a file of process {task} was not truncated: {error}")),
@@ -416,6 +419,12 @@ impl Tracer {
             return Some(self.not_judged(task));
         }
         let (how, changes) = changes(self)?;
+        if self.cannot_succeed(meaning, arguments, &changes) {
+            return Some(Then::Wait(After::Names(how)));
+        }
+        if self.links_blocked(task, meaning, &changes) {
+            return Some(Then::Refuse(libc::EPERM));
+        }
         for name in 0..self.names.len() {
             if self.names[name].guarded && self.name_blocked(task, how, name, &changes) {
                 return Some(Then::Refuse(libc::EPERM));
@@ -427,6 +436,39 @@ impl Tracer {
         }
     }
 
+    /// Whether a call makes a name that is there, and does not replace it: it changes nothing. A folder may go meanwhile.
+    fn cannot_succeed(&self, meaning: Meaning, arguments: &[u64; 6], changes: &[Change]) -> bool {
+        let makes = match meaning {
+            Meaning::Links(_) | Meaning::MakesLink(_) | Meaning::MakesNode(_) => true,
+            Meaning::Renames(_) => {
+                self.number == libc::SYS_renameat2 && arguments[4] & u64::from(libc::RENAME_NOREPLACE) != 0
+            }
+            _ => false,
+        };
+        let there = |change: &Change| {
+            let found = CString::new(&change.place.path[..]).ok().and_then(|path| sys::status(&path, false).ok());
+            found.is_some_and(|status| !status.is(sys::S_IFDIR))
+        };
+        makes && changes.first().is_some_and(there)
+    }
+
+    /// Whether a call that makes or takes away a further name of a guarded file must not: the file has the number of its names, and the
+    /// time of their change.
+    fn links_blocked(&mut self, task: Tid, meaning: Meaning, changes: &[Change]) -> bool {
+        let paths: Vec<Vec<u8>> = match meaning {
+            Meaning::MakesLink(_) => return false,
+            Meaning::Links(_) => changes.iter().filter_map(|change| change.becomes.clone()).collect(),
+            _ => changes.iter().map(|change| change.place.path.clone()).collect(),
+        };
+        paths.iter().any(|path| match look::at(task, path, false) {
+            Seen::Object(found) => match self.known(&found.key).filter(|object| self.ledger.guards(*object)) {
+                Some(object) => self.emit(Event::Added { task: task as TaskId, object }),
+                None => false,
+            },
+            _ => false,
+        })
+    }
+
     /// The names that a call changes.
     fn changes(&mut self, task: Tid, meaning: Meaning, arguments: &[u64; 6]) -> Option<(&'static str, Vec<Change>)> {
         let at = |index: usize| match index {
@@ -435,8 +477,7 @@ impl Tracer {
         };
         // The second name stands behind the first one, with its folder if that has one.
         let second = |index: usize| if index == 0 { place(task, libc::AT_FDCWD, arguments[1]) } else { at(3) };
-        let exchange =
-            self.call_number(task) == Some(libc::SYS_renameat2) && arguments[4] & u64::from(libc::RENAME_EXCHANGE) != 0;
+        let exchange = self.number == libc::SYS_renameat2 && arguments[4] & u64::from(libc::RENAME_EXCHANGE) != 0;
         Some(match meaning {
             Meaning::Renames(index) => {
                 let (old, new) = (at(index)?, second(index)?);
@@ -463,7 +504,12 @@ impl Tracer {
 
     /// What a `linkat` links: a path, or a descriptor's file if the path is empty.
     fn linked(&self, task: Tid, arguments: &[u64; 6]) -> Option<Vec<u8>> {
-        Some(look::path_of(task, arguments[0] as i32, &look::text(task, arguments[1])?))
+        Some(path_of(
+            task,
+            arguments[0] as i32,
+            &look::text(task, arguments[1])?,
+            arguments[4] as i32 & libc::AT_SYMLINK_FOLLOW != 0,
+        ))
     }
 
     /// Whether a name of the story must not lead to what it would lead to.

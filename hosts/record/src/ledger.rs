@@ -43,20 +43,26 @@ pub struct Ledger {
     /// The object at each name of the story.
     names: HashMap<Vec<u8>, Option<ObjectId>>,
     events: usize,
+    /// The files that have got more and that nobody was asked about yet.
+    grown: Vec<FileId>,
+    /// The event by which something was last written to a file.
+    written: HashMap<FileId, usize>,
 }
 
 impl Ledger {
+    /// A ledger at the start of a run.
     pub fn start(plan: Plan, report: Report, run: Start) -> Result<Ledger, Refusal> {
         let recorder = Recorder::start(plan, report, run)?;
-        let (objects, under_way, mappings, names) = Default::default();
+        let (objects, under_way, mappings, names, grown, written) = Default::default();
         // The first line of an event list is no event.
-        Ok(Ledger { recorder, objects, under_way, mappings, names, events: 1 })
+        Ok(Ledger { recorder, objects, under_way, mappings, names, events: 1, grown, written })
     }
 
     /// Takes up an event. Whether it is blocked: it must not be made then.
     pub fn event(&mut self, event: &Event) -> bool {
         self.events += 1;
         self.recorder.line = self.events;
+        self.grown.clear();
         if event.object().is_some_and(|object| object >= self.objects.len()) {
             self.recorder.gap(UNKNOWN);
             return false;
@@ -98,18 +104,52 @@ impl Ledger {
         self.recorder.gap("not a line of an event list");
     }
 
+    /// How many events were taken up.
     pub fn events(&self) -> usize {
         self.events
     }
 
+    /// The file of an object.
     fn file(&self, object: ObjectId) -> Option<FileId> {
         self.objects.get(object).copied()
     }
 
+    /// Another object.
     fn object(&mut self, sort: Sort, label: &str) {
         let file = self.recorder.files.nameless(sort, label.to_string());
         self.recorder.files.get_mut(file).outside = true;
         self.objects.push(file);
+    }
+
+    /// Whether files have got more by what was taken up since the last answer.
+    pub fn has_grown(&self) -> bool {
+        !self.grown.is_empty()
+    }
+
+    /// Which of these objects have got more; they are told once.
+    pub fn take_grown<T>(&mut self, asked: Vec<(T, ObjectId)>) -> Vec<(T, ObjectId)> {
+        let grown = std::mem::take(&mut self.grown);
+        let has =
+            |object: ObjectId| self.file(object).is_some_and(|file| grown.contains(&self.recorder.files.root(file)));
+        asked.into_iter().filter(|(_, object)| has(*object)).collect()
+    }
+
+    /// Whether something was written to an object behind an event.
+    pub fn written_since(&self, object: ObjectId, event: usize) -> bool {
+        let file = self.file(object).map(|file| self.recorder.files.root(file));
+        file.and_then(|file| self.written.get(&file)).is_some_and(|last| *last > event)
+    }
+
+    /// Whether a read would leave a process as it is.
+    pub fn reads_nothing_new(&self, task: TaskId, object: ObjectId) -> bool {
+        let (Some(process), Some(file)) = (self.recorder.processes.of(task), self.file(object)) else { return false };
+        let (process, file) = (self.recorder.processes.get(process).number, self.recorder.files.get(file).number);
+        match (process, file) {
+            (Some(process), Some(file)) => self.recorder.monitor.would_keep(process, file),
+            // Without a number a file holds nothing.
+            (process, None) => process.is_some(),
+            _ => false,
+        }
     }
 
     /// Whether a flow would change what its receiver has.
@@ -126,6 +166,11 @@ impl Ledger {
             (Some(held), None, Way::Out) => held != 0,
             (None, ..) => true,
         }
+    }
+
+    /// Whether the process of a task holds something of a source.
+    pub fn holds_something(&self, task: TaskId) -> bool {
+        self.recorder.processes.of(task).and_then(|process| self.recorder.held_by(process)) != Some(0)
     }
 
     /// Whether an object is a guarded file.
@@ -155,6 +200,7 @@ impl Ledger {
         blocked
     }
 
+    /// Reports a flow, and notes what has grown by it. Whether it is blocked.
     fn carry(&mut self, process: ProcessId, way: Way, file: FileId, adds: bool, grown: &mut BTreeSet<Grown>) -> bool {
         let recorder = &mut self.recorder;
         let before = match way {
@@ -166,12 +212,19 @@ impl Ledger {
             Way::Out if adds => recorder.append(process, file),
             Way::Out => recorder.write(process, file),
         };
+        if way == Way::Out {
+            self.written.insert(self.recorder.files.root(file), self.events);
+        }
+        let recorder = &self.recorder;
         let (after, receiver) = match way {
             Way::In => (recorder.row_of_process(process), Grown::Process(process)),
             Way::Out => (recorder.row_of_file(file), Grown::File(recorder.files.root(file))),
         };
         if before != after {
             grown.insert(receiver);
+            if let Grown::File(file) = receiver {
+                self.grown.push(file);
+            }
         }
         // What cannot be judged is not made either.
         way == Way::Out && self.recorder.is_guarded(file) && verdict != Some(Verdict::Quiet)
@@ -186,6 +239,7 @@ impl Ledger {
         }
     }
 
+    /// Where something goes on that has grown.
     fn onward(&self, grown: Grown) -> Vec<(ProcessId, Way, FileId)> {
         let recorder = &self.recorder;
         let root = |object: ObjectId| recorder.files.root(self.objects[object]);
@@ -211,6 +265,7 @@ impl Ledger {
         }
     }
 
+    /// An object is mapped into the memory of a task.
     fn mapped(&mut self, task: TaskId, object: ObjectId, writable: bool) {
         let Some(process) = self.recorder.processes.of(task) else { return };
         let (list, mapping) = (self.mappings.entry(process).or_default(), Mapping { object, writable });
@@ -225,6 +280,7 @@ impl Ledger {
         }
     }
 
+    /// It no longer is.
     fn unmapped(&mut self, task: TaskId, object: ObjectId) {
         if let Some(list) = self.recorder.processes.of(task).and_then(|process| self.mappings.get_mut(&process)) {
             list.retain(|mapping| mapping.object != object);
@@ -237,6 +293,11 @@ impl Ledger {
         list.into_iter().flatten().filter(|mapping| mapping.writable).map(|mapping| mapping.object).collect()
     }
 
+    /// Whether somebody has an object mapped, shared and writable.
+    pub fn is_mapped_to_write(&self, object: ObjectId) -> bool {
+        self.mappings.values().flatten().any(|mapping| mapping.writable && mapping.object == object)
+    }
+
     /// The next write is the first of an empty file, unless others are just writing to it.
     fn emptied(&mut self, object: ObjectId) {
         let Some(file) = self.file(object) else { return };
@@ -246,6 +307,7 @@ impl Ledger {
         self.recorder.truncated(file, !busy);
     }
 
+    /// A task has a child.
     fn born(&mut self, parent: TaskId, child: TaskId, one_memory: bool) {
         if self.recorder.processes.of(child).is_some() {
             self.recorder.gap(&format!("process {child} starts once more, and its end was not told"));
@@ -260,6 +322,7 @@ impl Ledger {
         }
     }
 
+    /// A task has executed a program.
     fn executed(&mut self, task: TaskId, program: ObjectId, user: u32, name: &str) {
         let Some(file) = self.file(program) else { return };
         self.under_way.retain(|flow| flow.task != task);
@@ -273,6 +336,7 @@ impl Ledger {
         }
     }
 
+    /// A task goes on under another number.
     fn renumbered(&mut self, from: TaskId, to: TaskId) {
         if from == to || self.recorder.processes.of(from).is_none() {
             return self.recorder.gap(UNKNOWN);
@@ -290,6 +354,7 @@ impl Ledger {
         self.under_way.iter().any(|flow| flow.task == task)
     }
 
+    /// A task is gone.
     fn gone(&mut self, task: TaskId) {
         self.under_way.retain(|flow| flow.task != task);
         let process = self.recorder.processes.of(task);
@@ -325,6 +390,7 @@ impl Ledger {
         }
     }
 
+    /// An object holds a source from an earlier run.
     fn holds(&mut self, object: ObjectId, source: &str) {
         if let Some(file) = self.file(object) {
             self.recorder.held_before(file, source);

@@ -1,14 +1,16 @@
 //! What a stopped task has: the objects behind its descriptors and paths, and its memory. Everything is asked of the kernel, of the
 //! task as it stands there.
 
-use std::ffi::CString;
+use std::collections::BTreeMap;
+use std::ffi::{CString, OsStr};
 use std::fs;
 use std::io::{self, Read};
 use std::os::unix::ffi::{OsStrExt, OsStringExt};
-use std::sync::OnceLock;
+use std::sync::Mutex;
 
 use crate::files::Sort;
 use crate::path;
+use crate::resolve::path_of;
 use crate::sys::{self, Status, Tid};
 
 /// What makes an object the same one.
@@ -65,6 +67,13 @@ pub struct Found {
 }
 
 impl Found {
+    /// The log of the system, which a device and a file of `/proc` have.
+    pub fn system_log() -> Found {
+        let key = Key::Device { block: false, major: MEMORY_DEVICES, minor: 11 };
+        Found { key, sort: Sort::File, plain: false, is_folder: false }
+    }
+
+    /// An object that is gone with its last descriptor.
     pub fn passing(key: Key) -> Found {
         Found { key, sort: Sort::Passing, plain: false, is_folder: false }
     }
@@ -87,6 +96,8 @@ pub enum Seen {
     OfTask {
         task: Tid,
     },
+    /// One of a task that is not known, below another mount of `/proc`.
+    Elsewhere,
     Object(Found),
 }
 
@@ -97,16 +108,57 @@ const TERMINALS: std::ops::RangeInclusive<u32> = 136..=143;
 const CONTROLLING: (u32, u32) = (5, 0);
 const MASTER: (u32, u32) = (5, 2);
 
-fn device_of(path: &str) -> u64 {
-    CString::new(path).ok().and_then(|path| sys::status(&path, true).ok()).map_or(0, |status| status.device)
+/// The inode of the uppermost folder of a mount of `/proc`.
+pub const PROCESSES_ROOT: u64 = 1;
+
+/// What kind of file system a file is on.
+#[derive(Clone, Copy, Debug, PartialEq, Eq)]
+pub enum Mount {
+    Plain,
+    /// That of processes, at `/proc` of this program.
+    Processes,
+    /// One of processes that is mounted elsewhere: it may number them in another way.
+    OtherProcesses,
 }
 
-fn process_files() -> u64 {
-    static DEVICE: OnceLock<u64> = OnceLock::new();
-    *DEVICE.get_or_init(|| device_of("/proc"))
+/// The kinds of file systems that were asked for, by their device.
+static MOUNTS: Mutex<BTreeMap<u64, Mount>> = Mutex::new(BTreeMap::new());
+
+/// The kind of the file system of a path.
+pub fn mount(path: &CString, device: u64) -> Mount {
+    let Ok(mut known) = MOUNTS.lock() else { return Mount::OtherProcesses };
+    if known.is_empty() {
+        let own = sys::status(c"/proc", true).map_or(0, |status| status.device);
+        known.insert(own, Mount::Processes);
+    }
+    *known.entry(device).or_insert_with(|| match sys::file_system(path) {
+        Ok(kind) if kind == libc::PROC_SUPER_MAGIC => Mount::OtherProcesses,
+        _ => Mount::Plain,
+    })
 }
 
-fn descriptor_path(task: Tid, number: i32) -> String {
+/// File systems have come or gone: a device may be that of another one.
+pub fn forget_mounts() {
+    if let Ok(mut known) = MOUNTS.lock() {
+        known.clear();
+    }
+}
+
+/// The numbers of a task in its name spaces, from that of this program on.
+pub fn numbers_of(task: Tid) -> Vec<Tid> {
+    let status = fs::read_to_string(format!("/proc/{task}/status")).unwrap_or_default();
+    let numbers = status.lines().find_map(|line| line.strip_prefix("NSpid:")).unwrap_or_default();
+    numbers.split_whitespace().filter_map(|number| number.parse().ok()).collect()
+}
+
+/// The name space in which a task numbers processes.
+pub fn numbering(task: Tid) -> Option<u64> {
+    let path = CString::new(format!("/proc/{task}/ns/pid")).ok()?;
+    sys::status(&path, true).ok().map(|status| status.inode)
+}
+
+/// The place of a descriptor below `/proc`.
+pub fn descriptor_path(task: Tid, number: i32) -> String {
     format!("/proc/{task}/fd/{number}")
 }
 
@@ -151,8 +203,9 @@ pub fn descriptor(task: Tid, number: i32) -> Seen {
         Ok(status) => status,
         Err(error) => return failed(&error),
     };
-    if status.device == process_files() && !status.is(sys::S_IFDIR) {
-        return system_file(&descriptor_name(task, number));
+    let mount = mount(&name, status.device);
+    if mount != Mount::Plain && !status.is(sys::S_IFDIR) {
+        return system_file(mount, &descriptor_name(task, number));
     }
     match status.mode & libc::S_IFMT {
         0 => nameless(task, number),
@@ -164,6 +217,7 @@ pub fn descriptor(task: Tid, number: i32) -> Seen {
     }
 }
 
+/// What a failed look says: it is hidden, or not there.
 fn failed(error: &io::Error) -> Seen {
     match error.raw_os_error() {
         Some(libc::EACCES | libc::EPERM) => Seen::Hidden,
@@ -182,29 +236,34 @@ fn nameless(task: Tid, number: i32) -> Seen {
     }
 }
 
-/// A file below `/proc`: that of a task, or one of the system.
-fn system_file(name: &[u8]) -> Seen {
-    let task = path::below(name, b"/proc").and_then(|rest| {
-        let mut parts = rest.split(|byte| *byte == b'/');
-        let first = number_in(parts.next()?)?;
-        match parts.next() {
-            Some(b"task") => parts.next().and_then(number_in).or(Some(first)),
-            Some(_) => Some(first),
-            None => None,
-        }
-    });
-    match task {
-        Some(task) => Seen::OfTask { task },
-        None => {
-            Seen::Object(Found { key: Key::System(name.to_vec()), sort: Sort::File, plain: false, is_folder: false })
-        }
+/// A file below a mount of `/proc`, by its real name: that of a task, or one of the system.
+fn system_file(mount: Mount, name: &[u8]) -> Seen {
+    let below = path::below(name, b"/proc").filter(|_| mount == Mount::Processes);
+    let numbered = |name: &[u8]| name.split(|byte| *byte == b'/').any(|part| number_in(part).is_some());
+    let mut parts = below.unwrap_or_default().split(|byte| *byte == b'/');
+    match (below, parts.next().and_then(number_in), parts.next()) {
+        (None, ..) if numbered(name) => Seen::Elsewhere,
+        (_, Some(first), Some(b"task")) => Seen::OfTask { task: parts.next().and_then(number_in).unwrap_or(first) },
+        (_, Some(task), Some(_)) => Seen::OfTask { task },
+        _ if name.ends_with(b"/kmsg") => Seen::Object(Found::system_log()),
+        _ => Seen::Object(Found { key: Key::System(name.to_vec()), sort: Sort::File, plain: false, is_folder: false }),
     }
 }
 
+/// The name of a file without links on the way to it.
+fn real_name(path: &[u8], follow: bool) -> Vec<u8> {
+    let real = |path: &[u8]| fs::canonicalize(OsStr::from_bytes(path)).map(|real| real.into_os_string().into_vec());
+    let (folder, name) = path::split(path);
+    let found = if follow { real(path) } else { real(folder).map(|folder| [&folder[..], b"/", name].concat()) };
+    found.unwrap_or_else(|_| path.to_vec())
+}
+
+/// A text as the number of a task.
 fn number_in(text: &[u8]) -> Option<Tid> {
     std::str::from_utf8(text).ok()?.parse().ok()
 }
 
+/// What the status of a file stands for.
 fn object(task: Tid, status: &Status) -> Seen {
     let (major, minor) = status.device_file;
     let device = |block| {
@@ -259,8 +318,11 @@ fn controlling(task: Tid) -> Seen {
 pub fn at(task: Tid, path: &[u8], follow: bool) -> Seen {
     let Ok(name) = CString::new(path) else { return Seen::Missing };
     match sys::status(&name, follow) {
-        Ok(status) if status.device == process_files() && !status.is(sys::S_IFDIR) => system_file(path),
-        Ok(status) => object(task, &status),
+        Ok(status) => match mount(&name, status.device) {
+            Mount::Plain => object(task, &status),
+            _ if status.is(sys::S_IFDIR) => object(task, &status),
+            mount => system_file(mount, &real_name(path, follow)),
+        },
         // The task itself may not go there either, unless nothing of it can be looked at.
         Err(_) if task == 0 || fs::read_link(format!("/proc/{task}/root")).is_ok() => Seen::Missing,
         Err(error) => failed(&error),
@@ -301,51 +363,30 @@ pub fn text(task: Tid, address: u64) -> Option<Vec<u8>> {
     Some(found)
 }
 
-/// A path of a task as this program can follow it. `folder` is a descriptor or `AT_FDCWD`.
-pub fn path_of(task: Tid, folder: i32, name: &[u8]) -> Vec<u8> {
-    let at = |prefix: String, rest: &[u8]| [prefix.as_bytes(), rest].concat();
-    if let Some(rest) = path::below(name, b"/proc/self") {
-        return at(format!("/proc/{task}/"), rest);
-    }
-    if let Some(rest) = path::below(name, b"/proc/thread-self") {
-        return at(format!("/proc/{task}/"), rest);
-    }
-    if let Some(rest) = path::below(name, b"/dev/fd") {
-        return at(format!("/proc/{task}/fd/"), rest);
-    }
-    match name {
-        b"/dev/stdin" => return at(format!("/proc/{task}/fd/0"), b""),
-        b"/dev/stdout" => return at(format!("/proc/{task}/fd/1"), b""),
-        b"/dev/stderr" => return at(format!("/proc/{task}/fd/2"), b""),
-        _ => {}
-    }
-    if path::below(name, b"/proc").is_some_and(|rest| rest.first().is_some_and(u8::is_ascii_digit)) {
-        return name.to_vec();
-    }
-    match (name.first(), folder) {
-        (Some(b'/'), _) => at(format!("/proc/{task}/root"), name),
-        (None, libc::AT_FDCWD) => at(format!("/proc/{task}/cwd"), b""),
-        (None, folder) => at(descriptor_path(task, folder), b""),
-        (_, libc::AT_FDCWD) => at(format!("/proc/{task}/cwd/"), name),
-        (_, folder) => at(descriptor_path(task, folder) + "/", name),
-    }
-}
-
 /// The name of a path for people, with links followed where it is there.
 pub fn shown(task: Tid, folder: i32, name: &[u8]) -> Vec<u8> {
-    let path = path_of(task, folder, name);
-    let real = fs::canonicalize(std::ffi::OsStr::from_bytes(&path));
+    let path = path_of(task, folder, name, true);
+    let real = fs::canonicalize(OsStr::from_bytes(&path));
     real.map_or(path, |real| real.into_os_string().into_vec())
 }
 
 /// A file of the system, which makes its text anew for each call: as few calls as can be.
 fn read(path: &str) -> io::Result<Vec<u8>> {
-    let mut text = Vec::with_capacity(1 << 14);
-    fs::File::open(path)?.read_to_end(&mut text)?;
+    let (mut file, mut text, mut length) = (fs::File::open(path)?, vec![0; 1 << 14], 0);
+    loop {
+        match file.read(&mut text[length..])? {
+            0 => break,
+            more => length += more,
+        }
+        if length == text.len() {
+            text.resize(2 * length, 0);
+        }
+    }
+    text.truncate(length);
     Ok(text)
 }
 
-/// The program that a task runs, and the other files that the kernel has mapped for it.
+/// The program that a task runs, and the other files that the kernel has mapped for it. Their names are as this program would write them.
 pub fn mapped(task: Tid) -> Option<Vec<(Found, Vec<u8>)>> {
     let maps = read(&format!("/proc/{task}/maps")).ok()?;
     let mut names: Vec<&[u8]> = maps
@@ -354,12 +395,13 @@ pub fn mapped(task: Tid) -> Option<Vec<(Found, Vec<u8>)>> {
         .collect();
     names.dedup();
     let mut found: Vec<(Found, Vec<u8>)> = Vec::new();
-    let program = (format!("/proc/{task}/exe").into_bytes(), names.first().map_or(Vec::new(), |name| name.to_vec()));
-    let others = names.iter().map(|name| (path_of(task, libc::AT_FDCWD, name), name.to_vec()));
+    let program = (format!("/proc/{task}/exe").into_bytes(), names.first().map_or(&b""[..], |name| name));
+    // The first name is that of the program.
+    let others = names.iter().skip(1).map(|name| (name.to_vec(), *name));
     for (path, name) in [program].into_iter().chain(others) {
         if let Seen::Object(object) = at(task, &path, true) {
             if found.iter().all(|(other, _)| other.key != object.key) {
-                found.push((object, name));
+                found.push((object, name.to_vec()));
             }
         }
     }
@@ -371,6 +413,17 @@ pub fn user(task: Tid) -> Option<u32> {
     let status = fs::read_to_string(format!("/proc/{task}/status")).ok()?;
     let ids = status.lines().find_map(|line| line.strip_prefix("Uid:"))?;
     ids.split_whitespace().nth(1)?.parse().ok()
+}
+
+/// The file behind the mapping that begins at an address, where this program may ask for it.
+pub fn mapped_at(task: Tid, address: u64) -> Option<Found> {
+    let maps = fs::read_to_string(format!("/proc/{task}/maps")).ok()?;
+    let begin = format!("{address:08x}-");
+    let range = maps.lines().find(|line| line.starts_with(&begin))?.split(' ').next()?;
+    match at(task, format!("/proc/{task}/map_files/{range}").as_bytes(), true) {
+        Seen::Object(found) => Some(found),
+        _ => None,
+    }
 }
 
 /// Whether a task still has an object mapped, shared and writable.
@@ -390,7 +443,7 @@ const MEMBER_LIMIT: usize = 100_000;
 /// The files below a folder, and whether these are all. Links are not followed.
 pub fn below(folder: &[u8]) -> (Vec<Key>, bool) {
     let (mut found, mut all) = (Vec::new(), true);
-    let mut folders = vec![std::path::PathBuf::from(std::ffi::OsStr::from_bytes(folder))];
+    let mut folders = vec![std::path::PathBuf::from(OsStr::from_bytes(folder))];
     while let Some(folder) = folders.pop() {
         let Ok(entries) = fs::read_dir(&folder) else {
             all = false;
@@ -419,6 +472,17 @@ pub fn writes_to(task: Tid, key: &Key) -> bool {
         matches!(descriptor(task, number), Seen::Object(found) if found.key == *key)
             && descriptor_flags(task, number).map_or(true, |flags| flags & libc::O_ACCMODE != libc::O_RDONLY)
     })
+}
+
+/// The calls whose ends are not always waited for.
+pub const READS: [libc::c_long; 2] = [libc::SYS_read, libc::SYS_pread64];
+pub const WRITES: [libc::c_long; 2] = [libc::SYS_write, libc::SYS_pwrite64];
+
+/// Whether a task that was let go on may still be in such a call, or may not have begun it: unless it waits in another one.
+pub fn may_be_in(task: Tid, calls: &[libc::c_long]) -> bool {
+    let text = fs::read_to_string(format!("/proc/{task}/syscall")).unwrap_or_default();
+    let number = text.split(' ').next().and_then(|number| number.parse().ok());
+    number.map_or(true, |number| calls.contains(&number))
 }
 
 /// Whether a task sleeps in the kernel.

@@ -2,11 +2,12 @@
 
 use std::sync::OnceLock;
 
-use crate::event::{Event, ObjectId, TaskId, Way};
+use crate::event::{ObjectId, TaskId, Way};
 use crate::files::Sort;
 use crate::look::{self, Found, Key, Seen};
 use crate::numbers;
 use crate::opens::Opening;
+use crate::resolve::path_of;
 use crate::sockets::Ends;
 use crate::stops::Tracer;
 use crate::sys::{self, CallInfo, Tid, AUDIT_ARCH_X86_64};
@@ -39,16 +40,22 @@ pub enum After {
     },
     /// Memory of another task has been read or written.
     Pass {
-        other: Tid,
+        others: Vec<Tid>,
         way: Way,
     },
+    /// Memory that others can have too was mapped or attached.
+    Shared(ObjectId),
     Open(Opening),
     Names(&'static str),
     /// A symbolic link was made at the path at this place of the arguments.
     Linked {
         at: usize,
     },
-    Truncate(ObjectId),
+    /// A file has no bytes any more, if nobody has written to it since that event.
+    Truncate {
+        object: ObjectId,
+        since: usize,
+    },
     Closed,
     Addressed {
         socket: i32,
@@ -82,6 +89,10 @@ pub enum Target {
     Open,
 }
 
+/// How names change by a mount.
+pub const MOUNT: &str = "a mount";
+
+/// What calls mean, by number.
 fn meanings() -> &'static [Option<Meaning>] {
     static MEANINGS: OnceLock<Vec<Option<Meaning>>> = OnceLock::new();
     MEANINGS.get_or_init(|| {
@@ -101,6 +112,7 @@ pub fn of(info: &CallInfo) -> Option<Meaning> {
     meanings().get(usize::try_from(info.number).ok()?).copied().flatten()
 }
 
+/// Whether a call is a program start.
 pub fn is_exec(info: &CallInfo) -> bool {
     matches!(of(info), Some(Meaning::Executes(_)))
 }
@@ -154,11 +166,15 @@ impl Tracer {
         }
         let descriptor = |place: usize| arguments[place] as i32;
         match meaning {
-            Meaning::Reads(place) => self.begins_read(task, descriptor(place)),
-            Meaning::Writes(place) => self.begins_write(task, descriptor(place), None),
+            Meaning::Reads(place) => {
+                self.tell_returned(arguments);
+                self.begins_read(task, descriptor(place))
+            }
+            Meaning::Writes(place) => self.begins_write(task, descriptor(place), None, self.is_long(arguments)),
             Meaning::Sends => {
                 let address = self.address(task, arguments[4], arguments[5]);
-                self.begins_write(task, descriptor(0), address.as_deref())
+                self.keeps_pages(task, descriptor(0), arguments[3], address.as_deref());
+                self.begins_write(task, descriptor(0), address.as_deref(), true)
             }
             Meaning::SendsMessages => self.begins_messages(task, arguments),
             Meaning::Splices => self.begins_splice(task, descriptor(0)),
@@ -180,16 +196,10 @@ impl Tracer {
             Meaning::ReadsQueue | Meaning::WritesQueue | Meaning::Semaphores | Meaning::Attaches => {
                 self.system_v(task, meaning, arguments)
             }
-            Meaning::ReadsMemory => self.passes(task, descriptor(0), Way::In),
-            Meaning::WritesMemory => self.passes(task, descriptor(0), Way::Out),
+            Meaning::ReadsMemory => self.passes_to(task, descriptor(0), Way::In),
+            Meaning::WritesMemory => self.passes_to(task, descriptor(0), Way::Out),
             Meaning::ReadsLog => {
-                let log = Found {
-                    key: Key::Device { block: false, major: 1, minor: 11 },
-                    sort: Sort::File,
-                    plain: false,
-                    is_folder: false,
-                };
-                let object = self.object(&log, || b"/dev/kmsg".to_vec());
+                let object = self.object(&Found::system_log(), || b"/dev/kmsg".to_vec());
                 Then::Wait(After::Read(vec![object]))
             }
             Meaning::Maps => self.begins_mapping(task, arguments),
@@ -197,6 +207,8 @@ impl Tracer {
             Meaning::Signals(place) => self.signals(task, arguments, place),
             Meaning::Filters => self.filters(arguments),
             Meaning::Clones => self.clones(task, arguments),
+            Meaning::Limits => self.limits(task, arguments),
+            Meaning::OpensHandle => self.opens_handle(),
             _ => self.begins_naming(task, meaning, arguments),
         }
     }
@@ -221,12 +233,13 @@ impl Tracer {
             Meaning::MakesNode(_) => Then::Wait(After::Names("a new file")),
             Meaning::ReadsLink(way) => self.reads_link(task, way, arguments),
             Meaning::NamesAddress => self.reads_address(task, arguments[0] as i32),
-            Meaning::Mounts => Then::Wait(After::Names("a mount")),
+            Meaning::Mounts => self.mounts(task, arguments),
             Meaning::Addresses { binds } => {
                 let address = self.address(task, arguments[1], arguments[2]).unwrap_or_default();
                 let socket = arguments[0] as i32;
                 if !binds {
                     self.sockets.addressed(task, socket, Some(&address), false);
+                    self.calls_other_side(task, socket);
                 }
                 Then::Wait(After::Addressed { socket, address, binds })
             }
@@ -241,9 +254,11 @@ impl Tracer {
         look::descriptor(task, number)
     }
 
+    /// What a path in the memory of a task leads to.
     pub fn look_at(&mut self, task: Tid, folder: i32, address: u64, follow: bool) -> Seen {
         match look::text(task, address) {
-            Some(name) => look::at(task, &look::path_of(task, folder, &name), follow),
+            Some(name) if name.is_empty() && folder != libc::AT_FDCWD => self.look(task, folder),
+            Some(name) => look::at(task, &path_of(task, folder, &name, follow), follow),
             None if look::word(task, address & !7).is_none() && self.cannot_read(task) => Seen::Hidden,
             None => Seen::Missing,
         }
@@ -254,6 +269,7 @@ impl Tracer {
         sys::registers(task).is_ok_and(|registers| look::word(task, registers.rsp & !7).is_none())
     }
 
+    /// Tells once for each task that it cannot be looked into.
     pub fn tell_hidden(&mut self, task: Tid) {
         let known = self.tasks.get_mut(&task).map(|task| std::mem::replace(&mut task.hidden, true));
         if known == Some(false) {
@@ -267,6 +283,7 @@ impl Tracer {
         self.target_of(task, number, seen, way, address)
     }
 
+    /// The objects behind what a descriptor was found to be.
     fn target_of(&mut self, task: Tid, number: i32, seen: Seen, way: Way, address: Option<&[u8]>) -> Target {
         match seen {
             Seen::Socket => self.socket_target(task, number, way, address),
@@ -274,6 +291,7 @@ impl Tracer {
         }
     }
 
+    /// The objects of what was found.
     pub fn seen(&mut self, task: Tid, seen: Seen, name: impl FnOnce(Tid) -> Vec<u8>) -> Target {
         match seen {
             Seen::Missing => Target::Missing,
@@ -287,6 +305,10 @@ impl Tracer {
                 Target::Objects(vec![self.object(&found, || format!("terminal {number}").into_bytes())])
             }
             Seen::OfTask { task: other } => self.of_task(task, other),
+            Seen::Elsewhere => {
+                self.tell("a file of a process below another mount of /proc, of which the process is not known");
+                Target::Objects(Vec::new())
+            }
             Seen::Object(found) => Target::Objects(vec![self.object(&found, || name(task))]),
         }
     }
@@ -300,6 +322,7 @@ impl Tracer {
         }
     }
 
+    /// The objects of a socket for one way.
     fn socket_target(&mut self, task: Tid, number: i32, way: Way, address: Option<&[u8]>) -> Target {
         match self.sockets.ends(task, number, way, address) {
             Ends::Objects(found) => {
@@ -319,6 +342,25 @@ impl Tracer {
         (at != 0 && length > 0).then(|| look::bytes(task, at, length))
     }
 
+    /// What a socket has sent comes back to whoever has it by the queue of its errors.
+    fn tell_returned(&mut self, arguments: &[u64; 6]) {
+        let flags = match self.number {
+            libc::SYS_recvfrom | libc::SYS_recvmmsg => arguments[3],
+            libc::SYS_recvmsg => arguments[2],
+            _ => 0,
+        };
+        if flags as i32 & libc::MSG_ERRQUEUE != 0 {
+            self.tell("the queue of a socket's errors was asked for, which has what was sent");
+        }
+    }
+
+    /// Whether a write may take so long that others can change the memory meanwhile.
+    fn is_long(&self, arguments: &[u64; 6]) -> bool {
+        const LONG: u64 = 1 << 16;
+        !matches!(self.number, libc::SYS_write | libc::SYS_pwrite64) || arguments[2] >= LONG
+    }
+
+    /// A read counts at its end, or is under way if others can use the memory.
     fn begins_read(&mut self, task: Tid, number: i32) -> Then {
         self.settle_mappings(task);
         let seen = self.look(task, number);
@@ -330,28 +372,67 @@ impl Tracer {
             }
             Target::Objects(_) | Target::Open if socket => Then::Wait(After::Receive { socket: number, begun: false }),
             Target::Objects(objects) if objects.is_empty() => Then::Free,
+            Target::Objects(objects) if self.reads_nothing_new(task, &objects) => Then::Free,
             Target::Objects(objects) => Then::Wait(After::Read(objects)),
-            Target::Memory(other) => self.passes(task, other, Way::In),
+            Target::Memory(other) => self.passes(task, &[other], Way::In),
             Target::Missing | Target::Hidden | Target::Open => Then::Free,
         }
     }
 
-    /// A write counts from its beginning. If others can change the memory it is under way up to its end.
-    pub fn begins_write(&mut self, task: Tid, number: i32, address: Option<&[u8]>) -> Then {
-        match self.target(task, number, Way::Out, address) {
+    /// Whether a read of a plain file brings nothing new as things stand. Its end is not waited for then: if the file gets more before the
+    /// task is seen in another call, that counts as read.
+    fn reads_nothing_new(&mut self, task: Tid, objects: &[ObjectId]) -> bool {
+        let [object] = *objects else { return false };
+        let short = matches!(self.number, libc::SYS_read | libc::SYS_pread64);
+        let nothing = short && self.is_plain(object) && self.ledger.reads_nothing_new(task as TaskId, object);
+        if let Some(found) = self.tasks.get_mut(&task).filter(|_| nothing) {
+            found.reads = Some(object);
+        }
+        nothing
+    }
+
+    /// A write counts from its beginning. If others can change the memory, or if it may take long, it is under way up to its end.
+    pub fn begins_write(&mut self, task: Tid, number: i32, address: Option<&[u8]>, long: bool) -> Then {
+        let seen = self.look(task, number);
+        if let Seen::OfTask { task: other } = seen {
+            if other == own() {
+                return self.refuse_own(task);
+            }
+        }
+        let socket = matches!(seen, Seen::Socket);
+        match self.target_of(task, number, seen, Way::Out, address) {
             Target::Objects(objects) if self.guard && objects.iter().any(|object| self.ledger.guards(*object)) => {
                 self.guards_write(task, number).unwrap_or(Then::Refuse(libc::EPERM))
             }
-            Target::Objects(objects) => self.writes_to(task, number, &objects),
+            Target::Objects(objects) => {
+                if socket {
+                    self.takes_own_address(task, number);
+                }
+                self.writes_to(task, number, &objects, long)
+            }
             Target::Memory(_) | Target::Hidden if self.guard => Then::Refuse(libc::EPERM),
-            Target::Memory(other) => self.passes(task, other, Way::Out),
-            Target::Open => Then::Wait(After::Send { socket: number }),
+            Target::Memory(other) => self.passes(task, &[other], Way::Out),
+            Target::Open => {
+                if let Some(found) = self.sockets.early(task, number, address) {
+                    let object = self.object(&found, || shown(&found.key));
+                    self.begun(task, Way::Out, object);
+                }
+                Then::Wait(After::Send { socket: number })
+            }
             Target::Missing | Target::Hidden => Then::Free,
         }
     }
 
-    fn writes_to(&mut self, task: Tid, number: i32, objects: &[ObjectId]) -> Then {
+    /// The command must not change what watches it.
+    pub fn refuse_own(&mut self, task: Tid) -> Then {
+        self.tell(format!("process {task} wants to change what watches it, which is refused"));
+        Then::Refuse(libc::EPERM)
+    }
+
+    /// A write to objects begins.
+    fn writes_to(&mut self, task: Tid, number: i32, objects: &[ObjectId], long: bool) -> Then {
         let alone = self.is_alone(task);
+        let mut waits = false;
         for object in objects {
             let flow = crate::event::Flow { way: Way::Out, object: *object };
             // One that must fail moves nothing; that is asked only where it matters.
@@ -361,29 +442,39 @@ impl Tracer {
             if changes && reads() {
                 return Then::Free;
             }
-            if alone {
+            if changes {
+                self.tell_elsewhere(*object);
+            }
+            // Only a short write to a plain file is over before anybody else can do anything.
+            if alone && !long && self.is_plain(*object) {
                 self.moved(task, Way::Out, *object);
+                if let Some(found) = self.tasks.get_mut(&task) {
+                    found.writes = Some(*object);
+                }
             } else {
                 self.begun(task, Way::Out, *object);
+                waits = true;
             }
         }
-        match alone || objects.is_empty() {
-            true => Then::Free,
-            false => Then::Wait(After::Nothing),
+        match waits {
+            true => Then::Wait(After::Nothing),
+            false => Then::Free,
         }
     }
 
     /// Messages with an address each: `struct msghdr` begins with the address and its length, and `struct mmsghdr` has 64 bytes.
     fn begins_messages(&mut self, task: Tid, arguments: &[u64; 6]) -> Then {
         const HEADER: u64 = 64;
-        let many = arguments[2] != 0 && self.call_number(task) == Some(libc::SYS_sendmmsg);
+        let many = arguments[2] != 0 && self.number == libc::SYS_sendmmsg;
         let count = if many { arguments[2].min(libc::UIO_MAXIOV as u64) } else { 1 };
         let mut then = Then::Free;
         for message in 0..count {
             let at = arguments[1].wrapping_add(message * HEADER);
             let (name, length) = (look::word(task, at).unwrap_or(0), look::word(task, at.wrapping_add(8)).unwrap_or(0));
             let address = self.address(task, name, length & 0xffff_ffff);
-            match self.begins_write(task, arguments[0] as i32, address.as_deref()) {
+            let flags = if many { arguments[3] } else { arguments[2] };
+            self.keeps_pages(task, arguments[0] as i32, flags, address.as_deref());
+            match self.begins_write(task, arguments[0] as i32, address.as_deref(), true) {
                 Then::Free => {}
                 other => then = other,
             }
@@ -391,30 +482,12 @@ impl Tracer {
         then
     }
 
-    pub fn call_number(&self, task: Tid) -> Option<libc::c_long> {
-        sys::registers(task).ok().map(|registers| registers.orig_rax as libc::c_long)
-    }
-
-    /// Pages of the memory stay in the pipe, and pages of the pipe come into the memory: what is put into them later goes along.
-    fn begins_splice(&mut self, task: Tid, number: i32) -> Then {
-        if let Target::Objects(objects) = self.target(task, number, Way::Out, None) {
-            for object in objects {
-                self.map(task, object, true);
-            }
-        }
-        Then::Free
-    }
-
-    pub fn map(&mut self, task: Tid, object: ObjectId, writable: bool) {
-        self.emit(Event::Mapped { task: task as TaskId, object, writable });
-    }
-
     /// Whether a file that a call reads from has nothing left, as far as can be seen before the call.
     fn is_at_end(&self, task: Tid, arguments: &[u64; 6], from: usize) -> bool {
         let number = arguments[from] as i32;
-        let at = match self.call_number(task) {
-            Some(libc::SYS_sendfile) => arguments[2],
-            Some(libc::SYS_tee) => return false,
+        let at = match self.number {
+            libc::SYS_sendfile => arguments[2],
+            libc::SYS_tee => return false,
             _ => arguments[1],
         };
         let offset = match at {
@@ -432,9 +505,9 @@ impl Tracer {
         match (from, to) {
             (Target::Objects(from), Target::Objects(to)) if at_end => return Then::Wait(After::Move { from, to }),
             (Target::Objects(from), Target::Objects(to)) => {
-                // A pipe keeps pages of a file: what is written to the file later is in the pipe too.
-                from.iter().for_each(|object| self.map(task, *object, false));
+                self.keeps_file(task, &from, &to);
                 self.begun_all(task, Way::In, &from);
+                self.tell_if_more(task, &to);
                 self.begun_all(task, Way::Out, &to);
             }
             (Target::Memory(other), Target::Objects(to)) => {
@@ -449,70 +522,14 @@ impl Tracer {
                 self.begun_all(task, Way::In, &from);
                 self.tell("data was sent on a socket whose other side is not known");
             }
+            (Target::Memory(from), Target::Memory(to)) => {
+                self.pass(task, from, Way::In);
+                self.pass(task, to, Way::Out);
+            }
+            (Target::Open, _) => self.tell("data may come from a socket whose other side is not known"),
             _ => {}
         }
         Then::Wait(After::Nothing)
-    }
-
-    /// Data goes between the memories of two tasks: at the beginning of the call, and again at its end.
-    fn passes(&mut self, task: Tid, other: Tid, way: Way) -> Then {
-        self.pass(task, other, way);
-        Then::Wait(After::Pass { other, way })
-    }
-
-    fn pass(&mut self, task: Tid, other: Tid, way: Way) {
-        if !self.tasks.contains_key(&other) {
-            return;
-        }
-        let object =
-            self.object(&Found::passing(Key::Memory(other)), || format!("memory of process {other}").into_bytes());
-        let (from, to) = if way == Way::In { (other, task) } else { (task, other) };
-        self.moved(from, Way::Out, object);
-        self.moved(to, Way::In, object);
-    }
-
-    /// A mapping is a read, whatever its protection, and a shared one a write too, until the memory ends.
-    fn begins_mapping(&mut self, task: Tid, arguments: &[u64; 6]) -> Then {
-        let (flags, number) = (arguments[3] as i32, arguments[4] as i32);
-        let shared = flags & libc::MAP_SHARED != 0;
-        let target = match flags & libc::MAP_ANONYMOUS != 0 {
-            true => Target::Objects(Vec::new()),
-            false => self.target(task, number, Way::In, None),
-        };
-        if shared {
-            self.share(task);
-        }
-        match target {
-            // Memory that children share, also by the device of zeros.
-            Target::Objects(objects) if objects.is_empty() && shared => {
-                self.anonymous += 1;
-                let found = Found::passing(Key::Anonymous(self.anonymous));
-                let object = self.object(&found, || b"shared memory".to_vec());
-                self.map(task, object, true);
-            }
-            Target::Objects(objects) => {
-                let write = |flags: i32| flags & libc::O_ACCMODE == libc::O_RDWR;
-                let writable = shared && look::descriptor_flags(task, number).map_or(true, write);
-                objects.into_iter().for_each(|object| self.map(task, object, writable));
-            }
-            Target::Memory(other) => return self.passes(task, other, Way::In),
-            Target::Missing | Target::Hidden | Target::Open => {}
-        }
-        Then::Free
-    }
-
-    /// Shared mappings that a task has taken away meanwhile are over before it takes in more.
-    fn settle_mappings(&mut self, task: Tid) {
-        let shared = self.tasks.get(&task).and_then(|task| self.memories.get(&task.memory)).is_some_and(|m| m.shared);
-        if !shared {
-            return;
-        }
-        for object in self.ledger.mapped_by(task as TaskId) {
-            let key = self.key_of(object);
-            if key.is_some_and(|key| !look::maps_shared(task, &key)) {
-                self.emit(Event::Unmapped { task: task as TaskId, object });
-            }
-        }
     }
 
     /// A call has come to its end.
@@ -522,7 +539,10 @@ impl Tracer {
             After::Read(objects) if moved_data(result) => {
                 self.moved_all(task, Way::In, &objects);
             }
-            After::Receive { socket, begun } if moved_data(result) || begun => {
+            // A datagram without data has an address.
+            After::Receive { socket, begun }
+                if moved_data(result) || begun || result == 0 && self.takes_datagrams(task, socket) =>
+            {
                 if let Target::Objects(objects) = self.target(task, socket, Way::In, None) {
                     self.moved_all(task, Way::In, &objects);
                 }
@@ -537,23 +557,28 @@ impl Tracer {
                 self.moved_all(task, Way::In, &from);
                 self.moved_all(task, Way::Out, &to);
             }
-            After::Pass { other, way } if moved_data(result) => self.pass(task, other, way),
+            After::Pass { others, way } if moved_data(result) => {
+                others.into_iter().for_each(|other| self.pass(task, other, way));
+            }
             after => self.ends_other(task, &call.arguments, after, result),
         }
+    }
+
+    /// Whether a socket gives messages one by one.
+    fn takes_datagrams(&self, task: Tid, socket: i32) -> bool {
+        !self.sockets.is_stream(task, socket)
     }
 
     /// Calls about names and addresses have come to their end.
     fn ends_other(&mut self, task: Tid, arguments: &[u64; 6], after: After, result: i64) {
         match after {
             After::Open(opening) if result >= 0 => self.opened(task, &opening, result as i32),
-            After::Names(how) if result >= 0 || self.guard => self.check_names(Some(task), how),
+            After::Names(how) if result >= 0 || self.guard => self.names_changed(task, how),
             After::Linked { at } if result >= 0 => {
                 self.linked_to(task, at, arguments);
                 self.check_names(Some(task), "a symbolic link");
             }
-            After::Truncate(object) if result >= 0 => {
-                self.emit(Event::Emptied { object });
-            }
+            After::Truncate { object, since } if result >= 0 => self.emptied(object, since),
             After::Addressed { socket, address, binds } => {
                 self.sockets.addressed(task, socket, Some(&address), binds);
                 if let Some(object) = self.socket_names(task, socket).filter(|_| binds && result >= 0) {
@@ -561,7 +586,13 @@ impl Tracer {
                 }
             }
             After::Closed => self.truncate_unheld(task),
-            After::Accepted if result >= 0 => self.sockets.accepted(task, result as i32),
+            // The same memory has a file of its own, which can be opened below `/proc`.
+            After::Shared(object) if result > 0 => {
+                if let Some(found) = look::mapped_at(task, result as u64) {
+                    self.same_object(found.key, object);
+                }
+            }
+            After::Accepted if result >= 0 => self.accepted(task, result as i32),
             After::Paired(at) if result >= 0 => {
                 if let Some(pair) = look::word(task, at) {
                     self.sockets.paired(task, pair as i32, (pair >> 32) as i32);
@@ -569,6 +600,21 @@ impl Tracer {
             }
             _ => {}
         }
+    }
+
+    /// A call has changed names.
+    fn names_changed(&mut self, task: Tid, how: &str) {
+        if how == MOUNT {
+            look::forget_mounts();
+        }
+        self.check_names(Some(task), how);
+    }
+
+    /// A connection was taken up, under this number.
+    fn accepted(&mut self, task: Tid, number: i32) {
+        self.sockets.accepted(task, number);
+        self.takes_in(task, number);
+        self.reads_address(task, number);
     }
 
     /// What a descriptor gives goes into the memory of a task.
@@ -579,6 +625,11 @@ impl Tracer {
             Target::Missing | Target::Hidden | Target::Open => {}
         }
     }
+}
+
+/// The number of this program.
+pub fn own() -> Tid {
+    std::process::id() as Tid
 }
 
 /// The name of a socket's object for people.
@@ -594,6 +645,7 @@ fn shown(key: &Key) -> Vec<u8> {
     }
 }
 
+/// The port in host and port as 18 bytes.
 fn port_of(address: &[u8]) -> u16 {
     address.get(16..18).map_or(0, |bytes| u16::from_be_bytes([bytes[0], bytes[1]]))
 }

@@ -147,13 +147,13 @@ impl Monitor {
         self.session.words()[session::container(number.into())][session::TAG]
     }
 
-    /// Whether an append of a process would leave a container as it is.
-    pub fn would_keep(&self, object: u8, process: u8) -> bool {
-        let (object, process) = (self.row(object), self.row(process));
+    /// Whether what one container gives to another, by a read or an append, would leave that one as it is.
+    pub fn would_keep(&self, receiver: u8, giver: u8) -> bool {
+        let (receiver, giver) = (self.row(receiver), self.row(giver));
         let rule = session::RUN..session::RUN + session::RULE;
-        let unrestricted = process[session::RUN] == 1 && process[session::RUN + 1] == u64::MAX;
-        let same_rule = unrestricted || object[rule.clone()] == process[rule];
-        same_rule && object[session::TAG] | process[session::TAG] == object[session::TAG]
+        let unrestricted = giver[session::RUN] == 1 && giver[session::RUN + 1] == u64::MAX;
+        let same_rule = unrestricted || receiver[rule.clone()] == giver[rule];
+        same_rule && receiver[session::TAG] | giver[session::TAG] == receiver[session::TAG]
     }
 
     pub fn is_guarded(&self, number: u8) -> bool {

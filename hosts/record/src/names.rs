@@ -94,16 +94,17 @@ impl Recorder {
         }
     }
 
-    /// Whether another name may have been meant by one that nothing was found at: its folder is not there either, or a file in that
-    /// folder that the story does not name has got something of a source.
+    /// Whether another name may have been meant by one that nothing was found at: its folder is not there either, or a file that the
+    /// story does not name, in that folder or of the same name elsewhere, has got something of a source.
     pub fn may_be_misspelt(&self, path: &[u8]) -> bool {
-        let (folder, _) = path::split(path);
+        let (folder, name) = path::split(path);
         let Ok(folder) = fs::canonicalize(OsStr::from_bytes(folder)) else { return true };
         let holds = |id: FileId| {
             let file = self.files.get(id);
             let named = file.of_image || file.rule.is_some() || file.sort != Sort::File;
             let holds = file.number.is_some_and(|number| self.monitor.tag(number) != 0);
-            !named && holds && path::split(file.label.as_bytes()).0 == folder.as_os_str().as_bytes()
+            let (above, other) = path::split(file.label.as_bytes());
+            !named && holds && (above == folder.as_os_str().as_bytes() || other == name)
         };
         self.files.ids().any(holds)
     }
@@ -170,6 +171,7 @@ impl Recorder {
         self.govern_by(file, path, &format!("{how} by {by}"));
     }
 
+    /// The same, with the words for who has given the name.
     pub fn govern_by(&mut self, file: FileId, path: &[u8], by: &str) {
         let Some(rule) = self.files.story_rule(path) else { return };
         let name = self.files.story_name(path).unwrap_or_default().to_string();
@@ -190,6 +192,7 @@ impl Recorder {
         }
     }
 
+    /// Copies what a file holds into a container for another user.
     pub fn copy(&mut self, file: FileId, old: u8, user: u8, by: &str) {
         let process = self.plan.recorder;
         let numbers = self.take_number().and_then(|number| {

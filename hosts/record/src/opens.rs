@@ -1,10 +1,11 @@
 //! Calls that go by a path, or name a file in another way: opens, program starts, links, attributes.
 
-use crate::event::{Event, TaskId};
+use crate::event::{Event, ObjectId, TaskId};
 use crate::look::{self, Seen};
 use crate::meaning::{After, Target, Then};
 use crate::path;
-use crate::stops::Tracer;
+use crate::resolve::path_of;
+use crate::stops::{Task, Tracer};
 use crate::sys::Tid;
 use crate::table;
 
@@ -37,6 +38,7 @@ impl Tracer {
         self.seen(task, seen, |_| name)
     }
 
+    /// The name of the file that a call names, for people.
     pub fn file_name(&self, task: Tid, way: table::Way, arguments: &[u64; 6]) -> Vec<u8> {
         let text = |folder, address| look::shown(task, folder, &look::text(task, address).unwrap_or_default());
         match way {
@@ -46,6 +48,7 @@ impl Tracer {
         }
     }
 
+    /// A call reads something of the file that it names.
     pub fn reads_file(&mut self, task: Tid, way: table::Way, arguments: &[u64; 6]) -> Then {
         match self.named_file(task, way, arguments) {
             Target::Objects(objects) if !objects.is_empty() => Then::Wait(After::Read(objects)),
@@ -53,6 +56,7 @@ impl Tracer {
         }
     }
 
+    /// A call adds something to the file that it names.
     pub fn adds_to_file(&mut self, task: Tid, way: table::Way, arguments: &[u64; 6]) -> Then {
         if let Target::Objects(objects) = self.named_file(task, way, arguments) {
             for object in objects {
@@ -72,6 +76,7 @@ impl Tracer {
         }
     }
 
+    /// A call asks where a link leads.
     pub fn reads_link(&mut self, task: Tid, way: table::Way, arguments: &[u64; 6]) -> Then {
         if self.links == 0 {
             return Then::Free;
@@ -89,10 +94,11 @@ impl Tracer {
         }
     }
 
+    /// The flags of an open.
     pub fn open_flags(&self, task: Tid, at: usize, arguments: &[u64; 6]) -> i32 {
-        match self.call_number(task) {
-            Some(libc::SYS_creat) => libc::O_CREAT | libc::O_WRONLY | libc::O_TRUNC,
-            Some(libc::SYS_openat2) => {
+        match self.number {
+            libc::SYS_creat => libc::O_CREAT | libc::O_WRONLY | libc::O_TRUNC,
+            libc::SYS_openat2 => {
                 look::word(task, arguments[2]).map_or(libc::O_CREAT | libc::O_TRUNC, |flags| flags as i32)
             }
             _ => arguments[at + 1] as i32,
@@ -128,25 +134,37 @@ impl Tracer {
             if self.guard {
                 self.truncates_later(task, number, object, found.key);
             } else {
-                self.emit(Event::Emptied { object });
+                self.emptied(object, opening.events);
             }
         }
     }
 
+    /// A file was truncated by a call that has begun behind an event. If somebody has written to it since then, or may just do so, it may
+    /// have that still.
+    pub fn emptied(&mut self, object: ObjectId, since: usize) {
+        let writes =
+            |(task, found): (&Tid, &Task)| found.writes == Some(object) && look::may_be_in(*task, &look::WRITES);
+        if !self.ledger.written_since(object, since) && !self.tasks.iter().any(writes) {
+            self.emit(Event::Emptied { object });
+        }
+    }
+
+    /// A call truncates what was found.
     pub fn truncates(&mut self, task: Tid, seen: Seen, length: u64) -> Then {
         match self.seen(task, seen, |_| b"a file".to_vec()) {
             Target::Objects(objects) if length == 0 => match objects.first() {
-                Some(object) => Then::Wait(After::Truncate(*object)),
+                Some(object) => Then::Wait(After::Truncate { object: *object, since: self.ledger.events() }),
                 None => Then::Free,
             },
             _ => Then::Free,
         }
     }
 
+    /// A program start begins.
     pub fn executes(&mut self, task: Tid, at: usize, arguments: &[u64; 6]) -> Then {
         let folder = if at == 0 { libc::AT_FDCWD } else { arguments[0] as i32 };
         let text = look::text(task, arguments[at]).unwrap_or_default();
-        let seen = look::at(task, &look::path_of(task, folder, &text), true);
+        let seen = look::at(task, &path_of(task, folder, &text, true), true);
         let name = match text.is_empty() {
             true => path::shown(path::split(&look::shown(task, folder, &text)).1),
             false => path::shown(path::split(&text).1),

@@ -8,13 +8,15 @@ use std::path::Path;
 use crate::event_list;
 use crate::sys;
 
-/// An error if a path is a link of another user; one of the system's own is none.
+/// An error if a path, or a folder on the way to it, is a link of another user; one of the system's own is none.
 pub fn refuse_link(path: &Path) -> io::Result<()> {
-    match fs::symlink_metadata(path) {
-        Ok(found) if found.is_symlink() && found.uid() != 0 && found.uid() != sys::user() => {
-            Err(io::Error::new(io::ErrorKind::PermissionDenied, "a link of another user, which is not followed"))
-        }
-        _ => Ok(()),
+    let theirs = |path: &Path| {
+        let found = fs::symlink_metadata(path);
+        found.is_ok_and(|found| found.is_symlink() && found.uid() != 0 && found.uid() != sys::user())
+    };
+    match path.ancestors().any(theirs) {
+        true => Err(io::Error::new(io::ErrorKind::PermissionDenied, "a link of another user, which is not followed")),
+        false => Ok(()),
     }
 }
 

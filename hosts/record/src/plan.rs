@@ -6,7 +6,7 @@ use std::fs;
 use std::os::unix::ffi::{OsStrExt, OsStringExt};
 
 use policy_text::Story;
-use yaslaurel::{Kind, Policy, PolicyError, Rule};
+use yaslaurel::{Kind, Policy, PolicyContainer, PolicyError, Rule};
 
 use crate::path;
 
@@ -136,10 +136,19 @@ fn guarded(policy: &Policy) -> Vec<(u8, String)> {
     guarded.map(|(number, (name, _))| (number as u8, name.to_string())).collect()
 }
 
+/// A process without a rule, as a policy of profiles begins with one: the run has processes of its own, and none of them is this.
+fn is_plain_process(container: PolicyContainer) -> bool {
+    container.kind == Kind::Process && container.permit.is_none() && container.run.is_none()
+}
+
+/// The files of a story, each at its place; a process without a rule is passed over.
 fn story_files(policy: &Policy, folder: Option<&[u8]>, follow: bool) -> Result<Vec<StoryFile>, PlanError> {
     let mut files: Vec<StoryFile> = Vec::new();
     for (number, (name, container)) in policy.containers().enumerate() {
         let name = name.to_string();
+        if is_plain_process(container) {
+            continue;
+        }
         if container.kind != Kind::File && container.kind != Kind::Guarded {
             return Err(PlanError::NotAFile { name });
         }

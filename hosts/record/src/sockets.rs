@@ -1,10 +1,11 @@
 //! Sockets of a run: where what is sent goes, and whence what is received comes. Sides and addresses are asked of the kernel.
 
-use std::collections::{BTreeSet, HashMap};
+use std::collections::{BTreeSet, HashMap, HashSet};
 use std::os::fd::OwnedFd;
 
 use crate::event::Way;
-use crate::look::{self, Found, Key};
+use crate::look::{Found, Key};
+use crate::resolve::path_of;
 use crate::sys::{self, Tid};
 
 /// The objects of a socket for one way, or why they are not known.
@@ -21,8 +22,18 @@ pub struct Sockets {
     peers: HashMap<u64, u64>,
     /// Local sockets that have called and that nobody was seen to answer.
     calling: BTreeSet<u64>,
-    /// Who has a local address: the file's identity, or an abstract name.
-    bound: HashMap<Key, u64>,
+    /// Local sockets that were accepted and whose other side is not known.
+    answering: BTreeSet<u64>,
+    /// Who has a local address: the file's identity, or an abstract name, which several name spaces may have.
+    bound: HashMap<Key, BTreeSet<u64>>,
+    /// The port that a socket calls, by inode.
+    called: HashMap<u64, u16>,
+    /// The ports to which something was sent before a connection was there.
+    early: BTreeSet<u16>,
+    /// Local addresses to which something was sent.
+    named: HashSet<Key>,
+    /// Whether a local socket was given an address.
+    pub has_names: bool,
     /// The ports that a socket for datagrams has had.
     ports: HashMap<u64, BTreeSet<u16>>,
     /// The two addresses of connections, by inode.
@@ -37,6 +48,7 @@ struct Copy {
     kind: i32,
 }
 
+/// An open copy of a descriptor of a task, if it is a socket.
 fn copy(task: Tid, number: i32) -> Option<Copy> {
     let descriptor = sys::copy_descriptor(task, number).ok()?;
     let inode = sys::status_of(&descriptor).ok()?.inode;
@@ -46,15 +58,18 @@ fn copy(task: Tid, number: i32) -> Option<Copy> {
 }
 
 impl Copy {
+    /// The address of the socket, or of its other side.
     fn address(&self, other_side: bool) -> Option<Vec<u8>> {
         sys::socket_address(&self.descriptor, other_side).ok()
     }
 
+    /// Whether it sends datagrams.
     fn is_datagram(&self) -> bool {
         self.kind == libc::SOCK_DGRAM
     }
 }
 
+/// The family that an address begins with.
 fn family(address: &[u8]) -> i32 {
     address.get(..2).map_or(libc::AF_UNSPEC, |bytes| i32::from(u16::from_ne_bytes([bytes[0], bytes[1]])))
 }
@@ -68,6 +83,7 @@ fn host_and_port(address: &[u8]) -> Option<Vec<u8>> {
     }
 }
 
+/// The port of an address of the internet.
 fn port(address: &[u8]) -> Option<u16> {
     host_and_port(address)?;
     address.get(2..4).map(|bytes| u16::from_be_bytes([bytes[0], bytes[1]])).filter(|port| *port != 0)
@@ -80,11 +96,17 @@ fn local_address(task: Tid, address: &[u8]) -> Option<Key> {
         return Some(Key::Address(name.to_vec()));
     }
     let end = name.iter().position(|byte| *byte == 0).unwrap_or(name.len());
-    let path = std::ffi::CString::new(look::path_of(task, libc::AT_FDCWD, &name[..end])).ok()?;
+    let path = std::ffi::CString::new(path_of(task, libc::AT_FDCWD, &name[..end], true)).ok()?;
     let status = sys::status(&path, true).ok()?;
     Some(Key::Inode { device: status.device, inode: status.inode, birth: status.birth })
 }
 
+/// What was sent to a port before a connection was there.
+fn early(port: u16) -> Found {
+    Found::passing(Key::Stream { from: Vec::new(), to: port.to_be_bytes().to_vec() })
+}
+
+/// A socket of another kind, in words.
 fn not_followed(copy: &Copy) -> Ends {
     Ends::NotFollowed(format!(
         "a socket of family {} and type {}, of which the other sides are not known",
@@ -108,18 +130,20 @@ impl Sockets {
         }
     }
 
+    /// The objects of a local connection for one way.
     fn local_stream(&mut self, copy: &Copy, way: Way) -> Vec<Found> {
         let sent = |inode: u64| Found::passing(Key::Sent(inode));
         match way {
             Way::Out => vec![sent(copy.inode)],
             Way::In => match self.peer(copy.inode) {
                 Some(peer) => vec![sent(peer)],
-                // The other side was gone before it was seen: it is one of those that nobody has answered.
-                None => self.calling.iter().map(|inode| sent(*inode)).collect(),
+                // The other side was gone before it was seen, or the kernel does not tell it in this name space: it is one of those.
+                None => self.calling.union(&self.answering).map(|inode| sent(*inode)).collect(),
             },
         }
     }
 
+    /// The other side of a local socket, by inodes.
     fn peer(&mut self, inode: u64) -> Option<u64> {
         if let Some(peer) = self.peers.get(&inode) {
             return Some(*peer);
@@ -129,22 +153,34 @@ impl Sockets {
         Some(peer)
     }
 
+    /// Two local sockets are sides of one connection.
     fn pair(&mut self, one: u64, other: u64) {
         self.peers.insert(one, other);
         self.peers.insert(other, one);
-        self.calling.remove(&one);
-        self.calling.remove(&other);
+        for inode in [one, other] {
+            self.calling.remove(&inode);
+            self.answering.remove(&inode);
+        }
     }
 
+    /// The objects of a local socket for datagrams.
     fn local_datagrams(&mut self, task: Tid, copy: &Copy, way: Way, address: Option<&[u8]>) -> Ends {
         let inbox = |inode: u64| Ends::Objects(vec![Found::passing(Key::Inbox(inode))]);
         match (way, address) {
-            (Way::In, _) => inbox(copy.inode),
+            (Way::In, _) => {
+                // The kernel may have given it an address by itself.
+                let own = copy.address(false).and_then(|own| local_address(task, &own));
+                let own = own.filter(|key| self.named.contains(key)).map(Found::passing);
+                Ends::Objects(own.into_iter().chain([Found::passing(Key::Inbox(copy.inode))]).collect())
+            }
             (Way::Out, Some(address)) => match local_address(task, address) {
-                Some(key) => match self.bound.get(&key) {
-                    Some(inode) => inbox(*inode),
-                    None => Ends::Objects(vec![Found::passing(key)]),
-                },
+                Some(key) => {
+                    let inboxes =
+                        self.bound.get(&key).into_iter().flatten().map(|inode| Found::passing(Key::Inbox(*inode)));
+                    let found = inboxes.chain([Found::passing(key.clone())]).collect();
+                    self.named.insert(key);
+                    Ends::Objects(found)
+                }
                 None => Ends::Objects(Vec::new()),
             },
             (Way::Out, None) => match sys::local_peer(copy.inode).ok().flatten() {
@@ -154,6 +190,7 @@ impl Sockets {
         }
     }
 
+    /// The objects of a socket for datagrams of the internet.
     fn datagrams(&mut self, copy: &Copy, way: Way, address: Option<&[u8]>) -> Ends {
         let objects = |ports: &mut dyn Iterator<Item = u16>| {
             Ends::Objects(ports.map(|port| Found::passing(Key::Port(port))).collect())
@@ -173,12 +210,14 @@ impl Sockets {
         }
     }
 
+    /// Keeps the port that a socket has now.
     fn note_port(&mut self, copy: &Copy) {
         if let Some(port) = copy.address(false).as_deref().and_then(port) {
             self.ports.entry(copy.inode).or_default().insert(port);
         }
     }
 
+    /// The objects of a connection of the internet.
     fn stream(&mut self, copy: &Copy, way: Way) -> Ends {
         let side = |other| copy.address(other).as_deref().and_then(host_and_port);
         if let (Some(own), Some(other)) = (side(false), side(true)) {
@@ -187,7 +226,11 @@ impl Sockets {
         let stream = |from: &Vec<u8>, to: &Vec<u8>| Found::passing(Key::Stream { from: from.clone(), to: to.clone() });
         match (self.sides.get(&copy.inode), way) {
             (Some((own, other)), Way::Out) => Ends::Objects(vec![stream(own, other)]),
-            (Some((own, other)), Way::In) => Ends::Objects(vec![stream(other, own)]),
+            (Some((own, other)), Way::In) => {
+                let port = own.get(16..18).map(|bytes| u16::from_be_bytes([bytes[0], bytes[1]]));
+                let early = port.filter(|port| self.early.contains(port)).map(early);
+                Ends::Objects([stream(other, own)].into_iter().chain(early).collect())
+            }
             (None, Way::Out) => Ends::Open,
             // It was reset before anybody looked: what is left in it may be of any connection.
             (None, Way::In) => {
@@ -197,21 +240,49 @@ impl Sockets {
         }
     }
 
+    /// Whether a socket has no bounds between messages.
+    pub fn is_stream(&self, task: Tid, number: i32) -> bool {
+        copy(task, number).is_some_and(|copy| copy.kind == libc::SOCK_STREAM)
+    }
+
+    /// What a socket that calls another gives to it by that.
+    pub fn call(&mut self, task: Tid, number: i32) -> Option<Found> {
+        let copy = copy(task, number).filter(|copy| !copy.is_datagram())?;
+        match copy.family {
+            libc::AF_UNIX => Some(Found::passing(Key::Sent(copy.inode))),
+            _ => self.early(task, number, None),
+        }
+    }
+
+    /// What is sent on a connection that is not there yet, by the port that is called: it may arrive before the call ends.
+    pub fn early(&mut self, task: Tid, number: i32, address: Option<&[u8]>) -> Option<Found> {
+        let copy = copy(task, number).filter(|copy| copy.kind == libc::SOCK_STREAM)?;
+        let port = address.and_then(port).or_else(|| self.called.get(&copy.inode).copied())?;
+        self.early.insert(port);
+        Some(early(port))
+    }
+
     /// A socket has got an address, or another side, or both.
     pub fn addressed(&mut self, task: Tid, number: i32, address: Option<&[u8]>, binds: bool) {
         let Some(copy) = copy(task, number) else { return };
         match (copy.family, copy.is_datagram()) {
             (libc::AF_UNIX, _) if binds => {
+                self.has_names = true;
                 let bound =
                     address.filter(|address| address.len() > 2).map(<[u8]>::to_vec).or_else(|| copy.address(false));
                 if let Some(key) = bound.and_then(|address| local_address(task, &address)) {
-                    self.bound.insert(key, copy.inode);
+                    self.bound.entry(key).or_default().insert(copy.inode);
                 }
             }
             (libc::AF_UNIX, false) if !self.peers.contains_key(&copy.inode) => {
                 self.calling.insert(copy.inode);
             }
             (libc::AF_INET | libc::AF_INET6, true) => self.note_port(&copy),
+            (libc::AF_INET | libc::AF_INET6, false) if !binds => {
+                if let Some(port) = address.and_then(port) {
+                    self.called.insert(copy.inode, port);
+                }
+            }
             _ => {}
         }
     }
@@ -219,7 +290,9 @@ impl Sockets {
     /// A connection was accepted, under this number.
     pub fn accepted(&mut self, task: Tid, number: i32) {
         if let Some(copy) = copy(task, number).filter(|copy| copy.family == libc::AF_UNIX) {
-            self.peer(copy.inode);
+            if self.peer(copy.inode).is_none() {
+                self.answering.insert(copy.inode);
+            }
         }
     }
 

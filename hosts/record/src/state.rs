@@ -19,6 +19,7 @@ pub struct Holder {
 }
 
 impl Holder {
+    /// The identity of a file, if it is one.
     pub fn of(key: &Key) -> Option<Holder> {
         match key {
             Key::Inode { device, inode, birth } => Some(Holder { device: *device, inode: *inode, birth: *birth }),
@@ -39,6 +40,7 @@ const HEADER: &str = "state of record, form 1";
 impl State {
     /// Reads a state; one that is not there is empty.
     pub fn read(path: &Path) -> io::Result<State> {
+        output::refuse_link(path)?;
         let text = match fs::read_to_string(path) {
             Ok(text) => text,
             Err(error) if error.kind() == io::ErrorKind::NotFound => return Ok(State::default()),
@@ -57,6 +59,7 @@ impl State {
         Ok(state)
     }
 
+    /// Takes up a line.
     fn take(&mut self, line: &str) -> Option<()> {
         let fields: Vec<&str> = line.splitn(6, ' ').collect();
         let ["holds", device, inode, birth, source, path] = fields[..] else { return None };

@@ -36,11 +36,16 @@ pub struct Task {
     pub vfork: Option<Tid>,
     /// The descriptors that the last call uses or moves which was let go on; it may not have looked at them yet.
     pub recent: Option<Recent>,
+    /// What its last call reads, if it brought nothing new when it began and its end is not waited for.
+    pub reads: Option<ObjectId>,
+    /// What its last call writes, if its end is not waited for.
+    pub writes: Option<ObjectId>,
 }
 
 impl Task {
+    /// A task of a memory, that runs.
     fn new(memory: usize) -> Task {
-        Task { memory, call: None, hidden: false, running: true, vfork: None, recent: None }
+        Task { memory, call: None, hidden: false, running: true, vfork: None, recent: None, reads: None, writes: None }
     }
 }
 
@@ -58,6 +63,13 @@ pub struct StoryName {
     /// Whether it stands for all files below a folder.
     pub folder: bool,
     pub guarded: bool,
+}
+
+impl StoryName {
+    /// A name of the story at which nothing was seen yet.
+    fn new(file: &StoryFile) -> StoryName {
+        StoryName { path: file.written.clone(), key: None, folder: file.folder, guarded: file.guarded }
+    }
 }
 
 pub struct Tracer {
@@ -97,17 +109,20 @@ pub struct Tracer {
     pub links: u64,
     /// Numbers for memory that processes share with their children.
     pub anonymous: u64,
+    /// The number of the call that begins.
+    pub number: libc::c_long,
+    /// Files whose pages were put into a pipe or sent.
+    pub spliced: HashSet<ObjectId>,
+    /// Values of the system.
+    pub system: HashSet<ObjectId>,
     stopped: bool,
 }
 
 impl Tracer {
+    /// A tracer at the start of a run.
     pub fn new(ledger: Ledger, guard: bool, strict: bool, kept: Option<Box<dyn Write>>) -> Tracer {
         let story = &ledger.recorder.plan.files;
-        let name = |file: &StoryFile| {
-            let (path, folder, guarded) = (file.written.clone(), file.folder, file.guarded);
-            StoryName { path, key: None, folder, guarded }
-        };
-        let names = story.iter().map(name).collect();
+        let names = story.iter().map(StoryName::new).collect();
         let (tasks, memories, objects, sockets, early, queue, waiting) = Default::default();
         Tracer {
             ledger,
@@ -135,20 +150,44 @@ impl Tracer {
             executed: false,
             links: 0,
             anonymous: 0,
+            number: 0,
+            spliced: HashSet::new(),
+            system: HashSet::new(),
             stopped: false,
         }
     }
 
     /// Takes up an event and keeps it, if events are kept. Whether it is blocked.
     pub fn emit(&mut self, event: Event) -> bool {
+        self.keep(&event);
+        let blocked = self.ledger.event(&event);
+        self.catch_up();
+        blocked
+    }
+
+    /// Writes an event down, if events are kept.
+    fn keep(&mut self, event: &Event) {
         if let Some(kept) = &mut self.kept {
-            if let Err(error) = event_list::write(kept, &event) {
+            if let Err(error) = event_list::write(kept, event) {
                 self.failure.get_or_insert(error);
             }
         }
-        self.ledger.event(&event)
     }
 
+    /// Files have got more: reads of them that were let go on, and that may not be over, get it too.
+    fn catch_up(&mut self) {
+        while self.ledger.has_grown() {
+            let reads = self.tasks.iter().filter_map(|(task, found)| Some((*task, found.reads?))).collect();
+            let reads = self.ledger.take_grown(reads);
+            for (task, object) in reads.into_iter().filter(|(task, _)| look::may_be_in(*task, &look::READS)) {
+                let event = Event::Moved { task: task as TaskId, flow: Flow { way: Way::In, object } };
+                self.keep(&event);
+                self.ledger.event(&event);
+            }
+        }
+    }
+
+    /// Tells something that is not followed.
     pub fn tell(&mut self, words: impl Into<String>) {
         self.emit(Event::Told { words: words.into() });
     }
@@ -156,7 +195,7 @@ impl Tracer {
     /// Runs a command to its end, and watches all that it starts.
     pub fn run(&mut self, command: &[OsString], user: u32, folder: Vec<u8>) -> io::Result<Ended> {
         let filter = filter::build(self.guard);
-        let mut started = sys::start(command, &filter)?;
+        let mut started = sys::start(command, &filter, !self.guard)?;
         sys::note_interrupts();
         let first = started.task;
         self.memories.insert(0, Memory { tasks: 1, shared: false });
@@ -171,6 +210,7 @@ impl Tracer {
         self.failure.take().map_or(Ok(ended), Err)
     }
 
+    /// Takes up stops until no task is left.
     fn watch(&mut self, started: &mut Started) -> io::Result<Ended> {
         let mut ended = None;
         while let Some((task, stop)) = self.next(ended.is_some())? {
@@ -211,10 +251,12 @@ impl Tracer {
         }
     }
 
+    /// Ends all tasks.
     fn end_all(&self) {
         self.tasks.keys().for_each(|task| sys::kill(*task));
     }
 
+    /// With `--strict` the first thing that is not followed ends the run.
     fn end_if_strict(&mut self) {
         if self.strict && !self.stopped && self.ledger.recorder.report.incomplete() {
             self.stopped = true;
@@ -233,6 +275,7 @@ impl Tracer {
         }
     }
 
+    /// Takes up a stop of a task.
     fn stop(&mut self, task: Tid, stop: Stop) {
         if let Stop::Exited { .. } | Stop::Killed { .. } = stop {
             if let Stop::Killed { core: true, .. } = stop {
@@ -246,7 +289,7 @@ impl Tracer {
             return;
         };
         known.running = false;
-        known.recent = None;
+        (known.recent, known.reads, known.writes) = (None, None, None);
         match stop {
             Stop::Filter => self.call_begins(task),
             Stop::CallEnd => self.call_ends(task),
@@ -258,6 +301,7 @@ impl Tracer {
         }
     }
 
+    /// Lets a task go on, with a signal or without.
     pub fn resume(&mut self, task: Tid, signal: i32) {
         if let Some(found) = self.tasks.get_mut(&task) {
             let until = if found.call.is_some() { Until::CallEnd } else { Until::NextCall };
@@ -273,6 +317,7 @@ impl Tracer {
             return self.resume(task, 0);
         }
         let meaning = meaning::of(&info);
+        self.number = info.number as libc::c_long;
         if meaning::changes_names(meaning, self.guard) {
             if self.naming.is_some_and(|other| other != task) {
                 self.waiting.push_back(task);
@@ -282,7 +327,7 @@ impl Tracer {
         }
         let then = match meaning {
             Some(meaning) => self.begins(task, meaning, &info.arguments),
-            None => self.unknown(&info),
+            None => self.unknown(task, &info),
         };
         match then {
             Then::Free => {
@@ -317,6 +362,7 @@ impl Tracer {
         }
     }
 
+    /// A call whose end was waited for has ended.
     fn call_ends(&mut self, task: Tid) {
         let call = self.tasks.get_mut(&task).and_then(|found| found.call.take());
         if let Some(call) = call {
@@ -354,6 +400,7 @@ impl Tracer {
         }
     }
 
+    /// A task has a child.
     fn born(&mut self, parent: Tid, vfork: bool) {
         let (Ok(child), Some(memory)) = (sys::event_message(parent), self.tasks.get(&parent).map(|task| task.memory))
         else {
@@ -394,6 +441,7 @@ impl Tracer {
         }
     }
 
+    /// A memory of its own for a child.
     fn fork_memory(&mut self, parent: usize) -> usize {
         self.next_memory += 1;
         let shared = self.memories.get(&parent).is_some_and(|memory| memory.shared);
@@ -401,6 +449,7 @@ impl Tracer {
         self.next_memory
     }
 
+    /// A task no longer has a memory.
     fn leave_memory(&mut self, memory: usize) {
         if let Some(found) = self.memories.get_mut(&memory) {
             found.tasks -= 1;
@@ -410,6 +459,7 @@ impl Tracer {
         }
     }
 
+    /// A task has executed a program: it has a memory of its own.
     fn executed(&mut self, task: Tid) {
         self.executed = true;
         let before = sys::event_message(task).unwrap_or(task);
@@ -441,6 +491,7 @@ impl Tracer {
         self.resume(task, 0);
     }
 
+    /// Tells which program a task has executed, and what the kernel has mapped for it.
     fn execute(&mut self, task: Tid, program: Option<ObjectId>, name: String) {
         let user = if self.ledger.recorder.plan.names_uids() { look::user(task).unwrap_or(u32::MAX) } else { 0 };
         let mapped: Vec<ObjectId> = match look::mapped(task) {
@@ -457,6 +508,7 @@ impl Tracer {
         }
     }
 
+    /// A task is gone.
     fn gone(&mut self, task: Tid) {
         self.early.remove(&task);
         let Some(found) = self.tasks.remove(&task) else { return };
@@ -467,6 +519,7 @@ impl Tracer {
         self.call_left(task);
     }
 
+    /// Tells a core dump.
     fn core_dump(&mut self, task: Tid) {
         self.tell(format!("process {task} has left a core dump, which has what it held"));
     }
@@ -486,6 +539,9 @@ impl Tracer {
         self.objects.insert(found.key.clone(), object);
         if found.plain {
             self.labels.insert(object, name.to_vec());
+        }
+        if let Key::System(_) = found.key {
+            self.system.insert(object);
         }
         // A file in memory is gone with its last descriptor.
         let sort = if name.starts_with(b"/memfd:") { crate::files::Sort::Passing } else { found.sort };
@@ -514,28 +570,44 @@ impl Tracer {
         state
     }
 
+    /// Whether an object is a plain file.
+    pub fn is_plain(&self, object: ObjectId) -> bool {
+        self.labels.contains_key(&object)
+    }
+
+    /// An object has another identity too.
+    pub fn same_object(&mut self, key: Key, object: ObjectId) {
+        self.objects.entry(key).or_insert(object);
+    }
+
+    /// The object of an identity, if it was seen.
     pub fn known(&self, key: &Key) -> Option<ObjectId> {
         self.objects.get(key).copied()
     }
 
+    /// The identity of an object.
     pub fn key_of(&self, object: ObjectId) -> Option<Key> {
         self.objects.iter().find(|(_, other)| **other == object).map(|(key, _)| key.clone())
     }
 
+    /// Data moves between a task and an object. Whether it is blocked.
     pub fn moved(&mut self, task: Tid, way: Way, object: ObjectId) -> bool {
         self.emit(Event::Moved { task: task as TaskId, flow: Flow { way, object } })
     }
 
+    /// The same, from here on until the call is over.
     pub fn begun(&mut self, task: Tid, way: Way, object: ObjectId) -> bool {
         self.emit(Event::Begun { task: task as TaskId, flow: Flow { way, object } })
     }
 
+    /// Data moves between a task and several objects.
     pub fn moved_all(&mut self, task: Tid, way: Way, objects: &[ObjectId]) {
         for object in objects {
             self.moved(task, way, *object);
         }
     }
 
+    /// The same, until the call is over.
     pub fn begun_all(&mut self, task: Tid, way: Way, objects: &[ObjectId]) {
         for object in objects {
             self.begun(task, way, *object);
@@ -587,9 +659,12 @@ impl Tracer {
     }
 
     /// A call that is not in the table.
-    fn unknown(&mut self, info: &sys::CallInfo) -> Then {
+    fn unknown(&mut self, task: Tid, info: &sys::CallInfo) -> Then {
         let words = meaning::not_in_the_table(info);
         self.tell(words);
+        if self.number == libc::SYS_ptrace && info.arguments[1] as Tid == meaning::own() {
+            return self.refuse_own(task);
+        }
         if self.guard {
             Then::Refuse(libc::ENOSYS)
         } else {

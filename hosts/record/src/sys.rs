@@ -55,6 +55,7 @@ const OPTIONS: c_int = libc::PTRACE_O_TRACESYSGOOD
     | libc::PTRACE_O_TRACESECCOMP
     | libc::PTRACE_O_EXITKILL;
 
+/// A result of the system as a number or an error.
 fn checked(result: c_long) -> io::Result<c_long> {
     if result < 0 {
         Err(io::Error::last_os_error())
@@ -91,6 +92,7 @@ pub enum Stop {
     },
 }
 
+/// What a status says of a task.
 fn stop(status: c_int) -> Stop {
     if libc::WIFEXITED(status) {
         return Stop::Exited { code: libc::WEXITSTATUS(status) };
@@ -138,6 +140,7 @@ impl Started {
     }
 }
 
+/// Both ends of a new pipe.
 fn pipe() -> io::Result<(File, File)> {
     let mut ends = [0; 2];
     // SAFETY: there is room for two descriptors, which nobody else has.
@@ -147,8 +150,8 @@ fn pipe() -> io::Result<(File, File)> {
     }
 }
 
-/// Starts a command under the filter. It waits for the tracer before its first call, and is killed with it.
-pub fn start(command: &[OsString], filter: &[Instruction]) -> io::Result<Started> {
+/// Starts a command under the filter, with core dumps or without. It waits for the tracer before its first call, and is killed with it.
+pub fn start(command: &[OsString], filter: &[Instruction], dumps: bool) -> io::Result<Started> {
     let words: Result<Vec<CString>, _> = command.iter().map(|word| CString::new(word.clone().into_vec())).collect();
     let words = words?;
     let mut arguments: Vec<*const libc::c_char> = words.iter().map(|word| word.as_ptr()).collect();
@@ -158,6 +161,10 @@ pub fn start(command: &[OsString], filter: &[Instruction]) -> io::Result<Started
     let task = unsafe {
         let task = checked(libc::fork().into())? as Tid;
         if task == 0 {
+            if !dumps {
+                let none = libc::rlimit { rlim_cur: 0, rlim_max: 0 };
+                libc::setrlimit(libc::RLIMIT_CORE, &none);
+            }
             execute(&arguments, filter, go.as_raw_fd(), failing.as_raw_fd());
         }
         task
@@ -219,6 +226,7 @@ pub fn interrupt(task: Tid) -> io::Result<()> {
     checked(unsafe { libc::ptrace(libc::PTRACE_INTERRUPT, task, 0usize, 0usize) }).map(|_| ())
 }
 
+/// The call at whose beginning a task has stopped.
 pub fn call_info(task: Tid) -> io::Result<CallInfo> {
     let mut info = CallInfo::default();
     // SAFETY: the system writes at most as many bytes as the structure has.
@@ -226,6 +234,7 @@ pub fn call_info(task: Tid) -> io::Result<CallInfo> {
     checked(done).map(|_| info)
 }
 
+/// The registers of a stopped task.
 pub fn registers(task: Tid) -> io::Result<Registers> {
     // SAFETY: the structure has numbers alone, and the system fills it.
     unsafe {
@@ -235,6 +244,7 @@ pub fn registers(task: Tid) -> io::Result<Registers> {
     }
 }
 
+/// Sets them.
 pub fn set_registers(task: Tid, registers: &Registers) -> io::Result<()> {
     // SAFETY: the system reads the structure.
     checked(unsafe { libc::ptrace(libc::PTRACE_SETREGS, task, 0usize, ptr::from_ref(registers)) }).map(|_| ())
@@ -298,6 +308,7 @@ pub struct Status {
 }
 
 impl Status {
+    /// Whether it is a file of this kind.
     pub fn is(&self, kind: u32) -> bool {
         self.mode & libc::S_IFMT == kind
     }
@@ -316,6 +327,7 @@ pub fn status_of(descriptor: &OwnedFd) -> io::Result<Status> {
     status_at(descriptor.as_raw_fd(), c"", libc::AT_EMPTY_PATH)
 }
 
+/// What the system says of a path below a folder.
 fn status_at(folder: c_int, path: &CStr, flags: c_int) -> io::Result<Status> {
     // SAFETY: the path ends with a zero byte; the structure has numbers alone, and the system fills it.
     let found = unsafe {
@@ -340,6 +352,16 @@ fn status_at(folder: c_int, path: &CStr, flags: c_int) -> io::Result<Status> {
     })
 }
 
+/// The kind of the file system of a path.
+pub fn file_system(path: &CStr) -> io::Result<libc::c_long> {
+    // SAFETY: the path ends with a zero byte; the structure has numbers alone, and the system fills it.
+    unsafe {
+        let mut found: libc::statfs = zeroed();
+        checked(libc::statfs(path.as_ptr(), &mut found).into())?;
+        Ok(found.f_type)
+    }
+}
+
 /// A copy of a task's descriptor.
 pub fn copy_descriptor(task: Tid, number: i32) -> io::Result<OwnedFd> {
     // SAFETY: both calls take numbers and give a descriptor that nobody else has.
@@ -353,7 +375,8 @@ pub fn copy_descriptor(task: Tid, number: i32) -> io::Result<OwnedFd> {
     }
 }
 
-fn process_of(task: Tid) -> Tid {
+/// The process of a task, by its number.
+pub fn process_of(task: Tid) -> Tid {
     let status = std::fs::read_to_string(format!("/proc/{task}/status")).unwrap_or_default();
     let found = status.lines().find_map(|line| line.strip_prefix("Tgid:"));
     found.and_then(|number| number.trim().parse().ok()).unwrap_or(task)

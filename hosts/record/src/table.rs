@@ -88,6 +88,10 @@ pub enum Meaning {
     Signals(usize),
     /// A filter of calls.
     Filters,
+    /// Limits of a process are set.
+    Limits,
+    /// An open by a handle, which can truncate.
+    OpensHandle,
     /// It moves no data between containers.
     Nothing,
 }
@@ -201,7 +205,13 @@ pub const CALLS: &[(&[&str], Meaning)] = &[
     (&["kill", "tkill", "rt_sigqueueinfo", "pidfd_send_signal"], Signals(0)),
     (&["tgkill", "rt_tgsigqueueinfo"], Signals(1)),
     (&["seccomp"], Filters),
+    (&["prlimit64", "setrlimit"], Limits),
+    (&["open_by_handle_at"], OpensHandle),
 ];
+
+/// The types of file systems whose files have no names elsewhere, but for that of processes.
+pub const OWN_FILE_SYSTEMS: [&[u8]; 9] =
+    [b"tmpfs", b"ramfs", b"proc", b"sysfs", b"devpts", b"devtmpfs", b"mqueue", b"cgroup2", b"hugetlbfs"];
 
 /// The calls that move no data between containers: names, sizes, times and rights of files, memory of the process itself,
 /// waiting, signals, clocks and the like. A live run does not ask strace for them.
@@ -228,7 +238,6 @@ pub const NO_DATA: &[&str] = &[
     "llistxattr",
     "flistxattr",
     "name_to_handle_at",
-    "open_by_handle_at",
     "listxattrat",
     "file_getattr",
     "statmount",
@@ -319,7 +328,6 @@ pub const NO_DATA: &[&str] = &[
     "signalfd4",
     "alarm",
     "pidfd_open",
-    "pidfd_send_signal",
     "getitimer",
     "setitimer",
     "timer_create",
@@ -366,8 +374,6 @@ pub const NO_DATA: &[&str] = &[
     "arch_prctl",
     "personality",
     "getrlimit",
-    "setrlimit",
-    "prlimit64",
     "getrusage",
     "getpriority",
     "setpriority",
@@ -457,6 +463,8 @@ pub enum Control {
     /// Data of the file whose descriptor is the argument, or stands first in it.
     Clones,
     ClonesRange,
+    /// It sets flags of a file.
+    ChangesFile,
     /// It types on a terminal.
     Types,
     ReadsSettings,
@@ -470,13 +478,32 @@ impl Control {
     }
 }
 
-/// The device controls that move no data, by the letter that is their second byte: terminals and descriptors, sockets, blocks,
+/// The device controls that move no data, by the letter that is their second byte: sockets, blocks,
 /// random numbers, name spaces, processes.
-const NO_DATA_LETTERS: [u8; 6] = [b'T', 0x89, 0x12, b'R', 0xb7, 0xff];
+const NO_DATA_LETTERS: [u8; 5] = [0x89, 0x12, b'R', 0xb7, 0xff];
 
-/// Single ones: blocks of a file, its flags, extents and version, the kind of a console.
-const NO_DATA_NUMBERS: [u32; 10] =
-    [1, 2, 0x8008_6601, 0x4008_6602, 0xc020_660b, 0x8008_7601, 0x801c_581f, 0x401c_5820, 0x4b33, 0x4b3b];
+/// Those of terminals and descriptors; behind them the letter is that of tunnels and others.
+const TERMINAL_CONTROLS: std::ops::RangeInclusive<u32> = 0x5400..=0x5460;
+
+/// Single ones: blocks of a file, its flags, extents and version, numbers and modes of terminals, the kind of a console.
+const NO_DATA_NUMBERS: [u32; 16] = [
+    1,
+    2,
+    0x8008_6601,
+    0xc020_660b,
+    0x8008_7601,
+    0x801c_581f,
+    0x4b33,
+    0x4b3b,
+    0x8004_5430,
+    0x4004_5431,
+    0x8004_5432,
+    0x8004_5438,
+    0x8004_5439,
+    0x8004_5440,
+    0x5441,
+    0x4004_5436,
+];
 
 /// What a device control means.
 pub fn control(number: u32) -> Control {
@@ -487,6 +514,8 @@ pub fn control(number: u32) -> Control {
         0x5401 | 0x5405 | 0x5413 | 0x802c_542a => Control::ReadsSettings,
         0x5402..=0x5404 | 0x5406..=0x5408 | 0x5414 | 0x402c_542b..=0x402c_542d => Control::WritesSettings,
         0x541c => Control::NotKnown,
+        0x4008_6602 | 0x401c_5820 => Control::ChangesFile,
+        _ if TERMINAL_CONTROLS.contains(&number) => Control::NoData,
         _ if NO_DATA_LETTERS.contains(&((number >> 8) as u8)) || NO_DATA_NUMBERS.contains(&number) => Control::NoData,
         _ => Control::NotKnown,
     }

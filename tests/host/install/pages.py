@@ -37,7 +37,7 @@ def missing(sections, part, function):
     others = [lines for lines in part.paragraphs if lines not in returns]
     wanted = {
         "NAME": function.name,
-        "SYNOPSIS": function.prototype.removeprefix("static inline ") + ";",
+        "SYNOPSIS": function.prototype.removeprefix("YASLAUREL_INLINE ") + ";",
         "DESCRIPTION": plain(others),
         "RETURN VALUE": plain(returns),
     }

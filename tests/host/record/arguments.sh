@@ -43,7 +43,7 @@ refused() {
 }
 log=$case/log
 refused "1: found .frob., expected .+" "frob"
-refused " .p. is no file, expected files alone: the run brings the rest" "source a" "process p"
+refused " .v. is no file, expected files alone: the run brings the rest" "source a" "volatile v"
 refused "3: found a step, expected none: the steps come from the run" "source a" "process p" "step read p a"
 refused " .a. and .\./a. are the same file, expected each file under one name" "source a" "file ./a"
 log=$work/no-folder

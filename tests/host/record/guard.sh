@@ -19,7 +19,7 @@ looks() { cat d/out && stat -c '%s %Y %Z %i %a' d/out; }
 
 guarded_ways() {
     local way before wrong=0
-    [ "$("$work/ways-program")" -eq 37 ] || return 1
+    [ "$("$work/ways-program")" -eq 50 ] || return 1
     for way in $(seq "$("$work/ways-program")"); do
         guarded_folder
         before=$(looks)
@@ -31,6 +31,50 @@ guarded_ways() {
 }
 guarded_ways
 note $? "$("$work/ways-program") ways to change a guarded file leave its bytes, size and times"
+
+# dumps: a process that holds the source is killed so that it leaves a core dump, under the name of a guarded file.
+dumps() {
+    guarded_folder
+    echo clean >core
+    printf '%s\n' "source a.pos" "source b.pos" "file core guarded" "permit core: b.pos" >story
+    timeout 30 "$record" --guard --story story -- sh -c 'ulimit -c unlimited; python3 -c "import os; open(\"a.pos\").read(); os.abort()"' >printed 2>said
+    [ "$(cat core)" = clean ] && grep -q 'core dumps are not allowed while files are guarded$' said
+}
+dumps
+note $? "guarded: a core dump under the name of a guarded file is not made"
+
+# hard_links: a further name of a guarded file is neither renamed nor removed by who holds the source.
+hard_links() {
+    local before
+    guarded_folder
+    ln d/out h
+    before=$(looks)
+    "$record" --guard --story story -- python3 -c 'import os
+open("a.pos").read()
+for change in (lambda: os.unlink("h"), lambda: os.rename("h", "k"), lambda: os.link("h", "k")):
+    try:
+        change()
+    except PermissionError:
+        print("refused")' >printed 2>said
+    [ $? -eq 1 ] && [ "$(looks)" = "$before" ] && [ "$(grep -c refused printed)" -eq 3 ] && grep -qE ', 3 blocked, ' said
+}
+hard_links
+note $? "guarded: further names of a guarded file stay"
+
+# told_once COUNT COMMAND..: a command whose only change is refused is told so many times as it tries, and explained once.
+told_once() {
+    local count=$1
+    shift
+    guarded_folder
+    "$record" --guard --story story -- "$@" >printed 2>said
+    [ $? -eq 1 ] && [ "$(grep -c '^blocked' said)" -eq "$count" ] && [ "$(grep -c '^  its own permit rule' said)" -eq 1 ] &&
+        [ "$(grep -cE '^blocked, step [0-9]+: .* \(explained at step [0-9]+\)$' said)" -eq $((count - 1)) ]
+    note $? "guarded: $* is blocked $count times, and explained once"
+}
+# It tries a rename that must not replace first, which cannot succeed.
+told_once 1 mv a.pos d/out
+told_once 1 ln -f a.pos d/out
+told_once 2 sh -c 'read x <a.pos; echo "$x" >>d/out; echo "$x" >>d/out'
 
 # race NAME ROUNDS: the report never has what is in the source.
 race() {

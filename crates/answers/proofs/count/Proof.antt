@@ -6,7 +6,10 @@ use Rattle.answers.proofs.count.Tie as tie
 
 returns : tie.Need-returns
 unfolding tallied
-returns c = rw (c .before .before .before .before .more .ensures, c .before .before .counted-if .ensures, c .before .before .before .is-alert .ensures, c .counted-if2 .ensures, c .before .is-refused .ensures)
+returns c =
+    let more = c .before .before .before .before .more in
+    let is-alert = c .before .before .before .is-alert in
+    rw (more .ensures, c .before .before .counted-if .ensures, is-alert .ensures, c .counted-if2 .ensures, c .before .is-refused .ensures)
 
 pub count-spec : {M : Type 1} → statement M
 count-spec =

@@ -12,10 +12,14 @@ use Rattle.capi.proofs.yaslaurel_run.Tie as tie
 
 returns : tie.Need-returns
 returns c =
-    let run = c .before .before .before .before .run .ensures in
+    let b4 = c .before .before .before .before in
+    let run = b4 .run .ensures in
     let number = c .before .number .ensures ∙ ap (λ (x : Ran). answerNumber (x .answer)) (run .0) in
     let nine = sym number ∙ c .if1 .taken in
-    let permitted = ap (λ (x : Ran). isAlert (x .answer) || isBlocked (x .answer)) (sym (run .0)) ∙ other-number (c .before .before .before .before .run .result .answer) (λ z. omega (arith, c .before .number .ensures, c .if1 .taken, z)) (λ z. omega (arith, c .before .number .ensures, c .if1 .taken, z)) in
+    let permitted =
+    ap (λ (x : Ran). isAlert (x .answer) || isBlocked (x .answer)) (sym (run .0))
+    ∙ other-number (b4 .run .result .answer) (λ z. omega (arith, c .before .number .ensures, c .if1 .taken, z))
+    (λ z. omega (arith, c .before .number .ensures, c .if1 .taken, z)) in
     (number, run .1, rw (eq-eqb _ _ nine), rw permitted)
 
 returns-2 : tie.Need-returns-2
@@ -28,11 +32,18 @@ returns-2 c =
 
 returns-3 : tie.Need-returns-3
 returns-3 c =
-    let run = c .before .before .before .before .before .before .before .before .run .ensures in
-    let number = c .before .before .before .before .before .number .ensures ∙ ap (λ (x : Ran). answerNumber (x .answer)) (run .0) in
-    let taken = ne-eqb _ _ (λ z. c .before .before .before .before .if1 .left (number ∙ z)) in
-    let forbidden = ap (λ (x : Ran). isAlert (x .answer) || isBlocked (x .answer)) (sym (run .0)) ∙ sym (c .before .before .before .is-forbidden .ensures) ∙ not-false _ (c .before .before .if2 .left) in
-    (number, run .1, rw taken (ap (λ (x : Ran). x .taken) (run .0)), rw forbidden (c .before .received-of .ensures ∙ ap (λ (x : Ran). receivedOf (x .answer)) (run .0)))
+    let b3 = c .before .before .before in let b8 = b3 .before .before .before .before .before in
+    let run = b8 .run .ensures in
+    let number = b3 .before .before .number .ensures ∙ ap (λ (x : Ran). answerNumber (x .answer)) (run .0) in
+    let taken = ne-eqb _ _ (λ z. b3 .before .if1 .left (number ∙ z)) in
+    let forbidden =
+    ap (λ (x : Ran). isAlert (x .answer) || isBlocked (x .answer)) (sym (run .0)) ∙ sym (b3 .is-forbidden .ensures)
+    ∙ not-false _ (c .before .before .if2 .left) in (
+      number,
+      run .1,
+      rw taken (ap (λ (x : Ran). x .taken) (run .0)),
+      rw forbidden (c .before .received-of .ensures ∙ ap (λ (x : Ran). receivedOf (x .answer)) (run .0)),
+    )
 
 pub yaslaurel-run-spec : {M : Type 1} → statement M
 yaslaurel-run-spec =

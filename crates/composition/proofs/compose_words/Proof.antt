@@ -17,18 +17,27 @@ rule-of-requires-2 c κs = let start = c .before .before .before .before .before
 composed-requires : tie.Need-composed-requires
 composed-requires c κs =
     let start = c .before .before .before .before .before .before .before .before in
-    rw (c .before .rule-of .ensures, c .rule-of2 .ensures)
-    (kept-short (start .args .words .now) (start .pre .2), kept-short (start .args .other .now) (start .pre .3), kept-normal (start .args .words .now) (start .pre .2), kept-normal (start .args .other .now) (start .pre .3))
+    rw (c .before .rule-of .ensures, c .rule-of2 .ensures) (
+      kept-short (start .args .words .now) (start .pre .2),
+      kept-short (start .args .other .now) (start .pre .3),
+      kept-normal (start .args .words .now) (start .pre .2),
+      kept-normal (start .args .other .now) (start .pre .3),
+    )
 
 returns-2 : tie.Need-returns-2
 returns-2 c =
-    let start = c .before .before .before .before .before .before .before .before .before .before .before in
-    words-over _ (start .args .words .now) (start .args .other .now) (rw (c .before .before .before .before .rule-of .ensures, c .before .before .before .rule-of2 .ensures) at (c .before .before .composed .ensures)) (start .pre .0) (c .if2 .taken)
+    let b3 = c .before .before .before in
+    let start = b3 .before .before .before .before .before .before .before .before in
+    words-over _ (start .args .words .now) (start .args .other .now)
+    (rw (b3 .before .rule-of .ensures, b3 .rule-of2 .ensures) at (c .before .before .composed .ensures)) (start .pre .0) (c .if2 .taken)
 
 returns-3 : tie.Need-returns-3
 returns-3 c =
-    let start = c .before .before .before .before .before .before .before .before .before .before .before .before .before .before .before in
-    words-put _ (start .args .words .now) (start .args .other .now) (rw (c .before .before .before .before .before .before .before .before .rule-of .ensures, c .before .before .before .before .before .before .before .rule-of2 .ensures) at (c .before .before .before .before .before .before .composed .ensures)) (c .before .before .before .before .if2 .left) (c .before .before .put-rule .ensures)
+    let b4 = c .before .before .before .before in let b7 = b4 .before .before .before in
+    let start = b7 .before .before .before .before .before .before .before .before in
+    words-put _ (start .args .words .now) (start .args .other .now)
+    (rw (b7 .before .rule-of .ensures, b7 .rule-of2 .ensures) at (b4 .before .before .composed .ensures)) (b4 .if2 .left)
+    (c .before .before .put-rule .ensures)
 
 pub compose-words-spec : {M : Type 1} → statement M
 compose-words-spec =

@@ -16,10 +16,15 @@ loop-holds : tie.Need-loop-holds Inv-loop μ-loop
 loop-holds c = let start = c .before .before in own-start _ _ (start .pre .0) (start .pre .1)
 
 put-container-record-requires : tie.Need-put-container-record-requires Inv-loop μ-loop
-put-container-record-requires c κs = own-room _ _ (c .before .before .before .loop-test .taken) (c .before .before .read8 .ensures .0) (c .before .read82 .ensures .0) (c .before .before .before .before .loop .inv)
+put-container-record-requires c κs =
+    let turn = c .before .before .before in
+    own-room _ _ (turn .loop-test .taken) (c .before .before .read8 .ensures .0) (c .before .read82 .ensures .0) (turn .before .loop .inv)
 
 loop-again : tie.Need-loop-again Inv-loop μ-loop
-loop-again c = own-next _ _ (c .before .before .before .before .before .before .loop-test .taken) (c .before .before .before .before .before .read8 .ensures .0) (c .before .before .before .before .read82 .ensures .0) (c .before .before .before .before .before .before .before .loop .inv) (c .before .before .put-container-record .ensures)
+loop-again c =
+    let b4 = c .before .before .before .before in let turn = b4 .before .before .before in
+    own-next _ _ (b4 .before .before .loop-test .taken) (b4 .before .read8 .ensures .0) (b4 .read82 .ensures .0) (turn .loop .inv)
+    (c .before .before .put-container-record .ensures)
 
 same-length : tie.Need-same-length Inv-loop μ-loop
 same-length c = c .before .loop .inv .long

@@ -36,31 +36,37 @@ part-put-composed-end c = row-room _ _ _ _ (c .before .before .before .loop .inv
 
 put-composed-requires : tie.Need-put-composed-requires Inv-loop μ-loop
 put-composed-requires c κs =
-    let start = c .before .before .before .before .before .before .before .before in
-    let loop = c .before .before .before .before .loop in
-    let taken = c .before .before .before .loop-test .taken in (
+    let turn = c .before .before .before in let start = turn .before .before .before .before .before in
+    let loop = turn .before .loop in
+    let taken = turn .loop-test .taken in (
       part-long (loop .forms) (loop .k * formWidth) formWidth (row-room _ _ _ _ (loop .inv) taken),
       start .pre .1 .first,
       start .pre .1 .second,
       number-named (start .args .first .now) (start .pre .1 .first) (loop .k) (omega (arith, taken, start .pre .0)) (c .before .before .number-at .ensures),
-      number-named (start .args .second .now) (start .pre .1 .second) (loop .k) (omega (arith, taken, start .pre .0, counts-same (start .args .first .now) (start .args .second .now) (start .pre .1))) (c .before .number-at2 .ensures),
+      number-named (start .args .second .now) (start .pre .1 .second) (loop .k)
+          (omega (arith, taken, start .pre .0, counts-same (start .args .first .now) (start .args .second .now) (start .pre .1)))
+          (c .before .number-at2 .ensures),
     )
 
 returns : tie.Need-returns Inv-loop μ-loop
 returns c =
-    let start = c .before .before .before .before .before .before .before .before .before .before .before .before in
-    let loop = c .before .before .before .before .before .before .before .before .loop in
-    let taken = c .before .before .before .before .before .before .before .loop-test .taken in
-    rowing-over _ _ _ _ (loop .inv) taken (pair-at (start .args .first .now) (start .args .second .now) (start .pre .1) (start .args .consent) (loop .k) (omega (arith, taken, start .pre .0)) (c .before .before .before .before .before .before .number-at .ensures) (c .before .before .before .before .before .number-at2 .ensures))
-    (c .before .before .before .put-composed .ensures) (not-true _ (c .if1 .taken)) _
+    let b3 = c .before .before .before in let b6 = b3 .before .before .before in
+    let start = b6 .before .before .before .before .before .before in
+    let loop = b6 .before .before .loop in
+    let taken = b6 .before .loop-test .taken in
+    rowing-over _ _ _ _ (loop .inv) taken
+    (pair-at (start .args .first .now) (start .args .second .now) (start .pre .1) (start .args .consent) (loop .k) (omega (arith, taken, start .pre .0))
+    (b6 .number-at .ensures) (b3 .before .before .number-at2 .ensures)) (b3 .put-composed .ensures) (not-true _ (c .if1 .taken)) _
 
 loop-again : tie.Need-loop-again Inv-loop μ-loop
 loop-again c =
-    let start = c .before .before .before .before .before .before .before .before .before .before .before .before in
-    let loop = c .before .before .before .before .before .before .before .before .loop in
-    let taken = c .before .before .before .before .before .before .before .loop-test .taken in
-    rowing-next _ _ _ _ (loop .inv) taken (pair-at (start .args .first .now) (start .args .second .now) (start .pre .1) (start .args .consent) (loop .k) (omega (arith, taken, start .pre .0)) (c .before .before .before .before .before .before .number-at .ensures) (c .before .before .before .before .before .number-at2 .ensures))
-    _ (c .before .before .before .put-composed .ensures) (not-false _ (c .if1 .left))
+    let b3 = c .before .before .before in let b6 = b3 .before .before .before in
+    let start = b6 .before .before .before .before .before .before in
+    let loop = b6 .before .before .loop in
+    let taken = b6 .before .loop-test .taken in
+    rowing-next _ _ _ _ (loop .inv) taken
+    (pair-at (start .args .first .now) (start .args .second .now) (start .pre .1) (start .args .consent) (loop .k) (omega (arith, taken, start .pre .0))
+    (b6 .number-at .ensures) (b3 .before .before .number-at2 .ensures)) _ (b3 .put-composed .ensures) (not-false _ (c .if1 .left))
 
 same-length-2 : tie.Need-same-length-2 Inv-loop μ-loop
 same-length-2 c = omega (arith, c .before .loop .inv .long, c .before .before .before .before .before .pre .0)

@@ -19,7 +19,10 @@ loop-holds : tie.Need-loop-holds Inv-loop μ-loop
 loop-holds c = comparing-start _ _ (c .if1 .left)
 
 returns-2 : tie.Need-returns-2 Inv-loop μ-loop
-returns-2 c = comparing-kind _ _ _ (c .before .before .before .before .loop .inv) (c .before .before .before .loop-test .taken) (λ e. c .if2 .taken (c .before .before .read8 .ensures .0 ∙ e ∙ sym (c .before .read82 .ensures .0)))
+returns-2 c =
+    let turn = c .before .before .before in
+    comparing-kind _ _ _ (turn .before .loop .inv) (turn .loop-test .taken)
+    (λ e. c .if2 .taken (c .before .before .read8 .ensures .0 ∙ e ∙ sym (c .before .read82 .ensures .0)))
 
 returns-3 : tie.Need-returns-3 Inv-loop μ-loop
 returns-3 c = comparing-atom _ _ _ (c .before .before .before .before .before .before .before .loop .inv)

@@ -15,8 +15,9 @@ section-requires-2 c κs = accepted-section _ (c .before .before .before .pre .1
 
 returns : tie.Need-returns
 returns c =
-    let start = c .before .before .before .before .before .before in
-    shape-not (start .args .first .now) (start .args .second .now) (fails-test (rw (c .before .before .before .section .ensures, c .before .before .section2 .ensures) at (c .before .same-containers .ensures)) (c .if1 .taken))
+    let b3 = c .before .before .before in let start = b3 .before .before .before in
+    shape-not (start .args .first .now) (start .args .second .now)
+    (fails-test (rw (b3 .section .ensures, c .before .before .section2 .ensures) at (c .before .same-containers .ensures)) (c .if1 .taken))
 
 section-requires-3 : tie.Need-section-requires-3
 section-requires-3 c κs = accepted-section _ (c .before .before .before .before .before .before .pre .0) 1 (omega arith)
@@ -26,9 +27,11 @@ section-requires-4 c κs = accepted-section _ (c .before .before .before .before
 
 returns-2 : tie.Need-returns-2
 returns-2 c =
-    let start = c .before .before .before .before .before .before .before .before in
+    let b3 = c .before .before .before in let start = b3 .before .before .before .before .before in
     rw (c .before .section3 .ensures, c .section4 .ensures)
-    (shape-if (start .args .first .now) (start .args .second .now) (passes-test (rw (c .before .before .before .before .before .section .ensures, c .before .before .before .before .section2 .ensures) at (c .before .before .before .same-containers .ensures)) (c .before .before .if1 .left)))
+    (shape-if (start .args .first .now) (start .args .second .now)
+    (passes-test (rw (b3 .before .before .section .ensures, b3 .before .section2 .ensures) at (b3 .same-containers .ensures))
+    (c .before .before .if1 .left)))
 
 pub same-shape-spec : {M : Type 1} → statement M
 same-shape-spec =

@@ -22,17 +22,22 @@ section-requires-2 c κs = accepted-section _ (c .before .before .before .before
 mul-w-2 : tie.Need-mul-w-2
 mul-w-2 c =
     let start = c .before .before .before .before .before in
-    omega (arith, ap length (c .before .section .ensures), ap length (c .section2 .ensures), few-containers (start .args .first .now) (start .pre .0 .first), few-users (start .args .first .now) (start .pre .0 .first))
+    let first = start .args .first .now in let good = start .pre .0 .first in
+    omega (arith, ap length (c .before .section .ensures), ap length (c .section2 .ensures), few-containers first good, few-users first good)
 
 part-forms-end : tie.Need-part-forms-end
 part-forms-end c =
     let start = c .before .before .before .before .before in
-    omega (arith, ap length (c .before .section .ensures), ap length (c .section2 .ensures), few-containers (start .args .first .now) (start .pre .0 .first), few-users (start .args .first .now) (start .pre .0 .first))
+    let first = start .args .first .now in let good = start .pre .0 .first in
+    omega (arith, ap length (c .before .section .ensures), ap length (c .section2 .ensures), few-containers first good, few-users first good)
 
 put-uses-requires : tie.Need-put-uses-requires
 put-uses-requires c κs =
-    let start = c .before .before .before .before .before .before in
-    (rw (c .before .before .section .ensures, c .before .section2 .ensures) (lent-long (start .args .consent) (start .args .first .now) (start .args .second .now) (start .pre .0) _ (omega arith)), start .pre .0)
+    let start = c .before .before .before .before .before .before in (
+      rw (c .before .before .section .ensures, c .before .section2 .ensures)
+          (lent-long (start .args .consent) (start .args .first .now) (start .args .second .now) (start .pre .0) _ (omega arith)),
+      start .pre .0,
+    )
 
 returns : tie.Need-returns
 returns c =
@@ -54,61 +59,54 @@ put-users-requires c κs =
 
 part-write-policy-end : tie.Need-part-write-policy-end
 part-write-policy-end c =
-    let start = c .before .before .before .before .before .before .before .before .before .before .before .before .before .before .before .before in
-    let w = rw (c .before .before .before .before .before .before .before .before .before .before .before .before .section .ensures) at (c .before .before .before .before .before .put-places .ensures) in
+    let b5 = c .before .before .before .before .before in
+    let b12 = b5 .before .before .before .before .before .before .before in
+    let start = b12 .before .before .before .before in
+    let w = rw (b12 .section .ensures) at (b5 .put-places .ensures) in
     omega (arith, w .ends, own-size (part (start .args .first .now) 0), few-containers (start .args .first .now) (start .pre .0 .first))
 
 part-write-policy-end-2 : tie.Need-part-write-policy-end-2
 part-write-policy-end-2 c =
-    let start = c .before .before .before .before .before .before .before .before .before .before .before .before .before .before .before .before .before .before in
-    let w = rw (c .before .before .before .before .before .before .before .before .before .before .before .before .before .before .section .ensures, c .before .before .before .before .before .before .before .before .before .before .before .before .before .section2 .ensures) at (c .before .before .before .before .put-users .ensures) in
-    omega (
-      arith,
-      w .ends,
-      users-size (2 * (length (part (start .args .first .now) 0) / containerSize)) (length (part (start .args .first .now) 1) / userSize),
-      few-users (start .args .first .now) (start .pre .0 .first),
-    )
+    let b4 = c .before .before .before .before in
+    let b13 = b4 .before .before .before .before .before .before .before .before .before in
+    let start = b13 .before .before .before .before .before in
+    let w = rw (b13 .before .section .ensures, b13 .section2 .ensures) at (b4 .put-users .ensures) in
+    let first = start .args .first .now in
+    let size = users-size (2 * (length (part first 0) / containerSize)) (length (part first 1) / userSize) in
+    omega (arith, w .ends, size, few-users first (start .pre .0 .first))
 
 part-write-policy-end-3 : tie.Need-part-write-policy-end-3
 part-write-policy-end-3 c =
-    let start = c .before .before .before .before .before .before .before .before .before .before .before .before .before .before .before .before .before .before .before .before in
-    rw (c .before .before .before .before .before .before .before .before .before .before .before .before .before .before .before .before .section .ensures, c .before .before .before .before .before .before .before .before .before .before .before .before .before .before .before .section2 .ensures)
-    (filled-long (start .args .consent) (start .args .first .now) (start .args .second .now)
-    (start .pre .0) (sym (c .before .before .before .before .before .before .before .before .before .before .before .before .before .put-uses .ensures .told)
-    ∙ not-false _ (c .before .before .before .before .before .before .before .before .before .before .before .if1 .left)) _
-    (c .before .before .before .before .before .before .before .before .before .before .before .before .before .put-uses .ensures .rows
-    (not-false _ (c .before .before .before .before .before .before .before .before .before .before .before .if1 .left))))
+    let b11 = c .before .before .before .before .before .before .before .before .before .before .before in
+    let b15 = b11 .before .before .before .before in let start = b15 .before .before .before .before .before in
+    rw (b15 .before .section .ensures, b15 .section2 .ensures)
+    (filled-long (start .args .consent) (start .args .first .now) (start .args .second .now) (start .pre .0)
+    (sym (b11 .before .before .put-uses .ensures .told) ∙ not-false _ (b11 .if1 .left)) _
+    (b11 .before .before .put-uses .ensures .rows (not-false _ (b11 .if1 .left))))
 
 write-policy-requires : tie.Need-write-policy-requires
 write-policy-requires c κs =
-    let start = c .before .before .before .before .before .before .before .before .before .before .before .before .before .before .before .before .before .before .before .before .before .before in (
-      rw (c .before .before .before .before .before .before .before .before .before .before .before .before .before .before .before .before .before .before .section .ensures, c .before .before .before .before .before .before .before .before .before .before .before .before .before .before .before .before .before .section2 .ensures)
-          (lent-tabled (start .args .consent) (start .args .first .now) (start .args .second .now)
-          (start .pre .0) (sym (c .before .before .before .before .before .before .before .before .before .before .before .before .before .before .before .put-uses .ensures .told)
-          ∙ not-false _ (c .before .before .before .before .before .before .before .before .before .before .before .before .before .if1 .left)) _
-          (c .before .before .before .before .before .before .before .before .before .before .before .before .before .before .before .put-uses .ensures .rows
-          (not-false _ (c .before .before .before .before .before .before .before .before .before .before .before .before .before .if1 .left)))
-          (rw (c .before .before .before .before .before .before .before .before .before .before .before .before .before .before .before .before .before .before .section .ensures)
-          at (c .before .before .before .before .before .before .before .before .before .before .before .put-places .ensures))
-          (rw (c .before .before .before .before .before .before .before .before .before .before .before .before .before .before .before .before .before .before .section .ensures, c .before .before .before .before .before .before .before .before .before .before .before .before .before .before .before .before .before .section2 .ensures)
-          at (c .before .before .before .before .before .before .before .before .put-users .ensures))),
+    let b8 = c .before .before .before .before .before .before .before .before in
+    let b11 = b8 .before .before .before in let b15 = b11 .before .before .before .before in
+    let b18 = b15 .before .before .before in let start = b18 .before .before .before .before in (
+      rw (b18 .section .ensures, b15 .before .before .section2 .ensures)
+          (lent-tabled (start .args .consent) (start .args .first .now) (start .args .second .now) (start .pre .0)
+          (sym (b15 .put-uses .ensures .told) ∙ not-false _ (b11 .before .before .if1 .left)) _
+          (b15 .put-uses .ensures .rows (not-false _ (b11 .before .before .if1 .left))) (rw (b18 .section .ensures) at (b11 .put-places .ensures))
+          (rw (b18 .section .ensures, b15 .before .before .section2 .ensures) at (b8 .put-users .ensures))),
       start .pre .1,
     )
 
 returns-2 : tie.Need-returns-2
 returns-2 c =
-    let start = c .before .before .before .before .before .before .before .before .before .before .before .before .before .before .before .before .before .before .before .before .before .before .before .before .before in
-    lent-written (start .args .consent) (start .args .first .now) (start .args .second .now)
-    (start .pre .0) (sym (c .before .before .before .before .before .before .before .before .before .before .before .before .before .before .before .before .before .before .put-uses .ensures .told)
-    ∙ not-false _ (c .before .before .before .before .before .before .before .before .before .before .before .before .before .before .before .before .if1 .left)) _
-    (c .before .before .before .before .before .before .before .before .before .before .before .before .before .before .before .before .before .before .put-uses .ensures .rows
-    (not-false _ (c .before .before .before .before .before .before .before .before .before .before .before .before .before .before .before .before .if1 .left)))
-    (rw (c .before .before .before .before .before .before .before .before .before .before .before .before .before .before .before .before .before .before .before .before .before .section .ensures)
-    at (c .before .before .before .before .before .before .before .before .before .before .before .before .before .before .put-places .ensures))
-    (rw (c .before .before .before .before .before .before .before .before .before .before .before .before .before .before .before .before .before .before .before .before .before .section .ensures, c .before .before .before .before .before .before .before .before .before .before .before .before .before .before .before .before .before .before .before .before .section2 .ensures)
-    at (c .before .before .before .before .before .before .before .before .before .before .before .put-users .ensures))
-    (rw (c .before .before .before .before .before .before .before .before .before .before .before .before .before .before .before .before .before .before .before .before .before .section .ensures, c .before .before .before .before .before .before .before .before .before .before .before .before .before .before .before .before .before .before .before .before .section2 .ensures)
-    at (c .before .before .write-policy .ensures))
+    let b11 = c .before .before .before .before .before .before .before .before .before .before .before in
+    let b14 = b11 .before .before .before in let b18 = b14 .before .before .before .before in
+    let b21 = b18 .before .before .before in let start = b21 .before .before .before .before in
+    lent-written (start .args .consent) (start .args .first .now) (start .args .second .now) (start .pre .0)
+    (sym (b18 .put-uses .ensures .told) ∙ not-false _ (b14 .before .before .if1 .left)) _
+    (b18 .put-uses .ensures .rows (not-false _ (b14 .before .before .if1 .left))) (rw (b21 .section .ensures) at (b14 .put-places .ensures))
+    (rw (b21 .section .ensures, b18 .before .before .section2 .ensures) at (b11 .put-users .ensures))
+    (rw (b21 .section .ensures, b18 .before .before .section2 .ensures) at (c .before .before .write-policy .ensures))
 
 pub write-pair-spec : {M : Type 1} → statement M
 write-pair-spec =

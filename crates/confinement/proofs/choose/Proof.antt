@@ -15,7 +15,10 @@ abbrev μ-loop : tie.MeasureT-loop
 μ-loop words₀ modes runs k wanted more count₀ j₀ words count j = length runs - j
 
 loop-holds : tie.Need-loop-holds Inv-loop μ-loop
-loop-holds c = let start = c .before .before .before in choosing-start _ _ _ _ (start .pre .2) (start .pre .1) (all-by (start .args .wanted) (start .args .more) (start .args .modes .now) (start .args .k) (start .args .runs .now))
+loop-holds c =
+    let start = c .before .before .before in
+    choosing-start _ _ _ _ (start .pre .2) (start .pre .1)
+    (all-by (start .args .wanted) (start .args .more) (start .args .modes .now) (start .args .k) (start .args .runs .now))
 
 loop-again : tie.Need-loop-again Inv-loop μ-loop
 loop-again c =
@@ -30,7 +33,10 @@ loop-again-2 c =
     (start .args .modes .now) (start .args .k) (start .args .runs .now) _ (c .before .before .before .before .loop-test .taken) (sym (c .before .meets .ensures) ∙ c .if1 .left))
 
 returns : tie.Need-returns Inv-loop μ-loop
-returns c = let start = c .before .before .before .before .before in choosing-end (c .before .loop .inv) (none-by (start .args .wanted) (start .args .more) (start .args .modes .now) (start .args .k) (start .args .runs .now) _ (c .loop-test .left))
+returns c =
+    let start = c .before .before .before .before .before in
+    choosing-end (c .before .loop .inv)
+    (none-by (start .args .wanted) (start .args .more) (start .args .modes .now) (start .args .k) (start .args .runs .now) _ (c .loop-test .left))
 
 pub choose-spec : {M : Type 1} → statement M
 choose-spec =

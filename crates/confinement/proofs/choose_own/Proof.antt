@@ -19,10 +19,14 @@ loop-holds : tie.Need-loop-holds Inv-loop μ-loop
 loop-holds c = choosing-start _ _ _ _ (c .pre .2) (c .pre .0) refl
 
 loop-again : tie.Need-loop-again Inv-loop μ-loop
-loop-again c = choosing-keep (c .before .before .before .before .loop .inv) (c .before .before .before .loop-test .taken) _ _ (kept-at _ _ _ _ (c .before .before .before .before .before .pre .1) (c .before .before .before .loop-test .taken) (eq-eqb _ _ (c .if1 .taken)))
+loop-again c =
+    let turn = c .before .before .before in let start = turn .before .before in
+    choosing-keep (turn .before .loop .inv) (turn .loop-test .taken) _ _ (kept-at _ _ _ _ (start .pre .1) (turn .loop-test .taken) (eq-eqb _ _ (c .if1 .taken)))
 
 loop-again-2 : tie.Need-loop-again-2 Inv-loop μ-loop
-loop-again-2 c = choosing-skip (c .before .before .before .before .loop .inv) (c .before .before .before .loop-test .taken) _ (skipped-at _ _ _ _ (c .before .before .before .before .before .pre .1) (c .before .before .before .loop-test .taken) (ne-eqb _ _ (c .if1 .left)))
+loop-again-2 c =
+    let turn = c .before .before .before in let start = turn .before .before in
+    choosing-skip (turn .before .loop .inv) (turn .loop-test .taken) _ (skipped-at _ _ _ _ (start .pre .1) (turn .loop-test .taken) (ne-eqb _ _ (c .if1 .left)))
 
 returns : tie.Need-returns Inv-loop μ-loop
 returns c = choosing-end (c .before .loop .inv) (none-at _ _ _ _ (c .before .before .pre .1) (c .loop-test .left))

@@ -30,9 +30,11 @@ fill-tables-requires c κs = (
 
 returns-3 : tie.Need-returns-3
 returns-3 c =
-    derive-many _ _ (c .before .before .before .before .before .before .before .before .before .before .before .before .before .before .before .before .if1 .left)
-    (passes-test (judged-of _ _ _ (c .before .before .before .before .before .before .before .before .before .before .before .before .before .before .scan-text .ensures) .right)
-    (c .before .before .before .before .before .before .before .before .before .before .before .before .if2 .left)) (c .before .before .before .before .before .fill-tables .ensures .many (c .if3 .taken))
+    let b5 = c .before .before .before .before .before in
+    let b12 = b5 .before .before .before .before .before .before .before in
+    let b16 = b12 .before .before .before .before in
+    derive-many _ _ (b16 .if1 .left) (passes-test (judged-of _ _ _ (b12 .before .before .scan-text .ensures) .right) (b12 .if2 .left))
+    (b5 .fill-tables .ensures .many (c .if3 .taken))
 
 write-tables-requires : tie.Need-write-tables-requires
 write-tables-requires c κs =
@@ -47,13 +49,12 @@ write-tables-requires c κs =
 
 returns-4 : tie.Need-returns-4
 returns-4 c =
-    let start = c .before .before .before .before .before .before .before .before .before .before .before .before .before .before .before .before .before .before .before .before .before .before .before .before .before in
-    derive-done (start .args .text .now) _
-    (c .before .before .before .before .before .before .before .before .before .before .before .before .before .before .before .before .before .before .before .before .before .before .if1 .left)
-    (passes-test (judged-of _ _ _ (c .before .before .before .before .before .before .before .before .before .before .before .before .before .before .before .before .before .before .before .before .scan-text .ensures) .right)
-    (c .before .before .before .before .before .before .before .before .before .before .before .before .before .before .before .before .before .before .if2 .left)) _ _ _ _
-    (tabulated (c .before .before .before .before .before .before .before .before .before .before .before .fill-tables .ensures .paths (c .before .before .before .before .before .before .if3 .left))
-    (c .before .before .before .before .before .before .before .before .before .before .before .fill-tables .ensures .programs (c .before .before .before .before .before .before .if3 .left)))
+    let b6 = c .before .before .before .before .before .before in
+    let b11 = b6 .before .before .before .before .before in
+    let b18 = b11 .before .before .before .before .before .before .before in
+    let b22 = b18 .before .before .before .before in let start = b22 .before .before .before in
+    derive-done (start .args .text .now) _ (b22 .if1 .left) (passes-test (judged-of _ _ _ (b18 .before .before .scan-text .ensures) .right) (b18 .if2 .left)) _
+    _ _ _ (tabulated (b11 .fill-tables .ensures .paths (b6 .if3 .left)) (b11 .fill-tables .ensures .programs (b6 .if3 .left)))
     (c .before .before .write-tables .ensures)
 
 pub derive-spec : {M : Type 1} → statement M

@@ -13,14 +13,23 @@ returns c = listed-first (c .before .before .before .choose .ensures) _ (c .if1 
 
 returns-2 : tie.Need-returns-2
 unfolding inheritedFrom
-returns-2 c = listed-other (c .before .before .before .before .before .before .before .before .choose .ensures) _ (c .before .before .before .before .before .if1 .left) (any-listed (c .before .before .before .choose2 .ensures) _ _ (c .if2 .taken) (none-listed _ (c .before .before .before .choose2 .ensures .long)))
+returns-2 c =
+    let b3 = c .before .before .before in let b8 = b3 .before .before .before .before .before in
+    listed-other (b8 .choose .ensures) _ (b3 .before .before .if1 .left)
+    (any-listed (b3 .choose2 .ensures) _ _ (c .if2 .taken) (none-listed _ (b3 .choose2 .ensures .long)))
 
 same-length-3 : tie.Need-same-length-3
-same-length-3 c = simp length-set (c .before .before .before .choose2 .ensures .long ∙ sym (c .before .before .before .before .before .before .before .before .before .before .before .before .before .pre .1))
+same-length-3 c =
+    let b3 = c .before .before .before in
+    let start = b3 .before .before .before .before .before .before .before .before .before .before in
+    simp length-set (b3 .choose2 .ensures .long ∙ sym (start .pre .1))
 
 returns-3 : tie.Need-returns-3
 unfolding inheritedFrom
-returns-3 c = listed-other (c .before .before .before .before .before .before .before .before .choose .ensures) _ (c .before .before .before .before .before .if1 .left) (other-listed (c .before .before .before .choose2 .ensures) _ _ (c .if2 .left) (all-listed (c .before .before .before .choose2 .last .0) (c .before .before .before .choose2 .ensures .long)))
+returns-3 c =
+    let b3 = c .before .before .before in let b8 = b3 .before .before .before .before .before in
+    listed-other (b8 .choose .ensures) _ (b3 .before .before .if1 .left)
+    (other-listed (b3 .choose2 .ensures) _ _ (c .if2 .left) (all-listed (b3 .choose2 .last .0) (b3 .choose2 .ensures .long)))
 
 pub list-inherited-spec : {M : Type 1} → statement M
 list-inherited-spec =

@@ -11,7 +11,10 @@ returns c = listed-first (rw (c .before .before .before .before .before .atom-if
 
 returns-2 : tie.Need-returns-2
 unfolding permitFrom
-returns-2 c = listed-other (rw (c .before .before .before .before .before .atom-if .ensures) at (c .before .before .before .choose .ensures)) _ (c .if1 .left) (rw (c .before .before .before .before .before .atom-if .ensures) (one-listed _ (c .before .before .before .choose .last .0) (c .before .before .before .choose .ensures .long)))
+returns-2 c =
+    let b3 = c .before .before .before in
+    listed-other (rw (b3 .before .before .atom-if .ensures) at (b3 .choose .ensures)) _ (c .if1 .left)
+    (rw (b3 .before .before .atom-if .ensures) (one-listed _ (b3 .choose .last .0) (b3 .choose .ensures .long)))
 
 pub list-permit-spec : {M : Type 1} → statement M
 list-permit-spec =

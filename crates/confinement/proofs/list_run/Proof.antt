@@ -12,11 +12,17 @@ unfolding runFrom
 returns c = listed-first (c .before .before .before .choose-own .ensures) _ (c .if1 .taken)
 
 same-length-2 : tie.Need-same-length-2
-same-length-2 c = simp length-set (c .before .before .before .choose .ensures .long ∙ sym (c .before .before .before .before .before .before .before .before .before .before .before .before .before .before .pre .1))
+same-length-2 c =
+    let b3 = c .before .before .before in
+    let start = b3 .before .before .before .before .before .before .before .before .before .before .before in
+    simp length-set (b3 .choose .ensures .long ∙ sym (start .pre .1))
 
 returns-2 : tie.Need-returns-2
 unfolding runFrom
-returns-2 c = listed-other (c .before .before .before .before .before .before .before .before .choose-own .ensures) _ (c .before .before .before .before .before .if1 .left) (any-listed (c .before .before .before .choose .ensures) _ _ (c .if2 .taken) (all-listed (c .before .before .before .choose .last .0) (c .before .before .before .choose .ensures .long)))
+returns-2 c =
+    let b3 = c .before .before .before in let b8 = b3 .before .before .before .before .before in
+    listed-other (b8 .choose-own .ensures) _ (b3 .before .before .if1 .left)
+    (any-listed (b3 .choose .ensures) _ _ (c .if2 .taken) (all-listed (b3 .choose .last .0) (b3 .choose .ensures .long)))
 
 returns-3 : tie.Need-returns-3
 unfolding runFrom

@@ -20,10 +20,19 @@ loop-holds : tie.Need-loop-holds Inv-loop μ-loop
 loop-holds c = filling-start _ _ _ (c .before .before .before .pre .2)
 
 run-mixture-requires : tie.Need-run-mixture-requires Inv-loop μ-loop
-run-mixture-requires c κs = let start = c .before .before .before .before .before .before .before in (start .pre .5 _ (c .before .before .loop-test .taken), omega (arith, length-take (c .before .before .before .loop .j * dataWidth + start .args .n - c .before .before .before .loop .j * dataWidth) (drop (c .before .before .before .loop .j * dataWidth) (start .args .modes .now))))
+run-mixture-requires c κs =
+    let turn = c .before .before .before in let start = turn .before .before .before .before in (
+      start .pre .5 _ (c .before .before .loop-test .taken),
+      omega (
+        arith,
+        length-take (turn .loop .j * dataWidth + start .args .n - turn .loop .j * dataWidth) (drop (turn .loop .j * dataWidth) (start .args .modes .now)),
+      ),
+    )
 
 loop-again : tie.Need-loop-again Inv-loop μ-loop
-loop-again c = let start = c .before .before .before .before .before .before .before .before in filling-next _ _ _ _ _ (c .before .before .before .before .loop .inv) (c .before .before .before .loop-test .taken) (start .pre .1) (rw add-sub-cancel-left at (c .run-mixture .ensures))
+loop-again c =
+    let turn = c .before .before .before in let start = turn .before .before .before .before .before in
+    filling-next _ _ _ _ _ (turn .before .loop .inv) (turn .loop-test .taken) (start .pre .1) (rw add-sub-cancel-left at (c .run-mixture .ensures))
 
 returns : tie.Need-returns Inv-loop μ-loop
 returns c = filling-end _ _ _ _ (c .before .loop .inv) (c .loop-test .left)

@@ -38,10 +38,14 @@ put-path-rule-requires c κs =
     )
 
 returns : tie.Need-returns Inv-loop μ-loop
-returns c = forming-stop _ _ _ (forming-over _ _ _ _ (c .before .before .before .before .before .before .before .before .before .loop .inv .0) (c .before .before .before .before .before .before .before .before .loop-test .taken) (c .before .before .before .before .before .put-path-rule .ensures) (not-true _ (c .if1 .taken)))
+returns c =
+    let b5 = c .before .before .before .before .before in let turn = b5 .before .before .before in
+    forming-stop _ _ _ (forming-over _ _ _ _ (turn .before .loop .inv .0) (turn .loop-test .taken) (b5 .put-path-rule .ensures) (not-true _ (c .if1 .taken)))
 
 loop-again : tie.Need-loop-again Inv-loop μ-loop
-loop-again c = (forming-next _ _ _ _ (c .before .before .before .before .before .before .before .before .before .loop .inv .0) (c .before .before .before .before .before .before .before .before .loop-test .taken) _ (c .before .before .before .before .before .put-path-rule .ensures) (not-false _ (c .if1 .left)), search needs)
+loop-again c =
+    let b5 = c .before .before .before .before .before in let turn = b5 .before .before .before in
+    (forming-next _ _ _ _ (turn .before .loop .inv .0) (turn .loop-test .taken) _ (b5 .put-path-rule .ensures) (not-false _ (c .if1 .left)), search needs)
 
 returns-2 : tie.Need-returns-2 Inv-loop μ-loop
 returns-2 c = forming-end _ _ _ _ (c .before .loop .inv .0) (c .loop-test .left)

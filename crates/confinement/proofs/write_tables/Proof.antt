@@ -9,7 +9,16 @@ use Rattle.confinement.proofs.write_tables.Statement.{statement}
 use Rattle.confinement.proofs.write_tables.Tie as tie
 
 put-mixtures-requires : tie.Need-put-mixtures-requires
-put-mixtures-requires c κs = let start = c .before .before .before .before in let t = start .pre .0 .tables in (t .few, t .programs .few, search needs, t .programs .ownLong, t .programs .modesLong, own-less (start .pre .0 .profiles) (start .args .own .now) (start .args .modes .now) (start .args .n) (start .args .m) (start .pre .0 .tables))
+put-mixtures-requires c κs =
+    let start = c .before .before .before .before in
+    let t = start .pre .0 .tables in (
+      t .few,
+      t .programs .few,
+      search needs,
+      t .programs .ownLong,
+      t .programs .modesLong,
+      own-less (start .pre .0 .profiles) (start .args .own .now) (start .args .modes .now) (start .args .n) (start .args .m) (start .pre .0 .tables),
+    )
 
 returns : tie.Need-returns
 returns c =
@@ -29,66 +38,71 @@ put-container-record-requires c κs =
     )
 
 mul-w : tie.Need-mul-w
-mul-w c = let start = c .before .before .before .before .before .before .before .before .before .before .before .before .before .before .before .before .before .before .before .before .before .before .before .before in omega (arith, start .pre .0 .tables .few)
+mul-w c =
+    let b12 = c .before .before .before .before .before .before .before .before .before .before .before .before in
+    let start = b12 .before .before .before .before .before .before .before .before .before .before .before .before in
+    omega (arith, start .pre .0 .tables .few)
 
 part-write-policy-end : tie.Need-part-write-policy-end
 unfolding initialProcess
 part-write-policy-end c =
-    let start = c .before .before .before .before .before .before .before .before .before .before .before .before .before .before .before .before .before .before .before .before .before .before .before .before .before in
+    let b5 = c .before .before .before .before .before in let b8 = b5 .before .before .before in
+    let start = b8 .before .before .before .before .before .before .before .before .before .before .before .before .before .before .before .before .before in
     omega (
       arith,
       start .pre .0 .tables .few,
-      containers-end (start .pre .0 .profiles) (start .args .own .now) (start .args .modes .now) (start .args .n) (start .args .m)
-          (start .pre .0 .tables) (c .before .before .before .before .before .before .before .before .put-files .ensures) (c .before .before .before .before .before .put-container-record .ensures),
+      containers-end (start .pre .0 .profiles) (start .args .own .now) (start .args .modes .now) (start .args .n) (start .args .m) (start .pre .0 .tables)
+          (b8 .put-files .ensures) (b5 .put-container-record .ensures),
     )
 
 part-write-policy-end-2 : tie.Need-part-write-policy-end-2
-part-write-policy-end-2 c = let start = c .before .before .before .before .before .before .before .before .before .before .before .before .before .before .before .before .before .before .before .before .before .before .before .before .before .before .before .before in omega (arith, start .pre .0 .tables .few)
+part-write-policy-end-2 c =
+    let b14 = c .before .before .before .before .before .before .before .before .before .before .before .before .before .before in
+    let start = b14 .before .before .before .before .before .before .before .before .before .before .before .before .before .before in
+    omega (arith, start .pre .0 .tables .few)
 
 write-policy-requires : tie.Need-write-policy-requires
 unfolding initialProcess
 write-policy-requires c κs =
-    let start = c .before .before .before .before .before .before .before .before .before .before .before .before .before .before .before .before .before .before .before .before .before .before .before .before .before .before .before .before .before .before in (
+    let b7 = c .before .before .before .before .before .before .before in let b10 = b7 .before .before .before in
+    let b13 = b10 .before .before .before in let b18 = b13 .before .before .before .before .before in
+    let b25 = b18 .before .before .before .before .before .before .before in
+    let start = b25 .before .before .before .before .before in (
       tables-tabled (start .pre .0 .profiles) (start .args .own .now) (start .args .modes .now) (start .args .n) (start .args .m) (start .pre .0 .tables)
-          (c .before .before .before .before .before .before .before .before .before .before .before .before .before .put-files .ensures)
-          (c .before .before .before .before .before .before .before .before .before .before .put-container-record .ensures) (c .before .before .before .before .before .before .before .put16 .ensures)
-          (search needs) (forms-as (rule-lent (start .args .own .now) (start .args .modes .now) _ (start .args .n) (start .args .m)
-          (c .before .before .before .before .before .before .before .before .before .before .before .before .before .before .before .before .before .before .before .before .before .before .before .before .before .put-mixtures .ensures))
-          (c .before .before .before .before .before .before .before .before .before .before .before .before .before .before .before .before .before .before .put-rules .ensures)) (not-false _
-          (c .before .before .before .before .before .before .before .before .before .before .before .before .before .before .before .if1 .left)),
+          (b13 .put-files .ensures) (b10 .put-container-record .ensures) (b7 .put16 .ensures) (search needs)
+          (forms-as (rule-lent (start .args .own .now) (start .args .modes .now) _ (start .args .n) (start .args .m) (b25 .put-mixtures .ensures))
+          (b18 .put-rules .ensures)) (not-false _ (b13 .before .before .if1 .left)),
       start .pre .1,
     )
 
 cast-result : tie.Need-cast-result
 unfolding initialProcess
 cast-result c =
-    let start = c .before .before .before .before .before .before .before .before .before .before .before .before .before .before .before .before .before .before .before .before .before .before .before .before .before .before .before .before .before .before .before .before .before in
+    let b10 = c .before .before .before .before .before .before .before .before .before .before in
+    let b13 = b10 .before .before .before in let b16 = b13 .before .before .before in
+    let b21 = b16 .before .before .before .before .before in
+    let b28 = b21 .before .before .before .before .before .before .before in
+    let start = b28 .before .before .before .before .before in
     omega (
       arith,
       tables-small (start .pre .0 .profiles) (start .args .own .now) (start .args .modes .now) (start .args .n) (start .args .m) (start .pre .0 .tables)
-          (c .before .before .before .before .before .before .before .before .before .before .before .before .before .before .before .before .put-files .ensures)
-          (c .before .before .before .before .before .before .before .before .before .before .before .before .before .put-container-record .ensures)
-          (c .before .before .before .before .before .before .before .before .before .before .put16 .ensures) (search needs) (forms-as (rule-lent (start .args .own .now)
-          (start .args .modes .now) _ (start .args .n) (start .args .m)
-          (c .before .before .before .before .before .before .before .before .before .before .before .before .before .before .before .before .before .before .before .before .before .before .before .before .before .before .before .before .put-mixtures .ensures))
-          (c .before .before .before .before .before .before .before .before .before .before .before .before .before .before .before .before .before .before .before .before .before .put-rules .ensures))
-          (not-false _ (c .before .before .before .before .before .before .before .before .before .before .before .before .before .before .before .before .before .before .if1 .left))
-          (c .before .before .write-policy .ensures),
+          (b16 .put-files .ensures) (b13 .put-container-record .ensures) (b10 .put16 .ensures) (search needs)
+          (forms-as (rule-lent (start .args .own .now) (start .args .modes .now) _ (start .args .n) (start .args .m) (b28 .put-mixtures .ensures))
+          (b21 .put-rules .ensures)) (not-false _ (b16 .before .before .if1 .left)) (c .before .before .write-policy .ensures),
     )
 
 returns-2 : tie.Need-returns-2
 unfolding initialProcess
 returns-2 c =
-    let start = c .before .before .before .before .before .before .before .before .before .before .before .before .before .before .before .before .before .before .before .before .before .before .before .before .before .before .before .before .before .before .before .before .before in
+    let b10 = c .before .before .before .before .before .before .before .before .before .before in
+    let b13 = b10 .before .before .before in let b16 = b13 .before .before .before in
+    let b21 = b16 .before .before .before .before .before in
+    let b28 = b21 .before .before .before .before .before .before .before in
+    let start = b28 .before .before .before .before .before in
     tables-written (start .pre .0 .profiles) (start .args .own .now) (start .args .modes .now) (start .args .n) (start .args .m) (start .pre .0 .tables)
-    (c .before .before .before .before .before .before .before .before .before .before .before .before .before .before .before .before .put-files .ensures)
-    (c .before .before .before .before .before .before .before .before .before .before .before .before .before .put-container-record .ensures)
-    (c .before .before .before .before .before .before .before .before .before .before .put16 .ensures) (search needs) (forms-as (rule-lent (start .args .own .now)
-    (start .args .modes .now) _ (start .args .n) (start .args .m)
-    (c .before .before .before .before .before .before .before .before .before .before .before .before .before .before .before .before .before .before .before .before .before .before .before .before .before .before .before .before .put-mixtures .ensures))
-    (c .before .before .before .before .before .before .before .before .before .before .before .before .before .before .before .before .before .before .before .before .before .put-rules .ensures))
-    (not-false _ (c .before .before .before .before .before .before .before .before .before .before .before .before .before .before .before .before .before .before .if1 .left))
-    (c .before .before .write-policy .ensures)
+    (b16 .put-files .ensures) (b13 .put-container-record .ensures) (b10 .put16 .ensures) (search needs)
+    (forms-as (rule-lent (start .args .own .now) (start .args .modes .now) _ (start .args .n) (start .args .m) (b28 .put-mixtures .ensures))
+    (b21 .put-rules .ensures)) (not-false _ (b16 .before .before .if1 .left)) (c .before .before .write-policy .ensures)
 
 pub write-tables-spec : {M : Type 1} → statement M
 write-tables-spec =

@@ -2,7 +2,10 @@
 use native.Mathlib.Omega.{arith}
 use Prim.Native.Nat.{_*_}
 use Rattle.normaliser.specs.Writer.{formWidth}
+use mathlib.Core.Path.{_≡_}
+use mathlib.Core.Bool.{true}
 use Rattle.matrix.specs.Limits.{objectLimit}
+use Rattle.matrix.specs.Flows.{matrixGood}
 use Rattle.lists.proofs.Bools.{passes-test, fails-test}
 use Rattle.matrix.proofs.GoodLaws.{good-parts}
 use Rattle.derivation.proofs.DeriveCases.{derive-short, derive-refused, derive-done, zeros-front, words-end, objects-end, containers-end, derive-tabled, derive-wrote, derived-small}
@@ -16,100 +19,96 @@ returns c = derive-short _ _ _ _ (c .if1 .taken)
 returns-2 : tie.Need-returns-2
 returns-2 c = derive-refused _ _ _ _ (c .before .before .if1 .left) (fails-test (c .before .matrix-good .ensures) (c .if2 .taken))
 
+-- ---- the places where a part has been written, and the matrix that was tested
+
+abbrev start : tie.Else2 → tie.Start
+start c = c .before .before .before .before .before .before
+
+abbrev tested : tie.After-put-subjects → tie.Else2
+tested c = c .before .before .before .before .before
+
+abbrev subjects : tie.After-put-permits → tie.After-put-subjects
+subjects c = c .before .before .before .before .before .before
+
+good : (c : tie.Else2) → matrixGood (start c .args .reads .now) (start c .args .writes .now) (start c .args .objects) ≡ true
+good c = passes-test (c .before .matrix-good .ensures) (c .if2 .left)
+
+-- ---- the needs
+
 put-objects-requires : tie.Need-put-objects-requires
-put-objects-requires c κs =
-    let good = passes-test (c .before .before .matrix-good .ensures) (c .before .if2 .left) in
-    let g = good-parts _ _ _ good in
-    (g .few, omega (arith, g .few))
+put-objects-requires c κs = let g = good-parts _ _ _ (good (c .before)) in (g .few, omega (arith, g .few))
 
 put-subjects-requires : tie.Need-put-subjects-requires
 put-subjects-requires c κs =
-    let start = c .before .before .before .before .before .before .before .before .before .before in
-    let good = passes-test (c .before .before .before .before .before .matrix-good .ensures) (c .before .before .before .before .if2 .left) in
-    let g = good-parts _ _ _ good in
-    (g .subjects, omega (arith, g .few, g .subjects, objects-end (start .args .reads .now) (start .args .writes .now) (start .args .objects) good (c .before .before .put-objects .ensures)))
+    let passed = c .before .before .before .before in
+    let g = good-parts _ _ _ (good passed) in
+    let a = start passed .args in
+    (g .subjects, omega (arith, g .few, g .subjects, objects-end (a .reads .now) (a .writes .now) (a .objects) (good passed) (c .before .before .put-objects .ensures)))
 
 part-words-end : tie.Need-part-words-end
-part-words-end c =
-    let good = passes-test (c .before .before .before .before .before .before .before .before .before .before .matrix-good .ensures) (c .before .before .before .before .before .before .before .before .before .if2 .left) in
-    let g = good-parts _ _ _ good in
-    omega (arith, g .few)
+part-words-end c = omega (arith, good-parts _ _ _ (good (tested (c .before .before .before .before))) .few)
 
 put-permits-requires : tie.Need-put-permits-requires
 put-permits-requires c κs =
-    let start = c .before .before .before .before .before .before .before .before .before .before .before .before .before .before .before .before in
-    let good = passes-test (c .before .before .before .before .before .before .before .before .before .before .before .matrix-good .ensures) (c .before .before .before .before .before .before .before .before .before .before .if2 .left) in
-    let g = good-parts _ _ _ good in
-    (g .even, g .subjects, g .few, zeros-front (start .args .objects * formWidth) (objectLimit * formWidth) (omega (arith, g .few)))
+    let passed = tested (c .before .before .before .before .before) in
+    let g = good-parts _ _ _ (good passed) in
+    (g .even, g .subjects, g .few, zeros-front (start passed .args .objects * formWidth) (objectLimit * formWidth) (omega (arith, g .few)))
 
 part-write-policy-end : tie.Need-part-write-policy-end
 part-write-policy-end c =
-    let start = c .before .before .before .before .before .before .before .before .before .before .before .before .before .before .before .before .before .before .before in
-    let good = passes-test (c .before .before .before .before .before .before .before .before .before .before .before .before .before .before .matrix-good .ensures) (c .before .before .before .before .before .before .before .before .before .before .before .before .before .if2 .left) in
-    let g = good-parts _ _ _ good in
-    let put-objects = c .before .before .before .before .before .before .before .before .before .before .before .put-objects in
-    let put-subjects = c .before .before .before .before .before .before .before .before .put-subjects in
+    let put = c .before .before .before .before .before .before .before .before in
+    let passed = tested put in
+    let g = good-parts _ _ _ (good passed) in
+    let a = start passed .args in
     omega (
       arith,
       g .few,
       g .subjects,
-      containers-end (start .args .reads .now) (start .args .writes .now) (start .args .objects) good (put-objects .ensures)
-          (put-subjects .ensures),
+      containers-end (a .reads .now) (a .writes .now) (a .objects) (good passed) (put .before .before .before .put-objects .ensures) (put .put-subjects .ensures),
     )
 
 part-write-policy-end-2 : tie.Need-part-write-policy-end-2
 part-write-policy-end-2 c =
-    let start = c .before .before .before .before .before .before .before .before .before .before .before .before .before .before .before .before .before .before .before .before .before .before in
-    let good = passes-test (c .before .before .before .before .before .before .before .before .before .before .before .before .before .before .before .before .before .matrix-good .ensures)
-    (c .before .before .before .before .before .before .before .before .before .before .before .before .before .before .before .before .if2 .left) in
-    let put-permits = c .before .before .before .before .before .put-permits in
-    words-end (start .args .reads .now) (start .args .writes .now) (start .args .objects) good _ _ (put-permits .ensures)
+    let permits = c .before .before .before .before .before in
+    let passed = tested (subjects permits) in
+    let a = start passed .args in
+    words-end (a .reads .now) (a .writes .now) (a .objects) (good passed) _ _ (permits .put-permits .ensures)
 
 write-policy-requires : tie.Need-write-policy-requires
 write-policy-requires c κs =
-    let start = c .before .before .before .before .before .before .before .before .before .before .before .before .before .before .before .before .before .before .before .before .before .before .before .before in
-    let good = passes-test (c .before .before .before .before .before .before .before .before .before .before .before .before .before .before .before .before .before .before .before .matrix-good .ensures)
-    (c .before .before .before .before .before .before .before .before .before .before .before .before .before .before .before .before .before .before .if2 .left) in
-    let g = good-parts _ _ _ good in
-    let if1 = c .before .before .before .before .before .before .before .before .before .before .before .before .before .before .before .before .before .before .before .before .if1 in
-    let put-objects = c .before .before .before .before .before .before .before .before .before .before .before .before .before .before .before .before .put-objects in
-    let put-subjects = c .before .before .before .before .before .before .before .before .before .before .before .before .before .put-subjects in
-    let put16 = c .before .before .before .before .before .before .before .before .before .before .put16 in
-    let put-permits = c .before .before .before .before .before .before .before .put-permits in (
-      derive-tabled (start .args .reads .now) (start .args .writes .now) (start .args .objects) good (put-objects .ensures) (put-subjects .ensures) (put16 .ensures)
-          (search needs) _ _ (put-permits .ensures),
-      if1 .left,
+    let permits = c .before .before .before .before .before .before .before in
+    let put = subjects permits in
+    let passed = tested put in
+    let a = start passed .args in (
+      derive-tabled (a .reads .now) (a .writes .now) (a .objects) (good passed) (put .before .before .before .put-objects .ensures)
+          (put .put-subjects .ensures) (permits .before .before .before .put16 .ensures) (search needs) _ _ (permits .put-permits .ensures),
+      passed .before .before .if1 .left,
     )
 
 cast-result : tie.Need-cast-result
 cast-result c =
-    let start = c .before .before .before .before .before .before .before .before .before .before .before .before .before .before .before .before .before .before .before .before .before .before .before .before .before .before .before in
-    let good = passes-test (c .before .before .before .before .before .before .before .before .before .before .before .before .before .before .before .before .before .before .before .before .before .before .matrix-good .ensures)
-    (c .before .before .before .before .before .before .before .before .before .before .before .before .before .before .before .before .before .before .before .before .before .if2 .left) in
-    let g = good-parts _ _ _ good in
-    let put-objects = c .before .before .before .before .before .before .before .before .before .before .before .before .before .before .before .before .before .before .before .put-objects in
-    let put-subjects = c .before .before .before .before .before .before .before .before .before .before .before .before .before .before .before .before .put-subjects in
-    let put16 = c .before .before .before .before .before .before .before .before .before .before .before .before .before .put16 in
-    let put-permits = c .before .before .before .before .before .before .before .before .before .before .put-permits in
+    let permits = c .before .before .before .before .before .before .before .before .before .before in
+    let put = subjects permits in
+    let passed = tested put in
+    let a = start passed .args in
     omega (
       arith,
-      derived-small (start .args .reads .now) (start .args .writes .now) (start .args .objects) good (derive-wrote (start .args .reads .now) (start .args .writes .now)
-          (start .args .objects) good (put-objects .ensures) (put-subjects .ensures) (put16 .ensures) (search needs) _ _ (put-permits .ensures) (c .before .before .write-policy .ensures)),
+      derived-small (a .reads .now) (a .writes .now) (a .objects) (good passed)
+          (derive-wrote (a .reads .now) (a .writes .now) (a .objects) (good passed) (put .before .before .before .put-objects .ensures)
+          (put .put-subjects .ensures) (permits .before .before .before .put16 .ensures) (search needs) _ _ (permits .put-permits .ensures)
+          (c .before .before .write-policy .ensures)),
     )
 
 returns-3 : tie.Need-returns-3
 returns-3 c =
-    let start = c .before .before .before .before .before .before .before .before .before .before .before .before .before .before .before .before .before .before .before .before .before .before .before .before .before .before .before in
-    let good = passes-test (c .before .before .before .before .before .before .before .before .before .before .before .before .before .before .before .before .before .before .before .before .before .before .matrix-good .ensures)
-    (c .before .before .before .before .before .before .before .before .before .before .before .before .before .before .before .before .before .before .before .before .before .if2 .left) in
-    let g = good-parts _ _ _ good in
-    let if1 = c .before .before .before .before .before .before .before .before .before .before .before .before .before .before .before .before .before .before .before .before .before .before .before .if1 in
-    let put-objects = c .before .before .before .before .before .before .before .before .before .before .before .before .before .before .before .before .before .before .before .put-objects in
-    let put-subjects = c .before .before .before .before .before .before .before .before .before .before .before .before .before .before .before .before .put-subjects in
-    let put16 = c .before .before .before .before .before .before .before .before .before .before .before .before .before .put16 in
-    let put-permits = c .before .before .before .before .before .before .before .before .before .before .put-permits in
-    derive-done _ _ _ _ (if1 .left) good (derive-wrote (start .args .reads .now) (start .args .writes .now) (start .args .objects) good (put-objects .ensures)
-    (put-subjects .ensures) (put16 .ensures) (search needs) _ _ (put-permits .ensures) (c .before .before .write-policy .ensures))
+    let permits = c .before .before .before .before .before .before .before .before .before .before in
+    let put = subjects permits in
+    let passed = tested put in
+    let a = start passed .args in
+    derive-done _ _ _ _ (passed .before .before .if1 .left) (good passed)
+    (derive-wrote (a .reads .now) (a .writes .now) (a .objects) (good passed) (put .before .before .before .put-objects .ensures)
+    (put .put-subjects .ensures) (permits .before .before .before .put16 .ensures) (search needs) _ _ (permits .put-permits .ensures)
+    (c .before .before .write-policy .ensures))
 
 pub derive-spec : {M : Type 1} → statement M
 derive-spec =

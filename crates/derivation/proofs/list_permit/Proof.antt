@@ -28,10 +28,16 @@ cast-words : tie.Need-cast-words Inv-loop μ-loop
 cast-words c = omega (arith, c .before .before .shared-slice-known .given (c .before .before .before .before .loop .s))
 
 slice-write-words : tie.Need-slice-write-words Inv-loop μ-loop
-slice-write-words c = omega (arith, permit-long (c .before .before .before .before .loop .inv), c .before .before .before .before .loop .inv .sum, c .before .before .before .before .loop .inv .most, c .before .before .before .before .loop .inv .few)
+slice-write-words c =
+    let loop = c .before .before .before .before .loop in
+    omega (arith, permit-long (loop .inv), loop .inv .sum, loop .inv .most, loop .inv .few)
 
 loop-again : tie.Need-loop-again Inv-loop μ-loop
-loop-again c = permit-take (c .before .before .before .before .loop .inv) (c .before .before .before .loop-test .taken) (c .if1 .taken) (ap (bitOr (getD (c .before .before .before .before .before .args .reads .now) (c .before .before .before .before .loop .s) 0)) (own-is _ (c .before .before .before .before .before .pre .2)))
+loop-again c =
+    let start = c .before .before .before .before .before in
+    let loop = c .before .before .before .before .loop in
+    let taken = c .before .before .before .loop-test .taken in
+    permit-take (loop .inv) taken (c .if1 .taken) (ap (bitOr (getD (start .args .reads .now) (loop .s) 0)) (own-is _ (start .pre .2)))
 
 loop-again-2 : tie.Need-loop-again-2 Inv-loop μ-loop
 loop-again-2 c = permit-leave (c .before .before .before .before .loop .inv) (c .before .before .before .loop-test .taken) (c .if1 .left)

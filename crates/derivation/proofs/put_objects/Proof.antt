@@ -29,10 +29,11 @@ put-container-record-requires c κs =
 
 loop-again : tie.Need-loop-again Inv-loop μ-loop
 loop-again c =
-    let start = c .before .before .before .before .before .before .before in
     let loop = c .before .before .before .before .before .loop in
     let taken = c .before .before .before .before .loop-test .taken in
-    container-next (objectFiles (start .args .n)) (loop .inv) (omega (arith, objects-count (start .args .n))) _ (object-row (start .args .n) (loop .b) taken) (c .before .before .put-container-record .ensures)
+    let start = c .before .before .before .before .before .before .before in
+    container-next (objectFiles (start .args .n)) (loop .inv) (omega (arith, objects-count (start .args .n))) _
+    (object-row (start .args .n) (loop .b) taken) (c .before .before .put-container-record .ensures)
 
 same-length : tie.Need-same-length Inv-loop μ-loop
 same-length c = c .before .loop .inv .long

@@ -32,8 +32,11 @@ put-row-requires c κs =
 
 loop-again : tie.Need-loop-again Inv-loop μ-loop
 loop-again c =
+    let loop = c .before .before .before .before .before .loop in
+    let taken = c .before .before .before .before .loop-test .taken in
     let start = c .before .before .before .before .before .before .before .before .before in
-    permits-next (start .args .reads .now) (start .args .writes .now) (start .args .n) (start .pre .1) (c .before .before .before .before .before .loop .inv) (c .before .before .before .before .loop-test .taken) (c .before .before .put-row .ensures)
+    permits-next (start .args .reads .now) (start .args .writes .now) (start .args .n) (start .pre .1) (loop .inv) taken
+    (c .before .before .put-row .ensures)
 
 same-length : tie.Need-same-length Inv-loop μ-loop
 same-length c = c .before .loop .inv .long

@@ -27,14 +27,17 @@ put-container-record-requires c κs =
     let start = c .before .before .before .before in
     let loop = c .before .before .loop in
     let taken = c .before .loop-test .taken in
-    container-room (replicate (start .args .n) subjectProcess) (loop .inv) (omega (arith, length-replicate {A = Container} (start .args .n) subjectProcess)) _ (subject-row (start .args .n) (loop .s) taken)
+    container-room (replicate (start .args .n) subjectProcess) (loop .inv)
+    (omega (arith, length-replicate {A = Container} (start .args .n) subjectProcess)) _ (subject-row (start .args .n) (loop .s) taken)
 
 loop-again : tie.Need-loop-again Inv-loop μ-loop
 loop-again c =
-    let start = c .before .before .before .before .before .before .before in
     let loop = c .before .before .before .before .before .loop in
     let taken = c .before .before .before .before .loop-test .taken in
-    container-next (replicate (start .args .n) subjectProcess) (loop .inv) (omega (arith, length-replicate {A = Container} (start .args .n) subjectProcess)) _ (subject-row (start .args .n) (loop .s) taken) (c .before .before .put-container-record .ensures)
+    let start = c .before .before .before .before .before .before .before in
+    container-next (replicate (start .args .n) subjectProcess) (loop .inv)
+    (omega (arith, length-replicate {A = Container} (start .args .n) subjectProcess)) _ (subject-row (start .args .n) (loop .s) taken)
+    (c .before .before .put-container-record .ensures)
 
 same-length : tie.Need-same-length Inv-loop μ-loop
 same-length c = c .before .loop .inv .long
@@ -42,7 +45,13 @@ same-length c = c .before .loop .inv .long
 returns : tie.Need-returns Inv-loop μ-loop
 returns c =
     let start = c .before .before .before in
-    rows-end (c .before .loop .inv) (omega (arith, c .loop-test .left, length-map (replicate (start .args .n) subjectProcess) containerBytes, length-replicate {A = Container} (start .args .n) subjectProcess))
+    rows-end (c .before .loop .inv)
+    (omega (
+      arith,
+      c .loop-test .left,
+      length-map (replicate (start .args .n) subjectProcess) containerBytes,
+      length-replicate {A = Container} (start .args .n) subjectProcess,
+    ))
 
 pub put-subjects-spec : {M : Type 1} → statement M
 put-subjects-spec =

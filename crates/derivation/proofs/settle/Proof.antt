@@ -14,7 +14,9 @@ returns : tie.Need-returns
 returns c = let start = c .before .before .before .before in settle-kept (start .args .words .now) (start .pre .0) (start .pre .1) (sym (c .before .kept-well .ensures) ∙ c .if1 .taken)
 
 rule-of-requires : tie.Need-rule-of-requires
-rule-of-requires c κs = let start = c .before .before .before .before .before in (settle-long (start .args .words .now) (start .pre .0) (start .pre .1), settle-count (start .args .words .now) (start .pre .0) (start .pre .1))
+rule-of-requires c κs =
+    let start = c .before .before .before .before .before in
+    (settle-long (start .args .words .now) (start .pre .0) (start .pre .1), settle-count (start .args .words .now) (start .pre .0) (start .pre .1))
 
 normal-requires : tie.Need-normal-requires
 normal-requires c κs = let start = c .before .before .before .before .before .before in omega (arith, start .pre .0, ap length (c .rule-of .ensures))
@@ -23,7 +25,12 @@ put-rule-requires : tie.Need-put-rule-requires
 put-rule-requires c κs = let start = c .before .before .before .before .before .before .before .before in settle-long (start .args .words .now) (start .pre .0) (start .pre .1)
 
 returns-2 : tie.Need-returns-2
-returns-2 c = let start = c .before .before .before .before .before .before .before .before .before .before .before in settle-made (start .args .words .now) (start .pre .0) (start .pre .1) _ _ _ (c .before .before .before .before .before .rule-of .ensures) (c .before .before .before .before .normal .ensures) (c .before .before .put-rule .ensures)
+returns-2 c =
+    let rule-of = c .before .before .before .before .before .rule-of in
+    let normal = c .before .before .before .before .normal in
+    let start = c .before .before .before .before .before .before .before .before .before .before .before in
+    settle-made (start .args .words .now) (start .pre .0) (start .pre .1) _ _ _ (rule-of .ensures) (normal .ensures)
+    (c .before .before .put-rule .ensures)
 
 pub settle-spec : {M : Type 1} → statement M
 settle-spec =

@@ -3,7 +3,7 @@ use Prim.Native.Nat.{_+_}
 use mathlib.Core.Path.{_≡_, refl}
 use native.Mathlib.Omega.{arith}
 use lib.ListN.{length, length-take}
-use Rattle.explain.specs.Runs.{traceLimit}
+use Rattle.explain.specs.Runs.{traceSize}
 use borrow.Author.Tests.{not-true, not-false}
 use Rattle.fields.specs.Ascii.{ascii}
 use Rattle.files.proofs.CallLaws.{failed, done-as}
@@ -15,7 +15,7 @@ use Rattle.explain.proofs.show_files.Tie as tie
 -- what is lent has its length
 long : (c : tie.After-show-file-arg4)
     → length (c .before .before .before .before .before .before .before .before .before .before .before .before .before .before .before .before .before .before .args .trace .now)
-    ≡ traceLimit + 1
+    ≡ traceSize + 1
 long c = search needs
 
 returns : tie.Need-returns

@@ -6,7 +6,11 @@ use Rattle.fields.proofs.read32.Statement.{statement}
 use Rattle.fields.proofs.read32.Tie as tie
 
 returns : tie.Need-returns
-returns c = (omega (arith, field-split (c .before .before .before .args .s .now) (c .before .before .before .args .at) 2 2 (omega arith), c .before .read16 .ensures, c .read162 .ensures), omega (arith, c .before .read16 .ensures, c .read162 .ensures))
+returns c =
+    let start = c .before .before .before in (
+      omega (arith, field-split (start .args .s .now) (start .args .at) 2 2 (omega arith), c .before .read16 .ensures, c .read162 .ensures),
+      omega (arith, c .before .read16 .ensures, c .read162 .ensures),
+    )
 
 pub read32-spec : {M : Type 1} → statement M
 read32-spec =

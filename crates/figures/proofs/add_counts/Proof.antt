@@ -20,8 +20,10 @@ loop-holds c = changing-start _ _ _ (c .before .pre)
 
 loop-again : tie.Need-loop-again Inv-loop μ-loop
 loop-again c =
-    let l = c .before .before .before .before .before .loop in
-    counts-next (c .before .before .before .before .before .before .before .args .answer) _ (l .counts) _ (l .test) (l .inv) (c .before .before .before .before .loop-test .taken) (c .before .before .add-count .ensures)
+    let start = c .before .before .before .before .before .before .before in
+    let loop = c .before .before .before .before .before .loop in
+    let taken = c .before .before .before .before .loop-test .taken in
+    counts-next (start .args .answer) _ (loop .counts) _ (loop .test) (loop .inv) taken (c .before .before .add-count .ensures)
 
 same-length : tie.Need-same-length Inv-loop μ-loop
 same-length c = c .before .loop .inv .long ∙ sym (c .before .before .before .pre)

@@ -19,15 +19,24 @@ loop-holds : tie.Need-loop-holds Inv-loop μ-loop
 loop-holds c = counting-start _ _ _
 
 add-at : tie.Need-add-at Inv-loop μ-loop
-add-at c = omega (arith, record-length _ _ _ (c .before .before .before .before .before .before .before .before .before .before .loop-test .taken) (c .before .before .before .before .before .before .before .before .before .record-at .ensures))
+add-at c =
+    let taken = c .before .before .before .before .before .before .before .before .before .before .loop-test .taken in
+    let record-at = c .before .before .before .before .before .before .before .before .before .record-at in
+    omega (arith, record-length _ _ _ taken (record-at .ensures))
 
 loop-less : tie.Need-loop-less Inv-loop μ-loop
-loop-less c = omega (arith, record-length _ _ _ (c .before .before .before .before .before .before .before .before .before .before .loop-test .taken) (c .before .before .before .before .before .before .before .before .before .record-at .ensures))
+loop-less c =
+    let taken = c .before .before .before .before .before .before .before .before .before .before .loop-test .taken in
+    let record-at = c .before .before .before .before .before .before .before .before .before .record-at in
+    omega (arith, record-length _ _ _ taken (record-at .ensures))
 
 loop-again : tie.Need-loop-again Inv-loop μ-loop
 loop-again c =
-    counting-next _ _ _ _ _ _ (c .before .before .before .before .before .before .before .before .before .before .before .loop .inv) (c .before .before .before .before .before .before .before .before .before .before .loop-test .taken) _ _ _ _
-    (c .before .before .before .before .before .before .before .before .before .record-at .ensures) (c .before .before .before .before .before .before .before .step .ensures .0) (c .before .before .before .before .before .before .before .step .ensures .1)
+    let loop = c .before .before .before .before .before .before .before .before .before .before .before .loop in
+    let taken = c .before .before .before .before .before .before .before .before .before .before .loop-test .taken in
+    let record-at = c .before .before .before .before .before .before .before .before .before .record-at in
+    let step = c .before .before .before .before .before .before .before .step in
+    counting-next _ _ _ _ _ _ (loop .inv) taken _ _ _ _ (record-at .ensures) (step .ensures .0) (step .ensures .1)
     (c .before .before .add-answer .ensures) (search needs) (search needs)
 
 returns : tie.Need-returns Inv-loop μ-loop

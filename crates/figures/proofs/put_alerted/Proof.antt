@@ -24,7 +24,9 @@ put-container-alerts-requires c κs = fields-room _ _ _ _ _ _ _ _ (c .before .be
 
 loop-again : tie.Need-loop-again Inv-loop μ-loop
 loop-again c =
-    placing-next _ _ _ _ _ _ _ _ (c .before .before .before .before .before .before .loop .inv) (c .before .before .before .before .before .loop-test .taken) _ _ (container-length _ _) (c .before .before .put-container-alerts .ensures)
+    let loop = c .before .before .before .before .before .before .loop in
+    let taken = c .before .before .before .before .before .loop-test .taken in
+    placing-next _ _ _ _ _ _ _ _ (loop .inv) taken _ _ (container-length _ _) (c .before .before .put-container-alerts .ensures)
 
 same-length : tie.Need-same-length Inv-loop μ-loop
 same-length c = c .before .loop .inv .long

@@ -16,9 +16,12 @@ put-count-requires c κs = let a = c .before .before .before .before .before .be
 
 returns-2 : tie.Need-returns-2
 returns-2 c =
-    let a = c .before .before .before .before .before .before .before .before .before .before .args in
+    let start = c .before .before .before .before .before .before .before .before .before .before in
+    let if1 = c .before .before .before .before .before .before .before .before .if1 in
+    let put-field = c .before .before .before .before .before .before .put-field in
+    let a = start .args in
     let h : a .at ≤ length (a .out .now) = omega arith in
-    container-some (a .c) (a .alerts) h (c .before .before .before .before .before .before .before .before .if1 .left) (c .before .before .before .before .before .before .put-field .ensures) (c .before .before .put-count .ensures)
+    container-some (a .c) (a .alerts) h (if1 .left) (put-field .ensures) (c .before .before .put-count .ensures)
 
 pub put-container-alerts-spec : {M : Type 1} → statement M
 put-container-alerts-spec =

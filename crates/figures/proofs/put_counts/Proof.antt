@@ -27,7 +27,9 @@ put-count-requires c κs = fields-room _ _ _ _ _ _ _ _ (c .before .before .befor
 
 loop-again : tie.Need-loop-again Inv-loop μ-loop
 loop-again c =
-    placing-next _ _ _ _ _ _ _ _ (c .before .before .before .before .before .before .loop .inv) (c .before .before .before .before .before .loop-test .taken) _ _ (field-length _) (c .before .before .put-count .ensures)
+    let loop = c .before .before .before .before .before .before .loop in
+    let taken = c .before .before .before .before .before .loop-test .taken in
+    placing-next _ _ _ _ _ _ _ _ (loop .inv) taken _ _ (field-length _) (c .before .before .put-count .ensures)
 
 same-length : tie.Need-same-length Inv-loop μ-loop
 same-length c = c .before .loop .inv .long

@@ -11,7 +11,10 @@ use Rattle.figures.proofs.put_figures.Statement.{statement}
 use Rattle.figures.proofs.put_figures.Tie as tie
 
 put-rate-requires : tie.Need-put-rate-requires
-put-rate-requires c κs = omega (arith, counts-text-length (c .before .before .before .before .before .before .before .before .args .counts .now), c .before .before .before .before .before .put-counts .ensures .ends)
+put-rate-requires c κs =
+    let start = c .before .before .before .before .before .before .before .before in
+    let put-counts = c .before .before .before .before .before .put-counts in
+    omega (arith, counts-text-length (start .args .counts .now), put-counts .ensures .ends)
 
 put-alerted-requires : tie.Need-put-alerted-requires
 put-alerted-requires c κs =
@@ -50,11 +53,15 @@ same-length c = let p = c .before .before .put-alerted in omega (arith, length-s
 
 returns : tie.Need-returns
 returns c records =
-    let a = c .before .before .before .before .before .before .before .before .before .before .before .before .before .before .before .args in
+    let start = c .before .before .before .before .before .before .before .before .before .before .before .before .before .before .before in
+    let put-counts = c .before .before .before .before .before .before .before .before .before .before .before .before .put-counts in
+    let put-rate = c .before .before .before .before .before .before .put-rate in
+    let a = start .args in
     let p = c .before .before .put-alerted in
     let h : a .at ≤ length (a .out .now) = omega arith in
     wrote-as (figures-text (counters records (a .counts .now) (a .alerted .now)))
-    (wrote-join h (wrote-join h (wrote-join h (c .before .before .before .before .before .before .before .before .before .before .before .before .put-counts .ensures) (c .before .before .before .before .before .before .put-rate .ensures)) (p .ensures)) (wrote-byte newline (p .result) (p .last .0) (room c)))
+    (wrote-join h (wrote-join h (wrote-join h (put-counts .ensures) (put-rate .ensures)) (p .ensures))
+    (wrote-byte newline (p .result) (p .last .0) (room c)))
 
 pub put-figures-spec : {M : Type 1} → statement M
 put-figures-spec =

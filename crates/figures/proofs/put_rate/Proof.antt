@@ -14,13 +14,20 @@ unfolding ascii
 returns c = rate-none _ _ (c .before .before .before .before .before .if1 .taken) (c .before .before .put-text .ensures)
 
 put-field-requires-2 : tie.Need-put-field-requires-2
-put-field-requires-2 c κs = let a = c .before .before .before .before .before .before .before .args in omega (arith, field-length (1000 * a .alerts / a .accepted), c .before .before .before .put-field .ensures .ends)
+put-field-requires-2 c κs =
+    let start = c .before .before .before .before .before .before .before in
+    let put-field = c .before .before .before .put-field in
+    let a = start .args in
+    omega (arith, field-length (1000 * a .alerts / a .accepted), put-field .ensures .ends)
 
 returns-2 : tie.Need-returns-2
 returns-2 c =
-    let a = c .before .before .before .before .before .before .before .before .before .before .args in
+    let start = c .before .before .before .before .before .before .before .before .before .before in
+    let if1 = c .before .before .before .before .before .before .before .before .if1 in
+    let put-field = c .before .before .before .before .before .before .put-field in
+    let a = start .args in
     let h : a .at ≤ length (a .out .now) = omega arith in
-    rate-some (a .alerts) (a .accepted) h (c .before .before .before .before .before .before .before .before .if1 .left) (c .before .before .before .before .before .before .put-field .ensures) (c .before .before .put-field2 .ensures)
+    rate-some (a .alerts) (a .accepted) h (if1 .left) (put-field .ensures) (c .before .before .put-field2 .ensures)
 
 pub put-rate-spec : {M : Type 1} → statement M
 put-rate-spec =

@@ -28,7 +28,11 @@ returns-2 : tie.Need-returns-2
 returns-2 c = (omega arith, went (inl (inr (missing-as _ (c .enum-told .given .1) (c .before .before .«open» .ensures), refl))))
 
 returns-3 : tie.Need-returns-3
-returns-3 c = (omega (arith, c .unread .ensures .1), record { done = λ g. never (sym (c .unread .ensures .0) ∙ g); told = λ _. failed-open _ (c .before .enum-told2 .given .1) (c .before .before .before .«open» .ensures) })
+returns-3 c =
+    let b3 = c .before .before .before in (
+      omega (arith, c .unread .ensures .1),
+      record { done = λ g. never (sym (c .unread .ensures .0) ∙ g); told = λ _. failed-open _ (c .before .enum-told2 .given .1) (b3 .«open» .ensures) },
+    )
 
 pub load-spec : {M : Type 1} → statement M
 load-spec =

@@ -29,7 +29,13 @@ returns-2 c =
     (c .before .before .before .before .before .before .read-some .ensures)
 
 add-done : tie.Need-add-done Inv-loop μ-loop
-add-done c = omega (arith, reading-next _ _ _ _ _ _ (c .before .before .before .before .before .before .before .before .before .before .before .loop .inv) _ _ (c .before .before .before .before .before .before .read-some .kept .1 .1 .0) (c .before .before .n .given .1) (c .before .before .before .before .before .before .read-some .ensures) .within)
+add-done c =
+    let b6 = c .before .before .before .before .before .before in
+    let turn = b6 .before .before .before .before .before in
+    omega (
+      arith,
+      reading-next _ _ _ _ _ _ (turn .loop .inv) _ _ (b6 .read-some .kept .1 .1 .0) (c .before .before .n .given .1) (b6 .read-some .ensures) .within,
+    )
 
 loop-again : tie.Need-loop-again Inv-loop μ-loop
 loop-again c =
@@ -41,7 +47,9 @@ loop-again c =
     (c .before .before .before .before .before .before .read-some .ensures)
 
 loop-again-2 : tie.Need-loop-again-2 Inv-loop μ-loop
-loop-again-2 c = reading-again _ _ _ _ _ _ (c .before .before .before .before .before .before .before .before .before .loop .inv) _ _ (c .before .before .before .before .read-some .kept .1 .1 .0) (c .enum-told .given .1) (c .before .before .before .before .read-some .ensures)
+loop-again-2 c =
+    let b4 = c .before .before .before .before in let turn = b4 .before .before .before .before .before in
+    reading-again _ _ _ _ _ _ (turn .loop .inv) _ _ (b4 .read-some .kept .1 .1 .0) (c .enum-told .given .1) (b4 .read-some .ensures)
 
 returns-3 : tie.Need-returns-3 Inv-loop μ-loop
 returns-3 c = unread-part _ _ _ _ _ (failed-read _ _ _ _ (c .before .enum-told2 .given .1) (c .before .before .before .before .before .read-some .ensures)) (c .unread .ensures)

@@ -17,7 +17,9 @@ returns : tie.Need-returns
 returns c = c .write-whole .ensures
 
 returns-2 : tie.Need-returns-2
-returns-2 c = done-as (handed-as (sym (take-all (c .before .before .before .before .args .end) (now (c .before .before .before .before .args .out)) (c .before .before .if1 .left)))) (c .write-whole2 .ensures)
+returns-2 c =
+    let start = c .before .before .before .before in
+    done-as (handed-as (sym (take-all (start .args .end) (now (start .args .out)) (c .before .before .if1 .left)))) (c .write-whole2 .ensures)
 
 pub write-front-spec : {M : Type 1} → statement M
 write-front-spec =

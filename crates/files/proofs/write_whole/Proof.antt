@@ -18,7 +18,9 @@ returns : tie.Need-returns Inv-loop μ-loop
 returns c = went (writing-end _ _ _ _ (c .before .before .loop .inv) (c .if1 .taken))
 
 add-done : tie.Need-add-done Inv-loop μ-loop
-add-done c = omega (arith, writing-next _ _ _ _ (c .before .before .before .before .before .before .before .before .loop .inv) (c .before .n .given .1) (c .before .before .before .write-some .ensures) .within)
+add-done c =
+    let b3 = c .before .before .before in let turn = b3 .before .before .before .before .before in
+    omega (arith, writing-next _ _ _ _ (turn .loop .inv) (c .before .n .given .1) (b3 .write-some .ensures) .within)
 
 loop-again : tie.Need-loop-again Inv-loop μ-loop
 loop-again c = writing-next _ _ _ _ (c .before .before .before .before .before .before .before .before .loop .inv) (c .before .n .given .1) (c .before .before .before .write-some .ensures)

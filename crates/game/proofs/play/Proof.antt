@@ -35,14 +35,16 @@ returns-3 c =
     let f = c .before .before in
     let q = f .before .before .before in
     let m = q .before in
-    play-desk _ _ _ _ _ _ _ (passes-test (m .before .matrix-good .ensures) (m .if1 .left)) (passes-test (q .game-good .ensures) (f .before .before .if2 .left)) _ (f .before .rights-in .ensures) _ (f .first-winning .ensures) (c .before .if3 .taken) (c .move-at .ensures)
+    play-desk _ _ _ _ _ _ _ (passes-test (m .before .matrix-good .ensures) (m .if1 .left)) (passes-test (q .game-good .ensures) (f .before .before .if2 .left))
+    _ (f .before .rights-in .ensures) _ (f .first-winning .ensures) (c .before .if3 .taken) (c .move-at .ensures)
 
 returns-4 : tie.Need-returns-4
 returns-4 c =
     let f = c .before in
     let q = f .before .before .before in
     let m = q .before in
-    play-guard _ _ _ _ _ _ _ (passes-test (m .before .matrix-good .ensures) (m .if1 .left)) (passes-test (q .game-good .ensures) (f .before .before .if2 .left)) _ (f .before .rights-in .ensures) _ (f .first-winning .ensures) (c .if3 .left)
+    play-guard _ _ _ _ _ _ _ (passes-test (m .before .matrix-good .ensures) (m .if1 .left)) (passes-test (q .game-good .ensures) (f .before .before .if2 .left))
+    _ (f .before .rights-in .ensures) _ (f .first-winning .ensures) (c .if3 .left)
 
 pub play-spec : {M : Type 1} → statement M
 play-spec =

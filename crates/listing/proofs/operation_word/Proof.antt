@@ -48,7 +48,8 @@ returns-10 : tie.Need-returns-10
 unfolding ascii bytesOf
 returns-10 c =
     let r = c .before .match .rest in
-    let e = other-word (c .before .before .args .code) (r .0 .0 .0 .0 .0 .0 .0 .0 .1) (r .0 .0 .0 .0 .0 .0 .0 .1) (r .0 .0 .0 .0 .0 .0 .1) (r .0 .0 .0 .0 .0 .1) (r .0 .0 .0 .0 .1) (r .0 .0 .0 .1) (r .0 .0 .1) (r .0 .1) (r .1) in
+    let e = other-word (c .before .before .args .code) (r .0 .0 .0 .0 .0 .0 .0 .0 .1) (r .0 .0 .0 .0 .0 .0 .0 .1) (r .0 .0 .0 .0 .0 .0 .1)
+    (r .0 .0 .0 .0 .0 .1) (r .0 .0 .0 .0 .1) (r .0 .0 .0 .1) (r .0 .0 .1) (r .0 .1) (r .1) in
     rw (e, c .word-of10 .ensures) (record { letters = refl; long = refl })
 
 pub operation-word-spec : {M : Type 1} → statement M

@@ -20,7 +20,8 @@ put-word-requires c κs =
     (omega (arith, b, w .long), omega (arith, b, w .long), omega arith)
 
 word : (c : tie.After-put-word)
-    → WroteWithSpare (verdictWord (c .before .before .before .before .args .verdict) ++ (space ∷ [])) 4 (c .before .before .before .before .args .out .now) (c .put-word .last .0) (c .before .before .before .before .args .at) (c .put-word .result)
+    → WroteWithSpare (verdictWord (c .before .before .before .before .args .verdict) ++ (space ∷ [])) 4
+    (c .before .before .before .before .args .out .now) (c .put-word .last .0) (c .before .before .before .before .args .at) (c .put-word .result)
 word c = spare-as (ap (λ (x : List ℕ). x ++ (space ∷ [])) (c .before .verdict-word .ensures .letters)) (c .put-word .ensures)
 
 put-container-number-requires : tie.Need-put-container-number-requires

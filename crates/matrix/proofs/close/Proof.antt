@@ -16,7 +16,10 @@ loop-holds : tie.Need-loop-holds Inv-loop μ-loop
 loop-holds c = closing-start _ _ (c .before .pre .1) (λ a. omega (arith, c .slice-known .given a))
 
 loop-again : tie.Need-loop-again Inv-loop μ-loop
-loop-again c = let l = c .before .before .before .before in closing-next _ (l .before .before .before .args .rows .now) _ _ _ (l .before .loop .inv) (l .loop-test .taken) (c .before .before .pass-through .ensures) (λ a. omega (arith, c .slice-known2 .given a))
+loop-again c =
+    let l = c .before .before .before .before in
+    closing-next _ (l .before .before .before .args .rows .now) _ _ _ (l .before .loop .inv) (l .loop-test .taken)
+    (c .before .before .pass-through .ensures) (λ a. omega (arith, c .slice-known2 .given a))
 
 same-length : tie.Need-same-length Inv-loop μ-loop
 same-length c = c .before .loop .inv .long

@@ -20,7 +20,10 @@ add-count : tie.Need-add-count Inv-loop μ-loop
 add-count c = omega (arith, ones-le 32 (c .ungranted-row .result) (c .ungranted-row .ok))
 
 loop-again : tie.Need-loop-again Inv-loop μ-loop
-loop-again c = let p = c .before .before .before .before .before .before in counting-next _ _ _ _ _ _ _ (p .pre) (c .before .before .loop .inv) (c .before .loop-test .taken) (c .ungranted-row .ok) (c .ungranted-row .ensures)
+loop-again c =
+    let p = c .before .before .before .before .before .before in
+    counting-next _ _ _ _ _ _ _ (p .pre) (c .before .before .loop .inv) (c .before .loop-test .taken) (c .ungranted-row .ok)
+    (c .ungranted-row .ensures)
 
 returns : tie.Need-returns Inv-loop μ-loop
 returns c = counting-end _ _ _ _ _ (c .before .loop .inv) (c .loop-test .left)

@@ -15,7 +15,11 @@ loop-holds : tie.Need-loop-holds Inv-loop μ-loop
 loop-holds c = let p = c .before .before .before in stored-start (GrantedAt (p .args .reads .now) (p .args .writes .now)) _ _ (p .pre .2)
 
 loop-again : tie.Need-loop-again Inv-loop μ-loop
-loop-again c = let l = c .before .before .loop in let p = c .before .before .before .before .before .before in stored-next (GrantedAt (p .args .reads .now) (p .args .writes .now)) _ _ _ _ _ (l .inv) (c .before .loop-test .taken) (granted-is _ _ _ _ (c .granted-row .ok) (c .granted-row .ensures))
+loop-again c =
+    let l = c .before .before .loop in
+    let p = c .before .before .before .before .before .before in
+    stored-next (GrantedAt (p .args .reads .now) (p .args .writes .now)) _ _ _ _ _ (l .inv) (c .before .loop-test .taken)
+    (granted-is _ _ _ _ (c .granted-row .ok) (c .granted-row .ensures))
 
 returns : tie.Need-returns Inv-loop μ-loop
 returns c = granted-end _ _ _ _ _ _ (c .before .loop .inv) (c .loop-test .left)

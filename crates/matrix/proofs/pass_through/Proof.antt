@@ -15,7 +15,10 @@ loop-holds : tie.Need-loop-holds Inv-loop μ-loop
 loop-holds c = let p = c .before .before in stored-start (JoinedAt (p .args .rows .now) (p .args .k)) _ _ (p .pre .1)
 
 loop-again : tie.Need-loop-again Inv-loop μ-loop
-loop-again c = let b = c .before .before in let l = b .before .loop in joined-next _ (b .before .before .before .before .args .rows .now) _ _ _ _ (l .inv) (b .loop-test .taken) (c .«joined-at» .ensures)
+loop-again c =
+    let b = c .before .before in
+    let l = b .before .loop in
+    joined-next _ (b .before .before .before .before .args .rows .now) _ _ _ _ (l .inv) (b .loop-test .taken) (c .«joined-at» .ensures)
 
 returns : tie.Need-returns Inv-loop μ-loop
 returns c = joined-end _ _ _ _ _ (c .before .loop .inv) (c .loop-test .left)

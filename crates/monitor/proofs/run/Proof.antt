@@ -24,8 +24,12 @@ loop-holds c = run-start _ _ (c .if1 .left)
 
 returns-2 : tie.Need-returns-2 Inv-loop μ-loop
 returns-2 c =
-    let answered = c .before .before .before .before .step .ensures in
-    run-stops _ _ _ _ _ _ _ _ (c .before .before .before .before .before .before .before .before .loop .inv) (c .before .before .before .before .before .before .before .loop-test .taken) (c .before .before .before .before .before .before .record-at .ensures) (answered .1) (answered .0)
+    let loop = c .before .before .before .before .before .before .before .before .loop in
+    let taken = c .before .before .before .before .before .before .before .loop-test .taken in
+    let record-at = c .before .before .before .before .before .before .record-at in
+    let step = c .before .before .before .before .step in
+    let answered = step .ensures in
+    run-stops _ _ _ _ _ _ _ _ (loop .inv) taken (record-at .ensures) (answered .1) (answered .0)
     (fails-test (c .before .is-quiet .ensures) (c .if2 .taken)) _ refl
 
 add-at : tie.Need-add-at Inv-loop μ-loop
@@ -36,8 +40,12 @@ loop-less c = omega (arith, record-length _ _ _ (c .before .before .before .befo
 
 loop-again : tie.Need-loop-again Inv-loop μ-loop
 loop-again c =
-    let answered = c .before .before .before .before .step .ensures in
-    run-next _ _ _ _ _ _ _ _ (c .before .before .before .before .before .before .before .before .loop .inv) (c .before .before .before .before .before .before .before .loop-test .taken) (c .before .before .before .before .before .before .record-at .ensures) (answered .1) (answered .0)
+    let loop = c .before .before .before .before .before .before .before .before .loop in
+    let taken = c .before .before .before .before .before .before .before .loop-test .taken in
+    let record-at = c .before .before .before .before .before .before .record-at in
+    let step = c .before .before .before .before .step in
+    let answered = step .ensures in
+    run-next _ _ _ _ _ _ _ _ (loop .inv) taken (record-at .ensures) (answered .1) (answered .0)
     (passes-test (c .before .is-quiet .ensures) (c .if2 .left)) (search needs)
 
 returns-3 : tie.Need-returns-3 Inv-loop μ-loop

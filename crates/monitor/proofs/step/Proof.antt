@@ -25,7 +25,8 @@ returns-4 : tie.Need-returns-4
 returns-4 c =
     let done = c .before .before in
     let asked = done .before .before .before .before in
-    step-performed _ _ (asked .before .before .before .if1 .left) (one-spelled _ _ (asked .need-of .ensures) (done .before .before .if3 .left)) _ (asked .before .request-of .ensures) _ _ (done .perform .ensures)
+    step-performed _ _ (asked .before .before .before .if1 .left) (one-spelled _ _ (asked .need-of .ensures) (done .before .before .if3 .left)) _
+    (asked .before .request-of .ensures) _ _ (done .perform .ensures)
 
 pub step-spec : {M : Type 1} → statement M
 step-spec =

@@ -36,15 +36,12 @@ show-month-requires c κs = (sym (c .before .before .before .before .before .che
 
 returns-3 : tie.Need-returns-3
 unfolding ascii
-returns-3 c = done-as
-    (shown-month _ _
-    refl
-    (c .before .before .before .before .before .before .before .before .before .before .before .before .load .kept .1 .0)
-    (c .before .before .before .before .before .before .before .before .before .before .before .before .load .ensures .1 .done (not-false _ (c .before .before .before .before .before .before .before .before .before .if1 .left)))
-    (c .before .before .before .before .before .before .before .check .ensures)
-    _ _
-    (c .before .before .before .before .before .before .if2 .left))
-    (c .before .show-month .ensures)
+returns-3 c =
+    let b6 = c .before .before .before .before .before .before in let b9 = b6 .before .before .before in
+    let b12 = b9 .before .before .before in
+    done-as
+    (shown-month _ _ refl (b12 .load .kept .1 .0) (b12 .load .ensures .1 .done (not-false _ (b9 .if1 .left))) (b6 .before .check .ensures) _ _
+    (b6 .if2 .left)) (c .before .show-month .ensures)
 
 pub show-all-spec : {M : Type 1} → statement M
 show-all-spec =

@@ -21,12 +21,12 @@ returns c = failed (c .before .before .before .before .show-traces .ensures .tol
 
 returns-2 : tie.Need-returns-2
 returns-2 c =
+    let b4 = c .before .before .before .before in let b8 = b4 .before .before .before .before in
+    let b12 = b8 .before .before .before .before in
     done-as
     (λ w.
-    month-of _ _ _ _ _
-    (c .before .before .before .before .before .before .before .before .before .before .before .before .show-traces .ensures .done (not-false _ (c .before .before .before .before .before .before .before .before .if1 .left)))
-    (handed-as (listed-front _ _ _ _ (c .before .before .before .before .put-total .ensures (c .before .before .before .before .before .before .before .before .before .before .before .before .show-traces .result .records))) w))
-    (c .write-front .ensures)
+    month-of _ _ _ _ _ (b12 .show-traces .ensures .done (not-false _ (b8 .if1 .left)))
+    (handed-as (listed-front _ _ _ _ (b4 .put-total .ensures (b12 .show-traces .result .records))) w)) (c .write-front .ensures)
 
 pub show-month-spec : {M : Type 1} → statement M
 show-month-spec =

@@ -21,16 +21,15 @@ returns c = told-as (not-true _ (c .if1 .taken)) (c .before .before .before .bef
 
 returns-2 : tie.Need-returns-2
 returns-2 c =
+    let b5 = c .before .before .before .before .before in let b9 = b5 .before .before .before .before in
+    let b13 = b9 .before .before .before .before in let b18 = b13 .before .before .before .before .before in
+    let b24 = b18 .before .before .before .before .before .before in
+    let start = b24 .before .before .before .before .before in
     done-as
     (λ w.
-    trace-shown _ _ _ _ _ _ _ _ _ _
-    (c .before .before .before .before .before .before .before .before .before .before .before .before .before .before .before .before .before .before .before .before .before .before .before .before .before .before .before .before .before .pre .1)
-    (c .before .before .before .before .before .before .before .before .before .before .before .before .before .before .before .before .before .before .before .before .before .before .before .before .before .before .before .before .before .pre .2)
-    (c .before .before .before .before .before .before .before .before .before .before .before .before .before .before .before .before .before .before .before .before .before .before .before .before .start .ensures .1)
-    (c .before .before .before .before .before .before .before .before .before .before .before .before .before .before .before .before .before .before .add-file .ensures .done (not-false _ (c .before .before .before .before .before .before .before .before .before .before .before .before .before .if1 .left)))
-    (handed-as (listed-front _ _ _ _ (c .before .before .before .before .before .before .before .before .before .put-trace .ensures)) w)
-    (c .add-total .ensures))
-    (c .before .before .before .before .before .write-front .ensures)
+    trace-shown _ _ _ _ _ _ _ _ _ _ (start .pre .1) (start .pre .2) (b24 .start .ensures .1)
+    (b18 .add-file .ensures .done (not-false _ (b13 .if1 .left))) (handed-as (listed-front _ _ _ _ (b9 .put-trace .ensures)) w)
+    (c .add-total .ensures)) (b5 .write-front .ensures)
 
 pub show-trace-spec : {M : Type 1} → statement M
 show-trace-spec =

@@ -27,28 +27,30 @@ show-trace-requires : tie.Need-show-trace-requires Inv-loop μ-loop
 show-trace-requires c κs = (
   search (needs, opened-as _ (c .before .before .before .before .before .before .before .fd .given .1) (c .before .before .before .before .before .before .before .before .before .«open» .ensures)),
   c .before .before .before .before .before .before .before .before .before .before .before .before .before .before .before .before .pre .0,
-  c .before .before .before .before .before .before .before .before .before .before .before .before .before .loop .inv .0 ∙ c .before .before .before .before .before .before .before .before .before .before .before .before .before .before .before .before .pre .1,
+  let turn = c .before .before .before .before .before .before .before .before .before .before .before .before .before in turn .loop .inv .0 ∙ turn .before .before .before .pre .1,
 )
 
 returns : tie.Need-returns Inv-loop μ-loop
 returns c = told-as (not-true _ (c .if1 .taken)) (c .before .before .before .before .before .show-trace .ensures .told (not-true _ (c .if1 .taken)))
 
 returns-2 : tie.Need-returns-2 Inv-loop μ-loop
-returns-2 c = went (shown-missing _ _ _ _ _ (c .before .before .before .before .before .before .loop .inv .1) (c .before .before .before .before .trace-name .ensures) (missing-as _ (c .enum-told .given .1) (c .before .before .«open» .ensures)))
+returns-2 c =
+    let b4 = c .before .before .before .before in
+    went
+    (shown-missing _ _ _ _ _ (b4 .before .before .loop .inv .1) (b4 .trace-name .ensures)
+    (missing-as _ (c .enum-told .given .1) (c .before .before .«open» .ensures)))
 
 returns-3 : tie.Need-returns-3 Inv-loop μ-loop
 returns-3 c = failed (failed-open _ (c .enum-told2 .given .1) (c .before .before .«open» .ensures))
 
 loop-again : tie.Need-loop-again Inv-loop μ-loop
-loop-again c = (
-  c .before .before .before .before .before .show-trace .kept .1 .1 .1 .1 .0 ∙ c .before .before .before .before .before .before .before .before .before .before .before .before .before .before .before .before .before .before .before .loop .inv .0,
-  showing-next _ _ _ _ _
-      (c .before .before .before .before .before .before .before .before .before .before .before .before .before .before .before .before .before .before .before .loop .inv .1)
-      _ _
-      (c .before .before .before .before .before .before .before .before .before .before .before .before .before .before .before .before .before .before .loop-test .taken)
-      (c .before .before .before .before .before .before .before .before .before .before .before .before .before .before .before .before .before .trace-name .ensures)
-      (c .before .before .before .before .before .show-trace .ensures .done (not-false _ (c .if1 .left))),
-)
+loop-again c =
+    let b5 = c .before .before .before .before .before in
+    let b17 = b5 .before .before .before .before .before .before .before .before .before .before .before .before in (
+      b5 .show-trace .kept .1 .1 .1 .1 .0 ∙ b17 .before .before .loop .inv .0,
+      showing-next _ _ _ _ _ (b17 .before .before .loop .inv .1) _ _ (b17 .before .loop-test .taken) (b17 .trace-name .ensures)
+          (b5 .show-trace .ensures .done (not-false _ (c .if1 .left))),
+    )
 
 returns-4 : tie.Need-returns-4 Inv-loop μ-loop
 returns-4 c = went (shown-limit _ _ _ _ _ (c .before .loop .inv .1) (c .loop-test .left))

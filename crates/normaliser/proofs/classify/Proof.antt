@@ -28,8 +28,13 @@ class-of-requires c κs =
 
 cast-classes : tie.Need-cast-classes Inv-loop μ-loop
 cast-classes c =
+    let loop = c .before .before .before .before .before .before .loop in
     let start = c .before .before .before .before .before .before .before .before .before .before in
-    omega (arith, c .before .before .class-of .ensures .0, class-fits (start .args .forms .now) (c .before .before .before .before .before .before .loop .k) (omega (arith, start .pre .0, start .pre .1)))
+    omega (
+      arith,
+      c .before .before .class-of .ensures .0,
+      class-fits (start .args .forms .now) (loop .k) (omega (arith, start .pre .0, start .pre .1)),
+    )
 
 mul-classes : tie.Need-mul-classes Inv-loop μ-loop
 mul-classes c =

@@ -37,7 +37,9 @@ loop-again c =
     ) at (c .before .same .ensures)))
 
 returns-2 : tie.Need-returns-2 Inv-loop μ-loop
-returns-2 c = seek-end (c .before .before .before .args .forms .now) (c .before .before .before .args .k) (c .before .loop .j) (c .before .before .before .pre) (c .before .loop .inv) (c .loop-test .left)
+returns-2 c =
+    let start = c .before .before .before in
+    seek-end (start .args .forms .now) (start .args .k) (c .before .loop .j) (start .pre) (c .before .loop .inv) (c .loop-test .left)
 
 pub first-same-spec : {M : Type 1} → statement M
 first-same-spec =

@@ -52,25 +52,36 @@ rewrite-requires c κs =
 
 cast-result : tie.Need-cast-result
 cast-result c =
-    let start = c .before .before .before .before .before .before .before .before .before .before .before .before .before in
-    let accepted = sym (c .before .before .before .before .before .before .before .before .before .check .ensures) ∙ c .before .before .before .before .before .before .before .before .if2 .left in
     let shared-slice-known = c .before .before .before .before .before .before .before .before .before .before .before .before .shared-slice-known in
+    let check = c .before .before .before .before .before .before .before .before .before .check in
+    let if2 = c .before .before .before .before .before .before .before .before .if2 in
     let section = c .before .before .before .before .before .before .before .section in
     let section2 = c .before .before .before .before .before .before .section2 in
     let section3 = c .before .before .before .before .before .section3 in
     let section4 = c .before .before .before .before .section4 in
-    omega (arith, written-small (start .args .image .now) accepted (λ k. omega (arith, shared-slice-known .given k)) (rw (sections-policy (start .args .image .now) accepted) at (rw (section .ensures, section2 .ensures, section3 .ensures, section4 .ensures) at (c .before .before .rewrite .ensures))))
+    let start = c .before .before .before .before .before .before .before .before .before .before .before .before .before in
+    let accepted = sym (check .ensures) ∙ if2 .left in
+    omega (
+      arith,
+      written-small (start .args .image .now) accepted (λ k. omega (arith, shared-slice-known .given k))
+          (rw (sections-policy (start .args .image .now) accepted) at
+          (rw (section .ensures, section2 .ensures, section3 .ensures, section4 .ensures) at (c .before .before .rewrite .ensures))),
+    )
 
 returns-3 : tie.Need-returns-3
 returns-3 c =
-    let start = c .before .before .before .before .before .before .before .before .before .before .before .before .before in
-    let accepted = sym (c .before .before .before .before .before .before .before .before .before .check .ensures) ∙ c .before .before .before .before .before .before .before .before .if2 .left in
     let if1 = c .before .before .before .before .before .before .before .before .before .before .if1 in
+    let check = c .before .before .before .before .before .before .before .before .before .check in
+    let if2 = c .before .before .before .before .before .before .before .before .if2 in
     let section = c .before .before .before .before .before .before .before .section in
     let section2 = c .before .before .before .before .before .before .section2 in
     let section3 = c .before .before .before .before .before .section3 in
     let section4 = c .before .before .before .before .section4 in
-    image-written _ _ (if1 .left) accepted (rw (sections-policy (start .args .image .now) accepted) at (rw (section .ensures, section2 .ensures, section3 .ensures, section4 .ensures) at (c .before .before .rewrite .ensures)))
+    let start = c .before .before .before .before .before .before .before .before .before .before .before .before .before in
+    let accepted = sym (check .ensures) ∙ if2 .left in
+    image-written _ _ (if1 .left) accepted
+    (rw (sections-policy (start .args .image .now) accepted) at
+    (rw (section .ensures, section2 .ensures, section3 .ensures, section4 .ensures) at (c .before .before .rewrite .ensures)))
 
 pub normalise-spec : {M : Type 1} → statement M
 normalise-spec =

@@ -11,7 +11,8 @@ use Rattle.normaliser.proofs.place_containers.Statement.{statement}
 use Rattle.normaliser.proofs.place_containers.Tie as tie
 
 abbrev Inv-loop : tie.InvT-loop
-Inv-loop containers classes order₀ ranks₀ n m₀ i₀ order ranks m i = Containing containers classes (withClasses [] (map (classAt classes) (containerUses (containersIn containers)))) order₀ ranks₀ order ranks n m i
+Inv-loop containers classes order₀ ranks₀ n m₀ i₀ order ranks m i =
+    Containing containers classes (withClasses [] (map (classAt classes) (containerUses (containersIn containers)))) order₀ ranks₀ order ranks n m i
 
 abbrev μ-loop : tie.MeasureT-loop
 μ-loop containers classes order₀ ranks₀ n m₀ i₀ order ranks m i = n - i
@@ -23,10 +24,13 @@ loop-holds c =
 
 place-requires : tie.Need-place-requires Inv-loop μ-loop
 place-requires c κs =
-    let start = c .before .before .before .before .before .before .before .before .before .before in
     let loop = c .before .before .before .before .before .loop in
     let taken = c .before .before .before .before .loop-test .taken in
-    rw (c .before .before .before .read16 .ensures .0) (placing-asks (start .args .classes .now) _ (both-at _ (start .args .containers .now) (loop .i) taken (start .pre .0) .0) (containing-first (loop .inv) taken))
+    let read16 = c .before .before .before .read16 in
+    let start = c .before .before .before .before .before .before .before .before .before .before in
+    rw (read16 .ensures .0)
+    (placing-asks (start .args .classes .now) _ (both-at _ (start .args .containers .now) (loop .i) taken (start .pre .0) .0)
+    (containing-first (loop .inv) taken))
 
 place-requires-2 : tie.Need-place-requires-2 Inv-loop μ-loop
 place-requires-2 c κs =
@@ -41,14 +45,19 @@ place-requires-2 c κs =
 
 loop-again : tie.Need-loop-again Inv-loop μ-loop
 loop-again c =
-    let inv = c .before .before .before .before .before .before .before .before .before .before .before .before .before .before .before .before .before .loop .inv in
+    let loop = c .before .before .before .before .before .before .before .before .before .before .before .before .before .before .before .before .before .loop in
     let taken = c .before .before .before .before .before .before .before .before .before .before .before .before .before .before .before .before .loop-test .taken in
-    let permit = c .before .before .before .before .before .before .before .before .before .before .before .place .ensures in
-    let run = c .before .before .before .before .place2 .ensures in
-    let left = placing-next (containing-first inv taken) (permit .1) (rw (c .before .before .before .before .before .before .before .before .before .before .before .before .before .before .before .read16 .ensures .0) at (permit .0))
-    (c .before .before .before .before .before .before .before .before .before .before .order .given) (c .before .before .before .before .before .before .before .before .ranks .given) in
+    let read16 = c .before .before .before .before .before .before .before .before .before .before .before .before .before .before .before .read16 in
     let read162 = c .before .before .before .before .before .before .before .before .before .before .before .before .before .before .read162 in
+    let place = c .before .before .before .before .before .before .before .before .before .before .before .place in
+    let order = c .before .before .before .before .before .before .before .before .before .before .order in
+    let ranks = c .before .before .before .before .before .before .before .before .ranks in
+    let place2 = c .before .before .before .before .place2 in
     let order2 = c .before .before .before .order2 in
+    let inv = loop .inv in
+    let permit = place .ensures in
+    let run = place2 .ensures in
+    let left = placing-next (containing-first inv taken) (permit .1) (rw (read16 .ensures .0) at (permit .0)) (order .given) (ranks .given) in
     containing-next inv taken (placing-next left (run .1) (rw (read162 .ensures .0) at (run .0)) (order2 .given) (c .before .ranks2 .given))
 
 same-length : tie.Need-same-length Inv-loop μ-loop

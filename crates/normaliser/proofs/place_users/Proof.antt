@@ -30,11 +30,15 @@ place-requires c κs =
 
 loop-again : tie.Need-loop-again Inv-loop μ-loop
 loop-again c =
-    let inv = c .before .before .before .before .before .before .before .before .before .loop .inv in
+    let loop = c .before .before .before .before .before .before .before .before .before .loop in
     let taken = c .before .before .before .before .before .before .before .before .loop-test .taken in
-    let noted = c .before .before .before .before .place .ensures in
+    let read16 = c .before .before .before .before .before .before .before .read16 in
+    let place = c .before .before .before .before .place in
+    let order = c .before .before .before .order in
+    let inv = loop .inv in
+    let noted = place .ensures in
     using-next inv taken
-    (placing-next (using-first inv taken) (noted .1) (rw (c .before .before .before .before .before .before .before .read16 .ensures .0) at (noted .0)) (c .before .before .before .order .given) (c .before .ranks .given))
+    (placing-next (using-first inv taken) (noted .1) (rw (read16 .ensures .0) at (noted .0)) (order .given) (c .before .ranks .given))
 
 same-length : tie.Need-same-length Inv-loop μ-loop
 same-length c = c .before .loop .inv .placing .longOrder

@@ -14,8 +14,10 @@ put-pair-requires c κs = omega (arith, wrote-ends 1 _ (c .before .before .befor
 
 returns : tie.Need-returns
 returns c =
+    let put8 = c .before .before .before .before .before .before .before .before .before .before .put8 in
+    let put82 = c .before .before .before .before .before .before .put82 in
     let start = c .before .before .before .before .before .before .before .before .before .before .before .before .before in
-    container-wrote _ _ _ _ (start .pre) (c .before .before .before .before .before .before .before .before .before .before .put8 .ensures) (c .before .before .before .before .before .before .put82 .ensures) (c .before .before .put-pair .ensures)
+    container-wrote _ _ _ _ (start .pre) (put8 .ensures) (put82 .ensures) (c .before .before .put-pair .ensures)
 
 pub put-container-record-spec : {M : Type 1} → statement M
 put-container-record-spec =

@@ -37,8 +37,10 @@ same-length c = search needs
 
 returns : tie.Need-returns
 returns c =
+    let put-own-rule = c .before .before .before .put-own-rule in
     let start = c .before .before .before .before .before .before .before .before in
-    row-done (start .args .rules .now) (start .args .mixtures .now) (start .pre .2) _ (start .pre .1) (start .args .row .now) (start .pre .0) (c .before .before .before .put-own-rule .ensures) (c .read16 .ensures .0)
+    row-done (start .args .rules .now) (start .args .mixtures .now) (start .pre .2) _ (start .pre .1) (start .args .row .now) (start .pre .0)
+    (put-own-rule .ensures) (c .read16 .ensures .0)
 
 pub put-row-spec : {M : Type 1} → statement M
 put-row-spec =

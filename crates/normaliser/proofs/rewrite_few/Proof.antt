@@ -36,8 +36,10 @@ write-few-requires c κs =
 
 returns : tie.Need-returns
 returns c =
+    let fill-forms = c .before .before .before .before .before .before .before .fill-forms in
     let start = c .before .before .before .before .before .before .before .before .before .before .before .before .before .before in
-    filled-wrote (start .args .containers .now) (start .args .users .now) (start .args .rules .now) (start .args .mixtures .now) (start .pre .0) _ (c .before .before .before .before .before .before .before .fill-forms .ensures) (c .before .before .write-few .ensures)
+    filled-wrote (start .args .containers .now) (start .args .users .now) (start .args .rules .now) (start .args .mixtures .now) (start .pre .0) _
+    (fill-forms .ensures) (c .before .before .write-few .ensures)
 
 pub rewrite-few-spec : {M : Type 1} → statement M
 rewrite-few-spec =

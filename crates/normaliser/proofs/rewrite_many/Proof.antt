@@ -27,13 +27,19 @@ part-write-many-end c =
 
 write-many-requires : tie.Need-write-many-requires
 write-many-requires c κs =
-    let start = c .before .before .before .before .before .before .before .before .before .before .before in
-    (filled-tabled (start .args .containers .now) (start .args .users .now) (start .args .rules .now) (start .args .mixtures .now) (start .pre .0) _ (c .before .before .before .before .fill-forms .ensures), start .pre .1)
+    let fill-forms = c .before .before .before .before .fill-forms in
+    let start = c .before .before .before .before .before .before .before .before .before .before .before in (
+      filled-tabled (start .args .containers .now) (start .args .users .now) (start .args .rules .now) (start .args .mixtures .now) (start .pre .0) _
+          (fill-forms .ensures),
+      start .pre .1,
+    )
 
 returns : tie.Need-returns
 returns c =
+    let fill-forms = c .before .before .before .before .before .before .before .fill-forms in
     let start = c .before .before .before .before .before .before .before .before .before .before .before .before .before .before in
-    filled-wrote (start .args .containers .now) (start .args .users .now) (start .args .rules .now) (start .args .mixtures .now) (start .pre .0) _ (c .before .before .before .before .before .before .before .fill-forms .ensures) (c .before .before .write-many .ensures)
+    filled-wrote (start .args .containers .now) (start .args .users .now) (start .args .rules .now) (start .args .mixtures .now) (start .pre .0) _
+    (fill-forms .ensures) (c .before .before .write-many .ensures)
 
 pub rewrite-many-spec : {M : Type 1} → statement M
 rewrite-many-spec =

@@ -24,29 +24,48 @@ mul-b : tie.Need-mul-b
 mul-b c = omega (arith, c .before .before .before .before .before .before .pre .1 .inside (c .before .before .hash .result), c .before .before .before .before .before .before .pre .0)
 
 add-alike-2 : tie.Need-add-alike-2
-add-alike-2 c = omega (arith, c .before .before .before .before .before .before .before .pre .1 .inside (c .before .before .before .hash .result), c .before .before .before .before .before .before .before .pre .0)
+add-alike-2 c =
+    let start = c .before .before .before .before .before .before .before in
+    let hash = c .before .before .before .hash in
+    omega (arith, start .pre .1 .inside (hash .result), start .pre .0)
 
 mul-alike-2 : tie.Need-mul-alike-2
-mul-alike-2 c = omega (arith, c .before .before .before .before .before .before .before .pre .1 .inside (c .before .before .before .hash .result), c .before .before .before .before .before .before .before .pre .0)
+mul-alike-2 c =
+    let start = c .before .before .before .before .before .before .before in
+    let hash = c .before .before .before .hash in
+    omega (arith, start .pre .1 .inside (hash .result), start .pre .0)
 
 part-alike-end-2 : tie.Need-part-alike-end-2
-part-alike-end-2 c = omega (arith, c .before .before .before .before .before .before .before .pre .1 .inside (c .before .before .before .hash .result), c .before .before .before .before .before .before .before .pre .0)
+part-alike-end-2 c =
+    let start = c .before .before .before .before .before .before .before in
+    let hash = c .before .before .before .hash in
+    omega (arith, start .pre .1 .inside (hash .result), start .pre .0)
 
 returns-2 : tie.Need-returns-2
 returns-2 c =
-    let start = c .before .before .before .before .before .before .before .before .before .before in
-    let hash = c .before .before .before .before .before .before .hash in (
-      slot-alike (start .args .forms .now) (start .args .slots .now) _ (hash .result) (rw (words-part (start .args .forms .now) (start .args .k)) at (hash .ensures .0)) (c .before .before .before .before .if1 .left)
-          (rw (words-part (start .args .forms .now) (start .args .k), words-part (start .args .forms .now) (getD (start .args .slots .now) (hash .result) 0 - 1)) at (sym (c .before .alike .ensures) ∙ c .if2 .taken)),
+    let hash = c .before .before .before .before .before .before .hash in
+    let if1 = c .before .before .before .before .if1 in
+    let start = c .before .before .before .before .before .before .before .before .before .before in (
+      slot-alike (start .args .forms .now) (start .args .slots .now) _ (hash .result)
+          (rw (words-part (start .args .forms .now) (start .args .k)) at (hash .ensures .0)) (if1 .left)
+          (rw (
+            words-part (start .args .forms .now) (start .args .k),
+            words-part (start .args .forms .now) (getD (start .args .slots .now) (hash .result) 0 - 1),
+          ) at (sym (c .before .alike .ensures) ∙ c .if2 .taken)),
       hash .ensures .1,
     )
 
 returns-3 : tie.Need-returns-3
 returns-3 c =
-    let start = c .before .before .before .before .before .before .before .before .before .before in
-    let hash = c .before .before .before .before .before .before .hash in (
-      slot-opposite (start .args .forms .now) (start .args .slots .now) _ (hash .result) (rw (words-part (start .args .forms .now) (start .args .k)) at (hash .ensures .0)) (c .before .before .before .before .if1 .left)
-          (rw (words-part (start .args .forms .now) (start .args .k), words-part (start .args .forms .now) (getD (start .args .slots .now) (hash .result) 0 - 1)) at (sym (c .before .alike .ensures) ∙ c .if2 .left)),
+    let hash = c .before .before .before .before .before .before .hash in
+    let if1 = c .before .before .before .before .if1 in
+    let start = c .before .before .before .before .before .before .before .before .before .before in (
+      slot-opposite (start .args .forms .now) (start .args .slots .now) _ (hash .result)
+          (rw (words-part (start .args .forms .now) (start .args .k)) at (hash .ensures .0)) (if1 .left)
+          (rw (
+            words-part (start .args .forms .now) (start .args .k),
+            words-part (start .args .forms .now) (getD (start .args .slots .now) (hash .result) 0 - 1),
+          ) at (sym (c .before .alike .ensures) ∙ c .if2 .left)),
       omega (arith, hash .ensures .1),
     )
 

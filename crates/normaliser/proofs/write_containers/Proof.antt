@@ -26,21 +26,33 @@ number-requires c κs =
 
 number-requires-2 : tie.Need-number-requires-2 Inv-loop μ-loop
 number-requires-2 c κs =
+    let loop = c .before .before .before .before .before .before .loop in
+    let taken = c .before .before .before .before .before .loop-test .taken in
     let start = c .before .before .before .before .before .before .before .before .before .before .before in
-    rw (c .read162 .ensures .0) (both-at _ (start .args .containers .now) (c .before .before .before .before .before .before .loop .i) (c .before .before .before .before .before .loop-test .taken) (start .pre .1) .1)
+    rw (c .read162 .ensures .0) (both-at _ (start .args .containers .now) (loop .i) taken (start .pre .1) .1)
 
 put-container-record-requires : tie.Need-put-container-record-requires Inv-loop μ-loop
 put-container-record-requires c κs =
+    let loop = c .before .before .before .before .before .before .before .before .loop in
+    let taken = c .before .before .before .before .before .before .before .loop-test .taken in
     let start = c .before .before .before .before .before .before .before .before .before .before .before .before .before in
-    container-room (start .args .containers .now) (start .args .classes .now) (start .args .ranks .now) (c .before .before .before .before .before .before .before .before .loop .inv) (c .before .before .before .before .before .before .before .loop-test .taken)
+    container-room (start .args .containers .now) (start .args .classes .now) (start .args .ranks .now) (loop .inv) taken
 
 loop-again : tie.Need-loop-again Inv-loop μ-loop
 loop-again c =
+    let loop = c .before .before .before .before .before .before .before .before .before .before .before .loop in
+    let taken = c .before .before .before .before .before .before .before .before .before .before .loop-test .taken in
+    let read8 = c .before .before .before .before .before .before .before .before .before .read8 in
+    let read82 = c .before .before .before .before .before .before .before .before .read82 in
+    let read16 = c .before .before .before .before .before .before .before .read16 in
+    let number = c .before .before .before .before .before .before .number in
+    let read162 = c .before .before .before .before .before .read162 in
+    let number2 = c .before .before .before .before .number2 in
     let start = c .before .before .before .before .before .before .before .before .before .before .before .before .before .before .before .before in
-    let permit = rw (c .before .before .before .before .before .before .before .read16 .ensures .0) at (c .before .before .before .before .before .before .number .ensures) in
-    let run = rw (c .before .before .before .before .before .read162 .ensures .0) at (c .before .before .before .before .number2 .ensures) in
-    container-next (start .args .containers .now) (start .args .classes .now) (start .args .ranks .now) (c .before .before .before .before .before .before .before .before .before .before .before .loop .inv) (c .before .before .before .before .before .before .before .before .before .before .loop-test .taken) permit run
-    (rw (c .before .before .before .before .before .before .before .before .before .read8 .ensures .0, c .before .before .before .before .before .before .before .before .read82 .ensures .0) at (c .before .before .put-container-record .ensures))
+    let permit = rw (read16 .ensures .0) at (number .ensures) in
+    let run = rw (read162 .ensures .0) at (number2 .ensures) in
+    container-next (start .args .containers .now) (start .args .classes .now) (start .args .ranks .now) (loop .inv) taken permit run
+    (rw (read8 .ensures .0, read82 .ensures .0) at (c .before .before .put-container-record .ensures))
 
 same-length : tie.Need-same-length Inv-loop μ-loop
 same-length c = c .before .loop .inv .long

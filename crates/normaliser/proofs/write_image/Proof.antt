@@ -1,10 +1,63 @@
 -- The sections one behind the other, then the header in front of them.
 use native.Mathlib.Omega.{arith}
+use mathlib.Core.Path.{_≡_, _∙_}
+use lib.ListN.{length}
 use Rattle.fields.proofs.WritingLaws.{wrote-length}
 use Rattle.normaliser.proofs.ImageBytes.{container-section-size, user-section-size, rule-section-size, sections-room, length-4, image-wrote}
 use borrow.Author.Needs.{needs}
 use Rattle.normaliser.proofs.write_image.Statement.{statement}
 use Rattle.normaliser.proofs.write_image.Tie as tie
+
+-- ---- the places where each section has been written, each from the next
+
+abbrev start : tie.After-write-containers → tie.Start
+start c = c .before .before .before .before .before .before .before .before .before
+
+abbrev one : tie.After-write-users → tie.After-write-containers
+one c = c .before .before .before .before
+
+abbrev two : tie.After-write-spans → tie.After-write-users
+two c = c .before .before .before .before
+
+abbrev three : tie.After-write-mixtures → tie.After-write-spans
+three c = c .before .before .before .before
+
+-- what is written into keeps its length
+long-1 : (c : tie.After-write-containers) → length (c .write-containers .last .0) ≡ length (start c .args .out .now)
+long-1 c =
+    let s = start c in
+    let size-1 = container-section-size (s .args .containers .now) (s .args .classes .now) (s .args .ranks .now) in
+    wrote-length (omega (arith, s .pre .room, size-1)) (c .write-containers .ensures)
+
+long-2 : (c : tie.After-write-users) → length (c .write-users .last .0) ≡ length (start (one c) .args .out .now)
+long-2 c =
+    let s = start (one c) in
+    let size-1 = container-section-size (s .args .containers .now) (s .args .classes .now) (s .args .ranks .now) in
+    let size-2 = user-section-size (s .args .users .now) (s .args .classes .now) (s .args .ranks .now) in
+    wrote-length (omega (arith, s .pre .room, long-1 (one c), one c .write-containers .ensures .ends, size-1, size-2)) (c .write-users .ensures) ∙ long-1 (one c)
+
+long-3 : (c : tie.After-write-spans) → length (c .write-spans .last .0) ≡ length (start (one (two c)) .args .out .now)
+long-3 c =
+    let users = two c in
+    let containers = one users in
+    let s = start containers in
+    let size-1 = container-section-size (s .args .containers .now) (s .args .classes .now) (s .args .ranks .now) in
+    let size-2 = user-section-size (s .args .users .now) (s .args .classes .now) (s .args .ranks .now) in
+    let size-3 = rule-section-size (s .args .forms .now) (s .args .order .now) in
+    wrote-length
+    (omega (
+      arith,
+      s .pre .room,
+      long-2 users,
+      containers .write-containers .ensures .ends,
+      users .write-users .ensures .ends,
+      size-1,
+      size-2,
+      size-3,
+    )) (c .write-spans .ensures)
+    ∙ long-2 users
+
+-- ---- the needs
 
 write-containers-requires : tie.Need-write-containers-requires
 write-containers-requires c κs =
@@ -13,47 +66,71 @@ write-containers-requires c κs =
 
 write-users-requires : tie.Need-write-users-requires
 write-users-requires c κs =
-    let start = c .before .before .before .before .before .before .before .before .before .before .before .before in
-    let one = c .before .before .before .write-containers .ensures in
-    (omega (arith, start .pre .room, one .ends, container-section-size (start .args .containers .now) (start .args .classes .now) (start .args .ranks .now), wrote-length (omega (arith, start .pre .room, container-section-size (start .args .containers .now) (start .args .classes .now) (start .args .ranks .now))) one), start .pre .usersFound)
+    let containers = c .before .before .before in
+    let s = start containers in
+    let size-1 = container-section-size (s .args .containers .now) (s .args .classes .now) (s .args .ranks .now) in
+    (omega (arith, s .pre .room, long-1 containers, containers .write-containers .ensures .ends, size-1), s .pre .usersFound)
 
 write-spans-requires : tie.Need-write-spans-requires
 write-spans-requires c κs =
-    let start = c .before .before .before .before .before .before .before .before .before .before .before .before .before .before .before .before in
-    let one = c .before .before .before .before .before .before .before .write-containers .ensures in
-    let two = c .before .before .before .write-users .ensures in
-    let l1 = wrote-length (omega (arith, start .pre .room, container-section-size (start .args .containers .now) (start .args .classes .now) (start .args .ranks .now))) one in
-    let l2 = wrote-length (omega (arith, start .pre .room, l1, one .ends, container-section-size (start .args .containers .now) (start .args .classes .now) (start .args .ranks .now), user-section-size (start .args .users .now) (start .args .classes .now) (start .args .ranks .now))) two in
-    (omega (arith, start .pre .room, l1, l2, one .ends, two .ends, container-section-size (start .args .containers .now) (start .args .classes .now) (start .args .ranks .now), user-section-size (start .args .users .now) (start .args .classes .now) (start .args .ranks .now)), start .pre .formsGood)
+    let users = c .before .before .before in
+    let containers = one users in
+    let s = start containers in
+    let size-1 = container-section-size (s .args .containers .now) (s .args .classes .now) (s .args .ranks .now) in
+    let size-2 = user-section-size (s .args .users .now) (s .args .classes .now) (s .args .ranks .now) in (
+      omega (
+        arith,
+        s .pre .room,
+        long-2 users,
+        containers .write-containers .ensures .ends,
+        users .write-users .ensures .ends,
+        size-1,
+        size-2,
+      ),
+      s .pre .formsGood,
+    )
 
 write-mixtures-requires : tie.Need-write-mixtures-requires
 write-mixtures-requires c κs =
-    let start = c .before .before .before .before .before .before .before .before .before .before .before .before .before .before .before .before .before .before .before .before in
-    let one = c .before .before .before .before .before .before .before .before .before .before .before .write-containers .ensures in
-    let two = c .before .before .before .before .before .before .before .write-users .ensures in
-    let three = c .before .before .before .write-spans .ensures in
-    let l1 = wrote-length (omega (arith, start .pre .room, container-section-size (start .args .containers .now) (start .args .classes .now) (start .args .ranks .now))) one in
-    let l2 = wrote-length (omega (arith, start .pre .room, l1, one .ends, container-section-size (start .args .containers .now) (start .args .classes .now) (start .args .ranks .now), user-section-size (start .args .users .now) (start .args .classes .now) (start .args .ranks .now))) two in
-    let l3 = wrote-length (omega (arith, start .pre .room, l1, l2, one .ends, two .ends, container-section-size (start .args .containers .now) (start .args .classes .now) (start .args .ranks .now), user-section-size (start .args .users .now) (start .args .classes .now) (start .args .ranks .now), rule-section-size (start .args .forms .now) (start .args .order .now))) three in
-    (omega (arith, start .pre .room, l1, l2, l3, one .ends, two .ends, three .ends, container-section-size (start .args .containers .now) (start .args .classes .now) (start .args .ranks .now), user-section-size (start .args .users .now) (start .args .classes .now) (start .args .ranks .now), rule-section-size (start .args .forms .now) (start .args .order .now)), start .pre .formsGood)
+    let spans = c .before .before .before in
+    let users = two spans in
+    let containers = one users in
+    let s = start containers in
+    let size-1 = container-section-size (s .args .containers .now) (s .args .classes .now) (s .args .ranks .now) in
+    let size-2 = user-section-size (s .args .users .now) (s .args .classes .now) (s .args .ranks .now) in
+    let size-3 = rule-section-size (s .args .forms .now) (s .args .order .now) in (
+      omega (
+        arith,
+        s .pre .room,
+        long-3 spans,
+        containers .write-containers .ensures .ends,
+        users .write-users .ensures .ends,
+        spans .write-spans .ensures .ends,
+        size-1,
+        size-2,
+        size-3,
+      ),
+      s .pre .formsGood,
+    )
 
 write-header-requires : tie.Need-write-header-requires
 write-header-requires c κs =
-    let start = c .before .before .before .before .before .before .before .before .before .before .before .before .before .before .before .before .before .before .before .before .before .before .before .before in
-    let one = c .before .before .before .before .before .before .before .before .before .before .before .before .before .before .before .write-containers .ensures in
-    let two = c .before .before .before .before .before .before .before .before .before .before .before .write-users .ensures in
-    let three = c .before .before .before .before .before .before .before .write-spans .ensures in
-    let four = c .before .before .before .write-mixtures .ensures in
-    omega (arith, sections-room (start .pre), length-4 (sections-room (start .pre)) one two three four, one .ends, two .ends, three .ends, four .ends)
+    let mixtures = c .before .before .before in
+    let first = one (two (three mixtures)) .write-containers .ensures in
+    let second = two (three mixtures) .write-users .ensures in
+    let third = three mixtures .write-spans .ensures in
+    let fourth = mixtures .write-mixtures .ensures in
+    let room = sections-room (start (one (two (three mixtures))) .pre) in
+    omega (arith, room, length-4 room first second third fourth, first .ends, second .ends, third .ends, fourth .ends)
 
 returns : tie.Need-returns
 returns c =
-    let start = c .before .before .before .before .before .before .before .before .before .before .before .before .before .before .before .before .before .before .before .before .before .before .before .before .before .before .before in
-    let one = c .before .before .before .before .before .before .before .before .before .before .before .before .before .before .before .before .before .before .write-containers .ensures in
-    let two = c .before .before .before .before .before .before .before .before .before .before .before .before .before .before .write-users .ensures in
-    let three = c .before .before .before .before .before .before .before .before .before .before .write-spans .ensures in
-    let four = c .before .before .before .before .before .before .write-mixtures .ensures in
-    image-wrote (sections-room (start .pre)) one two three four (c .before .before .write-header .ensures)
+    let mixtures = c .before .before .before .before .before .before in
+    let spans = three mixtures in
+    let users = two spans in
+    let containers = one users in
+    image-wrote (sections-room (start containers .pre)) (containers .write-containers .ensures) (users .write-users .ensures) (spans .write-spans .ensures)
+    (mixtures .write-mixtures .ensures) (c .before .before .write-header .ensures)
 
 pub write-image-spec : {M : Type 1} → statement M
 write-image-spec =

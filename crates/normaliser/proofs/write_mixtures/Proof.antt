@@ -85,15 +85,19 @@ part-write-rule-end c =
 
 write-rule-requires : tie.Need-write-rule-requires Inv-loop μ-loop
 write-rule-requires c κs =
+    let loop = c .before .before .before .before .before .loop in
+    let taken = c .before .before .before .before .loop-test .taken in
     let start = c .before .before .before .before .before .before .before .before .before in
-    let here = rule-here (start .args .forms .now) (start .args .order .now) (c .before .before .before .before .before .loop .j) (start .pre .1) (c .before .before .before .before .loop-test .taken) in
-    rw (here .part) (mixtures-room (start .args .forms .now) (start .args .order .now) (c .before .before .before .before .before .loop .inv) (c .before .before .before .before .loop-test .taken))
+    let here = rule-here (start .args .forms .now) (start .args .order .now) (loop .j) (start .pre .1) taken in
+    rw (here .part) (mixtures-room (start .args .forms .now) (start .args .order .now) (loop .inv) taken)
 
 loop-again : tie.Need-loop-again Inv-loop μ-loop
 loop-again c =
+    let loop = c .before .before .before .before .before .before .before .before .loop in
+    let taken = c .before .before .before .before .before .before .before .loop-test .taken in
     let start = c .before .before .before .before .before .before .before .before .before .before .before .before in
-    let here = rule-here (start .args .forms .now) (start .args .order .now) (c .before .before .before .before .before .before .before .before .loop .j) (start .pre .1) (c .before .before .before .before .before .before .before .loop-test .taken) in
-    mixtures-next (start .args .forms .now) (start .args .order .now) (c .before .before .before .before .before .before .before .before .loop .inv) (c .before .before .before .before .before .before .before .loop-test .taken) (rw (here .part) at (c .before .before .write-rule .ensures))
+    let here = rule-here (start .args .forms .now) (start .args .order .now) (loop .j) (start .pre .1) taken in
+    mixtures-next (start .args .forms .now) (start .args .order .now) (loop .inv) taken (rw (here .part) at (c .before .before .write-rule .ensures))
 
 same-length : tie.Need-same-length Inv-loop μ-loop
 same-length c = c .before .loop .inv .long
@@ -101,7 +105,8 @@ same-length c = c .before .loop .inv .long
 returns : tie.Need-returns Inv-loop μ-loop
 returns c =
     let start = c .before .before .before .before .before in
-    wrote-as (mixtures-are (start .args .forms .now) (start .args .order .now)) (rows-end (c .before .loop .inv) (omega (arith, c .loop-test .left, mixture-rows (start .args .forms .now) (start .args .order .now))))
+    wrote-as (mixtures-are (start .args .forms .now) (start .args .order .now))
+    (rows-end (c .before .loop .inv) (omega (arith, c .loop-test .left, mixture-rows (start .args .forms .now) (start .args .order .now))))
 
 pub write-mixtures-spec : {M : Type 1} → statement M
 write-mixtures-spec =

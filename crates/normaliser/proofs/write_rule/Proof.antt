@@ -26,9 +26,11 @@ put64-requires c κs = mixture-room (c .before .before .before .before .before .
 
 loop-again : tie.Need-loop-again Inv-loop μ-loop
 loop-again c =
-    let start = c .before .before .before .before .before .before .before .before .before in
+    let loop = c .before .before .before .before .before .before .loop in
     let taken = c .before .before .before .before .before .loop-test .taken in
-    rows-next (c .before .before .before .before .before .before .loop .inv) (omega (arith, length-map (start .args .rule .now) (bytesOf mixtureSize))) (mixture-at (start .args .rule .now) _ taken) (c .before .before .put64 .ensures)
+    let start = c .before .before .before .before .before .before .before .before .before in
+    rows-next (loop .inv) (omega (arith, length-map (start .args .rule .now) (bytesOf mixtureSize))) (mixture-at (start .args .rule .now) _ taken)
+    (c .before .before .put64 .ensures)
 
 same-length : tie.Need-same-length Inv-loop μ-loop
 same-length c = c .before .loop .inv .long

@@ -63,21 +63,27 @@ shared-slice-read-owner c =
 
 put-rule-record-requires : tie.Need-put-rule-record-requires Inv-loop μ-loop
 put-rule-record-requires c κs =
+    let loop = c .before .before .before .before .before .loop in
+    let taken = c .before .before .before .before .loop-test .taken in
     let start = c .before .before .before .before .before .before .before .before .before in
-    let here = rule-here (start .args .forms .now) (start .args .order .now) (c .before .before .before .before .before .loop .j) (start .pre .1) (c .before .before .before .before .loop-test .taken) in
-    spans-room (start .args .forms .now) (start .args .order .now) (c .before .before .before .before .before .loop .inv) (c .before .before .before .before .loop-test .taken) here
+    let here = rule-here (start .args .forms .now) (start .args .order .now) (loop .j) (start .pre .1) taken in
+    spans-room (start .args .forms .now) (start .args .order .now) (loop .inv) taken here
 
 add-first : tie.Need-add-first Inv-loop μ-loop
 add-first c =
+    let loop = c .before .before .before .before .before .before .before .before .loop in
+    let taken = c .before .before .before .before .before .before .before .loop-test .taken in
     let start = c .before .before .before .before .before .before .before .before .before .before .before .before in
-    let here = rule-here (start .args .forms .now) (start .args .order .now) (c .before .before .before .before .before .before .before .before .loop .j) (start .pre .1) (c .before .before .before .before .before .before .before .loop-test .taken) in
-    omega (arith, c .before .before .before .before .before .before .before .before .loop .inv .small)
+    let here = rule-here (start .args .forms .now) (start .args .order .now) (loop .j) (start .pre .1) taken in
+    omega (arith, loop .inv .small)
 
 loop-again : tie.Need-loop-again Inv-loop μ-loop
 loop-again c =
+    let loop = c .before .before .before .before .before .before .before .before .loop in
+    let taken = c .before .before .before .before .before .before .before .loop-test .taken in
     let start = c .before .before .before .before .before .before .before .before .before .before .before .before in
-    let here = rule-here (start .args .forms .now) (start .args .order .now) (c .before .before .before .before .before .before .before .before .loop .j) (start .pre .1) (c .before .before .before .before .before .before .before .loop-test .taken) in
-    spans-next (start .args .forms .now) (start .args .order .now) (c .before .before .before .before .before .before .before .before .loop .inv) (c .before .before .before .before .before .before .before .loop-test .taken) here (c .before .before .put-rule-record .ensures)
+    let here = rule-here (start .args .forms .now) (start .args .order .now) (loop .j) (start .pre .1) taken in
+    spans-next (start .args .forms .now) (start .args .order .now) (loop .inv) taken here (c .before .before .put-rule-record .ensures)
 
 same-length : tie.Need-same-length Inv-loop μ-loop
 same-length c = c .before .loop .inv .rows .long

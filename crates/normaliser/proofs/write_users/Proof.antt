@@ -31,10 +31,14 @@ put16-requires c κs =
 
 loop-again : tie.Need-loop-again Inv-loop μ-loop
 loop-again c =
-    let start = c .before .before .before .before .before .before .before .before .before .before .before .before in
+    let loop = c .before .before .before .before .before .before .before .loop in
+    let taken = c .before .before .before .before .before .before .loop-test .taken in
+    let read16 = c .before .before .before .before .before .read16 in
     let number = c .before .before .before .before .number in
-    let told = rw (c .before .before .before .before .before .read16 .ensures .0) at (number .ensures) in
-    user-next (start .args .users .now) (start .args .classes .now) (start .args .ranks .now) (c .before .before .before .before .before .before .before .loop .inv) (c .before .before .before .before .before .before .loop-test .taken) _ told (c .before .before .put16 .ensures)
+    let start = c .before .before .before .before .before .before .before .before .before .before .before .before in
+    let told = rw (read16 .ensures .0) at (number .ensures) in
+    user-next (start .args .users .now) (start .args .classes .now) (start .args .ranks .now) (loop .inv) taken _ told
+    (c .before .before .put16 .ensures)
 
 same-length : tie.Need-same-length Inv-loop μ-loop
 same-length c = c .before .loop .inv .long

@@ -12,11 +12,20 @@ rule-of-requires c κs = row-readable (c .before .before .before .args .row .now
 
 cast-position : tie.Need-cast-position
 unfolding permitWords
-cast-position c = let start = c .before .before .before .before .before .before in omega (arith, judged-small (start .args .row .now) _ _ _ (row-readable (start .args .row .now) (start .pre .0) (start .pre .1)) (c .before .before .rule-of .ensures) (c .before .cover-place .ensures))
+cast-position c =
+    let start = c .before .before .before .before .before .before in
+    omega (
+      arith,
+      judged-small (start .args .row .now) _ _ _ (row-readable (start .args .row .now) (start .pre .0) (start .pre .1))
+          (c .before .before .rule-of .ensures) (c .before .cover-place .ensures),
+    )
 
 returns : tie.Need-returns
 unfolding permitWords
-returns c = let start = c .before .before .before .before .before .before in judged-by (start .args .row .now) _ (start .args .receiver) _ _ (row-readable (start .args .row .now) (start .pre .0) (start .pre .1)) (c .before .before .rule-of .ensures) (c .before .cover-place .ensures) (c .verdict-of .ensures)
+returns c =
+    let start = c .before .before .before .before .before .before in
+    judged-by (start .args .row .now) _ (start .args .receiver) _ _ (row-readable (start .args .row .now) (start .pre .0) (start .pre .1))
+    (c .before .before .rule-of .ensures) (c .before .cover-place .ensures) (c .verdict-of .ensures)
 
 pub cover-answer-spec : {M : Type 1} → statement M
 cover-answer-spec =

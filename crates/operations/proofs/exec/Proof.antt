@@ -38,8 +38,11 @@ slice-read-both-single-2 c = let start = c .before .before .before in omega (ari
 mixture-at-requires : tie.Need-mixture-at-requires
 mixture-at-requires c κs =
     let start = c .before .before .before .before .before .before in
-    let s = start .args .s .now in
-    (exec-run s (start .args .p) (start .args .o) (start .args .u) (start .pre) .kept, exec-user s (start .args .p) (start .args .o) (start .args .u) (start .pre) .kept, sym (c .before .before .both-single .ensures) ∙ c .before .if1 .taken)
+    let s = start .args .s .now in (
+      exec-run s (start .args .p) (start .args .o) (start .args .u) (start .pre) .kept,
+      exec-user s (start .args .p) (start .args .o) (start .args .u) (start .pre) .kept,
+      sym (c .before .before .both-single .ensures) ∙ c .before .if1 .taken,
+    )
 
 launch-requires : tie.Need-launch-requires
 launch-requires c κs =
@@ -50,11 +53,13 @@ launch-requires c κs =
 
 returns : tie.Need-returns
 returns c =
+    let mixture-at = c .before .before .before .before .before .mixture-at in
+    let one = c .before .before .before .before .one in
     let start = c .before .before .before .before .before .before .before .before .before .before .before .before in
     let s = start .args .s .now in
-    exec-done s (start .args .p) (start .args .o) (start .args .u) (start .pre) _ (exec-met s (start .args .p) (start .args .o) (start .args .u) (start .pre) _
-    (c .before .before .before .before .one .ensures ∙ ap boundedOf (c .before .before .before .before .before .mixture-at .ensures))) (one-fit _ _ (c .before .before .before .before .one .ensures)) _ _
-    (c .before .before .launch .ensures)
+    exec-done s (start .args .p) (start .args .o) (start .args .u) (start .pre) _
+    (exec-met s (start .args .p) (start .args .o) (start .args .u) (start .pre) _ (one .ensures ∙ ap boundedOf (mixture-at .ensures)))
+    (one-fit _ _ (one .ensures)) _ _ (c .before .before .launch .ensures)
 
 meet-at-requires : tie.Need-meet-at-requires
 meet-at-requires c κs =

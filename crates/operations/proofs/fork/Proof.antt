@@ -18,7 +18,10 @@ add-rule-at c = search needs
 
 rule-at-requires : tie.Need-rule-at-requires
 unfolding entry
-rule-at-requires c κs = let start = c .before .before in permit-kept (start .args .s .now) (start .args .p) (ready-process (start .args .s .now) (fork (start .args .p) (start .args .o)) (start .pre)) .kept
+rule-at-requires c κs =
+    let start = c .before .before in
+    permit-kept (start .args .s .now) (start .args .p)
+    (ready-process (start .args .s .now) (fork (start .args .p) (start .args .o)) (start .pre)) .kept
 
 mul-rule-at-2 : tie.Need-mul-rule-at-2
 unfolding entry
@@ -30,7 +33,9 @@ add-rule-at-2 c = search needs
 
 rule-at-requires-2 : tie.Need-rule-at-requires-2
 unfolding entry
-rule-at-requires-2 c κs = let start = c .before .before .before .before in run-kept (start .args .s .now) (start .args .p) (ready-process (start .args .s .now) (fork (start .args .p) (start .args .o)) (start .pre)) .kept
+rule-at-requires-2 c κs =
+    let start = c .before .before .before .before in
+    run-kept (start .args .s .now) (start .args .p) (ready-process (start .args .s .now) (fork (start .args .p) (start .args .o)) (start .pre)) .kept
 
 tag-of-requires : tie.Need-tag-of-requires
 unfolding entry

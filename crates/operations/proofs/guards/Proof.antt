@@ -10,7 +10,9 @@ returns : tie.Need-returns
 returns c = let start = c .before .before .before .before in guards-not (start .args .s .now) (start .args .c) (start .args .tag) (start .pre) _ (c .before .is-guarded .ensures) (c .if1 .taken)
 
 rule-of-requires : tie.Need-rule-of-requires
-rule-of-requires c κs = let start = c .before .before .before .before .before in kept-readable _ (kept-lent (start .args .s .now) _ (permit-kept (start .args .s .now) (start .args .c) (start .pre) .kept))
+rule-of-requires c κs =
+    let start = c .before .before .before .before .before in
+    kept-readable _ (kept-lent (start .args .s .now) _ (permit-kept (start .args .s .now) (start .args .c) (start .pre) .kept))
 
 covers-requires : tie.Need-covers-requires
 covers-requires c κs =
@@ -18,7 +20,12 @@ covers-requires c κs =
     rw (c .rule-of .ensures) (kept-short _ (kept-lent (start .args .s .now) _ (permit-kept (start .args .s .now) (start .args .c) (start .pre) .kept) .well))
 
 returns-2 : tie.Need-returns-2
-returns-2 c = let start = c .before .before .before .before .before .before .before in guards-told (start .args .s .now) (start .args .c) (start .args .tag) (start .pre) _ (c .before .before .before .before .is-guarded .ensures) (c .before .before .before .if1 .left) _ (c .before .rule-of .ensures) _ (c .covers .ensures)
+returns-2 c =
+    let is-guarded = c .before .before .before .before .is-guarded in
+    let if1 = c .before .before .before .if1 in
+    let start = c .before .before .before .before .before .before .before in
+    guards-told (start .args .s .now) (start .args .c) (start .args .tag) (start .pre) _ (is-guarded .ensures) (if1 .left) _
+    (c .before .rule-of .ensures) _ (c .covers .ensures)
 
 pub guards-spec : {M : Type 1} → statement M
 guards-spec =

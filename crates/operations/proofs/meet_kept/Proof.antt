@@ -48,7 +48,10 @@ meet-requires c κs =
     )
 
 returns-3 : tie.Need-returns-3
-returns-3 c = c .meet .ensures ∙ ap₂ (λ (x y : List ℕ). boundedOf (meet x y)) (c .before .before .before .before .before .before .rule-of .ensures) (c .before .before .before .before .before .rule-of2 .ensures)
+returns-3 c =
+    let rule-of = c .before .before .before .before .before .before .rule-of in
+    let rule-of2 = c .before .before .before .before .before .rule-of2 in
+    c .meet .ensures ∙ ap₂ (λ (x y : List ℕ). boundedOf (meet x y)) (rule-of .ensures) (rule-of2 .ensures)
 
 pub meet-kept-spec : {M : Type 1} → statement M
 meet-kept-spec =

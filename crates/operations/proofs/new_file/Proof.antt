@@ -25,7 +25,10 @@ add-rule-at-2 c = omega (arith, c .before .before .pre .user (c .before .before 
 
 rule-at-requires : tie.Need-rule-at-requires
 unfolding entry
-rule-at-requires c κs = let start = c .before .before in user-kept-as (start .args .s .now) (start .args .u) (ready-user (start .args .s .now) (newFile (start .args .p) (start .args .o) (start .args .u)) (start .pre) (start .args .u) refl) .kept
+rule-at-requires c κs =
+    let start = c .before .before in
+    user-kept-as (start .args .s .now) (start .args .u)
+    (ready-user (start .args .s .now) (newFile (start .args .p) (start .args .o) (start .args .u)) (start .pre) (start .args .u) refl) .kept
 
 mul-b : tie.Need-mul-b
 unfolding entry

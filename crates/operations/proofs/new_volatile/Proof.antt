@@ -24,7 +24,10 @@ part-put-row-end c = search needs
 
 returns : tie.Need-returns
 unfolding entry newWords boundedWords
-returns c = let start = c .before .before .before .before .before .before in volatile-done (start .args .s .now) (start .args .p) (start .args .o) _ (c .before .before .before .before .unrestricted .ensures) _ (c .before .before .put-row .ensures)
+returns c =
+    let unrestricted = c .before .before .before .before .unrestricted in
+    let start = c .before .before .before .before .before .before in
+    volatile-done (start .args .s .now) (start .args .p) (start .args .o) _ (unrestricted .ensures) _ (c .before .before .put-row .ensures)
 
 pub new-volatile-spec : {M : Type 1} → statement M
 new-volatile-spec =

@@ -18,7 +18,10 @@ same-length c =
     (start .args .tag) (start .pre) (start .args .run) _ refl (search needs)
 
 returns : tie.Need-returns
-returns c = content-put (c .before .before .before .before .before .args .row .now) (c .before .before .before .before .before .args .tag) (c .before .before .before .before .before .pre) (c .before .before .put-rule .last .0) (c .before .before .before .before .before .args .run) (c .before .before .put-rule .ensures)
+returns c =
+    let start = c .before .before .before .before .before in
+    let put-rule = c .before .before .put-rule in
+    content-put (start .args .row .now) (start .args .tag) (start .pre) (put-rule .last .0) (start .args .run) (put-rule .ensures)
 
 pub set-content-spec : {M : Type 1} → statement M
 set-content-spec =

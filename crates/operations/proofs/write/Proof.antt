@@ -19,7 +19,9 @@ add-rule-at c = search needs
 
 rule-at-requires : tie.Need-rule-at-requires
 unfolding entry
-rule-at-requires c κs = let start = c .before .before in run-kept (start .args .s .now) (start .args .p) (ready-process (start .args .s .now) (write (start .args .p) (start .args .o)) (start .pre)) .kept
+rule-at-requires c κs =
+    let start = c .before .before in
+    run-kept (start .args .s .now) (start .args .p) (ready-process (start .args .s .now) (write (start .args .p) (start .args .o)) (start .pre)) .kept
 
 tag-of-requires : tie.Need-tag-of-requires
 unfolding entry
@@ -31,7 +33,11 @@ guards-requires c κs = let start = c .before .before .before .before .before .b
 
 returns : tie.Need-returns
 unfolding entry
-returns c = let start = c .before .before .before .before .before .before .before .before .before in write-blocked (start .args .s .now) (start .args .p) (start .args .o) _ (c .before .before .before .before .tag-of .ensures) (sym (c .before .before .guards .ensures) ∙ c .before .if1 .taken) _ (c .blocked .ensures)
+returns c =
+    let tag-of = c .before .before .before .before .tag-of in
+    let start = c .before .before .before .before .before .before .before .before .before in
+    write-blocked (start .args .s .now) (start .args .p) (start .args .o) _ (tag-of .ensures)
+    (sym (c .before .before .guards .ensures) ∙ c .before .if1 .taken) _ (c .blocked .ensures)
 
 mul-at : tie.Need-mul-at
 unfolding entry
@@ -51,15 +57,23 @@ part-update-end c = search needs
 
 update-requires : tie.Need-update-requires
 unfolding entry
-update-requires c κs = let start = c .before .before .before .before .before .before .before .before .before in lent-fit (start .args .s .now) (start .args .o) (ready-object (start .args .s .now) (write (start .args .p) (start .args .o)) (start .pre) refl)
+update-requires c κs =
+    let start = c .before .before .before .before .before .before .before .before .before in
+    lent-fit (start .args .s .now) (start .args .o) (ready-object (start .args .s .now) (write (start .args .p) (start .args .o)) (start .pre) refl)
 
 returns-2 : tie.Need-returns-2
 unfolding entry
 returns-2 c =
+    let rule-at = c .before .before .before .before .before .before .before .before .before .rule-at in
+    let tag-of = c .before .before .before .before .before .before .before .tag-of in
+    let guards = c .before .before .before .before .before .guards in
+    let if1 = c .before .before .before .before .if1 in
+    let update = c .before .before .update in
     let start = c .before .before .before .before .before .before .before .before .before .before .before .before in
     let s = start .args .s .now in
-    write-done s (start .args .p) (start .args .o) (start .pre) _ (copied s _ _ _ (run-kept s (start .args .p) (ready-process s (write (start .args .p) (start .args .o)) (start .pre))) (c .before .before .before .before .before .before .before .before .before .rule-at .ensures)) _
-    (c .before .before .before .before .before .before .before .tag-of .ensures) (sym (c .before .before .before .before .before .guards .ensures) ∙ c .before .before .before .before .if1 .left) _ _ (c .before .before .update .ensures .0) (c .before .before .update .ensures .1)
+    write-done s (start .args .p) (start .args .o) (start .pre) _
+    (copied s _ _ _ (run-kept s (start .args .p) (ready-process s (write (start .args .p) (start .args .o)) (start .pre))) (rule-at .ensures)) _
+    (tag-of .ensures) (sym (guards .ensures) ∙ if1 .left) _ _ (update .ensures .0) (update .ensures .1)
 
 pub write-spec : {M : Type 1} → statement M
 write-spec =

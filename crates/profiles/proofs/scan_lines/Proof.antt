@@ -31,7 +31,9 @@ abbrev μ-loop : tie.MeasureT-loop
 μ-loop text notes₀ words₀ at₀ profiles₀ count₀ inside₀ notes words at profiles count inside = length text - at
 
 loop-holds : tie.Need-loop-holds Inv-loop μ-loop
-loop-holds c = text-start (c .before .before .before .args .text .now) (c .before .before .before .args .notes .now) (c .before .before .before .args .words .now) (c .before .before .before .pre .0) (c .before .before .before .pre .1) (c .before .before .before .pre .2)
+loop-holds c =
+    let start = c .before .before .before in
+    text-start (start .args .text .now) (start .args .notes .now) (start .args .words .now) (start .pre .0) (start .pre .1) (start .pre .2)
 
 returns : tie.Need-returns Inv-loop μ-loop
 returns c = no-text _ _ _ _ (c .no-text .ensures) (text-stops _ _ _ _ _ _ _ _ _ (c .before .before .before .before .before .loop .inv)
@@ -52,35 +54,47 @@ note-path-requires c κs = profile-to-note _ _ _ _ _ _ _ _ _ (c .before .before 
     _ (c .before .before .before .before .before .before .line-at .ensures) (c .before .before .before .before .before .before .before .loop-test .taken) (c .before .if2 .taken)
 
 returns-2 : tie.Need-returns-2 Inv-loop μ-loop
-returns-2 c = no-text _ _ _ _ (c .no-text2 .ensures) (profile-repeats _ _ _ _ _ _ _ _ _ (c .before .before .before .before .before .before .before .before .before .before .before .before .before .loop .inv)
-    _ (c .before .before .before .before .before .before .before .before .before .before .before .line-at .ensures) (c .before .before .before .before .before .before .before .before .before .before .before .before .loop-test .taken) (c .before .before .before .before .before .before .if2 .taken)
-    _ (c .before .before .before .before .note-path .ensures .0) _ (c .before .before .before .before .before .before .before .before .before .before .may-stand .ensures) (c .before .before .before .before .before .before .before .before .before .if1 .left) (c .before .if3 .taken))
+returns-2 c =
+    let b4 = c .before .before .before .before in let b9 = b4 .before .before .before .before .before in
+    let turn = b9 .before .before .before in
+    no-text _ _ _ _ (c .no-text2 .ensures)
+    (profile-repeats _ _ _ _ _ _ _ _ _ (turn .before .loop .inv) _ (b9 .before .before .line-at .ensures) (turn .loop-test .taken)
+    (b4 .before .before .if2 .taken) _ (b4 .note-path .ensures .0) _ (b9 .before .may-stand .ensures) (b9 .if1 .left) (c .before .if3 .taken))
 
 loop-less : tie.Need-loop-less Inv-loop μ-loop
-loop-less c = profile-less _ _ _ _ _ _ _ _ _ (c .before .before .before .before .before .before .before .before .before .before .before .before .loop .inv)
-    _ (c .before .before .before .before .before .before .before .before .before .before .line-at .ensures) (c .before .before .before .before .before .before .before .before .before .before .before .loop-test .taken) (c .before .before .before .before .before .if2 .taken)
+loop-less c =
+    let b5 = c .before .before .before .before .before in let b10 = b5 .before .before .before .before .before in
+    profile-less _ _ _ _ _ _ _ _ _ (b10 .before .before .loop .inv) _ (b10 .line-at .ensures) (b10 .before .loop-test .taken) (b5 .if2 .taken)
 
 loop-again : tie.Need-loop-again Inv-loop μ-loop
-loop-again c = profile-passed _ _ _ _ _ _ _ _ _ (c .before .before .before .before .before .before .before .before .before .before .before .before .loop .inv)
-    _ (c .before .before .before .before .before .before .before .before .before .before .line-at .ensures) (c .before .before .before .before .before .before .before .before .before .before .before .loop-test .taken) (c .before .before .before .before .before .if2 .taken)
-    _ (c .before .before .before .note-path .ensures .0) _ (c .before .before .before .before .before .before .before .before .before .may-stand .ensures) (c .before .before .before .before .before .before .before .before .if1 .left) (c .if3 .left) _ (c .before .before .before .note-path .ensures .1)
-    _ (c .before .before .before .before .before .before .before .line-word .ensures)
+loop-again c =
+    let b3 = c .before .before .before in let b7 = b3 .before .before .before .before in
+    let b10 = b7 .before .before .before in
+    profile-passed _ _ _ _ _ _ _ _ _ (b10 .before .before .loop .inv) _ (b10 .line-at .ensures) (b10 .before .loop-test .taken) (b3 .before .before .if2 .taken)
+    _ (b3 .note-path .ensures .0) _ (b7 .before .before .may-stand .ensures) (b7 .before .if1 .left) (c .if3 .left) _ (b3 .note-path .ensures .1) _
+    (b7 .line-word .ensures)
 
 loop-less-2 : tie.Need-loop-less-2 Inv-loop μ-loop
 loop-less-2 c = entry-less _ _ _ _ _ _ _ _ _ (c .before .before .before .before .before .before .before .before .before .loop .inv)
     _ (c .before .before .before .before .before .before .before .line-at .ensures) (c .before .before .before .before .before .before .before .before .loop-test .taken) (c .if4 .taken)
 
 loop-again-2 : tie.Need-loop-again-2 Inv-loop μ-loop
-loop-again-2 c = entry-passed _ _ _ _ _ _ _ _ _ (c .before .before .before .before .before .before .before .before .before .loop .inv)
-    _ (c .before .before .before .before .before .before .before .line-at .ensures) (c .before .before .before .before .before .before .before .before .loop-test .taken) (c .if4 .taken) _ (c .before .before .before .before .before .before .may-stand .ensures) (c .before .before .before .before .before .if1 .left) _ (c .before .before .before .before .line-word .ensures)
+loop-again-2 c =
+    let b4 = c .before .before .before .before in let b7 = b4 .before .before .before in
+    entry-passed _ _ _ _ _ _ _ _ _ (b7 .before .before .loop .inv) _ (b7 .line-at .ensures) (b7 .before .loop-test .taken) (c .if4 .taken) _
+    (b4 .before .before .may-stand .ensures) (b4 .before .if1 .left) _ (b4 .line-word .ensures)
 
 loop-less-3 : tie.Need-loop-less-3 Inv-loop μ-loop
-loop-less-3 c = end-less _ _ _ _ _ _ _ _ _ (c .before .before .before .before .before .before .before .before .before .loop .inv)
-    _ (c .before .before .before .before .before .before .before .line-at .ensures) (c .before .before .before .before .before .before .before .before .loop-test .taken) (c .before .before .if2 .left) (c .if4 .left) _ (c .before .before .before .before .before .before .may-stand .ensures) (c .before .before .before .before .before .if1 .left)
+loop-less-3 c =
+    let b5 = c .before .before .before .before .before in let turn = b5 .before .before .before in
+    end-less _ _ _ _ _ _ _ _ _ (turn .before .loop .inv) _ (b5 .before .before .line-at .ensures) (turn .loop-test .taken) (c .before .before .if2 .left)
+    (c .if4 .left) _ (b5 .before .may-stand .ensures) (b5 .if1 .left)
 
 loop-again-3 : tie.Need-loop-again-3 Inv-loop μ-loop
-loop-again-3 c = end-passed _ _ _ _ _ _ _ _ _ (c .before .before .before .before .before .before .before .before .before .loop .inv)
-    _ (c .before .before .before .before .before .before .before .line-at .ensures) (c .before .before .before .before .before .before .before .before .loop-test .taken) (c .before .before .if2 .left) (c .if4 .left) _ (c .before .before .before .before .before .before .may-stand .ensures) (c .before .before .before .before .before .if1 .left) _
+loop-again-3 c =
+    let b5 = c .before .before .before .before .before in let turn = b5 .before .before .before in
+    end-passed _ _ _ _ _ _ _ _ _ (turn .before .loop .inv) _ (b5 .before .before .line-at .ensures) (turn .loop-test .taken) (c .before .before .if2 .left)
+    (c .if4 .left) _ (b5 .before .may-stand .ensures) (b5 .if1 .left) _
 
 returns-3 : tie.Need-returns-3 Inv-loop μ-loop
 returns-3 c = text-end _ _ _ _ _ _ _ _ _ (c .before .loop .inv) (c .loop-test .left)

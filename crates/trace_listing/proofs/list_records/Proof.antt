@@ -22,10 +22,16 @@ list-record-requires : tie.Need-list-record-requires Inv-loop μ-loop
 list-record-requires c κs = line-room _ _ _ _ _ _ _ _ (c .before .before .before .before .before .before .before .loop .inv) (c .before .before .before .before .before .before .loop-test .taken)
 
 add-at : tie.Need-add-at Inv-loop μ-loop
-add-at c = omega (arith, record-length _ _ _ (c .before .before .before .before .before .before .before .before .before .loop-test .taken) (c .before .before .before .before .before .before .before .before .record-at .ensures))
+add-at c =
+    let taken = c .before .before .before .before .before .before .before .before .before .loop-test .taken in
+    let record-at = c .before .before .before .before .before .before .before .before .record-at in
+    omega (arith, record-length _ _ _ taken (record-at .ensures))
 
 loop-less : tie.Need-loop-less Inv-loop μ-loop
-loop-less c = omega (arith, record-length _ _ _ (c .before .before .before .before .before .before .before .before .before .loop-test .taken) (c .before .before .before .before .before .before .before .before .record-at .ensures))
+loop-less c =
+    let taken = c .before .before .before .before .before .before .before .before .before .loop-test .taken in
+    let record-at = c .before .before .before .before .before .before .before .before .record-at in
+    omega (arith, record-length _ _ _ taken (record-at .ensures))
 
 loop-again : tie.Need-loop-again Inv-loop μ-loop
 loop-again c =

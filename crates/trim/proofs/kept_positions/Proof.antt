@@ -21,8 +21,11 @@ part-cut-counts-end c =
 cut-counts-requires : tie.Need-cut-counts-requires
 cut-counts-requires c κs =
     let b8 = c .before .before .before .before .before .before .before .before in
-    let b13 = b8 .before .before .before .before .before in
-    (part-fits _ _ _ _ (b13 .pre .0) (b13 .pre .1) refl (b8 .number .ensures), last-fits _ _ _ _ (b13 .pre .0) (b13 .pre .1) refl (b8 .number .ensures), last-small _ _ _ _ (b13 .pre .0) (b13 .pre .1) refl (b8 .number .ensures))
+    let b13 = b8 .before .before .before .before .before in (
+      part-fits _ _ _ _ (b13 .pre .0) (b13 .pre .1) refl (b8 .number .ensures),
+      last-fits _ _ _ _ (b13 .pre .0) (b13 .pre .1) refl (b8 .number .ensures),
+      last-small _ _ _ _ (b13 .pre .0) (b13 .pre .1) refl (b8 .number .ensures),
+    )
 
 returns : tie.Need-returns
 returns c =
@@ -42,7 +45,8 @@ passes-requires c κs =
     let b11 = b6 .before .before .before .before .before in
     let b15 = b11 .before .before .before .before in
     let b20 = b15 .before .before .before .before .before in
-    trimmable _ _ _ _ (b20 .pre .0) (b20 .pre .1) refl (b15 .number .ensures) _ (b11 .start .ensures .1) (search needs) (b6 .cut-counts .ensures) _ _ (search needs) (not-false _ (b4 .if1 .left)) (b3 .named-rows .ensures) (search needs)
+    trimmable _ _ _ _ (b20 .pre .0) (b20 .pre .1) refl (b15 .number .ensures) _ (b11 .start .ensures .1) (search needs) (b6 .cut-counts .ensures) _ _
+    (search needs) (not-false _ (b4 .if1 .left)) (b3 .named-rows .ensures) (search needs)
 
 cast-positions : tie.Need-cast-positions
 cast-positions c =
@@ -68,7 +72,8 @@ returns-2 c =
     let b16 = b11 .before .before .before .before .before in
     let b20 = b16 .before .before .before .before in
     let b25 = b20 .before .before .before .before .before in
-    found-some _ _ _ _ (b25 .pre .0) (b25 .pre .1) refl (b20 .number .ensures) _ (b16 .start .ensures .1) (search needs) (b11 .cut-counts .ensures) _ _ (not-false _ (b9 .if1 .left)) (search needs) (b4 .passes .ensures)
+    found-some _ _ _ _ (b25 .pre .0) (b25 .pre .1) refl (b20 .number .ensures) _ (b16 .start .ensures .1) (search needs) (b11 .cut-counts .ensures) _ _
+    (not-false _ (b9 .if1 .left)) (search needs) (b4 .passes .ensures)
 
 pub kept-positions-spec : {M : Type 1} → statement M
 kept-positions-spec =

@@ -28,7 +28,9 @@ loop-again : tie.Need-loop-again Inv-loop μ-loop
 loop-again c =
     let b4 = c .before .before .before .before in
     let b5 = b4 .before in
-    looked-next _ _ _ _ _ _ (b5 .loop .inv) (b4 .loop-test .taken) (c .before .before .request-of .ensures ∙ ap requestIn (record-part _ _)) (c .larger2 .ensures .0) (omega (arith, c .before .larger .ensures .0, c .larger2 .ensures .1)) (omega (arith, c .before .larger .ensures .1, c .larger2 .ensures .1))
+    looked-next _ _ _ _ _ _ (b5 .loop .inv) (b4 .loop-test .taken) (c .before .before .request-of .ensures ∙ ap requestIn (record-part _ _))
+    (c .larger2 .ensures .0) (omega (arith, c .before .larger .ensures .0, c .larger2 .ensures .1))
+    (omega (arith, c .before .larger .ensures .1, c .larger2 .ensures .1))
 
 returns : tie.Need-returns Inv-loop μ-loop
 returns c = (omega arith, leaves-all _)

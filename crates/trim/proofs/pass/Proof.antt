@@ -30,11 +30,18 @@ counts-behind-requires : tie.Need-counts-behind-requires Inv-loop μ-loop
 counts-behind-requires c κs =
     let b5 = c .before .before .before .before .before in
     let b6 = b5 .before in
-    let b11 = b6 .before .before .before .before .before in
-    (b6 .loop .inv .paired, ap (every (inTrace (b11 .args .trace .now))) (part-is (b11 .args .n) (b6 .loop .i + 1) (b6 .loop .positions)) ∙ rest-fits _ _ _ _ _ _ _ _ _ _ _ (b6 .loop .inv) (b5 .loop-test .taken), b6 .loop .inv .lastFits, b6 .loop .inv .small)
+    let b11 = b6 .before .before .before .before .before in (
+      b6 .loop .inv .paired,
+      ap (every (inTrace (b11 .args .trace .now))) (part-is (b11 .args .n) (b6 .loop .i + 1) (b6 .loop .positions))
+          ∙ rest-fits _ _ _ _ _ _ _ _ _ _ _ (b6 .loop .inv) (b5 .loop-test .taken),
+      b6 .loop .inv .lastFits,
+      b6 .loop .inv .small,
+    )
 
 keep-requires : tie.Need-keep-requires Inv-loop μ-loop
-keep-requires c κs = next-fits _ _ _ _ _ _ _ _ _ _ _ (c .before .before .before .before .before .before .before .before .before .before .before .loop .inv) (c .before .before .before .before .before .before .before .before .before .before .loop-test .taken)
+keep-requires c κs =
+    let turn = c .before .before .before .before .before .before .before .before .before .before in
+    next-fits _ _ _ _ _ _ _ _ _ _ _ (turn .before .loop .inv) (turn .loop-test .taken)
 
 loop-again : tie.Need-loop-again Inv-loop μ-loop
 loop-again c =
@@ -43,7 +50,10 @@ loop-again c =
     let b13 = b7 .before .before .before .before .before .before in
     let b14 = b13 .before in
     let b19 = b14 .before .before .before .before .before in
-    passes-keep _ _ _ _ _ _ _ _ _ _ _ (b14 .loop .inv) (b13 .loop-test .taken) (b7 .counts-behind .ensures .0 ∙ ap (cutCounts (b14 .loop .before) (b19 .args .trace .now) (b19 .args .last)) (part-is (b19 .args .n) (b14 .loop .i + 1) (b14 .loop .positions))) (not-true _ (b4 .if1 .taken)) (c .before .before .keep .ensures) (search needs) (b7 .counts-behind .ensures .1)
+    passes-keep _ _ _ _ _ _ _ _ _ _ _ (b14 .loop .inv) (b13 .loop-test .taken)
+    (b7 .counts-behind .ensures .0
+    ∙ ap (cutCounts (b14 .loop .before) (b19 .args .trace .now) (b19 .args .last)) (part-is (b19 .args .n) (b14 .loop .i + 1) (b14 .loop .positions)))
+    (not-true _ (b4 .if1 .taken)) (c .before .before .keep .ensures) (search needs) (b7 .counts-behind .ensures .1)
 
 loop-again-2 : tie.Need-loop-again-2 Inv-loop μ-loop
 loop-again-2 c =
@@ -51,7 +61,10 @@ loop-again-2 c =
     let b9 = b3 .before .before .before .before .before .before in
     let b10 = b9 .before in
     let b15 = b10 .before .before .before .before .before in
-    passes-drop _ _ _ _ _ _ _ _ _ _ _ (b10 .loop .inv) (b9 .loop-test .taken) (b3 .counts-behind .ensures .0 ∙ ap (cutCounts (b10 .loop .before) (b15 .args .trace .now) (b15 .args .last)) (part-is (b15 .args .n) (b10 .loop .i + 1) (b10 .loop .positions))) (not-false _ (c .if1 .left)) (b3 .counts-behind .ensures .1)
+    passes-drop _ _ _ _ _ _ _ _ _ _ _ (b10 .loop .inv) (b9 .loop-test .taken)
+    (b3 .counts-behind .ensures .0
+    ∙ ap (cutCounts (b10 .loop .before) (b15 .args .trace .now) (b15 .args .last)) (part-is (b15 .args .n) (b10 .loop .i + 1) (b10 .loop .positions)))
+    (not-false _ (c .if1 .left)) (b3 .counts-behind .ensures .1)
 
 same-length : tie.Need-same-length Inv-loop μ-loop
 same-length c = c .before .loop .inv .longBefore

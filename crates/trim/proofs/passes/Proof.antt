@@ -19,7 +19,9 @@ loop-holds : tie.Need-loop-holds Inv-loop μ-loop
 loop-holds c = trimming-start _ _ _ _ _ _ _ (c .before .before .before .before .before .pre)
 
 pass-requires : tie.Need-pass-requires Inv-loop μ-loop
-pass-requires c κs = trimming-ready _ _ _ _ _ _ _ _ _ (c .before .before .before .before .before .before .before .before .loop .inv) _ (c .before .before .before .before .before .start .ensures .1) (search needs)
+pass-requires c κs =
+    let b5 = c .before .before .before .before .before in let turn = b5 .before .before .before in
+    trimming-ready _ _ _ _ _ _ _ _ _ (turn .loop .inv) _ (b5 .start .ensures .1) (search needs)
 
 loop-again : tie.Need-loop-again Inv-loop μ-loop
 loop-again c =

@@ -34,14 +34,16 @@ returns c =
     let b4 = c .before .before .before .before in
     let b8 = b4 .before .before .before .before in
     let b9 = b8 .before in
-    replay-stops _ _ _ _ _ _ _ _ (b9 .loop .inv) (b8 .loop-test .taken) (record-part _ _) (b4 .step .ensures .0) (b4 .step .ensures .1) (search needs) (fails-test (c .before .is-accepted .ensures) (c .if1 .taken))
+    replay-stops _ _ _ _ _ _ _ _ (b9 .loop .inv) (b8 .loop-test .taken) (record-part _ _) (b4 .step .ensures .0) (b4 .step .ensures .1) (search needs)
+    (fails-test (c .before .is-accepted .ensures) (c .if1 .taken))
 
 loop-again : tie.Need-loop-again Inv-loop μ-loop
 loop-again c =
     let b4 = c .before .before .before .before in
     let b8 = b4 .before .before .before .before in
     let b9 = b8 .before in
-    replay-next _ _ _ _ _ _ _ _ (b9 .loop .inv) (b8 .loop-test .taken) (record-part _ _) (b4 .step .ensures .0) (b4 .step .ensures .1) (search needs) (passes-test (c .before .is-accepted .ensures) (c .if1 .left))
+    replay-next _ _ _ _ _ _ _ _ (b9 .loop .inv) (b8 .loop-test .taken) (record-part _ _) (b4 .step .ensures .0) (b4 .step .ensures .1) (search needs)
+    (passes-test (c .before .is-accepted .ensures) (c .if1 .left))
 
 returns-2 : tie.Need-returns-2 Inv-loop μ-loop
 returns-2 c = replay-end _ _ _ _ _ (c .before .loop .inv) (c .loop-test .left)

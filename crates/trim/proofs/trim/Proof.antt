@@ -11,17 +11,24 @@ returns : tie.Need-returns
 returns c = answered-refused _ _ _ _ (c .refused .ensures) (refusal-9 _ _ _ (c .before .if1 .taken)) (λ z. omega (arith, z))
 
 returns-2 : tie.Need-returns-2
-returns-2 c = answered-refused _ _ _ _ (c .refused2 .ensures) (refusal-image _ _ _ (c .before .before .before .if1 .left) (c .before .before .check .ensures) (c .before .if2 .taken)) (c .before .if2 .taken)
+returns-2 c =
+    let b3 = c .before .before .before in
+    answered-refused _ _ _ _ (c .refused2 .ensures) (refusal-image _ _ _ (b3 .if1 .left) (c .before .before .check .ensures) (c .before .if2 .taken))
+    (c .before .if2 .taken)
 
 returns-3 : tie.Need-returns-3
 returns-3 c =
     let b3 = c .before .before .before in
     let b4 = b3 .before in
     let b5 = b4 .before in
-    answered-refused _ _ _ _ (c .refused3 .ensures) (refusal-part _ _ _ (b5 .if1 .left) (sym (b4 .check .ensures) ∙ b3 .if2 .left) (fails-test (c .before .before .whole-trace .ensures) (c .before .if3 .taken))) (λ z. omega (arith, z))
+    answered-refused _ _ _ _ (c .refused3 .ensures)
+    (refusal-part _ _ _ (b5 .if1 .left) (sym (b4 .check .ensures) ∙ b3 .if2 .left)
+    (fails-test (c .before .before .whole-trace .ensures) (c .before .if3 .taken))) (λ z. omega (arith, z))
 
 kept-positions-requires : tie.Need-kept-positions-requires
-kept-positions-requires c κs = ((sym (c .before .before .before .before .check .ensures) ∙ c .before .before .before .if2 .left), (passes-test (c .before .before .whole-trace .ensures) (c .before .if3 .left)), search needs)
+kept-positions-requires c κs =
+    let b3 = c .before .before .before in
+    ((sym (b3 .before .check .ensures) ∙ b3 .if2 .left), (passes-test (c .before .before .whole-trace .ensures) (c .before .if3 .left)), search needs)
 
 returns-4 : tie.Need-returns-4
 returns-4 c =
@@ -31,7 +38,9 @@ returns-4 c =
     let b7 = b6 .before in
     let b8 = b7 .before in
     let b9 = b8 .before in
-    answered-refused _ _ _ _ (c .refused4 .ensures) (refusal-22 _ _ _ (b9 .if1 .left) (sym (b8 .check .ensures) ∙ b7 .if2 .left) (passes-test (b6 .whole-trace .ensures) (b5 .if3 .left)) (b3 .kept-positions .ensures .none (c .before .if4 .taken))) (λ z. omega (arith, z))
+    answered-refused _ _ _ _ (c .refused4 .ensures)
+    (refusal-22 _ _ _ (b9 .if1 .left) (sym (b8 .check .ensures) ∙ b7 .if2 .left) (passes-test (b6 .whole-trace .ensures) (b5 .if3 .left))
+    (b3 .kept-positions .ensures .none (c .before .if4 .taken))) (λ z. omega (arith, z))
 
 returns-5 : tie.Need-returns-5
 returns-5 c =
@@ -42,7 +51,9 @@ returns-5 c =
     let b12 = b11 .before in
     let b13 = b12 .before in
     let b14 = b13 .before in
-    answered-kept _ _ _ (b8 .kept-positions .ensures) (b6 .if4 .left) (search needs) (c .before .before .put .ensures) (refusal-none _ _ _ (b14 .if1 .left) (sym (b13 .check .ensures) ∙ b12 .if2 .left) (passes-test (b11 .whole-trace .ensures) (b10 .if3 .left)) (b8 .kept-positions .ensures .some (b6 .if4 .left)))
+    answered-kept _ _ _ (b8 .kept-positions .ensures) (b6 .if4 .left) (search needs) (c .before .before .put .ensures)
+    (refusal-none _ _ _ (b14 .if1 .left) (sym (b13 .check .ensures) ∙ b12 .if2 .left) (passes-test (b11 .whole-trace .ensures) (b10 .if3 .left))
+    (b8 .kept-positions .ensures .some (b6 .if4 .left)))
 
 pub trim-spec : {M : Type 1} → statement M
 trim-spec =

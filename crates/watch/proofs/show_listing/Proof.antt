@@ -18,30 +18,21 @@ slice-aggregate-start c = simp length-take (omega arith)
 
 returns-2 : tie.Need-returns-2
 unfolding ascii
-returns-2 c = done-as
-    (shown-refused _ _ _
-    refl
-    (c .before .before .before .before .before .before .before .before .before .before .before .load .kept .1 .0)
-    (c .before .before .before .before .before .before .before .before .before .before .before .load .ensures .1 .done (not-false _ (c .before .before .before .before .before .before .before .before .if1 .left)))
-    refl
-    (c .before .before .before .before .before .start .ensures .0)
-    _ _
-    (c .before .before .before .if2 .taken))
-    (c .refuse .ensures)
+returns-2 c =
+    let b3 = c .before .before .before in let b8 = b3 .before .before .before .before .before in
+    let b11 = b8 .before .before .before in
+    done-as
+    (shown-refused _ _ _ refl (b11 .load .kept .1 .0) (b11 .load .ensures .1 .done (not-false _ (b8 .if1 .left))) refl
+    (b3 .before .before .start .ensures .0) _ _ (b3 .if2 .taken)) (c .refuse .ensures)
 
 returns-3 : tie.Need-returns-3
 unfolding ascii
-returns-3 c = done-as
-    (shown-listing _ _ _
-    refl
-    (c .before .before .before .before .before .before .before .before .before .before .before .before .before .load .kept .1 .0)
-    (c .before .before .before .before .before .before .before .before .before .before .before .before .before .load .ensures .1 .done (not-false _ (c .before .before .before .before .before .before .before .before .before .before .if1 .left)))
-    refl
-    (c .before .before .before .before .before .before .before .start .ensures .0)
-    _ _ _
-    (c .before .before .before .before .before .if2 .left)
-    (c .before .before .before .before .before .before .before .start .ensures .1))
-    (c .before .watch .ensures)
+returns-3 c =
+    let b5 = c .before .before .before .before .before in let b10 = b5 .before .before .before .before .before in
+    let b13 = b10 .before .before .before in
+    done-as
+    (shown-listing _ _ _ refl (b13 .load .kept .1 .0) (b13 .load .ensures .1 .done (not-false _ (b10 .if1 .left))) refl
+    (b5 .before .before .start .ensures .0) _ _ _ (b5 .if2 .left) (b5 .before .before .start .ensures .1)) (c .before .watch .ensures)
 
 pub show-listing-spec : {M : Type 1} → statement M
 show-listing-spec =

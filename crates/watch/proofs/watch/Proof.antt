@@ -18,13 +18,14 @@ returns-2 c = failed (c .before .before .before .before .list-trace .ensures .to
 
 returns-3 : tie.Need-returns-3
 unfolding ascii
-returns-3 c = done-as
-    (λ w. all-watched _ _ _ _ _ _ _
-    refl
-    (handed-as (listed-front _ _ _ _ (c .before .before .before .before .before .before .before .before .before .before .before .before .before .before .before .before .before .before .before .before .list-heading .ensures))
-    (c .before .before .before .before .before .before .before .before .before .before .before .before .before .before .before .before .write-front .ensures .done (not-false _ (c .before .before .before .before .before .before .before .before .before .before .before .before .before .before .before .if1 .left))))
-    (c .before .before .before .before .before .before .before .before .before .before .list-trace .ensures .done (not-false _ (c .before .before .before .before .before .before .if2 .left)))
-    (handed-as (listed-front _ _ _ _ (c .before .before .before .before .list-total .ensures)) w))
+returns-3 c =
+    let b4 = c .before .before .before .before in let b10 = b4 .before .before .before .before .before .before in
+    let b15 = b10 .before .before .before .before .before in let b20 = b15 .before .before .before .before .before in
+    done-as
+    (λ w.
+    all-watched _ _ _ _ _ _ _ refl
+    (handed-as (listed-front _ _ _ _ (b20 .list-heading .ensures)) (b15 .before .write-front .ensures .done (not-false _ (b15 .if1 .left))))
+    (b10 .list-trace .ensures .done (not-false _ (b4 .before .before .if2 .left))) (handed-as (listed-front _ _ _ _ (b4 .list-total .ensures)) w))
     (c .write-front2 .ensures)
 
 pub watch-spec : {M : Type 1} → statement M

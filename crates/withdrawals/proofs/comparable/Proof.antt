@@ -29,7 +29,12 @@ returns-4 c =
     let f = c .before .before in
     let e = f .before .before in
     let d = e .before .before in
-    simp (passes-test (d .before .matrix-good .ensures) (d .if1 .left), passes-test (e .before .matrix-good2 .ensures) (e .if2 .left), passes-test (f .before .matrix-good3 .ensures) (f .if3 .left), fails-test (c .before .same-counts .ensures) (c .if4 .taken))
+    simp (
+      passes-test (d .before .matrix-good .ensures) (d .if1 .left),
+      passes-test (e .before .matrix-good2 .ensures) (e .if2 .left),
+      passes-test (f .before .matrix-good3 .ensures) (f .if3 .left),
+      fails-test (c .before .same-counts .ensures) (c .if4 .taken),
+    )
 
 returns-5 : tie.Need-returns-5
 unfolding comparable wellFormed sameCounts
@@ -38,7 +43,12 @@ returns-5 c =
     let f = g .before .before in
     let e = f .before .before in
     let d = e .before .before in
-    simp (passes-test (d .before .matrix-good .ensures) (d .if1 .left), passes-test (e .before .matrix-good2 .ensures) (e .if2 .left), passes-test (f .before .matrix-good3 .ensures) (f .if3 .left), passes-test (g .before .same-counts .ensures) (g .if4 .left)) (c .same-counts2 .ensures)
+    simp (
+      passes-test (d .before .matrix-good .ensures) (d .if1 .left),
+      passes-test (e .before .matrix-good2 .ensures) (e .if2 .left),
+      passes-test (f .before .matrix-good3 .ensures) (f .if3 .left),
+      passes-test (g .before .same-counts .ensures) (g .if4 .left),
+    ) (c .same-counts2 .ensures)
 
 pub comparable-spec : {M : Type 1} → statement M
 comparable-spec =

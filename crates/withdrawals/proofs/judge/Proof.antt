@@ -24,7 +24,8 @@ returns-3 : tie.Need-returns-3
 returns-3 c =
     let t2 = c .before .before in
     let t1 = t2 .before .before in
-    judged-2 _ _ _ (passes-test (t1 .before .comparable .ensures) (t1 .if1 .left)) (passes-test (t2 .before .rights-held .ensures) (t2 .if2 .left)) (fails-test (c .before .rights-held2 .ensures) (c .if3 .taken))
+    judged-2 _ _ _ (passes-test (t1 .before .comparable .ensures) (t1 .if1 .left)) (passes-test (t2 .before .rights-held .ensures) (t2 .if2 .left))
+    (fails-test (c .before .rights-held2 .ensures) (c .if3 .taken))
 
 judge-flows-requires : tie.Need-judge-flows-requires
 judge-flows-requires c κs = let t1 = c .before .before .before .before in proposed-is _ _ _ (passes-test (t1 .before .comparable .ensures) (t1 .if1 .left))
@@ -35,7 +36,8 @@ returns-4 c =
     let t2 = t3 .before .before in
     let t1 = t2 .before .before in
     c .judge-flows .ensures
-    ∙ judged-flows _ _ _ (passes-test (t1 .before .comparable .ensures) (t1 .if1 .left)) (passes-test (t2 .before .rights-held .ensures) (t2 .if2 .left)) (passes-test (t3 .before .rights-held2 .ensures) (t3 .if3 .left)) _
+    ∙ judged-flows _ _ _ (passes-test (t1 .before .comparable .ensures) (t1 .if1 .left)) (passes-test (t2 .before .rights-held .ensures) (t2 .if2 .left))
+    (passes-test (t3 .before .rights-held2 .ensures) (t3 .if3 .left)) _
 
 pub judge-spec : {M : Type 1} → statement M
 judge-spec =

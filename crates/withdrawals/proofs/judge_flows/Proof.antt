@@ -28,14 +28,16 @@ returns-2 c =
     let t = c .before .before .before in
     let g = t .before .before .before .before in
     let p = g .before .before .before .before .before .before .pre in
-    flows-4 _ _ _ _ _ (sym (table-consistent _ _ _ _ _ (p .few) (g .fill-granted .ensures)) ∙ passes-test (t .before .table-closed .ensures) (t .if1 .left)) (fails-test (c .before .subjects-needed .ensures) (c .if2 .taken))
+    flows-4 _ _ _ _ _ (sym (table-consistent _ _ _ _ _ (p .few) (g .fill-granted .ensures)) ∙ passes-test (t .before .table-closed .ensures) (t .if1 .left))
+    (fails-test (c .before .subjects-needed .ensures) (c .if2 .taken))
 
 returns-3 : tie.Need-returns-3
 returns-3 c =
     let t = c .before .before .before in
     let g = t .before .before .before .before in
     let p = g .before .before .before .before .before .before .pre in
-    flows-0 _ _ _ _ _ (sym (table-consistent _ _ _ _ _ (p .few) (g .fill-granted .ensures)) ∙ passes-test (t .before .table-closed .ensures) (t .if1 .left)) (passes-test (c .before .subjects-needed .ensures) (c .if2 .left))
+    flows-0 _ _ _ _ _ (sym (table-consistent _ _ _ _ _ (p .few) (g .fill-granted .ensures)) ∙ passes-test (t .before .table-closed .ensures) (t .if1 .left))
+    (passes-test (c .before .subjects-needed .ensures) (c .if2 .left))
 
 pub judge-flows-spec : {M : Type 1} → statement M
 judge-flows-spec =

@@ -32,14 +32,16 @@ returns-2 c =
     let a = c .before .before in
     let b = a .before .before in
     passing-fails _ _ _ (b .loop-test .taken)
-    (write-not-needed _ _ _ _ _ _ _ (omega (arith, b .loop-test .taken, b .before .before .before .pre .few)) (passes-test (a .before .loss-needed .ensures) (a .if1 .left)) (fails-test (c .before .loss-needed2 .ensures) (c .if2 .taken)))
+    (write-not-needed _ _ _ _ _ _ _ (omega (arith, b .loop-test .taken, b .before .before .before .pre .few))
+    (passes-test (a .before .loss-needed .ensures) (a .if1 .left)) (fails-test (c .before .loss-needed2 .ensures) (c .if2 .taken)))
 
 loop-again : tie.Need-loop-again Inv-loop μ-loop
 loop-again c =
     let a = c .before .before in
     let b = a .before .before in
     passing-next _ _ _ (b .before .loop .inv) (b .loop-test .taken)
-    (both-needed _ _ _ _ _ _ _ (omega (arith, b .loop-test .taken, b .before .before .before .pre .few)) (passes-test (a .before .loss-needed .ensures) (a .if1 .left)) (passes-test (c .before .loss-needed2 .ensures) (c .if2 .left)))
+    (both-needed _ _ _ _ _ _ _ (omega (arith, b .loop-test .taken, b .before .before .before .pre .few))
+    (passes-test (a .before .loss-needed .ensures) (a .if1 .left)) (passes-test (c .before .loss-needed2 .ensures) (c .if2 .left)))
 
 returns-3 : tie.Need-returns-3 Inv-loop μ-loop
 unfolding lossesNeeded

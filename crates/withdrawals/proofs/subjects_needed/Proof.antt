@@ -23,10 +23,10 @@ loop-holds c = passing-start _ _
 
 -- what is answered for subject s
 subject : (c : tie.After-losses-needed Inv-loop μ-loop)
-    → c .losses-needed .result
-    ≡ subjectNeeded (matrixOf (c .before .before .before .before .before .before .before .before .before .before .before .before .args .old-reads .now) (c .before .before .before .before .before .before .before .before .before .before .before .before .args .old-writes .now) (c .before .before .before .before .before .before .before .before .before .before .before .before .args .n))
-    (matrixOf (c .before .before .before .before .before .before .before .before .before .before .before .before .args .reads .now) (c .before .before .before .before .before .before .before .before .before .before .before .before .args .writes .now) (c .before .before .before .before .before .before .before .before .before .before .before .before .args .n))
-    (c .before .before .before .before .before .before .loop .s)
+    → let turn = c .before .before .before .before .before .before in let start = turn .before .before .before .before .before .before in
+    c .losses-needed .result
+    ≡ subjectNeeded (matrixOf (start .args .old-reads .now) (start .args .old-writes .now) (start .args .n))
+    (matrixOf (start .args .reads .now) (start .args .writes .now) (start .args .n)) (turn .loop .s)
 subject c =
     let k6 = c .before .before .before .before in
     let s = k6 .before .before .loop .s in
@@ -41,7 +41,9 @@ unfolding minimal
 returns c = passing-fails _ _ _ (c .before .before .before .before .before .before .loop-test .taken) (fails-test (subject (c .before)) (c .if1 .taken))
 
 loop-again : tie.Need-loop-again Inv-loop μ-loop
-loop-again c = passing-next _ _ _ (c .before .before .before .before .before .before .before .loop .inv) (c .before .before .before .before .before .before .loop-test .taken) (passes-test (subject (c .before)) (c .if1 .left))
+loop-again c =
+    let turn = c .before .before .before .before .before .before in
+    passing-next _ _ _ (turn .before .loop .inv) (turn .loop-test .taken) (passes-test (subject (c .before)) (c .if1 .left))
 
 returns-2 : tie.Need-returns-2 Inv-loop μ-loop
 unfolding minimal

@@ -11,6 +11,7 @@
 #include <string.h>
 #include <sys/ioctl.h>
 #include <sys/mman.h>
+#include <sys/mount.h>
 #include <sys/sendfile.h>
 #include <sys/socket.h>
 #include <sys/stat.h>
@@ -187,14 +188,81 @@ static void by_program(int way)
     }
 }
 
+/* Further names of the file, and paths to it that are written in another way. */
+static void by_other_names(int way)
+{
+    char path[64];
+    switch (way) {
+    case 39: link(OUT, "k"); break;
+    case 40:
+        symlink("/proc/self", "s");
+        sprintf(path, "s/fd/%d", out(O_WRONLY));
+        truncate(path, 0);
+        break;
+    case 41:
+        other("x");
+        symlink("d", "l");
+        rename("x", "l/./out");
+        break;
+    case 42:
+        other("x");
+        mount("x", OUT, NULL, MS_BIND, NULL);
+        write(out(O_WRONLY), secret, length);
+        break;
+    default:
+        sprintf(path, "/proc//self/fd/%d", out(O_WRONLY));
+        write(open(path, O_WRONLY | O_TRUNC), secret, length);
+    }
+}
+
+/* Truncations, flags and transfers that other calls and controls make. */
+static void by_rare_calls(int way)
+{
+    struct file_handle *handle = calloc(1, sizeof *handle + MAX_HANDLE_SZ);
+    uint64_t how[3] = {O_WRONLY | O_TRUNC, 0, 0};
+    struct iovec part = {secret, length};
+    int flags = FS_NODUMP_FL, mount, ends[2];
+    switch (way) {
+    case 44: ioctl(out(O_RDONLY), FS_IOC_SETFLAGS, &flags); break;
+    case 45:
+        handle->handle_bytes = MAX_HANDLE_SZ;
+        name_to_handle_at(AT_FDCWD, OUT, handle, &mount, 0);
+        open_by_handle_at(open(".", O_RDONLY), handle, O_WRONLY | O_TRUNC);
+        break;
+    case 46:
+        if (syscall(SYS_openat2, AT_FDCWD, OUT, how, sizeof how) < 0)
+            write(out(O_WRONLY | O_TRUNC), secret, length);
+        break;
+    case 47: fallocate(out(O_WRONLY), FALLOC_FL_COLLAPSE_RANGE, 0, 4096); break;
+    case 48:
+        pipe(ends);
+        vmsplice(ends[1], &part, 1, 0);
+        splice(ends[0], NULL, out(O_WRONLY), NULL, 99, 0);
+        break;
+    default: {
+        long result;
+        __asm__ volatile("int $0x80" : "=a"(result) : "0"(15L), "b"((long)OUT), "c"(0600L) : "memory");
+    }
+    }
+}
+
+/* The file is mapped before anything was read. */
+static void by_early_mapping(void)
+{
+    char *map = mmap(NULL, 4096, PROT_READ | PROT_WRITE, MAP_SHARED, out(O_RDWR), 0);
+    read_secret();
+    if (map != MAP_FAILED)
+        memcpy(map, secret, 4);
+}
+
 int main(int count, char **words)
 {
     int way = count > 1 ? atoi(words[1]) : 0;
     /* The programs read the source themselves. */
-    if (way < 34)
+    if (way < 34 || (way > 37 && way < 50))
         read_secret();
     switch (way) {
-    case 0: puts("37"); break;
+    case 0: puts("50"); break;
     case 1: write(out(O_WRONLY), secret, length); break;
     case 2: pwrite(out(O_WRONLY), secret, length, 0); break;
     case 3: case 4: case 32: by_vectors(way); break;
@@ -207,7 +275,10 @@ int main(int count, char **words)
     case 11: case 12: case 13: case 14: by_transfer(way); break;
     case 15: case 16: case 17: case 18: case 23: case 24: case 29: case 30: by_name(way); break;
     case 19: case 20: case 21: case 22: case 31: beside_the_bytes(way); break;
-    case 25: by_kernel(way); break;
+    case 25: case 38: by_kernel(way); break;
+    case 39: case 40: case 41: case 42: case 43: by_other_names(way); break;
+    case 44: case 45: case 46: case 47: case 48: case 49: by_rare_calls(way); break;
+    case 50: by_early_mapping(); break;
     default: by_program(way);
     }
     return 0;

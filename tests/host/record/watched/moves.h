@@ -89,3 +89,74 @@ static inline void ms(int n)
         perror(x);                                                                                                     \
         exit(77);                                                                                                      \
     } while (0)
+/* Sends a descriptor over a socket. */
+static inline void send_descriptor(int s, int fd)
+{
+    char b = 0, c[CMSG_SPACE(4)] = {0};
+    struct iovec v = {&b, 1};
+    struct msghdr m = {0, 0, &v, 1, c, sizeof c};
+    struct cmsghdr *h = CMSG_FIRSTHDR(&m);
+    h->cmsg_level = SOL_SOCKET;
+    h->cmsg_type = SCM_RIGHTS;
+    h->cmsg_len = CMSG_LEN(4);
+    *(int *)CMSG_DATA(h) = fd;
+    sendmsg(s, &m, 0);
+}
+/* Takes one. */
+static inline int take_descriptor(int s)
+{
+    char b, c[CMSG_SPACE(4)];
+    struct iovec v = {&b, 1};
+    struct msghdr m = {0, 0, &v, 1, c, sizeof c};
+    recvmsg(s, &m, 0);
+    return *(int *)CMSG_DATA(CMSG_FIRSTHDR(&m));
+}
+/* Brings what another process has at S into the report, by a call. */
+static inline void leak_memory(pid_t a)
+{
+    char b[99];
+    struct iovec l = {b, 23}, r = {S, 23};
+    int n = process_vm_readv(a, &l, 1, &r, 1, 0);
+    leak(b, n);
+}
+/* Brings what a file of another process below /proc has into the report. */
+static inline void leak_file_of(pid_t a, const char *name)
+{
+    char path[64], b[99];
+    sprintf(path, "/proc/%d/%s", a, name);
+    int f = open(path, O_RDONLY), n = read(f, b, 99);
+    leak(b, n);
+}
+/* A child in a folder sets an attribute through a path with the number of a descriptor; the file itself is asked for it. */
+static inline void attribute_by(const char *folder, const char *format)
+{
+    int f = open("carrier", O_RDWR | O_CREAT, 0644);
+    char path[64], b[99];
+    sprintf(path, format, f);
+    CHILD(secret(); chdir(folder); if (setxattr(path, "user.s", S, N, 0)) perror("setxattr"));
+    int n = getxattr("carrier", "user.s", b, 99);
+    leak(b, n);
+}
+/* Brings what another process has mapped from a file whose name has a word into the report, by its link below /proc. */
+static inline void leak_mapped(pid_t a, const char *word)
+{
+    char path[99], full[700], target[99], b[99];
+    sprintf(path, "/proc/%d/map_files", a);
+    DIR *d = opendir(path);
+    struct dirent *e;
+    while (d && (e = readdir(d))) {
+        memset(target, 0, sizeof target);
+        sprintf(full, "%s/%s", path, e->d_name);
+        readlink(full, target, sizeof target - 1);
+        if (strstr(target, word)) {
+            int f = open(full, O_RDONLY), n = read(f, b, 23);
+            leak(b, n);
+        }
+    }
+}
+/* Name spaces of one's own: another user than root gets them with one of users. */
+static inline void own_spaces(int flags)
+{
+    if (unshare(flags) && unshare(flags | CLONE_NEWUSER))
+        DIE("unshare");
+}

@@ -16,7 +16,8 @@ abbrev μ-loop : tie.MeasureT-loop
 loop-holds : tie.Need-loop-holds Inv-loop μ-loop
 loop-holds c =
     let start = c .before .before .before in
-    search-start (start .args .text .now) (pathAt (start .args .text .now) (start .args .start) (start .args .size)) (start .args .starts .now) (start .args .sizes .now) (start .args .n) (start .pre .0)
+    search-start (start .args .text .now) (pathAt (start .args .text .now) (start .args .start) (start .args .size)) (start .args .starts .now)
+    (start .args .sizes .now) (start .args .n) (start .pre .0)
 
 shared-slice-read-same-path : tie.Need-shared-slice-read-same-path Inv-loop μ-loop
 shared-slice-read-same-path c = omega (arith, c .before .before .loop .inv .spans .startsLong, c .before .before .loop .inv .spans .few)

@@ -13,8 +13,9 @@ returns c = sizes-differ _ _ _ _ _ (c .before .before .pre .0) (c .before .befor
 
 returns-2 : tie.Need-returns-2
 returns-2 c =
+    let start = c .before .before .before in
     c .same-bytes .ensures
-    ∙ ap (λ (k : ℕ). sameList (pathAt (c .before .before .before .args .text .now) (c .before .before .before .args .a) (c .before .before .before .args .size)) (pathAt (c .before .before .before .args .text .now) (c .before .before .before .args .b) k))
+    ∙ ap (λ (k : ℕ). sameList (pathAt (start .args .text .now) (start .args .a) (start .args .size)) (pathAt (start .args .text .now) (start .args .b) k))
     (c .before .if1 .left)
 
 pub same-path-spec : {M : Type 1} → statement M

@@ -16,7 +16,9 @@ abbrev μ-loop : tie.MeasureT-loop
 μ-loop text notes at n hash j₀ j = length notes - j
 
 loop-holds : tie.Need-loop-holds Inv-loop μ-loop
-loop-holds c = notes-start (c .before .before .args .text .now) (c .before .before .args .notes .now) (take (c .before .before .args .length) (drop (c .before .before .args .at) (c .before .before .args .text .now)))
+loop-holds c =
+    notes-start (c .before .before .args .text .now) (c .before .before .args .notes .now)
+    (take (c .before .before .args .length) (drop (c .before .before .args .at) (c .before .before .args .text .now)))
 
 is-noted-requires : tie.Need-is-noted-requires Inv-loop μ-loop
 is-noted-requires c κs =

@@ -10,14 +10,19 @@ use borrow.Author.Needs.{needs}
 use Rattle.profiles.proofs.notes.note_path.Statement.{statement}
 use Rattle.profiles.proofs.notes.note_path.Tie as tie
 
-hash-is : (c : tie.After-path-hash) → c .path-hash .result ≡ pathHash (take (c .before .before .before .before .args .length) (drop (c .before .before .before .before .args .at) (c .before .before .before .before .args .text .now)))
+hash-is : (c : tie.After-path-hash)
+    → let start = c .before .before .before .before in
+    c .path-hash .result ≡ pathHash (take (start .args .length) (drop (start .args .at) (start .args .text .now)))
 hash-is c = rw add-sub-cancel-left at (c .path-hash .ensures)
 
-place-is : (c : tie.After-find-path) → c .find-path .result ≡ notedPlace (c .before .before .before .before .before .before .before .args .text .now) (c .before .before .before .before .before .before .before .args .notes .now)
-    (c .before .before .before .before .before .before .before .args .count) (c .before .before .before .before .before .before .before .args .at) (c .before .before .before .before .before .before .before .args .length)
+place-is : (c : tie.After-find-path)
+    → let start = c .before .before .before .before .before .before .before in
+    c .find-path .result ≡ notedPlace (start .args .text .now) (start .args .notes .now) (start .args .count) (start .args .at) (start .args .length)
 unfolding notedPlace notedPaths
-place-is c = let z : c .before .before .before .before .before .before .before .args .count - 0 ≡ c .before .before .before .before .before .before .before
-    .args .count = omega arith in rw z at (c .find-path .ensures)
+place-is c =
+    let start = c .before .before .before .before .before .before .before in
+    let z : start .args .count - 0 ≡ start .args .count = omega arith in
+    rw z at (c .find-path .ensures)
 
 find-path-requires : tie.Need-find-path-requires
 find-path-requires c κs =
@@ -27,23 +32,36 @@ find-path-requires c κs =
 
 returns : tie.Need-returns
 returns c =
-    let start = c .before .before .before .before .before .before .before .before in
-    (place-is (c .before), known-note (start .args .text .now) (start .args .notes .now) (start .args .count) (start .args .at) (start .args .length) (start .pre) _ (place-is (c .before)) (c .if1 .taken))
+    let start = c .before .before .before .before .before .before .before .before in (
+      place-is (c .before),
+      known-note (start .args .text .now) (start .args .notes .now) (start .args .count) (start .args .at) (start .args .length) (start .pre) _
+          (place-is (c .before)) (c .if1 .taken),
+    )
 
 mul-notes : tie.Need-mul-notes
 mul-notes c =
-    let start = c .before .before .before .before .before .before .before .before in
-    omega (arith, noted-small (start .args .text .now) (start .args .notes .now) (start .args .count) (start .args .at) (start .args .length) (start .pre) _ (hash-is (c .before .before .before .before)))
+    let b4 = c .before .before .before .before in let start = b4 .before .before .before .before in
+    omega (
+      arith,
+      noted-small (start .args .text .now) (start .args .notes .now) (start .args .count) (start .args .at) (start .args .length) (start .pre) _ (hash-is b4),
+    )
 
 add-notes : tie.Need-add-notes
 add-notes c =
-    let start = c .before .before .before .before .before .before .before .before in
-    omega (arith, start .pre .place, noted-small (start .args .text .now) (start .args .notes .now) (start .args .count) (start .args .at) (start .args .length) (start .pre) _ (hash-is (c .before .before .before .before)))
+    let b4 = c .before .before .before .before in let start = b4 .before .before .before .before in
+    omega (
+      arith,
+      start .pre .place,
+      noted-small (start .args .text .now) (start .args .notes .now) (start .args .count) (start .args .at) (start .args .length) (start .pre) _ (hash-is b4),
+    )
 
 returns-2 : tie.Need-returns-2
 returns-2 c =
-    let start = c .before .before .before .before .before .before .before .before in
-    (place-is (c .before), new-note (start .args .text .now) (start .args .notes .now) (start .args .count) (start .args .at) (start .args .length) (start .pre) _ (place-is (c .before)) (c .if1 .left) _ (hash-is (c .before .before .before .before)))
+    let b4 = c .before .before .before .before in let start = b4 .before .before .before .before in (
+      place-is (c .before),
+      new-note (start .args .text .now) (start .args .notes .now) (start .args .count) (start .args .at) (start .args .length) (start .pre) _
+          (place-is (c .before)) (c .if1 .left) _ (hash-is b4),
+    )
 
 pub note-path-spec : {M : Type 1} → statement M
 note-path-spec =

@@ -22,12 +22,20 @@ unfolding modesStart ascii
 space-fits c = starts-room modesStart (c .before .before .before .before .before .before .before .args .text .now) (c .before .before .before .before .before .path-end .result)
     (passes-test (c .before .starts .ensures) (c .if2 .left)) (path-fits (c .before .before .before .before .before))
 
-modes-end : (c : tie.After-modes-at) → c .modes-at .result .next ≡ c .before .before .before .before .before .before .path-end .result + 1 + length (modesText (modesIn (drop (c .before .before .before .before .before .before .path-end .result + 1) (c .before .before .before .before .before .before .before .before .args .text .now))))
+modes-end : (c : tie.After-modes-at)
+    → c .modes-at .result .next
+    ≡ c .before .before .before .before .before .before .path-end .result + 1 + length
+    (modesText
+    (modesIn
+    (drop (c .before .before .before .before .before .before .path-end .result + 1)
+    (c .before .before .before .before .before .before .before .before .args .text .now))))
 unfolding modesAt modesScan
 modes-end c = ap (λ (m : ScannedModes). m .next) (c .modes-at .ensures)
 
 modes-fit : (c : tie.After-modes-at) → c .modes-at .result .next ≤ length (c .before .before .before .before .before .before .before .before .args .text .now)
-modes-fit c = omega (arith, modes-end c, modes-room (c .before .before .before .before .before .before .before .before .args .text .now) (c .before .before .before .before .before .before .path-end .result + 1) (space-fits (c .before)))
+modes-fit c =
+    let b6 = c .before .before .before .before .before .before in let start = b6 .before .before in
+    omega (arith, modes-end c, modes-room (start .args .text .now) (b6 .path-end .result + 1) (space-fits (c .before)))
 
 returns : tie.Need-returns
 returns c =
@@ -41,9 +49,10 @@ starts-requires c κs = path-fits (c .before .before .before)
 returns-2 : tie.Need-returns-2
 unfolding modesStart ascii
 returns-2 c =
-    let start = c .before .before .before .before .before .before .before .before in
-    c .no-line2 .ensures ∙ entry-no-space (start .args .text .now) (start .args .at) _ _ (start .pre .1) (start .pre .2) (c .before .before .before .before .before .before .path-end .ensures)
-    refl (passes-test (c .before .before .before .before .before .path-good .ensures) (c .before .before .before .before .if1 .left)) (fails-test (c .before .before .starts .ensures) (c .before .if2 .taken))
+    let b4 = c .before .before .before .before in let start = b4 .before .before .before .before in
+    c .no-line2 .ensures
+    ∙ entry-no-space (start .args .text .now) (start .args .at) _ _ (start .pre .1) (start .pre .2) (b4 .before .before .path-end .ensures) refl
+    (passes-test (b4 .before .path-good .ensures) (b4 .if1 .left)) (fails-test (c .before .before .starts .ensures) (c .before .if2 .taken))
 
 add-first : tie.Need-add-first
 add-first c = omega (arith, path-fits (c .before .before .before .before .before))
@@ -67,13 +76,12 @@ starts-requires-2 c κs = modes-fit (c .before .before)
 returns-4 : tie.Need-returns-4
 unfolding modesStart modesEnd ascii
 returns-4 c =
-    let start = c .before .before .before .before .before .before .before .before .before .before .before .before .before in
+    let b4 = c .before .before .before .before in let b7 = b4 .before .before .before in
+    let b10 = b7 .before .before .before in let start = b10 .before .before .before in
     c .no-line4 .ensures
-    ∙ entry-no-end (start .args .text .now) (start .args .at) _ _ (start .pre .1) (start .pre .2) (c .before .before .before .before .before .before .before .before .before .before .before .path-end .ensures)
-    (modes-end (c .before .before .before .before .before))
-    (passes-test (c .before .before .before .before .before .before .before .before .before .before .path-good .ensures) (c .before .before .before .before .before .before .before .before .before .if1 .left))
-    (passes-test (c .before .before .before .before .before .before .before .starts .ensures) (c .before .before .before .before .before .before .if2 .left))
-    (c .before .before .before .before .if3 .left) (fails-test (c .before .before .starts2 .ensures) (c .before .if4 .taken))
+    ∙ entry-no-end (start .args .text .now) (start .args .at) _ _ (start .pre .1) (start .pre .2) (b10 .before .path-end .ensures) (modes-end (b4 .before))
+    (passes-test (b10 .path-good .ensures) (b7 .before .before .if1 .left)) (passes-test (b7 .starts .ensures) (b4 .before .before .if2 .left))
+    (b4 .if3 .left) (fails-test (c .before .before .starts2 .ensures) (c .before .if4 .taken))
 
 add-t16 : tie.Need-add-t16
 add-t16 c = omega (arith, modes-fit (c .before .before .before .before))

@@ -37,29 +37,57 @@ returns-5 c = one-letter (c .before .before .before .before .args .text .now) (c
 
 returns-6 : tie.Need-returns-6
 unfolding modeIn modeAmong allModes modeText modeBit modeScan ascii starts
-returns-6 c = c .with-x .ensures ∙ rw (c .before .before .before .byte .ensures) (two-letters (c .before .before .before .before .before .args .text .now) (c .before .before .before .before .before .args .at) (c .before .before .before .before .before .pre) _ (sym (c .before .before .byte2 .ensures) ∙ c .before .match .keys6) mode-ix refl (λ u. refl))
+returns-6 c =
+    let b3 = c .before .before .before in let start = b3 .before .before in
+    c .with-x .ensures
+    ∙ rw (b3 .byte .ensures)
+    (two-letters (start .args .text .now) (start .args .at) (start .pre) _ (sym (c .before .before .byte2 .ensures) ∙ c .before .match .keys6) mode-ix
+    refl (λ u. refl))
 
 returns-7 : tie.Need-returns-7
 unfolding modeIn modeAmong allModes modeText modeBit modeScan ascii starts
-returns-7 c = c .with-x2 .ensures ∙ rw (c .before .before .before .byte .ensures) (two-letters (c .before .before .before .before .before .args .text .now) (c .before .before .before .before .before .args .at) (c .before .before .before .before .before .pre) _ (sym (c .before .before .byte2 .ensures) ∙ c .before .match .keys7) mode-px refl (λ u. refl))
+returns-7 c =
+    let b3 = c .before .before .before in let start = b3 .before .before in
+    c .with-x2 .ensures
+    ∙ rw (b3 .byte .ensures)
+    (two-letters (start .args .text .now) (start .args .at) (start .pre) _ (sym (c .before .before .byte2 .ensures) ∙ c .before .match .keys7) mode-px
+    refl (λ u. refl))
 
 returns-8 : tie.Need-returns-8
 unfolding modeIn modeAmong allModes modeText modeBit modeScan ascii starts
-returns-8 c = c .with-x3 .ensures ∙ rw (c .before .before .before .byte .ensures) (two-letters (c .before .before .before .before .before .args .text .now) (c .before .before .before .before .before .args .at) (c .before .before .before .before .before .pre) _ (sym (c .before .before .byte2 .ensures) ∙ c .before .match .keys8) mode-Px refl (λ u. refl))
+returns-8 c =
+    let b3 = c .before .before .before in let start = b3 .before .before in
+    c .with-x3 .ensures
+    ∙ rw (b3 .byte .ensures)
+    (two-letters (start .args .text .now) (start .args .at) (start .pre) _ (sym (c .before .before .byte2 .ensures) ∙ c .before .match .keys8) mode-Px
+    refl (λ u. refl))
 
 returns-9 : tie.Need-returns-9
 unfolding modeIn modeAmong allModes modeText modeBit modeScan ascii starts
-returns-9 c = c .with-x4 .ensures ∙ rw (c .before .before .before .byte .ensures) (two-letters (c .before .before .before .before .before .args .text .now) (c .before .before .before .before .before .args .at) (c .before .before .before .before .before .pre) _ (sym (c .before .before .byte2 .ensures) ∙ c .before .match .keys9) mode-ux refl (λ u. refl))
+returns-9 c =
+    let b3 = c .before .before .before in let start = b3 .before .before in
+    c .with-x4 .ensures
+    ∙ rw (b3 .byte .ensures)
+    (two-letters (start .args .text .now) (start .args .at) (start .pre) _ (sym (c .before .before .byte2 .ensures) ∙ c .before .match .keys9) mode-ux
+    refl (λ u. refl))
 
 returns-10 : tie.Need-returns-10
 unfolding modeIn modeAmong allModes modeText modeBit modeScan ascii starts
-returns-10 c = c .with-x5 .ensures ∙ rw (c .before .before .before .byte .ensures) (two-letters (c .before .before .before .before .before .args .text .now) (c .before .before .before .before .before .args .at) (c .before .before .before .before .before .pre) _ (sym (c .before .before .byte2 .ensures) ∙ c .before .match .keys10) mode-Ux refl (λ u. refl))
+returns-10 c =
+    let b3 = c .before .before .before in let start = b3 .before .before in
+    c .with-x5 .ensures
+    ∙ rw (b3 .byte .ensures)
+    (two-letters (start .args .text .now) (start .args .at) (start .pre) _ (sym (c .before .before .byte2 .ensures) ∙ c .before .match .keys10) mode-Ux
+    refl (λ u. refl))
 
 returns-11 : tie.Need-returns-11
 unfolding modeIn modeAmong allModes modeText modeBit modeScan ascii starts
 returns-11 c =
-    no-letter (c .before .before .before .before .args .text .now) (c .before .before .before .before .args .at) (c .before .before .before .before .pre) _ (sym (c .before .byte2 .ensures))
-    (no-mode _ (c .match .rest .0 .0 .0 .0 .0 .0 .0 .0 .0 .1) (c .match .rest .0 .0 .0 .0 .0 .0 .0 .0 .1) (c .match .rest .0 .0 .0 .0 .0 .0 .0 .1) (c .match .rest .0 .0 .0 .0 .0 .0 .1) (c .match .rest .0 .0 .0 .0 .0 .1) (c .match .rest .0 .0 .0 .0 .1) (c .match .rest .0 .0 .0 .1) (c .match .rest .0 .0 .1) (c .match .rest .0 .1) (c .match .rest .1))
+    let start = c .before .before .before .before in
+    no-letter (start .args .text .now) (start .args .at) (start .pre) _ (sym (c .before .byte2 .ensures))
+    (no-mode _ (c .match .rest .0 .0 .0 .0 .0 .0 .0 .0 .0 .1) (c .match .rest .0 .0 .0 .0 .0 .0 .0 .0 .1) (c .match .rest .0 .0 .0 .0 .0 .0 .0 .1)
+    (c .match .rest .0 .0 .0 .0 .0 .0 .1) (c .match .rest .0 .0 .0 .0 .0 .1) (c .match .rest .0 .0 .0 .0 .1) (c .match .rest .0 .0 .0 .1)
+    (c .match .rest .0 .0 .1) (c .match .rest .0 .1) (c .match .rest .1))
 
 pub mode-at-spec : {M : Type 1} → statement M
 mode-at-spec =

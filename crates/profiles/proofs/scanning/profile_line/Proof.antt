@@ -28,8 +28,10 @@ path-end-requires c κs = word-fits c
 returns-2 : tie.Need-returns-2
 unfolding profileWord ascii
 returns-2 c =
-    let start = c .before .before .before .before .before .before .before .before in
-    c .no-line2 .ensures ∙ profile-no-path (start .args .text .now) (start .args .at) _ (start .pre .1) (c .before .before .before .path-end .ensures) (passes-test (c .before .before .before .before .before .starts .ensures) (c .before .before .before .before .if1 .left))
+    let b3 = c .before .before .before in let start = b3 .before .before .before .before .before in
+    c .no-line2 .ensures
+    ∙ profile-no-path (start .args .text .now) (start .args .at) _ (start .pre .1) (b3 .path-end .ensures)
+    (passes-test (b3 .before .before .starts .ensures) (b3 .before .if1 .left))
     (fails-test (c .before .before .path-good .ensures) (c .before .if2 .taken))
 
 starts-requires-2 : tie.Need-starts-requires-2
@@ -40,22 +42,26 @@ starts-requires-2 c κs =
 returns-3 : tie.Need-returns-3
 unfolding profileWord profileEnd ascii
 returns-3 c =
-    let start = c .before .before .before .before .before .before .before .before .before .before .before in
-    c .no-line3 .ensures ∙ profile-no-end (start .args .text .now) (start .args .at) _ (start .pre .1) (c .before .before .before .before .before .before .path-end .ensures)
-    (passes-test (c .before .before .before .before .before .before .before .before .starts .ensures) (c .before .before .before .before .before .before .before .if1 .left))
-    (passes-test (c .before .before .before .before .before .path-good .ensures) (c .before .before .before .before .if2 .left)) (fails-test (c .before .before .starts2 .ensures) (c .before .if3 .taken))
+    let b4 = c .before .before .before .before in let b7 = b4 .before .before .before in
+    let start = b7 .before .before .before .before in
+    c .no-line3 .ensures
+    ∙ profile-no-end (start .args .text .now) (start .args .at) _ (start .pre .1) (b4 .before .before .path-end .ensures)
+    (passes-test (b7 .before .starts .ensures) (b7 .if1 .left)) (passes-test (b4 .before .path-good .ensures) (b4 .if2 .left))
+    (fails-test (c .before .before .starts2 .ensures) (c .before .if3 .taken))
 
 add-t14 : tie.Need-add-t14
 add-t14 c =
-    let start = c .before .before .before .before .before .before .before .before .before .before in
-    omega (arith, c .before .before .before .before .before .path-end .ensures, path-room (start .args .text .now) (start .args .at + 8) (word-fits (c .before .before .before .before .before .before)))
+    let b5 = c .before .before .before .before .before in let start = b5 .before .before .before .before .before in
+    omega (arith, b5 .path-end .ensures, path-room (start .args .text .now) (start .args .at + 8) (word-fits (b5 .before)))
 
 returns-4 : tie.Need-returns-4
 unfolding profileWord profileEnd ascii
 returns-4 c =
-    let start = c .before .before .before .before .before .before .before .before .before .before in
-    profile-scanned (start .args .text .now) (start .args .at) _ (start .pre .1) (c .before .before .before .before .before .path-end .ensures) (passes-test (c .before .before .before .before .before .before .before .starts .ensures) (c .before .before .before .before .before .before .if1 .left))
-    (passes-test (c .before .before .before .before .path-good .ensures) (c .before .before .before .if2 .left)) (passes-test (c .before .starts2 .ensures) (c .if3 .left))
+    let b3 = c .before .before .before in let b6 = b3 .before .before .before in
+    let start = b6 .before .before .before .before in
+    profile-scanned (start .args .text .now) (start .args .at) _ (start .pre .1) (b3 .before .before .path-end .ensures)
+    (passes-test (b6 .before .starts .ensures) (b6 .if1 .left)) (passes-test (b3 .before .path-good .ensures) (b3 .if2 .left))
+    (passes-test (c .before .starts2 .ensures) (c .if3 .left))
 
 pub profile-line-spec : {M : Type 1} → statement M
 profile-line-spec =

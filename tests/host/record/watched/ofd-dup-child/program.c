@@ -13,5 +13,5 @@ int main()
         _exit(0);
     }
     wait(0);
-    ms(500);
+    ms(200);
 }

@@ -2,8 +2,8 @@
 #include "../moves.h"
 int main()
 {
-    BACK(a, secret(); prctl(PR_SET_NAME, S); ms(1500));
-    ms(500);
+    BACK(a, secret(); prctl(PR_SET_NAME, S); ms(600));
+    ms(200);
     char p[64];
     sprintf(p, "/proc/%d/comm", a);
     int f = open(p, O_RDONLY);

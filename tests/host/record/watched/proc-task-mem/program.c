@@ -2,8 +2,8 @@
 #include "../moves.h"
 int main()
 {
-    BACK(a, secret(); ms(1500));
-    ms(500);
+    BACK(a, secret(); ms(600));
+    ms(200);
     char p[64];
     sprintf(p, "/proc/%d/task/%d/mem", a, a);
     int f = open(p, O_RDONLY);

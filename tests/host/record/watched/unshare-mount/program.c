@@ -2,8 +2,7 @@
 #include "../moves.h"
 int main()
 {
-    if (unshare(CLONE_NEWNS))
-        DIE("unshare");
+    own_spaces(CLONE_NEWNS);
     mount(0, "/", 0, MS_REC | MS_PRIVATE, 0);
     close(open("m", O_CREAT | O_WRONLY, 0644));
     mount("a.pos", "m", 0, MS_BIND, 0);

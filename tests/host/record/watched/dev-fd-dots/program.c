@@ -1,0 +1,3 @@
+/* An attribute by /dev/./fd. */
+#include "../moves.h"
+int main() { attribute_by(".", "/dev/./fd/%d"); }
