@@ -5,8 +5,9 @@ use yaslaurel::{matrix_policy, matrix_silent, trim, Answer, Operation, Refusal, 
 use crate::flows::ways;
 use crate::NamedMatrix;
 
-/// The reads and appends that bring each object with a flow into one object there, and a last append by one of its writers: as the proof does that
-/// a matrix which is not silent has a session with an alert (`crates/silence/proofs/GatherLaws.antt`).
+/// The reads and appends that bring each object with a flow into one object there: as the proof does that a matrix which is not silent has a
+/// session with an alert (`crates/silence/proofs/GatherLaws.antt`). The proof has one more append by a writer of the object. It is not needed here: the last
+/// append of these leaves there all that has a flow into it, and is answered for that.
 fn gathering(matrix: &NamedMatrix, target: usize) -> Vec<Operation> {
     let objects = matrix.objects().len();
     let process = |subject: usize| (objects + subject) as u8;
@@ -17,8 +18,6 @@ fn gathering(matrix: &NamedMatrix, target: usize) -> Vec<Operation> {
             operations.push(Operation::Append { process: process(hop.subject), object: hop.to as u8 });
         }
     }
-    let writer = matrix.rows().writes.iter().position(|row| row >> target & 1 == 1);
-    operations.extend(writer.map(|subject| Operation::Append { process: process(subject), object: target as u8 }));
     operations
 }
 
