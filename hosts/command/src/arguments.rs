@@ -28,8 +28,15 @@ nothing is named. The page needs no network. What is not in it is told, and coun
 fn proved(name: &'static str, about: &'static str, inputs: &'static str, most: usize) -> Command {
     let (value, usage) = match name {
         "month" => ("FOLDER | POLICY TRACE ..", "yaslaurel month [--json] [FOLDER | POLICY TRACE ..]".to_string()),
+        "watch" => {
+            ("FOLDER | POLICY TRACE", "yaslaurel watch [--json] [--report FILE] [FOLDER | POLICY TRACE]".to_string())
+        }
         _ => ("FOLDER | POLICY TRACE", format!("yaslaurel {name} [--json] [FOLDER | POLICY TRACE]")),
     };
+    let report = (name == "watch").then(|| {
+        let file = Arg::new("report").long("report").value_name("FILE").value_parser(value_parser!(PathBuf));
+        file.value_hint(ValueHint::FilePath).help("Write the page of FOLDER too, as yaslaurel report does")
+    });
     let json = Arg::new("json").long("json").action(ArgAction::SetTrue).help("Print one object of JSON a line");
     let files = Arg::new("inputs")
         .num_args(0..=most)
@@ -41,6 +48,7 @@ fn proved(name: &'static str, about: &'static str, inputs: &'static str, most: u
         .about(about)
         .override_usage(usage)
         .arg(json)
+        .args(report)
         .arg(files)
         .after_help(format!("{inputs}\n\n{STATUSES}"))
 }

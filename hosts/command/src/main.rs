@@ -21,6 +21,7 @@ mod status;
 use std::env;
 use std::ffi::OsString;
 use std::io::{self, Write};
+use std::path::{Path, PathBuf};
 use std::process::ExitCode;
 
 use clap::error::ErrorKind;
@@ -30,9 +31,21 @@ use crate::inputs::{Form, Inputs};
 use crate::line::Reader;
 use crate::status::{Failure, Outcome};
 
+/// The folder of which `watch --report` makes a page, and where that goes; nothing if no page is asked for.
+fn asked_page<'a>(paths: &'a [OsString], matches: &'a ArgMatches) -> Result<Option<(&'a Path, &'a Path)>, Failure> {
+    let Ok(Some(file)) = matches.try_get_one::<PathBuf>("report") else { return Ok(None) };
+    let folder = match paths {
+        [] => Path::new("."),
+        [folder] => Path::new(folder),
+        _ => return Err(Failure::new("--report makes its page of a FOLDER, and POLICY TRACE are named")),
+    };
+    Ok(Some((folder, file)))
+}
+
 /// Runs one of the proved programs on the inputs of its arguments.
 fn run_proved(name: &str, matches: &ArgMatches) -> Result<Outcome, Failure> {
     let paths: Vec<OsString> = matches.get_many("inputs").map_or_else(Vec::new, |paths| paths.cloned().collect());
+    let page = asked_page(&paths, matches)?;
     let json = matches.get_flag("json");
     let program = program::find(name)?;
     let form = if name == "month" { Form::Month } else { Form::Trace };
@@ -48,6 +61,9 @@ fn run_proved(name: &str, matches: &ArgMatches) -> Result<Outcome, Failure> {
     }
     let mut outcome = reader.outcome();
     outcome.gaps |= !complete || inputs.misfit();
+    if let Some((folder, file)) = page.filter(|_| !outcome.policy_refused) {
+        outcome.gaps |= page::add(folder, file)?;
+    }
     Ok(outcome)
 }
 

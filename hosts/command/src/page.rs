@@ -1,17 +1,28 @@
 //! The page of a folder.
 
 use std::fs;
-use std::path::PathBuf;
+use std::path::{Path, PathBuf};
 
 use clap::ArgMatches;
 use report::{page, Page, PageError};
 
 use crate::status::{tell, Failure, Outcome};
 
-/// Writes the page of a folder, tells what is not in it, and gives the line that says what is.
+/// Writes the page that the arguments ask for.
 pub fn write(matches: &ArgMatches) -> Result<(String, Outcome), Failure> {
     let path = |name: &str| matches.get_one::<PathBuf>(name).expect("clap has a value for it");
-    let (folder, file) = (path("folder"), path("output"));
+    make(path("folder"), path("output"))
+}
+
+/// Writes the page of what another subcommand has run, and tells where it is. What is not in it counts as not followed.
+pub fn add(folder: &Path, file: &Path) -> Result<bool, Failure> {
+    let (line, outcome) = make(folder, file)?;
+    tell(line.trim_end());
+    Ok(outcome.gaps)
+}
+
+/// Writes the page of a folder, tells what is not in it, and gives the line that says what is.
+fn make(folder: &Path, file: &Path) -> Result<(String, Outcome), Failure> {
     let page = match page(folder) {
         Ok(page) => page,
         Err(PageError::Policy(message)) => {

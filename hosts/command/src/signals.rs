@@ -20,18 +20,39 @@ extern "C" fn end(_: libc::c_int) {
     }
 }
 
-/// From now on a signal that would end the command ends this program. Signals that are ignored stay so.
+/// From now on a signal that would end the command ends this program.
 pub fn end_instead(program: u32) {
     PROGRAM.store(program as i32, Ordering::SeqCst);
+    take(end);
+}
+
+/// Takes the signals that would end the command. Those that are ignored stay so.
+fn take(handler: extern "C" fn(libc::c_int)) {
     for signal in [libc::SIGINT, libc::SIGTERM, libc::SIGHUP] {
         // SAFETY: the handler makes only calls that a handler may make.
         unsafe {
-            let handler = end as extern "C" fn(libc::c_int);
             if libc::signal(signal, handler as libc::sighandler_t) == libc::SIG_IGN {
                 libc::signal(signal, libc::SIG_IGN);
             }
         }
     }
+}
+
+/// Hands a signal on to the program, but for an interrupt, which a terminal gives to both.
+extern "C" fn hand_on(signal: libc::c_int) {
+    let program = PROGRAM.load(Ordering::SeqCst);
+    if program > 0 && signal != libc::SIGINT {
+        // SAFETY: the call may be made in a handler of signals, and touches no memory.
+        unsafe {
+            libc::kill(program, signal);
+        }
+    }
+}
+
+/// From now on it is for this program to end at a signal; the command waits for it.
+pub fn leave_to(program: u32) {
+    PROGRAM.store(program as i32, Ordering::SeqCst);
+    take(hand_on);
 }
 
 /// The program has ended.
