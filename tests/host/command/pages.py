@@ -46,7 +46,7 @@ def main():
     note(sorted(pages) == sorted(page.stem for page in manual.glob("*.1")), "a page for the command and for each program, and no other")
     for name, text in pages.items():
         page = manual / f"{name}.1"
-        wanted, found = options(text), options(plain(page).partition("OPTIONS")[2])
+        wanted, found = options(text), options(plain(page).partition("\nOPTIONS\n")[2])
         # The page of the command has the subcommands' own options in its synopsis alone.
         note(wanted == found and len(wanted) > 1, f"{name}.1 has the options of --help: {' '.join(sorted(wanted ^ found))}")
         note(statuses(text) == statuses(plain(page)) != set(), f"{name}.1 has the exit statuses of --help")
