@@ -15,6 +15,7 @@ module _ (own modes : List ℕ) (m number bits : ℕ) (h : length own ≡ dataWi
   no-number z =
       record {
         full = λ _. inl z;
+        untouched = λ _. (refl, refl, refl);
         fits = λ l. absurd (omega arith);
         opened = λ l _. absurd (omega arith);
         entered = λ l _. absurd (omega arith);
@@ -26,6 +27,7 @@ module _ (own modes : List ℕ) (m number bits : ℕ) (h : length own ≡ dataWi
   no-program n b z =
       record {
         full = λ _. inr (n, b, z);
+        untouched = λ _. (refl, refl, refl);
         fits = λ _. n;
         opened = λ l _. absurd (omega arith);
         entered = λ l _. absurd (omega arith);
@@ -37,6 +39,7 @@ module _ (own modes : List ℕ) (m number bits : ℕ) (h : length own ≡ dataWi
   program-added f n b z =
       record {
         full = λ l. absurd (omega arith);
+        untouched = λ l. absurd (omega arith);
         fits = λ _. n;
         opened = λ _ _. (omega arith, refl, refl, refl);
         entered = λ _ e. absurd (e b);
@@ -52,6 +55,7 @@ module _ (own modes : List ℕ) (m number bits : ℕ) (h : length own ≡ dataWi
   modes-added f n b =
       record {
         full = λ l. absurd (omega arith);
+        untouched = λ l. absurd (omega arith);
         fits = λ _. n;
         opened = λ _ e. absurd (b e);
         entered = λ _ _. (refl, refl, refl);

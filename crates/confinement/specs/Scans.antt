@@ -48,10 +48,11 @@ pub record Placed (t starts₀ sizes₀ : List ℕ) (n : ℕ) (q starts sizes hi
   pub sizesLong : length sizes ≡ dataWidth
   pub hintsLong : length hints ≡ hintCount
 
--- a line without modes adds a program, and one with modes adds these to the last of m programs, at the path's number; a count over 32 says that
--- the number is over 31, or that there are 32 programs already
+-- a line without modes adds a program, and one with modes adds these to the last of m programs, at the path's number; a count of 33 says that
+-- the number is over 31, or that there are 32 programs already, and then nothing is added
 pub record LineAdded (own₀ modes₀ : List ℕ) (m number bits : ℕ) (own modes : List ℕ) (count : ℕ) : Type 0 where
   pub full : dataWidth < count → (dataWidth ≤ number) ⊎ ((number < dataWidth) × (bits ≡ 0) × (m ≡ dataWidth))
+  pub untouched : dataWidth < count → (count ≡ dataWidth + 1) × (own ≡ own₀) × (modes ≡ modes₀)
   pub fits : count ≤ dataWidth → number < dataWidth
   pub opened : count ≤ dataWidth → bits ≡ 0 → (m < dataWidth) × (count ≡ m + 1) × (own ≡ set own₀ m number) × (modes ≡ modes₀)
   pub entered : count ≤ dataWidth → (bits ≡ 0 → ⊥) → (count ≡ m) × (own ≡ own₀)

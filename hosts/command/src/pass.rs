@@ -36,7 +36,8 @@ fn recorded(arguments: &[OsString]) -> Result<Option<Recorded>, Failure> {
     Ok(Some(Recorded { folder, page, arguments: [&options, command].concat() }))
 }
 
-/// Runs `record`, then makes the page of its folder, unless it was refused or has failed. The status is that of `record`.
+/// Runs `record`, then makes the page of its folder, unless it was refused or has failed. The status is that of `record`, and what is not in the
+/// page counts as not followed.
 fn record(path: &Path, run: &Recorded) -> Result<Outcome, Failure> {
     let child = Command::new(path).arg0("record").args(&run.arguments).spawn();
     let mut child = child.map_err(|error| Failure::file(path, error))?;
@@ -46,12 +47,13 @@ fn record(path: &Path, run: &Recorded) -> Result<Outcome, Failure> {
     let Some(own @ 0..=255) = status.code() else {
         return Err(program::ended_badly("record", status).unwrap_or_else(|| Failure::new("record failed")));
     };
+    let mut own = own as u8;
     if matches!(own, 4 | 5) {
         tell("no page is written");
-    } else {
-        page::add(&run.folder, &run.page)?;
+    } else if page::add(&run.folder, &run.page)? && own < 2 {
+        own += 2;
     }
-    Ok(Outcome { own: Some(own as u8), ..Outcome::default() })
+    Ok(Outcome { own: Some(own), ..Outcome::default() })
 }
 
 /// Runs a program in the place of this one. Only `policy explain --json`, which prints a list, is printed anew: an object a line; and
