@@ -58,7 +58,8 @@
  *
  *   9   the session is not YASLAUREL_SESSION_LENGTH numbers, or the output is under YASLAUREL_OUTPUT_LENGTH bytes, for
  *       positions under YASLAUREL_TRIM_LIMIT; for an explanation: links under YASLAUREL_LINKS_LENGTH of the trace's records,
- *       steps under their number, a reason under YASLAUREL_WHY_LENGTH
+ *       steps under their number, a reason under YASLAUREL_WHY_LENGTH; for events: under YASLAUREL_EVENT_LENGTH numbers; for
+ *       figures: not YASLAUREL_FIGURES_LENGTH
  *   1   the image is under YASLAUREL_HEADER_LENGTH or over YASLAUREL_IMAGE_LIMIT bytes
  *   2   the image's leading number, or the offsets and lengths of its four sections
  *   3   a section's length is no multiple of its record, or it has too many records
@@ -108,7 +109,7 @@
  *      other memory than `image`.
  *   -  Nobody else writes the lent memory during the call, and nobody else reads what the call may write.
  *   -  Between calls, the session is the host's memory. The promise about chains is for a session that only
- *      yaslaurel_session_start, yaslaurel_step and yaslaurel_run write.
+ *      yaslaurel_session_start, yaslaurel_step, yaslaurel_run, yaslaurel_events and yaslaurel_figures write.
  *   -  The stack has room for the call: see the numbers whose names end in _STACK.
  *
  * THREADS AND SIGNAL HANDLERS
@@ -220,6 +221,29 @@
 #define YASLAUREL_PROCESS_AT 2u /* 16 bits: the process p, 0 to 255 */
 #define YASLAUREL_OBJECT_AT 4u  /* 16 bits: the object o, 0 to 255 */
 #define YASLAUREL_USER_AT 6u    /* 16 bits: the user u, 0 to 15, for exec and new file; else YASLAUREL_NO_USER */
+
+/*
+ * An event, in numbers of 64 bits: a record that is not answered quiet. Its place among the records of the call, from 0, its
+ * answer as yaslaurel_step returns it, then receiver, tag and position as from yaslaurel_step, all 0 for a refusal.
+ */
+#define YASLAUREL_EVENT_LENGTH 5u
+#define YASLAUREL_EVENT_PLACE_AT 0u
+#define YASLAUREL_EVENT_ANSWER_AT 1u
+#define YASLAUREL_EVENT_RECEIVER_AT 2u
+#define YASLAUREL_EVENT_TAG_AT 3u
+#define YASLAUREL_EVENT_POSITION_AT 4u
+
+/*
+ * The figures of records, in numbers of 64 bits: how many there are, how many were accepted (alerts among them), alerted, refused
+ * and blocked, then the alerts of each container number.
+ */
+#define YASLAUREL_FIGURES_LENGTH (YASLAUREL_FIGURES_CONTAINERS_AT + YASLAUREL_CONTAINERS)
+#define YASLAUREL_FIGURES_RECORDS_AT 0u
+#define YASLAUREL_FIGURES_ACCEPTED_AT 1u
+#define YASLAUREL_FIGURES_ALERTS_AT 2u
+#define YASLAUREL_FIGURES_REFUSED_AT 3u
+#define YASLAUREL_FIGURES_BLOCKED_AT 4u
+#define YASLAUREL_FIGURES_CONTAINERS_AT 5u
 
 /* Records of a trace that is trimmed, at most, and bytes that an output for their positions must hold. */
 #define YASLAUREL_TRIM_LIMIT 256u
@@ -343,6 +367,9 @@
 #define YASLAUREL_SESSION_START_STACK 1536u
 #define YASLAUREL_STEP_STACK 1536u
 #define YASLAUREL_RUN_STACK 1536u
+#define YASLAUREL_EVENTS_STACK 1536u
+#define YASLAUREL_FIGURES_STACK 1536u
+#define YASLAUREL_FIGURES_ADD_STACK 128u
 #define YASLAUREL_TRACE_TRIM_STACK 92160u
 #define YASLAUREL_EXPLAIN_STACK 53248u
 #define YASLAUREL_WHY_STACK 53248u
@@ -427,6 +454,43 @@ uint32_t yaslaurel_step(uint64_t *session, size_t session_len, const uint8_t *re
 YASLAUREL_MUST_USE
 uint32_t yaslaurel_run(uint64_t *session, size_t session_len, const uint8_t *records, size_t records_len,
                        size_t *taken, uint64_t *receiver, uint64_t *tag, uint32_t *position);
+
+/*
+ * Judges records and gathers all that are not quiet, for callers to whom a call is dear. The records lie one behind the other
+ * in `records`; each is judged as yaslaurel_step does (the last may be short, and is then refused with 7). For each that is
+ * not answered quiet, an event goes to `events`, in the order of the records. The call goes on to the end, but stops before
+ * the first record for which `events` has no room for one more event.
+ *
+ * To go on, call again with the records behind: YASLAUREL_RECORD_LENGTH times `taken` bytes further, none left if that is
+ * `records_len` or more. Each call takes at least one record if there is one, and places begin from 0 in each.
+ *
+ * Returns 0: `taken` is how many records were judged, `written` how many events there are, at the front of `events`; the
+ * numbers behind them stay. Else 9, also without records, and nothing changes.
+ */
+YASLAUREL_MUST_USE
+uint32_t yaslaurel_events(uint64_t *session, size_t session_len, const uint8_t *records, size_t records_len,
+                          uint64_t *events, size_t events_len, size_t *taken, size_t *written);
+
+/*
+ * Judges records to their end, and counts them by their answers. They lie one behind the other in `records`; each is judged
+ * as yaslaurel_step does (the last may be short, and is then refused with 7).
+ *
+ * Returns 0: `figures` has the figures of these records, whatever it held. Else 9, also without records, and nothing
+ * changes.
+ */
+YASLAUREL_MUST_USE
+uint32_t yaslaurel_figures(uint64_t *session, size_t session_len, const uint8_t *records, size_t records_len,
+                           uint64_t *figures, size_t figures_len);
+
+/*
+ * Adds figures to a total, each number to its like: those of the parts of a trace, one behind the other on one session, add up
+ * to those of the trace, and those of traces to those of all. A sum of 2 to the 64 or more wraps round, which takes as many
+ * records.
+ *
+ * Returns 0. Else 9, and nothing changes.
+ */
+YASLAUREL_MUST_USE
+uint32_t yaslaurel_figures_add(uint64_t *total, size_t total_len, const uint64_t *figures, size_t figures_len);
 
 /*
  * Trims a trace to its alert. The call needs about 90 KiB of stack, more than some threads have: see
