@@ -7,6 +7,7 @@ use Rattle.answers.specs.declared.Received.{Received}
 use Rattle.answers.specs.declared.Answer.{Answer}
 use Rattle.answers.specs.Answers.{isAlert, isBlocked, isRefused, receivedOf, answerNumber}
 use Rattle.monitor.specs.declared.Ran.{Ran}
+use Rattle.events.specs.declared.Gathered.{Gathered}
 use Rattle.composition.specs.declared.Composition.{Composition}
 use Rattle.trim.specs.declared.Trimmed.{Trimmed}
 use Rattle.witness.specs.declared.Explained.{Explained}
@@ -30,6 +31,13 @@ stopAfter a old = cond (isAlert a || isBlocked a) (receivedOf a) old
 -- how many records were taken; 9, which changes nothing at all, leaves what stood there
 abbrev pub takenAfter : Ran → ℕ → ℕ
 takenAfter w old = unlessRefused (eqb (answerNumber (w .answer)) lentLength) (w .taken) old
+
+-- how many records were taken, and how many events were written
+abbrev pub gatheredAfter : Gathered → ℕ → ℕ
+gatheredAfter w old = unlessRefusal (w .refusal) (w .taken) old
+
+abbrev pub writtenAfter : Gathered → ℕ → ℕ
+writtenAfter w old = unlessRefusal (w .refusal) (w .written) old
 
 -- how many positions are kept of a trimmed trace
 abbrev pub keptAfter : Trimmed → ℕ → ℕ

@@ -5,6 +5,8 @@ ghost use Rattle.session.specs.Session.{startAnswer, startEffect};
 ghost use Rattle.answers.specs.Answers.{received, answerNumber};
 ghost use Rattle.monitor.specs.Steps.{stepAnswer, stepEffect};
 ghost use Rattle.monitor.specs.Stops.{ran, ranEffect};
+ghost use Rattle.events.specs.Events.{gathered, gatherSession, gatherEvents};
+ghost use Rattle.totals.specs.Totals.{totalRefusal, totalSession, totalFigures, addRefusal, addFigures};
 ghost use Rattle.trim.specs.Trims.{trimAnswer, trimEffect};
 ghost use Rattle.witness.specs.Explains.{explainAnswer, explainSteps, explainLinks};
 ghost use Rattle.certificate.specs.Whys.{whyRefusal, whyEffect, whySteps, whyLinks};
@@ -17,7 +19,7 @@ ghost use Rattle.withdrawals.specs.Judgements.{judgementOf};
 ghost use Rattle.derivation.specs.Derived.{derivedAnswer, derivedEffect};
 ghost use Rattle.confinement.specs.Images.{profileAnswer, profileEffect};
 ghost use Rattle.composition.specs.Images.{composeAnswer, composeEffect};
-ghost use Rattle.capi.specs.Hosts.{receivedAfter, stopAfter, takenAfter, keptAfter, fileAfter, firstAfter, valueAfter, lengthAfter, moveAfter};
+ghost use Rattle.capi.specs.Hosts.{receivedAfter, stopAfter, takenAfter, gatheredAfter, writtenAfter, keptAfter, fileAfter, firstAfter, valueAfter, lengthAfter, moveAfter};
 ghost use Rattle.capi.specs.Versions.{version};
 use matrix::Consistency;
 
@@ -123,6 +125,54 @@ pub extern "C" fn yaslaurel_run(
     *tag = received.tag;
     *position = received.position as u32;
     number
+}
+
+// 0 with an event for each record that is not answered quiet, at the front of `events`, how many were taken, up to where there was no room for one
+// more event, and how many events there are; else 9, and everything is as it was.
+#[no_mangle]
+pub extern "C" fn yaslaurel_events(
+    session: &mut [u64],
+    records: &[u8],
+    events: &mut [u64],
+    taken: &mut usize,
+    written: &mut usize,
+) -> u32
+    ensures { λ r. ⌜
+        (r ≡ gathered (now (session .entry)) (now (records .entry)) (now (events .entry)) .refusal)
+        × (now (session .exit) ≡ gatherSession (now (session .entry)) (now (records .entry)) (now (events .entry)))
+        × (now (events .exit) ≡ gatherEvents (now (session .entry)) (now (records .entry)) (now (events .entry)))
+        × (now (taken .exit) ≡ gatheredAfter (gathered (now (session .entry)) (now (records .entry)) (now (events .entry))) (now (taken .entry)))
+        × (now (written .exit) ≡ writtenAfter (gathered (now (session .entry)) (now (records .entry)) (now (events .entry))) (now (written .entry))) ⌝ }
+{
+    let gathered = events::gather(session, records, events);
+    let refusal = gathered.refusal;
+    if refusal != 0 {
+        return refusal;
+    }
+    *taken = gathered.taken;
+    *written = gathered.written;
+    refusal
+}
+
+// 0 with the figures of the records, run to their end; else 9, and everything is as it was.
+#[no_mangle]
+pub extern "C" fn yaslaurel_figures(session: &mut [u64], records: &[u8], figures: &mut [u64]) -> u32
+    ensures { λ r. ⌜
+        (r ≡ totalRefusal (now (session .entry)) (now (figures .entry)))
+        × (now (session .exit) ≡ totalSession (now (session .entry)) (now (records .entry)) (now (figures .entry)))
+        × (now (figures .exit) ≡ totalFigures (now (session .entry)) (now (records .entry)) (now (figures .entry))) ⌝ }
+{
+    totals::count(session, records, figures)
+}
+
+// 0 with each figure added to its like in the total; else 9, and everything is as it was.
+#[no_mangle]
+pub extern "C" fn yaslaurel_figures_add(total: &mut [u64], figures: &[u64]) -> u32
+    ensures { λ r. ⌜
+        (r ≡ addRefusal (now (total .entry)) (now (figures .entry)))
+        × (now (total .exit) ≡ addFigures (now (total .entry)) (now (figures .entry))) ⌝ }
+{
+    totals::add(total, figures)
 }
 
 // 0 with the kept positions at the front of `positions`, in rising order, and how many they are behind `kept`; else the refusal, 9, 1 to 6
