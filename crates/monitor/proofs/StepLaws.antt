@@ -23,18 +23,15 @@ use Rattle.chains.specs.History.{Step, receiver}
 use Rattle.chains.specs.Table.{State, entry, meetGood, earlyConditions, tableConditions, blocks, verdict, operate, Faithful}
 use Rattle.chains.proofs.TableStates.{operate-done}
 use Rattle.chains.proofs.ThreeAnswers.{verdict-given, accepted-put, left-put, left-blocked}
-use Rattle.records.specs.declared.Code.{Code}
-use Rattle.records.specs.declared.Request.{Request}
-use Rattle.records.specs.Codes.{codeAt}
-use Rattle.records.specs.Records.{requestIn, stepIn, recordGood, needIn, stepOf}
+use Rattle.records.specs.Records.{requestIn, stepIn, recordGood, stepOf}
 use Rattle.records.proofs.CodeLaws.{receiver-bound}
-use Rattle.records.proofs.RecordLaws.{asked, record-step, record-missing, record-there, record-needs}
+use Rattle.records.proofs.RecordLaws.{asked, record-step}
 use Rattle.operations.specs.View.{view}
-use Rattle.operations.specs.Effects.{Named, sessionConditions, sessionRefusal, madeAnswer, madeEffect, performAnswer, performEffect}
+use Rattle.operations.specs.Effects.{sessionConditions, sessionRefusal, madeAnswer, madeEffect, performAnswer, performEffect}
 use Rattle.operations.specs.EarlyTests.{firstConditions, Ready}
 use Rattle.operations.proofs.RowsKept.{Laid, entry-laid}
 use Rattle.operations.proofs.PlacedRows.{Valid, view-put, valid-put, placed-long}
-use Rattle.operations.proofs.PerformLaws.{Performed, ready}
+use Rattle.operations.proofs.PerformLaws.{Performed, named, ready}
 use Rattle.session.specs.Session.{sessionLengthGood}
 use Rattle.monitor.specs.Steps.{stepAsked, stepConditions, refusalOf, stepAnswer, stepEffect}
 use Rattle.monitor.specs.Runs.{stepOn}
@@ -51,29 +48,15 @@ pub step-7 : (s r : List ℕ) → length s ≡ sessionLength → recordGood r �
 unfolding stepAnswer stepEffect refusalOf stepConditions sessionLengthGood firstFailed
 step-7 s r l h = (simp (eq-eqb (length s) sessionLength l, h), simp (eq-eqb (length s) sessionLength l, h))
 
--- by what the code needs
-module _ (r : List ℕ) (k : Code) (e : k ≡ needIn r) where
-  pub none-spelled : k .object ≡ 0 → recordGood r ≡ false
-  none-spelled z = record-missing r (sym (ap (λ (x : Code). x .object) e) ∙ z)
-
-  pub one-spelled : (k .object ≡ 0 → ⊥) → recordGood r ≡ true
-  one-spelled n = record-there r (λ z. n (ap (λ (x : Code). x .object) e ∙ z))
-
 -- the refusals because of the session, and the effect
 module _ (s r : List ℕ) (l : length s ≡ sessionLength) (h : recordGood r ≡ true) where
   rest : refusalOf s r ≡ sessionRefusal s (stepAsked r)
   unfolding refusalOf stepConditions sessionLengthGood sessionRefusal
   rest = passed _ _ (eq-eqb (length s) sessionLength l) ∙ passed _ _ h
 
-  pub named : (q : Request) → q ≡ requestIn r → Named s q
-  named q e = rw e (record { long = l; asked = asked r h })
-
-  pub called : (q : Request) → q ≡ requestIn r → (k : Code) → k ≡ needIn r → (Named s q) × (k ≡ codeAt (q .code))
-  called q e k n = (named q e, n ∙ record-needs r h ∙ ap (λ (x : Request). codeAt (x .code)) (sym e))
-
-  pub step-performed : (q : Request) → q ≡ requestIn r → (a : Answer) (s₁ : List ℕ) → Performed s (stepIn q) a s₁ → (a ≡ stepAnswer s r) × (s₁ ≡ stepEffect s r)
+  pub step-performed : (a : Answer) (s₁ : List ℕ) → Performed s (stepIn (requestIn r)) a s₁ → (a ≡ stepAnswer s r) × (s₁ ≡ stepEffect s r)
   unfolding stepAnswer stepEffect performAnswer performEffect stepAsked
-  step-performed q e a s₁ p = (p .0 ∙ rw (e, rest), p .1 ∙ rw (e, rest))
+  step-performed a s₁ p = (p .0 ∙ rw rest, p .1 ∙ rw rest)
 
 -- ---- refused
 

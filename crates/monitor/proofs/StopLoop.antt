@@ -5,19 +5,20 @@ use mathlib.Core.Path.{_≡_, refl, sym, ap, _∙_}
 use mathlib.Core.Bool.{true, false}
 use mathlib.Core.List.{List, [], _∷_}
 use lib.ListN.{length, take, drop}
-use Rattle.answers.specs.Refusals.{lentLength}
+use Rattle.answers.specs.Refusals.{operationRecord, lentLength}
 use Rattle.answers.specs.declared.Answer.{Answer}
 use Rattle.answers.specs.Answers.{quiet, refused, isQuiet}
 use Rattle.session.specs.Limits.{sessionLength}
 use Rattle.session.specs.Session.{sessionLengthGood}
-use Rattle.records.specs.Records.{recordLength}
+use Rattle.records.specs.Records.{recordLength, recordGood}
 use Rattle.records.specs.Traces.{traceRecords}
 use Rattle.records.proofs.TraceRecords.{next-record, no-record, record-length}
 use Rattle.monitor.specs.declared.Ran.{Ran}
 use Rattle.monitor.specs.Steps.{stepAnswer, stepEffect}
 use Rattle.monitor.specs.Runs.{stepOn, runAnswers, runEffect}
 use Rattle.monitor.specs.Stops.{stopAnswer, stopCount, ran, ranEffect}
-use borrow.Author.Tests.{eq-eqb, ne-eqb}
+use Rattle.monitor.proofs.StepLaws.{step-7}
+use borrow.Author.Tests.{eq-eqb, ne-eqb, eqb-true}
 
 -- ---- a list of records: where it stops, and the session that it leaves
 
@@ -67,6 +68,10 @@ run-start s t l = record {
   leaves = refl;
 }
 
+pub run-long : (s₀ t s : List ℕ) (taken at : ℕ) → Running s₀ t s taken at → length s ≡ sessionLength
+unfolding sessionLengthGood
+run-long s₀ t s taken at h = h .long ∙ eqb-true (length s₀) sessionLength (h .good)
+
 -- the whole, from a list of records that is left
 whole : (s₀ t s : List ℕ) (taken at : ℕ) → Running s₀ t s taken at → (a : Answer) (n : ℕ) (s′ : List ℕ) → StopsAt s (traceRecords (drop at t)) a n s′
     → (w : Ran) → w ≡ record { answer = a; taken = taken + n } → (w ≡ ran s₀ t) × (s′ ≡ ranEffect s₀ t)
@@ -103,6 +108,13 @@ module _ (s₀ t s x s′ : List ℕ) (taken at : ℕ) (a : Answer) (h : Running
         count = omega (arith, h .count, e .count);
         leaves = sym (e .left) ∙ h .leaves;
       }
+
+-- it stops at bytes that are no record
+pub run-refused : (s₀ t s x : List ℕ) (taken at : ℕ) (h : Running s₀ t s taken at) → at < length t → x ≡ take recordLength (drop at t) → recordGood x ≡ false
+    → (w : Ran) → w ≡ record { answer = refused operationRecord; taken = taken + 1 } → (w ≡ ran s₀ t) × (s ≡ ranEffect s₀ t)
+run-refused s₀ t s x taken at h l xe g w we =
+    let e = step-7 s x (run-long s₀ t s taken at h) g in
+    run-stops s₀ t s x s taken at (refused operationRecord) h l xe (e .1) (e .0) refl w we
 
 pub run-end : (s₀ t s : List ℕ) (taken at : ℕ) → Running s₀ t s taken at → length t ≤ at
     → (w : Ran) → w ≡ record { answer = quiet 0 0 0; taken = taken } → (w ≡ ran s₀ t) × (s ≡ ranEffect s₀ t)

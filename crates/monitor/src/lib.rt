@@ -14,15 +14,10 @@ pub fn step(session: &mut [u64], bytes: &[u8]) -> Answer
     if session.len() != SESSION_LENGTH {
         return Answer::Refused(answers::LENT_LENGTH);
     }
-    if bytes.len() != records::RECORD_LENGTH {
+    if !records::is_record(bytes) {
         return Answer::Refused(answers::OPERATION_RECORD);
     }
-    let q = records::request_of(bytes);
-    let need = records::need_of(bytes, q);
-    if need.object == image::NO_KINDS {
-        return Answer::Refused(answers::OPERATION_RECORD);
-    }
-    operations::perform(session, q, need)
+    operations::perform_record(session, bytes)
 }
 
 // ---- a run
@@ -48,8 +43,14 @@ pub fn run(session: &mut [u64], trace: &[u8]) -> Ran
     let mut at: usize = 0;
     while at < trace.len() {
         let bytes = records::record_at(trace, at);
-        let answer = step(session, bytes);
         taken += 1;
+        if !records::is_record(bytes) {
+            return Ran {
+                answer: Answer::Refused(answers::OPERATION_RECORD),
+                taken: taken,
+            };
+        }
+        let answer = operations::perform_record(session, bytes);
         if !answers::is_quiet(answer) {
             return Ran {
                 answer: answer,

@@ -5,6 +5,9 @@ use mathlib.Core.Logic.{_⊎_, inl, inr, _≢_}
 use mathlib.Core.Bool.{Bool, true, false, cond}
 use mathlib.Core.List.{List, [], _∷_, _++_}
 use mathlib.Core.Option.{none, some}
+use native.Mathlib.Omega.{arith}
+use lib.ListN.{length, take}
+use lib.Seq.{take-all}
 use borrow.Author.Tests.{ne-eqb}
 use Rattle.lists.specs.Lists.{elem, every}
 use Rattle.lists.specs.Conditions.{_orRefuse_, firstFailed, numbersOf, numbersDistinct}
@@ -14,14 +17,16 @@ use Rattle.answers.specs.Refusals.{overLimit}
 use Rattle.answers.specs.declared.Answer.{Answer}
 use Rattle.answers.specs.Answers.{quiet, refused}
 use Rattle.image.specs.Limits.{userLimit}
+use Rattle.session.specs.Limits.{sessionLength}
 use Rattle.session.specs.Rows.{freeWords, putRow}
 use Rattle.rules.specs.Rules.{noPosition}
 use Rattle.chains.specs.History.{Step, end, delete}
 use Rattle.chains.specs.Table.{entry, meetGood, earlyConditions, tableConditions}
 use Rattle.records.specs.declared.Request.{Request}
 use Rattle.records.specs.Codes.{codeAt}
-use Rattle.records.specs.Records.{stepIn}
+use Rattle.records.specs.Records.{recordLength, requestIn, stepIn, recordGood}
 use Rattle.records.proofs.CodeLaws.{Entered, entered}
+use Rattle.records.proofs.RecordLaws.{record-long, asked}
 use Rattle.operations.specs.View.{view}
 use Rattle.operations.specs.Effects.{Named, sessionConditions, sessionRefusal, performAnswer, performEffect}
 use Rattle.operations.specs.EarlyTests.{firstConditions, Ready, lateAnswer, lateEffect}
@@ -64,7 +69,17 @@ perform-done s t e a s₁ (ea, es) = by (meetGood (view s) t) refl
         let f : firstFailed (sessionConditions s t) ≡ overLimit = left ∙ failed (meetGood (view s) t orRefuse overLimit) [] g in
         (ea ∙ rw (g, f), es ∙ rw (g, f))
 
--- ---- what a request that 9 and 7 do not refuse is ready for
+-- ---- what a request that 9 and 7 do not refuse is, and what it is ready for
+
+-- the request is read from the record's first 8 bytes, which are all of it
+pub asked-whole : (r : List ℕ) → recordGood r ≡ true → (q : Request) → q ≡ requestIn (take recordLength r) → q ≡ requestIn r
+asked-whole r h q e = e ∙ ap requestIn (take-all recordLength r (omega (arith, record-long r h)))
+
+pub named : (s r : List ℕ) → length s ≡ sessionLength → recordGood r ≡ true → (q : Request) → q ≡ requestIn r → Named s q
+named s r l h q e = rw e (record { long = l; asked = asked r h })
+
+pub performed-record : (s r : List ℕ) (q : Request) → q ≡ requestIn r → (a : Answer) (s₁ : List ℕ) → Performed s (stepIn q) a s₁ → Performed s (stepIn (requestIn r)) a s₁
+performed-record s r q e a s₁ p = rw (← e) p
 
 pub ready : (s : List ℕ) (q : Request) → Named s q → firstFailed (firstConditions s (stepIn q)) ≡ 0 → Ready s (stepIn q)
 ready s q n e =
@@ -73,13 +88,13 @@ ready s q n e =
       long = n .long;
       process = rw (f .process) (n .asked .process);
       object = rw (f .object) (n .asked .object);
-      user = λ u h. named u (codeAt (q .code) .user) (n .asked .user) (sym (f .user) ∙ h);
+      user = λ u h. in-limit u (codeAt (q .code) .user) (n .asked .user) (sym (f .user) ∙ h);
       passed = e;
     }
   where
-    named : (u : ℕ) (b : Bool) → (b ≡ true → q .u < userLimit) → cond b (some (q .u)) none ≡ some u → u < userLimit
-    named u true l h = subst (λ (x : ℕ). x < userLimit) (some-inj h) (l refl)
-    named u false l h = absurd (none-some h)
+    in-limit : (u : ℕ) (b : Bool) → (b ≡ true → q .u < userLimit) → cond b (some (q .u)) none ≡ some u → u < userLimit
+    in-limit u true l h = subst (λ (x : ℕ). x < userLimit) (some-inj h) (l refl)
+    in-limit u false l h = absurd (none-some h)
 
 -- ---- the step of a request, spelled by its code
 

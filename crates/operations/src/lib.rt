@@ -17,7 +17,7 @@ ghost use Rattle.session.specs.Limits.{sessionLength, rowWidth, nobody};
 ghost use Rattle.session.specs.Rows.{rowOf, permitWords, runWords, freeWords, putRow};
 ghost use Rattle.chains.specs.History.{read, write, append, exec, fork, newFile, newVolatile};
 ghost use Rattle.records.specs.Codes.{codeAt};
-ghost use Rattle.records.specs.Records.{stepIn};
+ghost use Rattle.records.specs.Records.{requestIn, stepIn, recordGood};
 ghost use Rattle.operations.specs.View.{view};
 ghost use Rattle.operations.specs.Effects.{Named, rowsGood, performAnswer, performEffect};
 ghost use Rattle.operations.specs.EarlyTests.{firstConditions, Ready, lateAnswer, lateEffect, absorbAnswer, absorbEffect, launchAnswer, launchEffect};
@@ -534,7 +534,7 @@ fn by_code(s: &mut [u64], q: Request) -> Answer
 }
 
 // A request on the session, with what its code needs: the refusal, or the effect and the answer.
-pub fn perform(s: &mut [u64], q: Request, need: Code) -> Answer
+fn perform(s: &mut [u64], q: Request, need: Code) -> Answer
     requires { ⌜ (Named (now s) q) × (need ≡ codeAt (q .code)) ⌝ }
     ensures { λ r. ⌜ (r ≡ performAnswer (now (s .entry)) (stepIn q)) × (now (s .exit) ≡ performEffect (now (s .entry)) (stepIn q)) ⌝ }
 {
@@ -543,4 +543,15 @@ pub fn perform(s: &mut [u64], q: Request, need: Code) -> Answer
         return Answer::Refused(n);
     }
     by_code(s, q)
+}
+
+// A record that 7 does not refuse, on a session that 9 does not refuse. The bytes are handed on as a part whose length is written, so
+// that a call of this function passes their address alone.
+pub fn perform_record(s: &mut [u64], bytes: &[u8]) -> Answer
+    requires { ⌜ (length (now s) ≡ sessionLength) × (recordGood (now bytes) ≡ true) ⌝ }
+    ensures { λ r. ⌜ (r ≡ performAnswer (now (s .entry)) (stepIn (requestIn (now (bytes .entry))))) × (now (s .exit) ≡ performEffect (now (s .entry)) (stepIn (requestIn (now (bytes .entry))))) ⌝ }
+{
+    let q = records::request_of(&bytes[0..records::RECORD_LENGTH]);
+    let need = records::code_at(q.code);
+    perform(s, q, need)
 }

@@ -12,7 +12,7 @@ use lib.ListN.{getD}
 use Rattle.lists.proofs.Bools.{clash}
 use Rattle.image.specs.Limits.{noKinds, freeKinds, fileKinds, storeKinds, processKinds, containerLimit}
 use Rattle.session.specs.Limits.{nobody}
-use Rattle.chains.specs.History.{Step, read, write, append, exec, fork, newFile, newVolatile, end, delete, receiver}
+use Rattle.chains.specs.History.{read, write, append, exec, fork, newFile, newVolatile, end, delete, receiver}
 use Rattle.chains.specs.Table.{State, entry, behalfFits}
 use Rattle.records.specs.declared.Code.{Code}
 use Rattle.records.specs.declared.Request.{Request}
@@ -68,21 +68,17 @@ entered σ q a =
     (λ p o u own. record { process = refl; object = refl; user = refl; need = refl })
     q (a .codeLow) (a .codeHigh) (a .own)
 
--- every code needs something
-pub needed : (n : ℕ) → codeAt n .object ≡ noKinds → ⊥
-unfolding codeAt entry
-needed n = by (stepWith n 0 0 0)
-  where
-    by : (t : Step) → entry noRows t .need ≡ noKinds → ⊥
-    by (read p o) e = omega (arith, e)
-    by (write p o) e = omega (arith, e)
-    by (append p o) e = omega (arith, e)
-    by (exec p o u) e = omega (arith, e)
-    by (fork p o) e = omega (arith, e)
-    by (newFile p o u) e = omega (arith, e)
-    by (newVolatile p o) e = omega (arith, e)
-    by (end p) e = omega (arith, e)
-    by (delete p o) e = omega (arith, e)
+-- the codes that name a user
+pub names-exec : (n : ℕ) → n ≡ execCode → true ≡ codeAt n .user
+unfolding codeAt stepWith entry noRows
+names-exec n e = rw e
+
+pub names-other : (n : ℕ) → 1 ≤ n → n < codeCount → (n ≡ execCode → ⊥) → eqb n newFileCode ≡ codeAt n .user
+unfolding codeAt stepWith entry noRows
+names-other n low high ne =
+    by-code (λ q. (q .code ≡ execCode → ⊥) → eqb (q .code) newFileCode ≡ codeAt (q .code) .user)
+    (λ p o u n. refl) (λ p o u n. refl) (λ p o u n. refl) (λ p o u n. absurd (n refl)) (λ p o u n. refl) (λ p o u n. refl) (λ p o u n. refl) (λ p o u n. refl) (λ p o u n. refl)
+    (request n 0 0 0) low high ne
 
 -- what 18 asks: nothing unless the code is that of a new file
 pub behalf-other : (σ : State) (q : Request) → Asked q → (q .code ≡ newFileCode → ⊥) → behalfFits σ (stepIn q) ≡ true

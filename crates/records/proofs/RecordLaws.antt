@@ -5,7 +5,7 @@ use native.Mathlib.Decide.{ℕ-discrete}
 use native.Mathlib.Nat.{le-of-suc-le-suc}
 use mathlib.Core.Path.{_≡_, refl}
 use mathlib.Core.Logic.{_⊎_, inl, inr, ⊎-elim, _↔_, _≢_}
-use mathlib.Core.Bool.{Bool, true, false, cond, _&&_}
+use mathlib.Core.Bool.{true, false, cond, _&&_}
 use mathlib.Core.List.{List, [], _∷_}
 use mathlib.Core.Option.{some}
 use lib.Dec.{eqb, ltb}
@@ -16,9 +16,9 @@ use Rattle.image.specs.Limits.{containerLimit, userLimit}
 use Rattle.fields.specs.Bytes.{numberIn, field}
 use Rattle.records.specs.declared.Request.{Request}
 use Rattle.chains.specs.Table.{entry}
-use Rattle.records.specs.Codes.{readCode, writeCode, appendCode, execCode, forkCode, newFileCode, newVolatileCode, endCode, deleteCode, codeCount, stepWith, noRows, codeAt, noCode, isCode}
-use Rattle.records.specs.Records.{recordLength, recordZeroAt, codeSize, noUser, requestIn, stepIn, userFits, ownObject, numbersGood, recordGood, needIn, stepOf, Asked}
-use Rattle.records.proofs.CodeLaws.{request, by-code, needed}
+use Rattle.records.specs.Codes.{readCode, writeCode, appendCode, execCode, forkCode, newFileCode, newVolatileCode, endCode, deleteCode, codeCount, stepWith, noRows, codeAt, isCode}
+use Rattle.records.specs.Records.{recordLength, recordZeroAt, codeSize, noUser, requestIn, stepIn, userFits, ownObject, numbersGood, recordGood, stepOf, Asked}
+use Rattle.records.proofs.CodeLaws.{request, by-code}
 
 -- "Code 8 .., with o equal to p"
 own-set : (q : Request) → (ownObject q ≡ true) ↔ (q .code ≡ endCode → q .o ≡ q .p)
@@ -73,29 +73,6 @@ module _ (r : List ℕ) (h : recordGood r ≡ true) where
   pub record-step : stepOf r ≡ some (stepIn (requestIn r))
   unfolding stepOf
   record-step = rw h
-
--- ---- what the code needs tells whether it is a record
-
-module _ (r : List ℕ) where
-  pub record-missing : needIn r .object ≡ 0 → recordGood r ≡ false
-  unfolding needIn noCode
-  record-missing = by (recordGood r)
-    where
-      by : (b : Bool) → cond b (codeAt (requestIn r .code)) noCode .object ≡ 0 → b ≡ false
-      by true z = absurd (needed (requestIn r .code) z)
-      by false z = refl
-
-  pub record-there : (needIn r .object ≡ 0 → ⊥) → recordGood r ≡ true
-  unfolding needIn noCode
-  record-there = by (recordGood r)
-    where
-      by : (b : Bool) → (cond b (codeAt (requestIn r .code)) noCode .object ≡ 0 → ⊥) → b ≡ true
-      by true n = refl
-      by false n = absurd (n refl)
-
-  pub record-needs : recordGood r ≡ true → needIn r ≡ codeAt (requestIn r .code)
-  unfolding needIn
-  record-needs h = rw h
 
 -- ---- refusal 7 in the paper's words
 

@@ -1,4 +1,4 @@
--- A record read field by field and tested condition by condition: what each test found decides `needIn`.
+-- A record read field by field and tested condition by condition: what each test found decides `recordGood`.
 use Prim.Native.Nat.{ℕ, _≤_, _<_}
 use native.Mathlib.Omega.{arith}
 use mathlib.Core.Path.{_≡_, sym, ap, _∙_}
@@ -11,11 +11,10 @@ use borrow.Author.Tests.{eq-eqb, ne-eqb, lt-ltb, le-ltb, ltb-true}
 use Rattle.lists.proofs.Bools.{and-in, and-0, and-1, same-test}
 use Rattle.image.specs.Limits.{containerLimit, userLimit}
 use Rattle.fields.specs.Bytes.{field}
-use Rattle.records.specs.declared.Code.{Code}
 use Rattle.records.specs.declared.Request.{Request}
-use Rattle.records.specs.Codes.{codeCount, isCode, codeAt, noCode}
+use Rattle.records.specs.Codes.{codeCount, isCode, codeAt}
 use Rattle.records.specs.Records.{recordLength, recordCodeAt, recordZeroAt, recordProcessAt, recordObjectAt, recordUserAt, codeSize}
-use Rattle.records.specs.Records.{numberSize, noUser, requestIn, userFits, ownObject, numbersGood, recordGood, needIn}
+use Rattle.records.specs.Records.{numberSize, noUser, requestIn, userFits, ownObject, numbersGood, recordGood}
 
 -- ---- the four fields
 
@@ -26,13 +25,13 @@ request-is r c p o u ec ep eo eu = λ i. record { code = ec i; p = ep i; o = eo 
 
 -- ---- the user field
 
-pub user-named : (q : Request) (k : Code) → k ≡ codeAt (q .code) → k .user ≡ true → ltb (q .u) userLimit ≡ userFits q
+pub user-named : (q : Request) → codeAt (q .code) .user ≡ true → ltb (q .u) userLimit ≡ userFits q
 unfolding userFits
-user-named q k e h = simp (sym (ap (λ (x : Code). x .user) e) ∙ h)
+user-named q h = simp h
 
-pub user-unnamed : (q : Request) (k : Code) → k ≡ codeAt (q .code) → k .user ≡ false → eqb (q .u) noUser ≡ userFits q
+pub user-unnamed : (q : Request) → codeAt (q .code) .user ≡ false → eqb (q .u) noUser ≡ userFits q
 unfolding userFits
-user-unnamed q k e h = simp (sym (ap (λ (x : Code). x .user) e) ∙ h)
+user-unnamed q h = simp h
 
 -- ---- the numbers behind the code
 
@@ -64,41 +63,29 @@ module _ (q : Request) where
 
 -- ---- the conditions in their order
 
-none-needed : (r : List ℕ) → recordGood r ≡ false → noCode ≡ needIn r
-unfolding needIn
-none-needed r h = rw h
-
 module _ (r : List ℕ) (q : Request) (e : q ≡ requestIn r) (eight : length r ≡ recordLength) where
   opened : recordGood r ≡ (isCode (q .code) && (eqb (field r recordZeroAt codeSize) 0 && numbersGood q))
   unfolding recordGood
   opened = rw e (simp (eq-eqb (length r) recordLength eight))
 
-  pub code-none : q .code ≡ 0 → noCode ≡ needIn r
+  pub code-none : q .code ≡ 0 → false ≡ recordGood r
   unfolding isCode
-  code-none z = none-needed r (opened ∙ simp z)
+  code-none z = sym (opened ∙ simp z)
 
   code-some : (q .code ≡ 0 → ⊥) → ltb 0 (q .code) ≡ true
   code-some h = let l : 0 < q .code = omega (arith, h) in lt-ltb 0 (q .code) l
 
-  pub code-over : (q .code ≡ 0 → ⊥) → codeCount ≤ q .code → noCode ≡ needIn r
+  pub code-over : (q .code ≡ 0 → ⊥) → codeCount ≤ q .code → false ≡ recordGood r
   unfolding isCode
-  code-over h o = none-needed r (opened ∙ simp (code-some h, le-ltb (q .code) codeCount o))
+  code-over h o = sym (opened ∙ simp (code-some h, le-ltb (q .code) codeCount o))
 
   module _ (low : q .code ≡ 0 → ⊥) (high : q .code < codeCount) where
     code-good : isCode (q .code) ≡ true
     unfolding isCode
     code-good = simp (code-some low, lt-ltb (q .code) codeCount high)
 
-    pub byte-set : (field r recordZeroAt codeSize ≡ 0 → ⊥) → noCode ≡ needIn r
-    byte-set h = none-needed r (opened ∙ simp (code-good, ne-eqb (field r recordZeroAt codeSize) 0 h))
+    pub byte-set : (field r recordZeroAt codeSize ≡ 0 → ⊥) → false ≡ recordGood r
+    byte-set h = sym (opened ∙ simp (code-good, ne-eqb (field r recordZeroAt codeSize) 0 h))
 
-    module _ (z : field r recordZeroAt codeSize ≡ 0) where
-      by-numbers : recordGood r ≡ numbersGood q
-      by-numbers = opened ∙ simp (code-good, eq-eqb (field r recordZeroAt codeSize) 0 z)
-
-      pub numbers-wrong : numbersGood q ≡ false → noCode ≡ needIn r
-      numbers-wrong h = none-needed r (by-numbers ∙ h)
-
-      pub all-right : numbersGood q ≡ true → (k : Code) → k ≡ codeAt (q .code) → k ≡ needIn r
-      unfolding needIn
-      all-right h k c = c ∙ rw (by-numbers ∙ h) (ap (λ (x : Request). codeAt (x .code)) e)
+    pub by-numbers : field r recordZeroAt codeSize ≡ 0 → numbersGood q ≡ recordGood r
+    by-numbers z = sym (opened ∙ simp (code-good, eq-eqb (field r recordZeroAt codeSize) 0 z))

@@ -1,10 +1,9 @@
 -- "One table of codes gives the kind that each code needs" (the paper, "Operations"): the codes, the step that each asks for, and
 -- what the table of steps (crate chains, specs/Table) says of it.
 use Prim.Native.Nat.{ℕ}
-use mathlib.Core.Bool.{Bool, false, cond, _&&_}
+use mathlib.Core.Bool.{Bool, cond, _&&_}
 use mathlib.Core.Option.{none}
 use lib.Dec.{eqb, ltb}
-use Rattle.image.specs.Limits.{noKinds}
 use Rattle.chains.specs.History.{Step, read, write, append, exec, fork, newFile, newVolatile, end, delete}
 use Rattle.chains.specs.Table.{State, freeRow, entry, isSome}
 use Rattle.records.specs.declared.Code.{Code}
@@ -71,7 +70,3 @@ codeAt n =
       object = entry noRows (stepWith n 0 0 0) .need;
       user = isSome (entry noRows (stepWith n 0 0 0) .user);
     }
-
--- place 0 of the table: no kind serves, and no user is named
-unfoldable pub noCode : Code
-noCode = record { object = noKinds; user = false }

@@ -9,9 +9,8 @@ use lib.ListN.{length}
 use Rattle.image.specs.Limits.{containerLimit, userLimit}
 use Rattle.fields.specs.Bytes.{field}
 use Rattle.chains.specs.History.{Step}
-use Rattle.records.specs.declared.Code.{Code}
 use Rattle.records.specs.declared.Request.{Request}
-use Rattle.records.specs.Codes.{endCode, isCode, codeCount, codeAt, noCode, stepWith}
+use Rattle.records.specs.Codes.{endCode, isCode, codeCount, codeAt, stepWith}
 
 -- ---- the layout of a record, in bytes
 
@@ -74,10 +73,6 @@ numbersGood q = userFits q && (ltb (q .p) containerLimit && (ltb (q .o) containe
 -- "7 operation record (not 8 bytes, code, zero byte, u set wrongly, container over 255, user over 15)"
 unfoldable pub recordGood : List ℕ → Bool
 recordGood r = eqb (length r) recordLength && (isCode (requestIn r .code) && (eqb (field r recordZeroAt codeSize) 0 && numbersGood (requestIn r)))
-
--- what the code of a record needs, and what no code needs if it is no record
-unfoldable pub needIn : List ℕ → Code
-needIn r = cond (recordGood r) (codeAt (requestIn r .code)) noCode
 
 -- the step that a record spells, if it is a record
 unfoldable pub stepOf : List ℕ → Option Step

@@ -2,8 +2,8 @@
 ghost use mathlib.Core.Path.{_≡_};
 ghost use Prim.Native.Nat.{_≤_, _<_};
 ghost use lib.ListN.{length, take, drop};
-ghost use Rattle.records.specs.Codes.{codeCount, codeAt, noCode};
-ghost use Rattle.records.specs.Records.{recordLength, requestIn, userFits, ownObject, numbersGood, needIn};
+ghost use Rattle.records.specs.Codes.{codeCount, codeAt};
+ghost use Rattle.records.specs.Records.{recordLength, requestIn, userFits, ownObject, numbersGood, recordGood};
 use image::CONTAINER_LIMIT;
 use image::USER_LIMIT;
 
@@ -79,18 +79,11 @@ const CODES: [Code; CODE_COUNT] = [
 ];
 
 // The table's row of a code.
-fn code_at(code: usize) -> Code
+pub fn code_at(code: usize) -> Code
     requires { ⌜ (1 ≤ code) × (code < codeCount) ⌝ }
     ensures { λ r. ⌜ r ≡ codeAt code ⌝ }
 {
     CODES[code]
-}
-
-// Its row for no code.
-fn no_code() -> Code
-    ensures { λ r. ⌜ r ≡ noCode ⌝ }
-{
-    CODES[0]
 }
 
 // ---- the record
@@ -132,12 +125,23 @@ pub fn request_of(bytes: &[u8]) -> Request
     }
 }
 
+// The code names a user. The table has it too, but would be laid in memory before a record that is none is refused.
+fn names_user(code: usize) -> bool
+    requires { ⌜ (1 ≤ code) × (code < codeCount) ⌝ }
+    ensures { λ r. ⌜ r ≡ codeAt code .user ⌝ }
+{
+    if code == EXEC_CODE {
+        return true;
+    }
+    code == NEW_FILE_CODE
+}
+
 // The user field is set exactly where the code names a user.
-fn user_fits(q: Request, need: Code) -> bool
-    requires { ⌜ need ≡ codeAt (q .code) ⌝ }
+fn user_fits(q: Request) -> bool
+    requires { ⌜ (1 ≤ q .code) × (q .code < codeCount) ⌝ }
     ensures { λ r. ⌜ r ≡ userFits q ⌝ }
 {
-    if need.user {
+    if names_user(q.code) {
         return q.u < USER_LIMIT;
     }
     q.u == NO_USER
@@ -154,11 +158,11 @@ fn own_object(q: Request) -> bool
 }
 
 // The numbers behind the code are those of a record.
-fn numbers_good(q: Request, need: Code) -> bool
-    requires { ⌜ need ≡ codeAt (q .code) ⌝ }
+fn numbers_good(q: Request) -> bool
+    requires { ⌜ (1 ≤ q .code) × (q .code < codeCount) ⌝ }
     ensures { λ r. ⌜ r ≡ numbersGood q ⌝ }
 {
-    if !user_fits(q, need) {
+    if !user_fits(q) {
         return false;
     }
     if CONTAINER_LIMIT <= (q.p | q.o) {
@@ -167,26 +171,24 @@ fn numbers_good(q: Request, need: Code) -> bool
     own_object(q)
 }
 
-// What the code of a record needs, q being what its bytes ask for. Where they are no operation record, it is what no code needs: the
-// refusal 7.
-pub fn need_of(bytes: &[u8], q: Request) -> Code
-    requires { ⌜ (length (now bytes) ≡ recordLength) × (q ≡ requestIn (now bytes)) ⌝ }
-    ensures { λ r. ⌜ r ≡ needIn (now (bytes .entry)) ⌝ }
+// The bytes are an operation record: the refusal 7 where they are not.
+pub fn is_record(bytes: &[u8]) -> bool
+    ensures { λ r. ⌜ r ≡ recordGood (now (bytes .entry)) ⌝ }
 {
+    if bytes.len() != RECORD_LENGTH {
+        return false;
+    }
+    let q = request_of(bytes);
     if q.code == 0 {
-        return no_code();
+        return false;
     }
     if CODE_COUNT <= q.code {
-        return no_code();
+        return false;
     }
     if bytes[RECORD_ZERO_AT] != 0 {
-        return no_code();
+        return false;
     }
-    let need = code_at(q.code);
-    if !numbers_good(q, need) {
-        return no_code();
-    }
-    need
+    numbers_good(q)
 }
 
 // ---- a trace
