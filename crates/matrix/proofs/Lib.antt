@@ -8,5 +8,6 @@ pub mod CarrierLaws
 pub mod PathTest
 pub mod CountLaws
 pub mod RowLoops
-pub mod VerdictLoops
 pub mod PathFlows
+pub mod SubjectReach
+pub mod VerdictLoops

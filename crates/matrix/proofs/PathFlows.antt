@@ -1,32 +1,73 @@
 -- What the tests and numbers of a verdict say of paths.
 use Prim.Native.Nat.{ℕ, zero, suc, _+_, _-_, _*_, _/_, _^_, _≤_, _<_}
-use mathlib.Core.Path.{_≡_, sym, ap, _∙_}
-use mathlib.Core.Bool.{Bool, true, false, not}
+use mathlib.Core.Path.{_≡_, refl, sym, ap, _∙_}
+use mathlib.Core.Bool.{Bool, true, false, not, _&&_, _||_}
 use mathlib.Core.List.{List, [], _∷_}
 use mathlib.Core.Logic.{_⊎_, inl, inr, _↔_}
 use native.Mathlib.Decide.{ℕ-discrete, decLt}
 use native.Mathlib.Nat.{div-lt-iff-lt-mul}
 use native.Mathlib.Omega.{arith}
 use lib.Pow.{pow-pos}
-use lib.Dec.{ltb}
+use lib.Dec.{eqb, ltb}
 use lib.ListN.{length, getD}
-use borrow.Author.Tests.{not-true, not-false, ltb-true, lt-ltb}
+use borrow.Author.Tests.{ne-eqb, not-true, not-false, ltb-true, lt-ltb}
 use Rattle.lists.proofs.Bools.{and-in, and-0, and-1, decide, clash, refuted, same-test}
 use Rattle.lists.specs.Lists.{every}
 use Rattle.lists.proofs.Every.{every-0, every-1, every-nil, every-cons}
-use Rattle.matrix.specs.Flows.{has, granted, Composed, composed, rowsWithin, matrixGood}
+use Rattle.matrix.specs.Limits.{objectLimit}
+use Rattle.matrix.specs.Flows.{has, subjectCarries, granted, Composed, composed, rowsWithin, matrixGood}
 use Rattle.lists.specs.Counting.{countBelow, sumBelow, someBelow}
 use Rattle.matrix.specs.Verdicts.{ungranted, ungrantedFrom, flowCount, firstSource, firstTarget, consistent}
-use Rattle.matrix.specs.Rows.{bitAt, Closed}
-use Rattle.matrix.proofs.GoodLaws.{good-parts, parts-good}
+use Rattle.matrix.specs.Rows.{bitAt, spelling, Closed}
+use Rattle.matrix.proofs.GoodLaws.{Good, good-parts, parts-good}
 use Rattle.matrix.proofs.RowBits.{has-above, has-ext, has-at}
-use Rattle.matrix.proofs.PathTest.{path-source, path-target, within-path, path-within}
+use Rattle.matrix.proofs.RowLoops.{spelling-bits, spelling-above}
+use Rattle.matrix.proofs.PathTest.{path-source, path-target, within-path, path-within, within-none}
 use Rattle.lists.proofs.Counting.{count-same, count-none, count-some, sum-same, sum-none, sum-some}
 use Rattle.lists.proofs.Below.{Least, some-at, least-some}
 
 pub composed-path : (reads writes : List ℕ) (n a b : ℕ) → a < n → b < n → (composed reads writes n a b ≡ true) ↔ Composed reads writes n a b
 unfolding composed
 composed-path reads writes n a b p q = (within-path (granted reads writes) n n a b (omega arith) p q, path-within (granted reads writes) n a b)
+
+-- ---- no flow goes beyond the objects
+
+carries-beyond : (reads writes : List ℕ) (n a b : ℕ) → rowsWithin n writes ≡ true → n ≤ b → subjectCarries reads writes a b ≡ false
+unfolding subjectCarries rowsWithin every
+carries-beyond [] writes n a b g h = refl
+carries-beyond (r ∷ reads) [] n a b g h = refl
+carries-beyond (r ∷ reads) (w ∷ writes) n a b g h =
+    let l : w < 2 ^ n = ltb-true w (2 ^ n) (and-0 (ltb w (2 ^ n)) (every (λ row. ltb row (2 ^ n)) writes) g) in
+    let e : has w b ≡ false = has-above w n b l h in
+    let ih : subjectCarries reads writes a b ≡ false = carries-beyond reads writes n a b (and-1 (ltb w (2 ^ n)) g) h in
+    rw (e, ih) (by (has r a))
+  where
+    by : (x : Bool) → (x && false || false) ≡ false
+    by true = refl
+    by false = refl
+
+pub granted-beyond : (reads writes : List ℕ) (n a b : ℕ) → rowsWithin n writes ≡ true → a < n → n ≤ b → granted reads writes a b ≡ false
+unfolding granted
+granted-beyond reads writes n a b g l h =
+    let e : eqb a b ≡ false = ne-eqb a b (λ q. omega arith) in
+    rw e (carries-beyond reads writes n a b g h)
+
+pub composed-beyond : (reads writes : List ℕ) (n a b : ℕ) → rowsWithin n writes ≡ true → a < n → n ≤ b → composed reads writes n a b ≡ false
+unfolding composed
+composed-beyond reads writes n a b g l h = within-none (granted reads writes) n n a b (omega arith) l (λ i m. granted-beyond reads writes n i b g m h)
+
+-- the bits of a table that spells the composed flows
+pub composed-bits : (reads writes rows table : List ℕ) (n : ℕ) → Good reads writes n → table ≡ spelling (composed reads writes n) n rows → (a b : ℕ) → a < n
+    → bitAt table a b ≡ composed reads writes n a b
+composed-bits reads writes rows table n g e a b l = ap (λ (x : List ℕ). bitAt x a b) e ∙ by (decLt b objectLimit)
+  where
+    by : Dec (b < objectLimit) → bitAt (spelling (composed reads writes n) n rows) a b ≡ composed reads writes n a b
+    by (yes m) = spelling-bits (composed reads writes n) n rows a b l m
+    by (no m) =
+        spelling-above (composed reads writes n) n rows a b l (omega arith)
+        ∙ sym (composed-beyond reads writes n a b (g .writesGood) l (omega (arith, g .few)))
+
+-- ---- paths and their tests
 
 -- a composed flow that is not granted
 abbrev pub Flow : List ℕ → List ℕ → ℕ → ℕ → ℕ → Type 0
@@ -175,8 +216,8 @@ good-exact reads writes objects = (
   (λ g. parts-good reads writes objects (g .0) (g .1) (g .2) (g .3) (g .4) (rows-exact objects reads .1 (g .5)) (rows-exact objects writes .1 (g .6))),
 )
 
-pub closure-path : (reads writes : List ℕ) (n : ℕ) (closure : List ℕ) → Closed reads writes n closure → (a b : ℕ) → a < n → b < n → (has (getD closure a 0) b ≡ true) ↔ Composed reads writes n a b
-unfolding bitAt
-closure-path reads writes n closure c a b p q =
-    let e : has (getD closure a 0) b ≡ composed reads writes n a b = c .spelt .bits a b p in
+-- the granted flows of the rows that the code works out
+pub reach-path : (reads writes : List ℕ) (n : ℕ) (reach : List ℕ) → Closed reads writes n reach → (a b : ℕ) → a < n → b < n → (granted reads reach a b ≡ true) ↔ Composed reads writes n a b
+reach-path reads writes n reach c a b p q =
+    let e : granted reads reach a b ≡ composed reads writes n a b = c .flows a b p in
     ((λ h. composed-path reads writes n a b p q .0 (sym e ∙ h)), (λ h. e ∙ composed-path reads writes n a b p q .1 h))

@@ -1,7 +1,7 @@
 -- The test for a path passes exactly where there is one.
 use Prim.Native.Nat.{ℕ, zero, suc, _≤_, _<_}
-use mathlib.Core.Path.{_≡_, refl, ap, ap₂}
-use mathlib.Core.Bool.{Bool, true, false, _&&_, _||_}
+use mathlib.Core.Path.{_≡_, refl}
+use mathlib.Core.Bool.{Bool, true, false, _&&_}
 use mathlib.Core.Logic.{_⊎_, inl, inr}
 use native.Mathlib.Decide.{ℕ-discrete}
 use native.Mathlib.Omega.{arith}
@@ -100,18 +100,6 @@ module _ (f : ℕ → ℕ → Bool) where
   path-within n a b (step p q e) = step-within n a b e
   path-within n a c (onward {b = b} p q e) =
       within-join n a b c (path-target p) (path-within n a b p) (step-within n b c e)
-
--- ---- the test goes by the relation's values
-
-pub within-same : (f g : ℕ → ℕ → Bool) (n m k a b : ℕ) → k ≤ n → n ≤ m → a < n → b < m → ((a b : ℕ) → a < n → b < m → f a b ≡ g a b) → within f k a b ≡ within g k a b
-unfolding within
-within-same f g n m zero a b l w p q e = e a b p q
-within-same f g n m (suc k) a b l w p q e =
-    let ih : (a b : ℕ) → a < n → b < m → within f k a b ≡ within g k a b = λ a b p q. within-same f g n m k a b (omega arith) w p q e in
-    let x : within f k a b ≡ within g k a b = ih a b p q in
-    let y : within f k a k ≡ within g k a k = ih a k p (omega arith) in
-    let z : within f k k b ≡ within g k k b = ih k b (omega arith) q in
-    ap₂ (λ (u v : Bool). u || v) x (ap₂ (λ (u v : Bool). u && v) y z)
 
 -- a number that nothing leads to
 pub within-none : (f : ℕ → ℕ → Bool) (n k a b : ℕ) → k ≤ n → a < n → ((a : ℕ) → a < n → f a b ≡ false) → within f k a b ≡ false

@@ -100,6 +100,18 @@ has-next n k =
     let e : suc k ≡ 1 + k = omega arith in
     ap (λ (x : ℕ). eqb (x % 2) 1) (ap (λ (x : ℕ). n / 2 ^ x) e ∙ sym (shr-shr n 1 k))
 
+-- a number that is not 0 has a bit
+some-bit-of : (w x : ℕ) → x ≤ w → (x ≡ 0 → ⊥) → (k : ℕ) × (has x k ≡ true)
+some-bit-of zero x l n = absurd (n (omega arith))
+some-bit-of (suc w) x l n = by (ℕ-discrete (x % 2) 1) (λ m z. some-bit-of w (x / 2) m z)
+  where
+    by : Dec (x % 2 ≡ 1) → (x / 2 ≤ w → (x / 2 ≡ 0 → ⊥) → (k : ℕ) × (has (x / 2) k ≡ true)) → (k : ℕ) × (has x k ≡ true)
+    by (yes e) f = (0, has-first x ∙ eq-eqb (x % 2) 1 e)
+    by (no e) f = let r = f (omega arith) (λ z. n (omega arith)) in (suc (r .0), has-next x (r .0) ∙ r .1)
+
+pub some-bit : (x : ℕ) → (x ≡ 0 → ⊥) → (k : ℕ) × (has x k ≡ true)
+some-bit x n = some-bit-of x x (omega arith) n
+
 -- ---- the bits that are not set
 
 has-complement : (w g k : ℕ) → g < 2 ^ w → k < w → has (2 ^ w - 1 - g) k ≡ not (has g k)

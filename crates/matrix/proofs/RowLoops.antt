@@ -1,7 +1,7 @@
 -- What each turn of the loops over rows does: start, one turn, end.
 use Prim.Native.Nat.{ℕ, zero, suc, _+_, _-_, _*_, _/_, _%_, _^_, _≤_, _<_}
 use mathlib.Core.Path.{_≡_, refl, sym, ap, ap₂, _∙_}
-use mathlib.Core.Bool.{Bool, true, false, cond, _&&_, _||_}
+use mathlib.Core.Bool.{Bool, true, false, _&&_, _||_}
 use mathlib.Core.List.{List, _∷_, _++_}
 use native.Mathlib.Decide.{ℕ-discrete, decLt}
 use native.Mathlib.Numerals.{add-one}
@@ -11,12 +11,12 @@ use lib.Bits.{bitOr}
 use lib.Dec.{ltb}
 use lib.Pow.{pow-lt}
 use lib.ListN.{length, getD, drop, set, length-set, length-append, length-drop, List·getD-append, drop-of-length-le}
-use lib.Seq.{drop-cons, drop-append-seam, getD-append-add, getD-drop, getD-set-same, getD-set-other, ext-getD}
+use lib.Seq.{drop-cons, getD-append-add, getD-drop, getD-set-same, getD-set-other, ext-getD}
 use borrow.Author.Tests.{lt-ltb, le-ltb}
 use Rattle.lists.specs.Lists.{every}
 use Rattle.lists.proofs.Bools.{or-none, or-assoc}
-use Rattle.matrix.specs.Flows.{has, subjectCarries, granted, within, rowsWithin}
-use Rattle.matrix.specs.Rows.{bitAt, bitsOf, rowsOf, spelling, joinedAt, Passed}
+use Rattle.matrix.specs.Flows.{has, subjectCarries, granted, rowsWithin}
+use Rattle.matrix.specs.Rows.{bitAt, bitsOf, rowsOf, spelling, joinedThrough, Passed}
 use Rattle.matrix.specs.Limits.{objectLimit}
 use Rattle.matrix.proofs.RowBits.{has-is, has-not, has-or, one-bit, has-single, bits-has, bits-above, bits-is, bits-same}
 
@@ -151,13 +151,6 @@ module _ (f : ℕ → ℕ → Bool) (n : ℕ) (rows : List ℕ) where
       by a (yes p) = e a p ∙ sym (spelling-row a p)
       by a (no p) = r a (omega arith) ∙ sym (spelling-behind a (omega arith))
 
-  -- a table that is spelled over keeps what stands behind
-  pub spelling-again : (g : ℕ → ℕ → Bool) → spelling f n (spelling g n rows) ≡ spelling f n rows
-  unfolding spelling
-  spelling-again g =
-      ap (λ (x : List ℕ). rowsOf f n ++ x)
-      (ap (λ (k : ℕ). drop k (rowsOf g n ++ drop n rows)) (sym (rows-length g n)) ∙ drop-append-seam (rowsOf g n) (drop n rows))
-
 rows-same : (f g : ℕ → ℕ → Bool) (n : ℕ) → ((a b : ℕ) → a < n → b < objectLimit → f a b ≡ g a b) → rowsOf f n ≡ rowsOf g n
 unfolding rowsOf
 rows-same f g zero e = refl
@@ -167,54 +160,6 @@ rows-same f g (suc n) e =
 pub spelling-same : (f g : ℕ → ℕ → Bool) (n : ℕ) (rows : List ℕ) → ((a b : ℕ) → a < n → b < objectLimit → f a b ≡ g a b) → spelling f n rows ≡ spelling g n rows
 unfolding spelling
 spelling-same f g n rows e = ap (λ (x : List ℕ). x ++ drop n rows) (rows-same f g n e)
-
--- ---- one pass for each object: the paths whose inner objects are below k are there
-
-pub record Closing (n : ℕ) (before rows : List ℕ) (k : ℕ) : Type 0 where
-  pub place : k ≤ n
-  pub fit : n ≤ length before
-  pub long : length rows ≡ length before
-  pub bits : (a b : ℕ) → a < n → bitAt rows a b ≡ within (bitAt before) k a b
-  pub rest : (a : ℕ) → n ≤ a → getD rows a 0 ≡ getD before a 0
-  pub small : (a : ℕ) → getD rows a 0 < 2 ^ 32
-
-pub closing-start : (n : ℕ) (before : List ℕ) → n ≤ length before → ((a : ℕ) → getD before a 0 < 2 ^ 32) → Closing n before before 0
-unfolding within
-closing-start n before h w = record { place = omega arith; fit = h; long = refl; bits = λ a b l. refl; rest = λ a l. refl; small = w }
-
-joined-has : (k other row b : ℕ) → has (joinedAt k other row) b ≡ (has row b || (has row k && has other b))
-unfolding joinedAt
-joined-has k other row b = by (has row k)
-  where
-    by : (t : Bool) → has (cond t (bitOr row other) row) b ≡ (has row b || (t && has other b))
-    by true = has-or row other b
-    by false = sym (or-none (has row b))
-
-pub closing-next : (n : ℕ) (before rows after : List ℕ) (k : ℕ) → Closing n before rows k → k < n → Passed k n rows after → ((a : ℕ) → getD after a 0 < 2 ^ 32) → Closing n before after (k + 1)
-unfolding within bitAt
-closing-next n before rows after k c h p w =
-    record {
-      place = omega arith;
-      fit = c .fit;
-      long = p .long ∙ c .long;
-      bits = λ a b l. one a b l ∙ ap (λ (j : ℕ). within (bitAt before) j a b) (sym (add-one k));
-      rest = λ a l. p .rest a l ∙ c .rest a l;
-      small = w;
-    }
-  where
-    one : (a b : ℕ) → a < n → bitAt after a b ≡ within (bitAt before) (suc k) a b
-    one a b l =
-        ap (λ (x : ℕ). has x b) (p .each a l)
-        ∙ joined-has k (getD rows k 0) (getD rows a 0) b
-        ∙ ap₂ (λ (x y : Bool). x || y) (c .bits a b l) (ap₂ (λ (x y : Bool). x && y) (c .bits a k l) (c .bits k b h))
-
-pub closing-end : (n : ℕ) (before rows : List ℕ) (k : ℕ) → Closing n before rows k → n ≤ k → rows ≡ spelling (within (bitAt before) n) n before
-unfolding bitAt
-closing-end n before rows k c h =
-    let e : k ≡ n = omega (arith, c .place) in
-    spelling-is (within (bitAt before) n) n before rows (c .fit) (c .long)
-    (λ a l. bits-is (getD rows a 0) objectLimit (within (bitAt before) n a) (c .small a) (λ b m. c .bits a b l ∙ ap (λ (j : ℕ). within (bitAt before) j a b) e))
-    (c .rest)
 
 -- ---- rows without a bit beyond the objects
 
@@ -263,14 +208,14 @@ granted-end reads writes n before rows a s h =
 
 -- ---- row i of a pass, stored
 
-abbrev pub JoinedAt : List ℕ → ℕ → ℕ → ℕ → Type 0
-JoinedAt before k i x = x ≡ joinedAt k (getD before k 0) (getD before i 0)
+abbrev pub JoinedAt : ℕ → ℕ → List ℕ → ℕ → ℕ → Type 0
+JoinedAt read other before i x = x ≡ joinedThrough read other (getD before i 0)
 
-pub joined-next : (n : ℕ) (before rows : List ℕ) (k a v : ℕ)
-    → Stored (JoinedAt before k) n before rows a → a < n → v ≡ joinedAt k (getD before k 0) (getD rows a 0)
-    → Stored (JoinedAt before k) n before (set rows a v) (a + 1)
-joined-next n before rows k a v s h e =
-    stored-next (JoinedAt before k) n before rows a v s h (e ∙ ap (λ (x : ℕ). joinedAt k (getD before k 0) x) (s .rest a (omega arith)))
+pub joined-next : (read k n : ℕ) (before rows : List ℕ) (a v : ℕ)
+    → Stored (JoinedAt read (getD before k 0) before) n before rows a → a < n → v ≡ joinedThrough read (getD before k 0) (getD rows a 0)
+    → Stored (JoinedAt read (getD before k 0) before) n before (set rows a v) (a + 1)
+joined-next read k n before rows a v s h e =
+    stored-next (JoinedAt read (getD before k 0) before) n before rows a v s h (e ∙ ap (λ (x : ℕ). joinedThrough read (getD before k 0) x) (s .rest a (omega arith)))
 
-pub joined-end : (n : ℕ) (before rows : List ℕ) (k a : ℕ) → Stored (JoinedAt before k) n before rows a → n ≤ a → Passed k n before rows
-joined-end n before rows k a s h = record { long = s .long; each = λ i l. s .done i (omega arith); rest = λ i l. s .rest i (omega (arith, s .place)) }
+pub joined-end : (read k n : ℕ) (before first rows : List ℕ) (a : ℕ) → Stored (JoinedAt read (getD before k 0) before) n first rows a → n ≤ a → Passed read k n before rows
+joined-end read k n before first rows a s h = record { each = λ i l. s .done i (omega arith) }

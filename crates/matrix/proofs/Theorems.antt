@@ -39,10 +39,10 @@ pub composed-path : (reads writes : List ℕ) (objects a b : ℕ) → a < object
     (composed reads writes objects a b ≡ true) ↔ Composed reads writes objects a b
 composed-path = flows.composed-path
 
--- the closure that the code works out (`close`, `verdict`) has a bit exactly where there is a path
-pub closure-path : (reads writes : List ℕ) (objects : ℕ) (closure : List ℕ) → Closed reads writes objects closure → (a b : ℕ) → a < objects → b < objects →
-    (has (getD closure a 0) b ≡ true) ↔ Composed reads writes objects a b
-closure-path = flows.closure-path
+-- the rows that the code works out (`reach_flows`) grant a flow exactly where there is a path
+pub reach-path : (reads writes : List ℕ) (objects : ℕ) (reach : List ℕ) → Closed reads writes objects reach → (a b : ℕ) → a < objects → b < objects →
+    (granted reads reach a b ≡ true) ↔ Composed reads writes objects a b
+reach-path = flows.reach-path
 
 -- ---- the verdict, of composed flows that are not granted
 

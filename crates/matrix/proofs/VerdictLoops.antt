@@ -4,72 +4,134 @@ use mathlib.Core.Path.{_≡_, refl, sym, ap, ap₂, _∙_}
 use mathlib.Core.Bool.{Bool, true, false, not, _&&_, _||_}
 use mathlib.Core.Logic.{_⊎_, inl, inr, _↔_}
 use mathlib.Core.List.{List, [], _∷_}
-use native.Mathlib.Decide.{decLt}
+use native.Mathlib.Decide.{ℕ-discrete}
 use native.Mathlib.Numerals.{add-one}
 use native.Mathlib.Omega.{arith}
-use lib.Bits.{bitAnd}
+use lib.Bits.{bitAnd, bitOr, or-lt}
 use lib.Count.{ones, ones-le}
-use lib.Dec.{eqb, ltb}
+use lib.Dec.{eqb}
 use lib.ListN.{length, getD}
-use borrow.Author.Tests.{ne-eqb, ltb-true}
 use borrow.Author.Count.{below-more}
-use Rattle.lists.proofs.Bools.{and-0, and-1, decide}
-use Rattle.lists.specs.Lists.{elem, every}
+use Rattle.lists.proofs.Bools.{or-0, or-1, or-cases, decide, clash, refuted}
+use Rattle.lists.specs.Lists.{elem}
 use Rattle.lists.specs.Conditions.{firstFailed, _orRefuse_}
 use Rattle.lists.proofs.Conditions.{passed, failed, none-left}
 use Rattle.answers.specs.Refusals.{matrix}
 use Rattle.matrix.specs.declared.Consistency.{Consistency}
 use Rattle.matrix.specs.declared.Consistency.the-variants.{Refused, Consistent, Inconsistent}
-use Rattle.matrix.specs.Flows.{has, subjectCarries, granted, within, composed, rowsWithin, matrixGood}
+use Rattle.matrix.specs.Flows.{has, subjectCarries, granted, rowsWithin, matrixGood}
 use Rattle.lists.specs.Counting.{countBelow, sumBelow, leastBelow}
 use Rattle.matrix.specs.Verdicts.{ungranted, ungrantedFrom, flowCount, firstSource, firstTarget, consistent, judgedBy, ConsistencyValues}
 use Rattle.matrix.specs.Verdicts.{consistencyValues, matrixConditions, unlessRefused, matrixVerdict}
 use Rattle.matrix.specs.Limits.{objectLimit}
-use Rattle.matrix.specs.Rows.{bitAt, spelling, Closed}
-use Rattle.matrix.proofs.RowBits.{has-is, has-not, has-above, has-without}
-use Rattle.matrix.proofs.PathTest.{within-same, within-none}
-use Rattle.matrix.proofs.GoodLaws.{good-parts}
-use Rattle.matrix.proofs.RowLoops.{spelling-fits, spelling-bits, spelling-above, spelling-again, spelling-same}
+use Rattle.matrix.specs.Rows.{Grown, Closed}
+use Rattle.matrix.proofs.RowBits.{has-is, has-not, has-or, has-zero, has-without}
+use Rattle.matrix.proofs.CarrierLaws.{carries, carried}
+use Rattle.matrix.proofs.PathFlows.{composed-beyond, count-consistent}
+use Rattle.matrix.proofs.RowLoops.{Granting, granting-start, granting-take, granting-skip, granting-end}
 use Rattle.lists.proofs.Counting.{count-same, count-front, sum-next}
 use Rattle.lists.proofs.Below.{some-at, some-none, least-is}
 use Rattle.matrix.proofs.CountLaws.{ones-count}
 
 -- ---- no flow goes beyond the objects
 
-carries-beyond : (reads writes : List ℕ) (n a b : ℕ) → rowsWithin n writes ≡ true → n ≤ b → subjectCarries reads writes a b ≡ false
-unfolding subjectCarries rowsWithin every
-carries-beyond [] writes n a b g h = refl
-carries-beyond (r ∷ reads) [] n a b g h = refl
-carries-beyond (r ∷ reads) (w ∷ writes) n a b g h =
-    let l : w < 2 ^ n = ltb-true w (2 ^ n) (and-0 (ltb w (2 ^ n)) (every (λ row. ltb row (2 ^ n)) writes) g) in
-    let e : has w b ≡ false = has-above w n b l h in
-    let ih : subjectCarries reads writes a b ≡ false = carries-beyond reads writes n a b (and-1 (ltb w (2 ^ n)) g) h in
-    rw (e, ih) (by (has r a))
-  where
-    by : (x : Bool) → (x && false || false) ≡ false
-    by true = refl
-    by false = refl
-
-pub granted-beyond : (reads writes : List ℕ) (n a b : ℕ) → rowsWithin n writes ≡ true → a < n → n ≤ b → granted reads writes a b ≡ false
-unfolding granted
-granted-beyond reads writes n a b g l h =
-    let e : eqb a b ≡ false = ne-eqb a b (λ q. omega arith) in
-    rw e (carries-beyond reads writes n a b g h)
-
 pub ungranted-beyond : (reads writes : List ℕ) (n a b : ℕ) → rowsWithin n writes ≡ true → a < n → n ≤ b → ungranted reads writes n a b ≡ false
-unfolding ungranted composed
-ungranted-beyond reads writes n a b g l h =
-    let e : within (granted reads writes) n a b ≡ false = within-none (granted reads writes) n n a b (omega arith) l (λ i m. granted-beyond reads writes n i b g m h) in
-    rw e
+unfolding ungranted
+ungranted-beyond reads writes n a b g l h = rw (composed-beyond reads writes n a b g l h)
 
--- ---- a row of the closure without the granted flows
+-- ---- a row of the composed flows without the granted ones: the subjects before s are done
 
-pub row-without : (reads writes closure : List ℕ) (n a g : ℕ) → Closed reads writes n closure → a < n → getD closure a 0 < 2 ^ 32 → g < 2 ^ 32
-    → ((b : ℕ) → has g b ≡ granted reads writes a b) → (b : ℕ) → has (bitAnd (getD closure a 0) (2 ^ 32 - 1 - g)) b ≡ ungranted reads writes n a b
-unfolding ungranted bitAt
-row-without reads writes closure n a g c l p q e b =
-    has-without 32 (getD closure a 0) g b p q
-    ∙ ap₂ (λ (x y : Bool). x && not y) (c .spelt .bits a b l) (e b)
+pub record Missing (reads writes reach : List ℕ) (a row reached s : ℕ) : Type 0 where
+  pub granting : Granting reads writes a row s
+  pub reaching : Granting reads reach a reached s
+  pub small : row < 2 ^ 32
+  pub less : reached < 2 ^ 32
+
+pub missing-start : (reads writes reach : List ℕ) (n a : ℕ) → Closed reads writes n reach → a < n → Missing reads writes reach a (1 * 2 ^ a % 2 ^ 32) (1 * 2 ^ a % 2 ^ 32) 0
+missing-start reads writes reach n a c l =
+    let m : a < objectLimit = omega (arith, c .few) in
+    let b : 1 * 2 ^ a % 2 ^ 32 < 2 ^ 32 = omega arith in
+    record { granting = granting-start reads writes a (c .even) m; reaching = granting-start reads reach a (c .long) m; small = b; less = b }
+
+pub missing-take : (reads writes reach : List ℕ) (a row reached s : ℕ) → Missing reads writes reach a row reached s → s < length reads → getD reads s 0 / 2 ^ a % 2 ≡ 1
+    → getD writes s 0 < 2 ^ 32 → getD reach s 0 < 2 ^ 32 → Missing reads writes reach a (bitOr row (getD writes s 0)) (bitOr reached (getD reach s 0)) (s + 1)
+missing-take reads writes reach a row reached s m h t p q =
+    record {
+      granting = granting-take reads writes a row s (m .granting) h t;
+      reaching = granting-take reads reach a reached s (m .reaching) h t;
+      small = or-lt 32 row (getD writes s 0) (m .small) p;
+      less = or-lt 32 reached (getD reach s 0) (m .less) q;
+    }
+
+pub missing-skip : (reads writes reach : List ℕ) (a row reached s : ℕ) → Missing reads writes reach a row reached s → s < length reads → (getD reads s 0 / 2 ^ a % 2 ≡ 1 → ⊥)
+    → Missing reads writes reach a row reached (s + 1)
+missing-skip reads writes reach a row reached s m h t =
+    record {
+      granting = granting-skip reads writes a row s (m .granting) h t;
+      reaching = granting-skip reads reach a reached s (m .reaching) h t;
+      small = m .small;
+      less = m .less;
+    }
+
+pub missing-end : (reads writes reach : List ℕ) (n a row reached s : ℕ) → Closed reads writes n reach → a < n → Missing reads writes reach a row reached s → length reads ≤ s
+    → (b : ℕ) → has (bitAnd reached (2 ^ 32 - 1 - row)) b ≡ ungranted reads writes n a b
+unfolding ungranted
+missing-end reads writes reach n a row reached s c l m h b =
+    has-without 32 reached row b (m .less) (m .small)
+    ∙ ap₂ (λ (x y : Bool). x && not y) (granting-end reads reach a reached s (m .reaching) h b ∙ c .flows a b l) (granting-end reads writes a row s (m .granting) h b)
+
+-- ---- the objects that subjects read whose row has grown: the subjects before s are done
+
+pub record Growing (reads writes reach : List ℕ) (grown s : ℕ) : Type 0 where
+  pub place : s ≤ length reads
+  pub same : (i a : ℕ) → i < s → has (getD reads i 0) a ≡ true → has grown a ≡ false → getD reach i 0 ≡ getD writes i 0
+
+pub growing-start : (reads writes reach : List ℕ) → Growing reads writes reach 0 0
+growing-start reads writes reach = record { place = omega arith; same = λ i a l p q. absurd (omega arith) }
+
+pub growing-take : (reads writes reach : List ℕ) (grown s : ℕ) → Growing reads writes reach grown s → s < length reads → Growing reads writes reach (bitOr grown (getD reads s 0)) (s + 1)
+growing-take reads writes reach grown s g h = record { place = omega arith; same = λ i a l p q. by i a l p q (ℕ-discrete i s) }
+  where
+    by : (i a : ℕ) → i < s + 1 → has (getD reads i 0) a ≡ true → has (bitOr grown (getD reads s 0)) a ≡ false → Dec (i ≡ s) → getD reach i 0 ≡ getD writes i 0
+    by i a l p q (yes e) = clash (or-1 (has grown a) (has (getD reads s 0) a) (rw e at p)) (sym (has-or grown (getD reads s 0) a) ∙ q)
+    by i a l p q (no e) =
+        g .same i a (omega arith) p
+        (refuted (has grown a) (λ h. clash (or-0 (has grown a) (has (getD reads s 0) a) h) (sym (has-or grown (getD reads s 0) a) ∙ q)))
+
+pub growing-skip : (reads writes reach : List ℕ) (grown s : ℕ) → Growing reads writes reach grown s → s < length reads → getD writes s 0 ≡ getD reach s 0 → Growing reads writes reach grown (s + 1)
+growing-skip reads writes reach grown s g h t =
+    record { place = omega arith; same = λ i a l p q. by i a l p q (ℕ-discrete i s) }
+  where
+    by : (i a : ℕ) → i < s + 1 → has (getD reads i 0) a ≡ true → has grown a ≡ false → Dec (i ≡ s) → getD reach i 0 ≡ getD writes i 0
+    by i a l p q (yes e) = rw e (sym t)
+    by i a l p q (no e) = g .same i a (omega arith) p q
+
+pub growing-end : (reads writes reach : List ℕ) (grown s : ℕ) → Growing reads writes reach grown s → length reads ≤ s → Grown reads writes reach grown
+growing-end reads writes reach grown s g h = record { same = λ i a l p q. g .same i a (omega arith) p q }
+
+-- from any other object no flow is missing
+flow-known : (reads writes reach : List ℕ) (n grown a b : ℕ) → Closed reads writes n reach → Grown reads writes reach grown → has grown a ≡ false
+    → granted reads reach a b ≡ true → granted reads writes a b ≡ true
+unfolding granted
+flow-known reads writes reach n grown a b c g t h = on (or-cases (eqb a b) h)
+  where
+    on : (eqb a b ≡ true) ⊎ (subjectCarries reads reach a b ≡ true) → (eqb a b || subjectCarries reads writes a b) ≡ true
+    on (inl e) = or-0 (eqb a b) (subjectCarries reads writes a b) e
+    on (inr q) =
+        let z = carried reads reach a b (c .long) q in
+        let e : getD reach (z .0) 0 ≡ getD writes (z .0) 0 = g .same (z .0) a (z .1) (z .2) t in
+        let w : has (getD writes (z .0) 0) b ≡ true = sym (ap (λ (x : ℕ). has x b) e) ∙ z .3 in
+        or-1 (eqb a b) (subjectCarries reads writes a b) (carries reads writes (z .0) a b (z .1) (c .even) (z .2) w)
+
+pub nothing-missing : (reads writes reach : List ℕ) (n grown a : ℕ) → Closed reads writes n reach → Grown reads writes reach grown → a < n → (grown / 2 ^ a % 2 ≡ 1 → ⊥)
+    → (b : ℕ) → has 0 b ≡ ungranted reads writes n a b
+unfolding ungranted
+nothing-missing reads writes reach n grown a c g l t b =
+    has-zero b ∙ sym (ap (λ (x : Bool). x && not (granted reads writes a b)) (sym (c .flows a b l)) ∙ by (granted reads reach a b) refl)
+  where
+    by : (x : Bool) → granted reads reach a b ≡ x → (x && not (granted reads writes a b)) ≡ false
+    by false e = refl
+    by true e = ap not (flow-known reads writes reach n grown a b c g (has-not grown a t) e)
 
 -- ---- counting: the sources before a are done
 
@@ -104,6 +166,13 @@ counting-next reads writes closure n count a row c k l p e =
           ∙ sym (sum-next (λ i. countBelow (ungranted reads writes n i) n) a)
           ∙ ap (sumBelow (λ i. countBelow (ungranted reads writes n i) n)) (sym (add-one a));
     }
+
+pub counting-skip : (reads writes reach : List ℕ) (n count a row : ℕ) → Closed reads writes n reach → Counting reads writes n count a → a < n → row ≡ 0
+    → ((b : ℕ) → has row b ≡ ungranted reads writes n a b) → Counting reads writes n count (a + 1)
+counting-skip reads writes reach n count a row c k l z e =
+    let o : ones row ≡ 0 = omega (arith, ones-le 0 row (omega arith)) in
+    let s : count + ones row ≡ count = omega arith in
+    rw s at (counting-next reads writes reach n count a row c k l (omega arith) e)
 
 pub counting-end : (reads writes : List ℕ) (n count a : ℕ) → Counting reads writes n count a → n ≤ a → count ≡ flowCount reads writes n
 unfolding flowCount
@@ -152,6 +221,14 @@ searching-next reads writes n a b found s h =
     let z : ungrantedFrom reads writes n a ≡ false = some-none (ungranted reads writes n a) n (λ j l. s .none j (omega arith)) in
     record { place = omega (arith, s .source); nothing = s .outer .nothing; none = below-more (λ i. ungrantedFrom reads writes n i ≡ false) a (s .outer .none) z }
 
+-- a row without any
+pub searching-skip : (reads writes : List ℕ) (n a row : ℕ) (found : Consistency) → Searching reads writes n a found → a < n → row ≡ 0
+    → ((b : ℕ) → has row b ≡ ungranted reads writes n a b) → Searching reads writes n (a + 1) found
+searching-skip reads writes n a row found s l z e =
+    searching-next reads writes n a n found
+    (record { source = l; outer = s; place = omega arith; none = λ j m. sym (e j) ∙ ap (λ (x : ℕ). has x j) z ∙ has-zero j })
+    (omega arith)
+
 pub searching-end : (reads writes : List ℕ) (n a count : ℕ) (found : Consistency) → Searching reads writes n a found → n ≤ a → found ≡ judgedBy count reads writes n
 unfolding judgedBy consistent
 searching-end reads writes n a count found s h =
@@ -170,40 +247,6 @@ searching-found reads writes n a b row count found s l e t =
     (rw (some-at (ungrantedFrom reads writes n) n a (s .source) v)
     (ap₂ (λ (i j : ℕ). Inconsistent count i j) x y))
 
--- ---- the closure of the granted flows
-
-module _ (reads writes rows : List ℕ) (n : ℕ) (good : matrixGood reads writes n ≡ true) where
-  -- the closure of the table of granted flows spells the composed flows
-  pub composes : (granting closure : List ℕ) → granting ≡ spelling (granted reads writes) n rows → closure ≡ spelling (within (bitAt granting) n) n granting
-      → closure ≡ spelling (composed reads writes n) n rows
-  unfolding composed
-  composes granting closure s t =
-      t
-      ∙ spelling-same (within (bitAt granting) n) (within (granted reads writes) n) n granting
-      (λ a b l m. within-same (bitAt granting) (granted reads writes) n objectLimit n a b (omega arith) (good-parts reads writes n good .few) l m
-      (λ a b l m. ap (λ (x : List ℕ). bitAt x a b) s ∙ spelling-bits (granted reads writes) n rows a b l m))
-      ∙ ap (spelling (within (granted reads writes) n) n) s
-      ∙ spelling-again (within (granted reads writes) n) n rows (granted reads writes)
-
-  -- what the functions that judge are given
-  pub closed : (closure : List ℕ) → n ≤ length rows → closure ≡ spelling (composed reads writes n) n rows → Closed reads writes n closure
-  unfolding composed
-  closed closure r t =
-      let p = good-parts reads writes n good in
-      record {
-        even = p .even;
-        few = p .few;
-        good = p .writesGood;
-        spelt = record { fit = spelling-fits (within (granted reads writes) n) n rows closure t r; bits = λ a b l. ap (λ (x : List ℕ). bitAt x a b) t ∙ by a b l (decLt b objectLimit) };
-      }
-    where
-      by : (a b : ℕ) → a < n → Dec (b < objectLimit) → bitAt (spelling (within (granted reads writes) n) n rows) a b ≡ within (granted reads writes) n a b
-      by a b l (yes m) = spelling-bits (within (granted reads writes) n) n rows a b l m
-      by a b l (no m) =
-          let g = good-parts reads writes n good in
-          spelling-above (within (granted reads writes) n) n rows a b l (omega arith)
-          ∙ sym (within-none (granted reads writes) n n a b (omega arith) l (λ i p. granted-beyond reads writes n i b (g .writesGood) p (omega (arith, g .few))))
-
 -- ---- the verdict
 
 module _ (reads writes : List ℕ) (n : ℕ) where
@@ -219,6 +262,10 @@ module _ (reads writes : List ℕ) (n : ℕ) where
       → v ≡ judgedBy count reads writes n → consistencyValues v ≡ matrixVerdict reads writes n
   unfolding matrixVerdict unlessRefused
   verdict-is count v g e f = ap consistencyValues (f ∙ ap (λ (k : ℕ). judgedBy k reads writes n) e) ∙ sym (rw (passed-all g))
+
+  pub judged-none : (count : ℕ) → count ≡ flowCount reads writes n → count ≡ 0 → Consistent ≡ judgedBy (flowCount reads writes n) reads writes n
+  unfolding judgedBy
+  judged-none count e z = sym (rw (count-consistent reads writes n .0 (sym e ∙ z)))
 
   pub verdict-refused : matrixGood reads writes n ≡ false → matrixVerdict reads writes n ≡ consistencyValues Refused
   unfolding matrixVerdict unlessRefused

@@ -13,11 +13,11 @@ use Rattle.lists.proofs.Bools.{same-test}
 use Rattle.rules.specs.Rules.{covers}
 use Rattle.derivation.specs.Derived.{permitOf}
 use Rattle.matrix.specs.Flows.{has, subjectCarries, granted, within, composed, matrixGood}
-use Rattle.matrix.specs.Rows.{bitAt, bitsOf, spelling, Closed}
+use Rattle.matrix.specs.Rows.{bitAt, bitsOf, spelling}
 use Rattle.matrix.proofs.RowBits.{has-ext, bits-has, bits-above}
-use Rattle.matrix.proofs.PathTest.{within-none}
 use Rattle.matrix.proofs.GoodLaws.{Good, good-parts, parts-good}
-use Rattle.matrix.proofs.VerdictLoops.{granted-beyond, closed}
+use Rattle.matrix.proofs.RowLoops.{spelling-fits}
+use Rattle.matrix.proofs.PathFlows.{composed-beyond, composed-bits}
 use Rattle.silence.specs.Silent.{sourcesOf, quietObject}
 use Rattle.silence.specs.Tables.{SourceTable}
 
@@ -60,26 +60,21 @@ module _ (reads writes : List ℕ) (n : ℕ) (good : matrixGood reads writes n �
   exchanged-good =
       parts-good writes reads n (g .even) (omega (arith, g .even, g .someSubjects)) (omega (arith, g .even, g .subjects)) (g .some) (g .few) (g .writesGood) (g .readsGood)
 
-  -- no object beyond the others is a source
-  beyond : (k b : ℕ) → b < n → n ≤ k → composed writes reads n b k ≡ false
-  unfolding composed
-  beyond k b l m = within-none (granted writes reads) n n b k (omega arith) l (λ i p. granted-beyond writes reads n i k (g .readsGood) p m)
-
   -- what `compose` leaves, of the exchanged rows
   pub source-table : (rows table : List ℕ) → n ≤ length rows → table ≡ spelling (composed writes reads n) n rows → SourceTable reads writes n table
   source-table rows table r t = record {
     even = g .even;
     few = g .few;
-    fit = c .spelt .fit;
-    sources = λ b l. unfold sourcesOf in (has-ext (getD table b 0) (bitsOf (λ a. composed reads writes n a b) n) (λ k. unfold bitAt in (c .spelt .bits b k l) ∙ at b l k (decLt k n)));
+    fit = spelling-fits (composed writes reads n) n rows table t r;
+    sources = λ b l. unfold sourcesOf in (has-ext (getD table b 0) (bitsOf (λ a. composed reads writes n a b) n) (λ k. unfold bitAt in (bits b k l) ∙ at b l k (decLt k n)));
   }
     where
-      c : Closed writes reads n table
-      c = closed writes reads rows n exchanged-good table r t
+      bits : (b k : ℕ) → b < n → bitAt table b k ≡ composed writes reads n b k
+      bits b k l = composed-bits writes reads rows table n (good-parts writes reads n exchanged-good) t b k l
 
       at : (b : ℕ) → b < n → (k : ℕ) → Dec (k < n) → composed writes reads n b k ≡ has (bitsOf (λ a. composed reads writes n a b) n) k
       at b l k (yes m) = composed-back reads writes n k b ∙ sym (bits-has (λ a. composed reads writes n a b) n k m)
-      at b l k (no m) = beyond k b l (omega arith) ∙ sym (bits-above (λ a. composed reads writes n a b) n k (omega arith))
+      at b l k (no m) = composed-beyond writes reads n b k (g .readsGood) l (omega arith) ∙ sym (bits-above (λ a. composed reads writes n a b) n k (omega arith))
 
 -- an object by its row of the table
 pub quiet-is : (reads writes : List ℕ) (n : ℕ) (table : List ℕ) → SourceTable reads writes n table → (b : ℕ) → b < n

@@ -16,7 +16,7 @@ use Rattle.matrix.specs.Verdicts.{consistent}
 use Rattle.matrix.specs.Rows.{bitAt, spelling}
 use Rattle.matrix.proofs.RowBits.{one-bit, has-without}
 use Rattle.matrix.proofs.RowLoops.{spelling-fits, spelling-bits, spelling-above}
-use Rattle.matrix.proofs.VerdictLoops.{granted-beyond}
+use Rattle.matrix.proofs.PathFlows.{granted-beyond}
 use Rattle.withdrawals.specs.Judgements.{withdrawn, withRight, readNeeded, writeNeeded, subjectNeeded}
 use Rattle.withdrawals.specs.Returns.{FlowTable, tableClosed, withFlows, staysClosed, lossNeeded, objectNeeded, lossesNeeded, Proposed, Judging}
 use Rattle.lists.proofs.Below.{all-same}

@@ -1,32 +1,39 @@
--- The invariant: the rows before a have taken in row k.
+-- The invariant: the rows before s have taken in row k.
 use borrow.Author.Needs.{needs}
 use Prim.Native.Nat.{_-_}
+use lib.ListN.{getD}
+use native.Mathlib.Omega.{arith}
+use Rattle.matrix.specs.Limits.{subjectLimit}
 use Rattle.matrix.proofs.RowLoops.{Stored, JoinedAt, stored-start, joined-next, joined-end}
 use Rattle.matrix.proofs.pass_through.Statement.{statement}
 use Rattle.matrix.proofs.pass_through.Tie as tie
 
 abbrev Inv-loop : tie.InvT-loop
-Inv-loop rows₀ n k other a₀ rows a = Stored (JoinedAt rows₀ k) n rows₀ rows a
+Inv-loop reach₀ read k other s₀ reach s = Stored (JoinedAt read (getD reach₀ k 0) reach₀) subjectLimit reach₀ reach s
 
 abbrev μ-loop : tie.MeasureT-loop
-μ-loop rows₀ n k other a₀ rows a = n - a
+μ-loop reach₀ read k other s₀ reach s = subjectLimit - s
 
 loop-holds : tie.Need-loop-holds Inv-loop μ-loop
-loop-holds c = let p = c .before .before in stored-start (JoinedAt (p .args .rows .now) (p .args .k)) _ _ (p .pre .1)
+loop-holds c =
+    let p = c .before .before in
+    stored-start (JoinedAt (p .args .read) (getD (p .args .reach .now) (p .args .k) 0) (p .args .reach .now)) _ _ (omega (arith, p .pre .0))
 
 loop-again : tie.Need-loop-again Inv-loop μ-loop
 loop-again c =
-    let b = c .before .before in
-    let l = b .before .loop in
-    joined-next _ (b .before .before .before .before .args .rows .now) _ _ _ _ (l .inv) (b .loop-test .taken) (c .«joined-at» .ensures)
+    let p = c .before .before .before .before .before .before in
+    joined-next _ (p .args .k) _ (p .args .reach .now) _ _ _ (c .before .before .before .loop .inv) (c .before .before .loop-test .taken) (c .joined-through .ensures)
+
+same-length : tie.Need-same-length Inv-loop μ-loop
+same-length c = c .before .loop .inv .long
 
 returns : tie.Need-returns Inv-loop μ-loop
-returns c = joined-end _ _ _ _ _ (c .before .loop .inv) (c .loop-test .left)
+returns c =
+    let p = c .before .before .before .before in
+    joined-end _ (p .args .k) _ (p .args .reach .now) _ _ _ (c .before .loop .inv) (c .loop-test .left)
 
 pub pass-through-spec : {M : Type 1} → statement M
-pass-through-spec =
-    tie.close
-    (tie.spec
+pass-through-spec = tie.close (tie.spec
     Inv-loop
     μ-loop
     (λ c. search needs)
@@ -40,5 +47,5 @@ pass-through-spec =
     (λ c. search needs)
     (λ c. search needs)
     loop-again
-    (λ c. search needs)
+    same-length
     returns)
