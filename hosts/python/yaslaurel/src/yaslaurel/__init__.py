@@ -17,7 +17,7 @@ from . import matrix
 from ._native import lib as _lib
 from .answers import ALERT, BLOCKED, NO_USER, QUIET, Answer, Code, Event, Ran, record
 from .buffers import RECORD_LENGTH, Buffer
-from .errors import Busy, ForeignNames, Gap, ProgramFailed, Refused, SnapshotMismatch, UnknownName, YaslaurelError
+from .errors import Busy, ForeignNames, Gap, ProgramFailed, Refused, SnapshotMismatch, UnknownAnswer, UnknownName, YaslaurelError
 from .explanations import Chain, Origin, Reason, explain, trim, why
 from .figures import Figures
 from .names import Names, atoms
@@ -38,6 +38,6 @@ if library_version() != __version__:
 
 __all__ = [
     "ALERT", "BLOCKED", "NO_USER", "QUIET", "RECORD_LENGTH", "Answer", "Buffer", "Busy", "Chain", "Code", "Event", "Figures", "ForeignNames", "Gap",
-    "Names", "Origin", "Policy", "ProgramFailed", "Ran", "Reason", "Refused", "Session", "SnapshotMismatch", "UnknownName", "YaslaurelError",
+    "Names", "Origin", "Policy", "ProgramFailed", "Ran", "Reason", "Refused", "Session", "SnapshotMismatch", "UnknownAnswer", "UnknownName", "YaslaurelError",
     "__version__", "atoms", "explain", "library_version", "matrix", "record", "trim", "why",
 ]

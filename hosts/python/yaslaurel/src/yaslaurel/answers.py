@@ -4,10 +4,8 @@ from __future__ import annotations
 
 from dataclasses import dataclass
 from enum import IntEnum
-from typing import NamedTuple
-
 from ._native import ffi, lib
-from .errors import Refused
+from .errors import REFUSALS, Refused, UnknownAnswer
 
 QUIET: int = lib.YASLAUREL_QUIET
 ALERT: int = lib.YASLAUREL_ALERT
@@ -96,7 +94,8 @@ class Event(_Judged):
     position: int | None
 
 
-class Ran(NamedTuple):
+@dataclass(frozen=True)
+class Ran:
     """Records up to the first that is not quiet: how many were judged, and that one, None if all were quiet."""
 
     taken: int
@@ -105,6 +104,8 @@ class Ran(NamedTuple):
 
 def told(answer: int, receiver: int, tag: int, position: int) -> tuple[int, int | None, int, int | None]:
     """The fields of an answer from the numbers of the library."""
-    if answer not in (QUIET, ALERT, BLOCKED):
+    if answer in REFUSALS:
         return answer, None, 0, None
+    if answer not in (QUIET, ALERT, BLOCKED):
+        raise UnknownAnswer(answer)
     return answer, receiver, tag, position if position != NO_POSITION else None

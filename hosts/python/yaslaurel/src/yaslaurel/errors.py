@@ -5,6 +5,10 @@ from __future__ import annotations
 from ._native import ffi, lib
 
 
+# The numbers of refusals that the header names.
+REFUSALS = frozenset(int(getattr(lib, name)) for name in dir(lib) if name.startswith("YASLAUREL_REFUSED_"))
+
+
 def meaning(refusal: int) -> str:
     """The header's words for a refusal."""
     return str(ffi.string(lib.yaslaurel_meaning(refusal)).decode())
@@ -37,6 +41,28 @@ class Refused(YaslaurelError, ValueError):
 
     def __str__(self) -> str:
         return f"refused with {self.number}: {self.meaning}"
+
+
+class UnknownAnswer(YaslaurelError, RuntimeError):
+    """The library has answered a number that its header does not list."""
+
+    def __init__(self, number: int) -> None:
+        super().__init__(number)
+        self.number = number
+
+    def __str__(self) -> str:
+        return f"unknown answer {self.number}"
+
+
+def refusal(number: int) -> Refused | UnknownAnswer:
+    """The error for an answer that should be a refusal."""
+    return Refused(number) if number in REFUSALS else UnknownAnswer(number)
+
+
+def accepted(answer: int) -> None:
+    """Raises what a call answered, unless it is 0."""
+    if answer != lib.YASLAUREL_ACCEPTED:
+        raise refusal(answer)
 
 
 class Gap(YaslaurelError, ValueError):

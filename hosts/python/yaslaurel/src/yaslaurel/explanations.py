@@ -8,7 +8,7 @@ from typing import Any
 
 from ._native import ffi, lib
 from .buffers import Buffer, address, lend
-from .errors import Refused
+from .errors import accepted
 from .policy import Policy
 
 WHY_LENGTH: int = lib.YASLAUREL_WHY_LENGTH
@@ -52,25 +52,27 @@ class Reason:
 
 def trim(policy: Policy, trace: Buffer) -> tuple[int, ...]:
     """The places of the few records of a trace that lead to the alert at its end. Up to 256 records, all accepted; else `Refused` with 22."""
-    image, lent = lend(policy.image), lend(trace)
-    positions, kept = ffi.new("uint8_t[]", lib.YASLAUREL_TRIM_LIMIT), ffi.new("size_t *")
-    _accepted(lib.yaslaurel_trace_trim(image, len(image), address(lent), len(lent), positions, len(positions), kept))
+    image, positions, kept = policy.image, ffi.new("uint8_t[]", lib.YASLAUREL_TRIM_LIMIT), ffi.new("size_t *")
+    with lend(trace) as lent:
+        accepted(lib.yaslaurel_trace_trim(image, len(image), address(lent), len(lent), positions, len(positions), kept))
     return tuple(ffi.buffer(positions, kept[0])[:])
 
 
 def explain(policy: Policy, trace: Buffer, container: int, atom: int) -> Chain | None:
     """How an atom came into a container by the end of a trace: the first chain, None if the container does not hold the atom."""
-    image, lent, (links, steps) = lend(policy.image), lend(trace), _room(len(lend(trace)))
-    file, first = ffi.new("uint64_t *"), ffi.new("uint64_t *")
-    _accepted(lib.yaslaurel_explain(image, len(image), address(lent), len(lent), container, atom, links, len(links), steps, len(steps), file, first))
+    image, file, first = policy.image, ffi.new("uint64_t *"), ffi.new("uint64_t *")
+    with lend(trace) as lent:
+        links, steps = _room(len(lent))
+        accepted(lib.yaslaurel_explain(image, len(image), address(lent), len(lent), container, atom, links, len(links), steps, len(steps), file, first))
     return None if file[0] == lib.YASLAUREL_NO_CHAIN else Chain(file[0], tuple(steps[first[0] : len(steps)]))
 
 
 def why(policy: Policy, trace: Buffer) -> Reason:
     """Why the last record of a trace is answered alert or blocked; `Refused` with 25 if it is neither."""
-    image, lent, (links, steps) = lend(policy.image), lend(trace), _room(len(lend(trace)))
-    numbers = ffi.new("uint64_t[]", WHY_LENGTH)
-    _accepted(lib.yaslaurel_why(image, len(image), address(lent), len(lent), links, len(links), steps, len(steps), numbers, WHY_LENGTH))
+    image, numbers = policy.image, ffi.new("uint64_t[]", WHY_LENGTH)
+    with lend(trace) as lent:
+        links, steps = _room(len(lent))
+        accepted(lib.yaslaurel_why(image, len(image), address(lent), len(lent), links, len(links), steps, len(steps), numbers, WHY_LENGTH))
     origin, owner = Origin(numbers[lib.YASLAUREL_WHY_ORIGIN_AT]), numbers[lib.YASLAUREL_WHY_OWNER_AT]
     lacked = lib.YASLAUREL_WHY_LACKED_AT
     return Reason(
@@ -84,11 +86,6 @@ def why(policy: Policy, trace: Buffer) -> Reason:
         lacked=tuple(numbers[lacked : lacked + numbers[lib.YASLAUREL_WHY_MIXTURES_AT]]),
         chain=tuple(steps[numbers[lib.YASLAUREL_WHY_FIRST_AT] : len(steps)]),
     )
-
-
-def _accepted(answer: int) -> None:
-    if answer != lib.YASLAUREL_ACCEPTED:
-        raise Refused(answer)
 
 
 def _room(length: int) -> tuple[Any, Any]:

@@ -8,7 +8,7 @@ from typing import TYPE_CHECKING, Any, Callable, Mapping
 
 from ._native import ffi, lib
 from .buffers import Buffer, address, lend
-from .errors import Refused
+from .errors import accepted
 
 if TYPE_CHECKING:
     from .policy import Policy
@@ -52,19 +52,18 @@ class Figures:
         """The figures of a whole trace in a new session, as the month program has them: a last record that is short counts as refused."""
         from .session import started
 
-        lent, numbers = lend(trace), started(policy)
-        return cls.filled(lambda words: int(lib.yaslaurel_figures(numbers, lib.YASLAUREL_SESSION_LENGTH, address(lent), len(lent), words, LENGTH)))
+        numbers = started(policy)
+        with lend(trace) as lent:
+            return cls.filled(lambda words: int(lib.yaslaurel_figures(numbers, lib.YASLAUREL_SESSION_LENGTH, address(lent), len(lent), words, LENGTH)))
 
     @classmethod
     def filled(cls, fill: Callable[[Any], int], words: Any = None) -> Figures:
         """The figures that a call of the library leaves in its numbers."""
         words = words if words is not None else ffi.new("uint64_t[]", LENGTH)
-        answer = fill(words)
-        if answer != lib.YASLAUREL_ACCEPTED:
-            raise Refused(answer)
+        accepted(fill(words))
         numbers = ffi.unpack(words, LENGTH)
-        records, accepted, alerts, refused, blocked = numbers[:CONTAINERS_AT]
-        return cls(records, accepted, alerts, refused, blocked, dict(enumerate(numbers[CONTAINERS_AT:])))
+        records, accepted_ones, alerts, refused, blocked = numbers[:CONTAINERS_AT]
+        return cls(records, accepted_ones, alerts, refused, blocked, dict(enumerate(numbers[CONTAINERS_AT:])))
 
     def _words(self) -> Any:
         """The figures as the library's numbers."""

@@ -7,7 +7,7 @@ from enum import IntEnum
 from typing import Any, NamedTuple, Sequence
 
 from ._native import ffi, lib
-from .errors import Refused
+from .errors import refusal
 from .policy import Policy, rows
 
 
@@ -58,7 +58,7 @@ def verdict(reads: Sequence[int], writes: Sequence[int], objects: int) -> Verdic
     cells = ffi.new("uint32_t[3]")
     answer = lib.yaslaurel_matrix_verdict(*_lent(Matrix(reads, writes, objects)), cells, cells + 1, cells + 2)
     if answer not in (lib.YASLAUREL_CONSISTENT, lib.YASLAUREL_NOT_CONSISTENT):
-        raise Refused(answer)
+        raise refusal(answer)
     return Verdict(answer == lib.YASLAUREL_CONSISTENT, *cells)
 
 
@@ -66,7 +66,7 @@ def silent(reads: Sequence[int], writes: Sequence[int], objects: int) -> bool:
     """Whether no session of accesses that the matrix allows raises an alert."""
     answer = lib.yaslaurel_matrix_silent(*_lent(Matrix(reads, writes, objects)))
     if answer not in (lib.YASLAUREL_SILENT, lib.YASLAUREL_NOT_SILENT):
-        raise Refused(answer)
+        raise refusal(answer)
     return bool(answer == lib.YASLAUREL_SILENT)
 
 
@@ -79,7 +79,7 @@ def game(matrix: Matrix, source: int, target: int, rounds: int, withdrawals: int
     cells = ffi.new("uint32_t[3]")
     answer = lib.yaslaurel_matrix_game(*_lent(matrix), source, target, rounds, withdrawals, cells, cells + 1, cells + 2)
     if answer not in (lib.YASLAUREL_DESK, lib.YASLAUREL_GUARD):
-        raise Refused(answer)
+        raise refusal(answer)
     return Outcome(answer == lib.YASLAUREL_DESK, *cells)
 
 
@@ -90,8 +90,8 @@ def judge(old: Matrix, required: Matrix, proposed: Matrix) -> Judgement:
     <Judgement.ACCEPTED: 0>
     """
     answer = lib.yaslaurel_matrix_judge(*_lent(old), *_lent(required), *_lent(proposed))
-    if answer == lib.YASLAUREL_REFUSED_MATRIX:
-        raise Refused(answer)
+    if answer not in tuple(Judgement):
+        raise refusal(answer)
     return Judgement(answer)
 
 

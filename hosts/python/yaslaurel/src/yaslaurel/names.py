@@ -23,7 +23,9 @@ def atoms(tag: int) -> list[int]:
 
 
 def lines(path: Path) -> list[str]:
-    return path.read_text(encoding="utf-8").splitlines()
+    """The lines of a file that ends each with byte 10."""
+    text = path.read_bytes().decode()
+    return text.removesuffix("\n").split("\n") if text else []
 
 
 @dataclass(frozen=True)

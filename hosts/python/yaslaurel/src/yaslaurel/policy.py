@@ -13,7 +13,7 @@ from typing import Any, Iterable, Sequence, Union
 
 from ._native import ffi, lib
 from .buffers import Buffer, address, lend
-from .errors import ForeignNames, ProgramFailed, Refused
+from .errors import ForeignNames, ProgramFailed, accepted, refusal
 from .names import DIGESTS, NO_NAMES, Names, lines
 
 OUTPUT_LENGTH: int = lib.YASLAUREL_OUTPUT_LENGTH
@@ -24,7 +24,7 @@ ROW_LIMIT = 2**32
 def written(length: int, out: Any) -> bytes:
     """The image that a call has written, by the length that it returned; a smaller number is its refusal."""
     if length < lib.YASLAUREL_HEADER_LENGTH:
-        raise Refused(length)
+        raise refusal(length)
     return bytes(ffi.buffer(out, length))
 
 
@@ -68,16 +68,15 @@ class Policy:
     @staticmethod
     def check(image: Buffer) -> None:
         """Raises `Refused` if an image is not accepted."""
-        lent = lend(image)
-        answer = lib.yaslaurel_image_check(address(lent), len(lent))
-        if answer != lib.YASLAUREL_ACCEPTED:
-            raise Refused(answer)
+        with lend(image) as lent:
+            accepted(lib.yaslaurel_image_check(address(lent), len(lent)))
 
     @staticmethod
     def normal(image: Buffer) -> bytes:
         """The normal image of an image."""
-        lent, out = lend(image), ffi.new("uint8_t[]", OUTPUT_LENGTH)
-        return written(lib.yaslaurel_image_normalise(address(lent), len(lent), out, OUTPUT_LENGTH), out)
+        out = ffi.new("uint8_t[]", OUTPUT_LENGTH)
+        with lend(image) as lent:
+            return written(lib.yaslaurel_image_normalise(address(lent), len(lent), out, OUTPUT_LENGTH), out)
 
     @classmethod
     def from_profiles(cls, text: str | bytes) -> Policy:
@@ -88,8 +87,8 @@ class Policy:
         2
         """
         encoded = text.encode() if isinstance(text, str) else text
-        lent, out = lend(encoded), ffi.new("uint8_t[]", OUTPUT_LENGTH)
-        image = written(lib.yaslaurel_profiles_policy(address(lent), len(lent), out, OUTPUT_LENGTH), out)
+        out = ffi.new("uint8_t[]", OUTPUT_LENGTH)
+        image = written(lib.yaslaurel_profiles_policy(encoded, len(encoded), out, OUTPUT_LENGTH), out)
         words = (line.split(" ") for line in encoded.decode("ascii").splitlines() if line != "}")
         paths = tuple(dict.fromkeys(word[1] if word[0] == "profile" else word[0] for word in words))
         return cls(image, Names(paths, tuple(enumerate(paths)), ()))
@@ -106,14 +105,19 @@ class Policy:
         program is the one that is named, else `policy` on the path, else `yaslaurel policy`. Its steps are left out. Raises `ProgramFailed`."""
         name, text = ("-", story) if isinstance(story, str) else (os.fspath(story), "")
         with tempfile.TemporaryDirectory() as folder:
-            _run([*_policy_program(program), "make", name, "-o", folder], text)
-            return cls.from_file(Path(folder, "policy.bin"), folder)
+            command = _policy_program(program)
+            _run([*command, "make", name, "-o", folder], text)
+            made = Path(folder, "policy.bin")
+            if not made.exists():
+                raise ProgramFailed(command[0], 0, "it has made no policy")
+            return cls.from_file(made, folder)
 
     @classmethod
     def from_file(cls, image: Union[str, os.PathLike[str]], names: Union[str, os.PathLike[str], None] = None) -> Policy:
         """The policy in a file. Its names are those of the folder `names`, else those beside the image if they are of it. `policy.sha256` of
         a folder says which images its names are of: names of another image raise `ForeignNames`, and a folder without it gives a warning."""
-        data = Path(image).read_bytes()
+        with open(image, "rb") as file:
+            data = file.read(lib.YASLAUREL_IMAGE_LIMIT + 1)
         folder = Path(image).parent if names is None else Path(names)
         if not (folder / DIGESTS).exists():
             if names is None:
@@ -129,11 +133,9 @@ class Policy:
         """What both policies permit together, with this one's names. `consent` has the sources whose owners consent, by number or name, or is
         the library's 32 bytes of 0 and 1."""
         given = consent if isinstance(consent, bytes) else self._consent(consent)
-        one, two, lent = lend(self.image), lend(other.image), lend(given)
+        one, two = self.image, other.image
         out, length = ffi.new("uint8_t[]", OUTPUT_LENGTH), ffi.new("size_t *")
-        answer = lib.yaslaurel_image_compose(one, len(one), two, len(two), address(lent), len(lent), out, OUTPUT_LENGTH, length)
-        if answer != lib.YASLAUREL_ACCEPTED:
-            raise Refused(answer)
+        accepted(lib.yaslaurel_image_compose(one, len(one), two, len(two), given, len(given), out, OUTPUT_LENGTH, length))
         return Policy(written(length[0], out), self._names)
 
     def _consent(self, sources: Iterable[Union[int, str]]) -> bytes:

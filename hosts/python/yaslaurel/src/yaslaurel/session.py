@@ -11,7 +11,7 @@ from typing import TYPE_CHECKING, Any, Callable, TypeVar
 from ._native import ffi, lib
 from .answers import Answer, Event, Ran, told
 from .buffers import RECORD_LENGTH, Buffer, address, allocate, lend, lend_records
-from .errors import Busy, Gap, Refused, SnapshotMismatch
+from .errors import Busy, Gap, SnapshotMismatch, accepted, refusal
 from .figures import LENGTH, Figures
 from .policy import Policy
 
@@ -38,15 +38,10 @@ EDITION = (int(lib.YASLAUREL_VERSION_MAJOR), int(lib.YASLAUREL_VERSION_MINOR))
 DIGEST_LENGTH = 32
 
 
-def accepted(answer: int) -> None:
-    if answer != lib.YASLAUREL_ACCEPTED:
-        raise Refused(answer)
-
-
 def started(policy: Policy) -> Any:
     """The numbers of a new session, and behind them the count."""
-    numbers, image = ffi.new("uint64_t[]", SESSION_LENGTH + 1), lend(policy.image)
-    accepted(lib.yaslaurel_session_start(image, len(image), numbers, SESSION_LENGTH))
+    numbers = ffi.new("uint64_t[]", SESSION_LENGTH + 1)
+    accepted(lib.yaslaurel_session_start(policy.image, len(policy.image), numbers, SESSION_LENGTH))
     return numbers
 
 
@@ -105,41 +100,35 @@ class Session:
 
     def step(self, record: Buffer) -> Answer:
         """Judges one record. One that is not 8 bytes is refused with 7."""
-        lent = lend(record)
         with self._turn:
+            lent = record if isinstance(record, bytes) else lend(record)
             answered = self._answered
             answer = lib.counted_step(self._numbers, lent, len(lent), answered)
             return Answer(*told(answer, answered[0], answered[1], answered[2]))
 
     def run(self, records: Buffer) -> Ran:
         """Judges records up to and with the first that is not quiet, or to the end."""
-        lent = lend_records(records)
         taken, cells, position = ffi.new("size_t *"), ffi.new("uint64_t[2]"), ffi.new("uint32_t *")
 
-        def judged(numbers: Any) -> Ran:
+        def judged(numbers: Any, lent: Any) -> Ran:
             first = numbers[SESSION_LENGTH]
             answer = lib.yaslaurel_run(numbers, SESSION_LENGTH, address(lent), len(lent), taken, cells, cells + 1, position)
             if answer == lib.YASLAUREL_REFUSED_LENT_LENGTH:
-                raise Refused(answer)
+                raise refusal(answer)
             numbers[SESSION_LENGTH] += taken[0]
             event = Event(first + taken[0] - 1, *told(answer, cells[0], cells[1], position[0])) if answer != lib.YASLAUREL_QUIET else None
             return Ran(taken[0], event)
 
-        with self._turn:
-            return self._kept(judged)
+        return self._kept(records, judged)
 
     def events(self, records: Buffer) -> list[Event]:
         """Judges records to the end, and gives those that were not quiet."""
-        lent = lend_records(records)
-        with self._turn:
-            return self._kept(lambda numbers: _events(_judged(numbers, lent, 0)))
+        return self._kept(records, lambda numbers, lent: _events(_judged(numbers, lent, 0)))
 
     def raw_events(self, records: Buffer) -> memoryview:
         """As `events`, without an object for each: five numbers of 64 bits for each event, place, answer, receiver, tag and position, as the
         library has them (0 for the last three of a refusal, position 255 for none)."""
-        lent = lend_records(records)
-        with self._turn:
-            return self._kept(lambda numbers: memoryview(_judged(numbers, lent, 0)).cast("Q"))
+        return self._kept(records, lambda numbers, lent: memoryview(_judged(numbers, lent, 0)).cast("Q"))
 
     def event_array(self, records: Buffer) -> numpy.ndarray[Any, numpy.dtype[numpy.uint64]]:
         """As `raw_events`, as an array of numpy with a row for each event and five columns."""
@@ -149,27 +138,27 @@ class Session:
 
     def figures(self, records: Buffer) -> Figures:
         """Judges records to the end, and gives their figures."""
-        lent = lend_records(records)
 
-        def judged(numbers: Any) -> Figures:
+        def judged(numbers: Any, lent: Any) -> Figures:
             figures = Figures.filled(lambda words: int(lib.yaslaurel_figures(numbers, SESSION_LENGTH, address(lent), len(lent), words, LENGTH)))
             numbers[SESSION_LENGTH] += len(lent) // RECORD_LENGTH
             return figures
 
-        with self._turn:
-            return self._kept(judged)
+        return self._kept(records, judged)
 
     def feed(self, first: int, records: Buffer) -> list[Event]:
         """Judges records of which the first is the host's number `first`, counted from 0. What was taken before is passed over, so a message may
         come twice; records that are missing in front raise `Gap`."""
-        lent = lend_records(records)
         if first < 0:
             raise ValueError(f"a record has no number {first}")
-        with self._turn:
-            due = self.taken
+
+        def judged(numbers: Any, lent: Any) -> list[Event]:
+            due = numbers[SESSION_LENGTH]
             if first > due:
                 raise Gap(first, due)
-            return self._kept(lambda numbers: _events(_judged(numbers, lent, RECORD_LENGTH * (due - first))))
+            return _events(_judged(numbers, lent, RECORD_LENGTH * (due - first)))
+
+        return self._kept(records, judged)
 
     def copy(self) -> Session:
         """Another session in the same state, with the same count."""
@@ -193,7 +182,8 @@ class Session:
     @classmethod
     def restore(cls, policy: Policy, snapshot: Buffer) -> Session:
         """The session of a snapshot. Raises `SnapshotMismatch` if it is damaged, or of another format, version of the library or policy."""
-        data = bytes(ffi.buffer(lend(snapshot)))
+        with lend(snapshot) as lent:
+            data = bytes(ffi.buffer(lent))
         if not data.startswith(MARK) or len(data) < HEAD.size + DIGEST_LENGTH:
             raise SnapshotMismatch("damaged")
         _, form, major, minor, digest, taken = HEAD.unpack_from(data)
@@ -218,12 +208,13 @@ class Session:
         ffi.memmove(numbers, self._numbers, COUNTED_BYTES)
         return numbers
 
-    def _kept(self, judge: Callable[[Any], Result]) -> Result:
+    def _kept(self, records: Buffer, judge: Callable[[Any, Any], Result]) -> Result:
         """What a batch gives that is judged on a copy of the numbers, which then takes their place: all of it is done or nothing."""
-        numbers = self._copied()
-        result = judge(numbers)
-        self._numbers = numbers
-        return result
+        with self._turn, lend_records(records) as lent:
+            numbers = self._copied()
+            result = judge(numbers, lent)
+            self._numbers = numbers
+            return result
 
 
 def _judged(numbers: Any, lent: Any, at: int) -> bytes:
