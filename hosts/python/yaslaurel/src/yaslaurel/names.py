@@ -56,6 +56,7 @@ class Names:
         raise UnknownName(f"no container is called {name!r}")
 
     def user(self, name: str) -> int:
+        """The number of a user."""
         return _place(self.users, name, "user")
 
     def source(self, name: str) -> int:
@@ -71,6 +72,7 @@ class Names:
         return [self.atom_name(atom) for atom in atoms(tag)]
 
     def atom_name(self, atom: int) -> str:
+        """The source of an atom, as `sources_in` has it."""
         data = atom % RUNNING
         name = self.sources[data] if data < len(self.sources) else str(data)
         return name + (" (running)" if atom >= RUNNING else "")
