@@ -63,7 +63,7 @@ class Figures:
         accepted(fill(words))
         numbers = ffi.unpack(words, LENGTH)
         records, accepted_ones, alerts, refused, blocked = numbers[:CONTAINERS_AT]
-        return cls(records, accepted_ones, alerts, refused, blocked, dict(enumerate(numbers[CONTAINERS_AT:])))
+        return cls(records, accepted_ones, alerts, refused, blocked, {number: count for number, count in enumerate(numbers[CONTAINERS_AT:]) if count})
 
     def _words(self) -> Any:
         """The figures as the library's numbers."""
