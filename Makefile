@@ -10,7 +10,7 @@
 #   make profiles-demo     turns the profiles in demo/profiles into a policy, and explains the alerts of a session from it
 #   make vendor-demo       composes a vendor's policy with a house's, one source consenting
 #
-# Embed it (makers of platforms, in C or Rust)
+# Embed it (makers of platforms, in C, Rust or Python)
 #   make lib               proves and builds target/lib: libyaslaurel.a, header, pkg-config file, FORMATS.md, manual pages
 #   make install           these where a distribution has them, with the Rust crate and an example host: PREFIX=/usr/local,
 #                          LIBDIR=PREFIX/lib, staged under DESTDIR
@@ -19,6 +19,7 @@
 #   make dist              the release in target/dist, for makers without the prover: a tarball with libraries, programs, manual,
 #                          documents and examples, and its SHA256SUMS
 #   make deb               the same as Debian's packages
+#   make python            the Python package (docs/PYTHON.md), as source distribution and wheel in target/python, and prints where
 #
 # Change it (contributors)
 #   make setup             installs what is missing by apt, as root: tools/needed.txt lists it
@@ -31,7 +32,7 @@
 #   make generated         the tables and pictures that documents have from the sources
 
 .DEFAULT_GOAL = help
-.PHONY: help try demo month policy record command night profiles-demo vendor-demo lib install install-programs uninstall dist deb setup test soak bench covering mutants generated
+.PHONY: help try demo month policy record command night profiles-demo vendor-demo lib install install-programs uninstall dist deb python setup test soak bench covering mutants generated
 
 PREFIX = /usr/local
 BINDIR = $(PREFIX)/bin
@@ -127,6 +128,9 @@ dist:
 
 deb: dist
 	@packaging/deb target/dist
+
+python: lib
+	@hosts/python/package target/python
 
 setup:
 	@tools/setup
