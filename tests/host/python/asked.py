@@ -46,6 +46,19 @@ def closed(reads, writes, objects):
     return sorted(flows - granted)
 
 
+def derived(reads, writes, objects):
+    """The derived policy: an object may hold, for each subject that writes it, itself and what that subject reads; without writers itself."""
+    made = formats.Policy()
+    for number in range(objects):
+        made.container(1, atom=number, permit=number)
+        writers = [r | 1 << number for r, w in zip(reads, writes) if w >> number & 1]
+        made.rule(writers or [1 << number])
+    for _ in reads:
+        made.container(3)
+    made.user()
+    return Policy(made.image())
+
+
 def matrices(rng):
     note(matrix.verdict(*TABLE) == Verdict(False, 4, 0, 5), "document 004's table: four flows are not granted, the first from 0 to 5")
     note([matrix.judge(TABLE, required, proposed) for required, proposed, _ in PROPOSALS] == [answer for _, _, answer in PROPOSALS], "its proposals")
@@ -62,7 +75,7 @@ def matrices(rng):
         good += matrix.verdict(reads, writes, objects) == Verdict(not left, len(left), *(left[0] if left else (0, 0)))
     note(good == 300, "the verdicts of 300 random matrices")
     note(raised(ValueError, matrix.verdict, [1 << 32], [1], 32) and raised(ValueError, matrix.verdict, [-1], [1], 32), "a row of over 32 bits is refused")
-    note(matrix.policy(*TABLE) == Policy.from_matrix(*TABLE), "the policy of a matrix")
+    note(matrix.policy(*TABLE) == Policy.from_matrix(*TABLE) == derived(*TABLE), "the policy of a matrix")
 
 
 def composed():

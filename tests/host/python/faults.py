@@ -37,11 +37,12 @@ FAULTS = [
     ("figures.py", "judged", "divmod(1000 * self.alerts, self.accepted)", "divmod(1000 * self.alerts, self.records)", "the rate is of all records"),
     ("figures.py", "judged", "words[CONTAINERS_AT + number] = count", "pass", "a sum loses the containers of its first part"),
     ("policy.py", "refused", "self._image = self.normal(image)", "self._image = bytes(image)", "policies differ by how they are spelled"),
+    ("policy.py", "asked", "lib.yaslaurel_matrix_policy(rows(reads),", "lib.yaslaurel_matrix_policy(ffi.cast('uint32_t *', rows(reads)),", "rows are lent that are freed already"),
     ("policy.py", "asked", "consent[atom] = 1", "pass", "nobody consents"),
     ("policy.py", "refused", 'raise ForeignNames(f"the names in {folder} are not of {image}")', "pass", "names of another policy are taken"),
     ("explanations.py", "judged", "tuple(steps[first[0] : len(steps)])", "tuple(steps[first[0] + 1 : len(steps)])", "a chain lacks its first record"),
 ]
-COUNT = 26
+COUNT = 27
 
 
 def arguments(part, seed, random, scratch):
@@ -51,7 +52,7 @@ def arguments(part, seed, random, scratch):
 def passes(part, folder, seed, random, scratch):
     """Whether a part of the test passes with the package in a folder."""
     command = [sys.executable, HERE / f"{part}.py", *arguments(part, seed, random, scratch)]
-    environment = dict(os.environ, PYTHONPATH=str(folder), PYTHONDONTWRITEBYTECODE="1")
+    environment = dict(os.environ, PYTHONPATH=str(folder), PYTHONDONTWRITEBYTECODE="1", PYTHONMALLOC="debug")
     ended = subprocess.run(command, env=environment, stdout=subprocess.PIPE, stderr=subprocess.STDOUT, check=False)
     if b"No module named" in ended.stdout:
         raise RuntimeError(ended.stdout.decode())

@@ -24,13 +24,18 @@ def listing(policy, trace):
     return "\n".join(lines) + "\n"
 
 
+def traced(folder):
+    """The trace of a folder; a missing one counts as empty."""
+    return (folder / "trace.bin").read_bytes() if (folder / "trace.bin").exists() else b""
+
+
 def text(folder, make):
     """What a program would print of a folder, from the package: its lines, or that the policy is refused."""
     try:
         policy = Policy.from_file(folder / "policy.bin")
     except Refused as error:
         return f"policy refused {error.number}\n"
-    return make(policy, (folder / "trace.bin").read_bytes() if (folder / "trace.bin").exists() else b"")
+    return make(policy, traced(folder))
 
 
 def month(folder):
@@ -50,13 +55,13 @@ def month(folder):
 def explanation(policy, trace):
     """The explain program's lines, from the reason of each alert and blocked record and the chain of each atom that is lacked."""
     mixtures = mixtures_of(policy.image)
-    session, lines, explained = Session(policy), [], 0
+    session, lines, count = Session(policy), [], 0
     for place, record in enumerate(records(trace)):
         answer = session.step(record)
         if answer.answer not in (ALERT, BLOCKED):
             continue
         upto = trace[:8 * (place + 1)]
-        reason, explained, told = why(policy, upto), explained + 1, set()
+        reason, count, told = why(policy, upto), count + 1, set()
         behind = {Origin.OWN: [], Origin.RUN: [reason.origin_number, *(step + 1 for step in reason.chain)]}.get(reason.origin, [reason.origin_number])
         step = [] if reason.record is None else [reason.record + 1]
         owner = 65535 if reason.owner is None else reason.owner
@@ -67,7 +72,7 @@ def explanation(policy, trace):
                 chain = explain(policy, upto, reason.receiver, atom)
                 lines.append(" ".join(map(str, ("way", atom, chain.file, *(step + 1 for step in chain.records)))))
                 told.add(atom)
-    return "\n".join([*lines, f"total {len(records(trace))} explained {explained}"]) + "\n"
+    return "\n".join([*lines, f"total {len(records(trace))} explained {count}"]) + "\n"
 
 
 def mixtures_of(image):
@@ -110,6 +115,33 @@ def batches(policy, trace, rng):
     return good, len(wanted)
 
 
+def random_months(cases, rng, scratch):
+    """How many months of a case's policy, with its trace and others', have the month program's lines."""
+    good = 0
+    for number, case in enumerate(cases):
+        target = Path(scratch, str(number))
+        target.mkdir(parents=True)
+        (target / "policy.bin").write_bytes((case / "policy.bin").read_bytes())
+        traces = [traced(rng.choice(cases)) for _ in range(rng.randrange(4))] + [traced(case)]
+        for place, trace in enumerate(traces):
+            (target / f"{place:02}.bin").write_bytes(trace)
+        good += month(target) == printed("month", target)
+    return good
+
+
+def explained(cases, scratch):
+    """How many traces have the explanations of the program, which reads the normal image, and how many explanations there are."""
+    good, count = 0, 0
+    for number, case in enumerate(cases):
+        target = Path(scratch, f"explained-{number}")
+        target.mkdir()
+        (target / "policy.bin").write_bytes(Policy.from_file(case / "policy.bin").image)
+        (target / "trace.bin").write_bytes(traced(case))
+        lines = printed("explain", target)
+        good, count = good + (text(target, explanation) == lines), count + lines.count("rule ")
+    return good, count
+
+
 def main(seed, folder, scratch):
     rng, stored = chosen(seed, "judged"), [ROOT / "demo", ROOT / "crates/watch/data", *listed(ROOT / "tests/host/listing")]
     cases = listed(folder)
@@ -122,27 +154,12 @@ def main(seed, folder, scratch):
     months = [ROOT / "crates/month/data", *(path for path in (ROOT / "tests/host/month").iterdir() if path.is_dir())]
     lost = [case for case in months if (case / "policy.bin").exists() and month(case) != printed("month", case)]
     note(not lost and len(months) > 10, f"the lines of {len(months)} stored months are the month program's {lost or ''}")
-    total = 0
-    for number, case in enumerate(cases):
-        target = Path(scratch, str(number))
-        target.mkdir(parents=True)
-        (target / "policy.bin").write_bytes((case / "policy.bin").read_bytes())
-        traces = [(rng.choice(cases) / "trace.bin").read_bytes() for _ in range(rng.randrange(4))] + [(case / "trace.bin").read_bytes()]
-        for place, trace in enumerate(traces):
-            (target / f"{place:02}.bin").write_bytes(trace)
-        total += month(target) == printed("month", target)
-    note(total == len(cases), f"the lines of {total} of {len(cases)} random months are the month program's")
+    good = random_months(cases, rng, scratch)
+    note(good == len(cases), f"the lines of {good} of {len(cases)} random months are the month program's")
     accepted = [case for case in [*stored, *cases] if not text(case, lambda *_: "").startswith("policy refused")]
-    explained, good = 0, 0
-    for number, case in enumerate(accepted):
-        target = Path(scratch, f"explained-{number}")
-        target.mkdir()
-        (target / "policy.bin").write_bytes(Policy.from_file(case / "policy.bin").image)
-        (target / "trace.bin").write_bytes((case / "trace.bin").read_bytes() if (case / "trace.bin").exists() else b"")
-        lines = printed("explain", target)
-        good, explained = good + (text(target, explanation) == lines), explained + lines.count("rule ")
-    note(good == len(accepted) and explained, f"the explanations of {good} of {len(accepted)} traces are those of the program explain ({explained} of them)")
-    results = [batches(Policy.from_file(case / "policy.bin"), (case / "trace.bin").read_bytes() if (case / "trace.bin").exists() else b"", rng) for case in accepted]
+    good, count = explained(accepted, scratch)
+    note(good == len(accepted) and count, f"the explanations of {good} of {len(accepted)} traces are those of the program explain ({count} of them)")
+    results = [batches(Policy.from_file(case / "policy.bin"), traced(case), rng) for case in accepted]
     found = sum(count for _, count in results)
     note(all(good for good, _ in results) and found, f"batches are single steps, in {len(results)} traces with {found} events")
     finish()

@@ -66,7 +66,7 @@ class Session:
 
     Records may be any object with memory in one piece: bytes, bytearray, memoryview, mmap, an array of numpy. They are judged where they lie,
     and nobody may write them meanwhile. A session has one call at a time: another thread's raises `Busy`. Sessions of different threads run at
-    the same time. A call that raises has changed nothing; only KeyboardInterrupt may come just behind the change, and `taken` tells.
+    the same time. A batch that raises has changed nothing; only KeyboardInterrupt may come just behind the change, and `taken` tells.
 
     >>> from yaslaurel import Code, Policy, record
     >>> session = Session(Policy.from_matrix(reads=[1, 2], writes=[2, 4], objects=3))
@@ -91,6 +91,7 @@ class Session:
 
     @property
     def policy(self) -> Policy:
+        """The policy that the session was started with."""
         return self._policy
 
     @property
@@ -239,10 +240,10 @@ def _unpacked(packed: bytes, taken: int) -> Any:
     """The numbers and the count of a snapshot."""
     unpacker = zlib.decompressobj()
     try:
-        state = unpacker.decompress(packed, STATE_BYTES)
+        state = unpacker.decompress(packed, STATE_BYTES + 1)
     except zlib.error:
         raise SnapshotMismatch("damaged") from None
-    if len(state) != STATE_BYTES or unpacker.unconsumed_tail or unpacker.unused_data:
+    if len(state) != STATE_BYTES or not unpacker.eof or unpacker.unused_data:
         raise SnapshotMismatch("damaged")
     numbers = allocate("uint64_t[]", SESSION_LENGTH + 1)
     ffi.memmove(numbers, state, STATE_BYTES)
