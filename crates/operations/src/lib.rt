@@ -158,6 +158,16 @@ fn rule_at(s: &[u64], at: usize) -> Bounded
     rule_copy(&s[at..at + RULE_WIDTH])
 }
 
+// Both counts are those of rules of two mixtures.
+fn both_double(n: usize, k: usize) -> bool
+    ensures { λ r. ⌜ r ≡ (eqb n 2 && eqb k 2) ⌝ }
+{
+    if n == 2 {
+        return k == 2;
+    }
+    false
+}
+
 // The meet of two rules of the session. A rule that refines the other is their meet: the common case where the same flows recur.
 fn meet_kept(a: &[u64], b: &[u64]) -> Bounded
     requires { ⌜ (Kept (now a)) × (Kept (now b)) ⌝ }
@@ -165,6 +175,9 @@ fn meet_kept(a: &[u64], b: &[u64]) -> Bounded
 {
     let r = rule_words::rule_of(a);
     let v = rule_words::rule_of(b);
+    if both_double(r.len(), v.len()) {
+        return rules::meet_two(r, v);
+    }
     if rules::refines(r, v) {
         return rule_copy(a);
     }

@@ -14,3 +14,4 @@ pub mod KeptMixtures
 pub mod SieveLaws
 pub mod SieveRounds
 pub mod ListedPairs
+pub mod TwoByTwo
