@@ -1,4 +1,4 @@
-"""live_cases.py [--quick] SEED: workers in this process on the log and the store that the variables name, ended at every point of a commit, started twice, fed twice;
+"""live_cases.py SEED [CASE]: workers in this process on the log and the store that the variables name, ended at every point of a commit, started twice, fed twice;
 and what a worker must refuse. What is in the store is compared with an undisturbed run of the package, and with the watch program by `run`.
 live_cases.py publish FOLDER, live_cases.py compare FOLDER: the same for workers that are processes: FOLDER has a trace for each host.
 """
@@ -92,7 +92,7 @@ class Fleet:
         """Undisturbed workers, one behind the other, to the end of the log."""
         for part in range(self.partitions):
             worker = self.worker(part)
-            while worker.turn(count, 0.001):
+            while worker.turn(count, 0):
                 pass
             worker.store.close()
 
@@ -174,7 +174,7 @@ def killed_everywhere(seed, sent):
             Fuse.left = lasts
             lasts = (lasts + 1) % 13
             try:
-                while worker.turn(5, 0.001):
+                while worker.turn(5, 0):
                     pass
                 done = True
             except Killed:
@@ -194,11 +194,11 @@ def two_at_once(seed, sent):
     kept = first.store.commit
 
     def late(*given):
-        second.turn(5, 0.001)
+        second.turn(5, 0)
         kept(*given)
 
     first.store.commit = late
-    refused(Replaced, "nothing of this turn", lambda: first.turn(8, 0.001))
+    refused(Replaced, "nothing of this turn", lambda: first.turn(8, 0))
     fleet.work()
     same(fleet, sent)
     fleet.close()
@@ -209,7 +209,7 @@ def forgotten_sessions(seed, sent):
     fleet = Fleet(partitions=1)
     fleet.log.publish(messages(random.Random(seed), sent, 9))
     worker = fleet.worker(0, sessions=1)
-    while worker.turn(3, 0.001):
+    while worker.turn(3, 0):
         assert len(worker.sessions) <= 1
     same(fleet, sent)
     fleet.close()
@@ -232,7 +232,7 @@ def gaps(seed, sent):
 
     def turns():
         worker = fleet.worker(0)
-        while worker.turn(1000, 0.001):
+        while worker.turn(1000, 0):
             pass
 
     refused(NotFollowed, f"host {host}", turns)
@@ -240,7 +240,7 @@ def gaps(seed, sent):
     assert {name: taken for name, _, taken in fleet.store.hosts()} == {name: count for name, count in counts.items() if count}
     unchanged(fleet, lambda: refused(NotFollowed, f"number {all_of[last].first} on", turns))
     fleet.log.publish(all_of[lost:])
-    at = fleet.log.after(0, fleet.store.place(0), 1, 0.001)[0][0]
+    at = fleet.log.after(0, fleet.store.place(0), 1, 0)[0][0]
     unchanged(fleet, lambda: note(main(["skip", "0", "0-1"]) == 5, "another message than the next is not skipped"))
     assert main(["skip", "0", at]) == 0
     while True:
@@ -271,9 +271,9 @@ def malformed(seed, sent):
         fleet.log.publish([Message(host, 0, record)])
         fleet.log.redis.xadd(stream(0), fields)
         fleet.log.publish([Message(host, 1, record)])
-        refused(NotFollowed, "partition 0, message ", lambda: fleet.worker(0).turn(10, 0.001))
+        refused(NotFollowed, "partition 0, message ", lambda: fleet.worker(0).turn(10, 0))
         assert [taken for _, _, taken in fleet.store.hosts()] == [1], text
-        unchanged(fleet, lambda: refused(NotFollowed, "partition 0, message ", lambda: fleet.worker(0).turn(10, 0.001)))
+        unchanged(fleet, lambda: refused(NotFollowed, "partition 0, message ", lambda: fleet.worker(0).turn(10, 0)))
         fleet.close()
 
 
@@ -299,7 +299,7 @@ def snapshots(seed, sent):
     for text, snapshot in wrong.items():
         with fleet.store.db, fleet.store.db.cursor() as c:
             c.execute("update state set snapshot = %s", (snapshot,))
-        unchanged(fleet, lambda: refused(FleetError, text, lambda: fleet.worker(0).turn(10, 0.001)))
+        unchanged(fleet, lambda: refused(FleetError, text, lambda: fleet.worker(0).turn(10, 0)))
     with fleet.store.db, fleet.store.db.cursor() as c:
         c.execute("update state set snapshot = %s", (good.snapshot,))
     fleet.work()
@@ -318,7 +318,7 @@ def policies(seed, sent):
     worker = fleet.worker(0)
     with fleet.store.db, fleet.store.db.cursor() as c:
         c.execute("update fleet set digest = %s", (OTHER.digest,))
-    unchanged(fleet, lambda: refused(Replaced, "another policy", lambda: worker.turn(10, 0.001)))
+    unchanged(fleet, lambda: refused(Replaced, "another policy", lambda: worker.turn(10, 0)))
     with fleet.store.db, fleet.store.db.cursor() as c:
         c.execute("update fleet set digest = %s", (POLICY.digest,))
     fleet.log.redis.hset("yaslaurel:fleet", "fleet", "another")
@@ -347,10 +347,14 @@ def lost_log(seed, sent):
     fleet.close()
 
 
-def cases(seed, quick):
+CASES = [plain, killed_everywhere, two_at_once, gaps, snapshots, policies, malformed, lost_log, forgotten_sessions]
+
+
+def cases(seed, some):
     sent = traces(seed, 7, 90)
-    found = [plain, killed_everywhere, two_at_once, gaps, snapshots, policies]
-    for case in found if quick else [*found, forgotten_sessions, malformed, lost_log]:
+    for case in CASES:
+        if some and case.__name__ not in some:
+            continue
         Fuse.left = None
         tried(case.__name__.replace("_", " "), lambda: case(seed, sent))
 
@@ -381,5 +385,5 @@ if __name__ == "__main__":
         compared(sys.argv[2])
         finish()
     else:
-        cases(int(sys.argv[-1]), sys.argv[1] == "--quick")
+        cases(int(sys.argv[1]), sys.argv[2:])
         finish()

@@ -1,4 +1,4 @@
-"""month_cases.py local SEED [MONTHS]: months of fleets on a cluster within this process, against the month program: stored months, those in the folder MONTHS, more hosts than
+"""month_cases.py local SEED [MONTHS | CASE]: months of fleets on a cluster within this process, against the month program: stored months, those in the folder MONTHS, more hosts than
 it takes; and what must end a run.
 month_cases.py cluster SCHEDULER-FILE SEED: the same fleet on a scheduler and workers that are processes, which are killed in the middle.
 """
@@ -28,6 +28,7 @@ MONTH = os.environ.get("YASLAUREL_MONTH") or ROOT / "target" / "bin" / "month"
 WATCH = os.environ.get("YASLAUREL_WATCH") or ROOT / "target" / "bin" / "watch"
 DEMO = ROOT / "demo" / "policy.bin"
 MOST = 64
+HOSTS = 800
 
 
 def printed(folder):
@@ -158,16 +159,20 @@ def outputs(client, folder, seed):
     assert out.read_text() == "old\n" and [path.name for path in folder.iterdir()] == ["out"]
 
 
-def local(seed, months):
-    month.PART_BYTES = 64
+def stored(client, folder, seed):
+    stored_months(client, [ROOT / "crates" / "month" / "data", *sorted(path.parent for path in (ROOT / "tests/host/month").glob("*/expected"))])
+
+
+def local(seed, asked):
     client = distributed.Client(processes=False, n_workers=2, threads_per_worker=1, dashboard_address=None, silence_logs=50)
-    tried("stored months", lambda: stored_months(client, [ROOT / "crates" / "month" / "data", *sorted(path.parent for path in (ROOT / "tests/host/month").glob("*/expected"))]))
-    if months:
-        tried("random months", lambda: stored_months(client, sorted(Path(months).iterdir())))
-    month.PART_BYTES = 1 << 12
-    for case in (many_hosts, groups, wrong_inputs, outputs, long_trace):
+    month.PART_BYTES = 64
+    if "/" in asked:
+        tried("random months", lambda: stored_months(client, sorted(Path(asked).iterdir())))
+    for case in (stored, many_hosts, groups, wrong_inputs, outputs, long_trace):
+        month.PART_BYTES = 64 if case is stored else 1 << 12
         with tempfile.TemporaryDirectory() as folder:
-            tried(case.__name__.replace("_", " "), lambda: case(client, Path(folder), seed))
+            if "/" in asked or asked in ("", case.__name__):
+                tried(case.__name__.replace("_", " "), lambda: case(client, Path(folder), seed))
     client.close()
 
 
@@ -205,7 +210,7 @@ def in_the_middle(run, action):
     time.sleep(0.4)
     assert thread.is_alive(), "the run was over before anything was done to it"
     action()
-    thread.join(120)
+    thread.join(40)
     assert not thread.is_alive(), "the run does not end"
     return found[0]
 
@@ -223,13 +228,14 @@ def cluster(file, seed):
     with tempfile.TemporaryDirectory() as name:
         folder, real = Path(name) / "traces", Path(name) / "real"
         folder.mkdir(), real.mkdir()
-        sent = traces(seed, 4, 20_000)
+        sent = {host: 50 * trace for host, trace in traces(seed, 4, 2000).items()}
         for host, trace in sent.items():
-            (real / host).write_bytes(5 * trace)
-        for k in range(1200):
+            (real / host).write_bytes(trace)
+        for k in range(HOSTS):
             (folder / f"{k:04}.bin").symlink_to(real / f"host-00{k % 4}")
         found = traces_in(folder)
-        figures = [yaslaurel.Figures.of(policy, 5 * sent[f"host-00{k % 4}"]) for k in range(1200)]
+        four = [yaslaurel.Figures.of(policy, sent[f"host-00{k}"]) for k in range(4)]
+        figures = [four[k % 4] for k in range(HOSTS)]
         expected = "".join(f"{one.line(trace.name)}\n" for trace, one in zip(found, figures)) + sum(figures).line("total") + "\n"
 
         def run(**named):
@@ -246,29 +252,33 @@ def cluster(file, seed):
 
         tried("a worker killed in the middle", lambda: same(in_the_middle(run, lambda: kill(False))))
         tried("a worker and its nanny killed in the middle", lambda: same(in_the_middle(run, lambda: kill(True))))
-        out = Path(name) / "out"
+        out, few = Path(name) / "out", Path(name) / "few"
         command = ["month", address, str(folder), "--policy", str(DEMO), "--out", str(out)]
         note(main(command) == 3 and out.read_text() == expected, "the command writes the same, and its status tells alerts and refusals")
         out.write_text("old\n")
-        (folder / "poison.bin").symlink_to(real / "host-000")
+        few.mkdir()
+        for number in range(6):
+            (few / ("poison.bin" if number == 3 else f"{number}.bin")).symlink_to(real / "host-000")
         client.register_worker_plugin(Poison())
-        note(main([*command, "--task-bytes", "1"]) == 5 and out.read_text() == "old\n", "a worker killed again and again ends the run, and nothing is written")
+        found_few = traces_in(few)
+        tried("a worker killed again and again ends the run", lambda: refused(FleetError, "died each time", lambda: fleet_month(client, policy, found_few, task_bytes=1)))
         client.unregister_worker_plugin("poison")
-        (folder / "poison.bin").unlink()
         tried("without a worker the run ends", lambda: ended(lambda: run(patience=1), "no worker for 1 seconds", lambda: [kill(True) for _ in client.scheduler_info()["workers"]]))
-        started = [subprocess.Popen([sys.executable, "-m", "distributed.cli.dask_worker", address, "--host", "127.0.0.1", "--nthreads", "1", "--no-nanny", "--no-dashboard",
-                                     "--local-directory", str(Path(name) / "worker")], stderr=subprocess.DEVNULL)]
+        worker = subprocess.Popen([sys.executable, "-m", "distributed.cli.dask_worker", address, "--host", "127.0.0.1", "--nthreads", "1", "--no-nanny", "--no-dashboard",
+                                   "--local-directory", str(Path(name) / "worker")], stderr=subprocess.DEVNULL)
         client.wait_for_workers(1, timeout=30)
-        tried("a scheduler that is lost ends the run", lambda: ended(run, "the scheduler was lost", lambda: os.kill(scheduler, signal.SIGKILL)))
+        client.close()
+        lost = in_the_middle(lambda: subprocess.run([sys.executable, "-m", "yaslaurel_fleet.command", *command], stderr=subprocess.PIPE, check=False), lambda: time.sleep(1) or
+                             os.kill(scheduler, signal.SIGKILL))
+        note(lost.returncode == 5 and b"yaslaurel-fleet: the scheduler was lost" in lost.stderr and out.read_text() == "old\n", "a scheduler that is lost ends the run, and nothing is written")
         note(main([*command, "--patience", "1"]) == 5 and out.read_text() == "old\n", "without a scheduler there is no run")
-        for process in started:
-            process.kill()
-            process.wait()
+        worker.kill()
+        worker.wait()
 
 
 if __name__ == "__main__":
     if sys.argv[1] == "local":
-        local(int(sys.argv[2]), sys.argv[3] if len(sys.argv) > 3 else None)
+        local(int(sys.argv[2]), sys.argv[3] if len(sys.argv) > 3 else "")
     else:
         cluster(sys.argv[2], int(sys.argv[3]))
     finish()

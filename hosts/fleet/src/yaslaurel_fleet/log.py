@@ -117,8 +117,8 @@ class Log:
         return len(pipeline.execute())
 
     def after(self, part: int, place: str, count: int, wait: float) -> List[Tuple[str, Dict[bytes, bytes]]]:
-        """Messages behind a place, at most so many; none if none came in so many seconds."""
-        found = self.redis.xread({stream(part): place}, count=count, block=max(1, int(1000 * wait)))
+        """Messages behind a place, at most so many; none if none came in so many seconds, 0 for those that are there."""
+        found = self.redis.xread({stream(part): place}, count=count, block=int(1000 * wait) or None)
         return [(place.decode(), fields) for place, fields in found[0][1]] if found else []
 
     def last(self, part: int) -> str:

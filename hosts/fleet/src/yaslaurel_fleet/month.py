@@ -33,6 +33,7 @@ MONTH_LIMIT = 1_000_000
 MONTH_REFUSAL = 19
 """What the month program prints in the place of the figures of a trace with more records than its limit."""
 POLL_SECONDS = 0.02
+RESULT_SECONDS = 2.0
 ALIVE_SECONDS = 0.5
 """How often it is asked whether there is a worker at all."""
 
@@ -164,12 +165,17 @@ def gathered(client: Any, tasks: Sequence[Task], patience: float, bar: bool) -> 
     with tqdm(total=sum(len(task.traces) for task in tasks), unit=" hosts", disable=not (bar and sys.stderr.isatty())) as progress:
         while not results.is_empty():
             for future in results.next_batch(block=False):
-                for name, figures in future.result():
+                try:
+                    some = future.result(timeout=RESULT_SECONDS)
+                except distributed.TimeoutError:
+                    results.add(future)  # its worker died with the result, and it is worked out again
+                    continue
+                future.release()
+                for name, figures in some:
                     if name in found:
                         raise FleetError(f"{name}: figures came twice")
                     found[name] = figures
-                    progress.update()
-                future.release()
+                progress.update(len(some))
             time.sleep(POLL_SECONDS)
             now = time.monotonic()
             if now - asked > ALIVE_SECONDS:
