@@ -45,7 +45,7 @@ def names(folder):
 
 
 def stored_months(client, folders):
-    """Each month whose policy is accepted, in parts of a few records, so that the parts' sums are tested too."""
+    """Each month whose policy is accepted."""
     compared = 0
     for folder in folders:
         expected = printed(folder)
@@ -83,7 +83,9 @@ def many_hosts(client, folder, seed):
     policy = yaslaurel.Policy(DEMO.read_bytes())
     for task_bytes in (1, 1 << 17, 1 << 30):
         assert fleet_month(client, policy, traces_in(folder), task_bytes=task_bytes).text() == expected, f"{task_bytes} bytes a task"
-    # the total is that of the lines
+    # the total is that of the lines, and the sum by the proved function
+    found = fleet_month(client, policy, traces_in(folder))
+    assert sum(figures for _, figures in found.figures) == found.total
     sums = [sum(int(line.split(" ")[k]) for line in expected.splitlines()[:-1]) for k in (1, 2, 3, 4)]
     assert [int(word) for word in expected.splitlines()[-1].split(" ")[1:5]] == sums
 
@@ -165,11 +167,10 @@ def stored(client, folder, seed):
 
 def local(seed, asked):
     client = distributed.Client(processes=False, n_workers=2, threads_per_worker=1, dashboard_address=None, silence_logs=50)
-    month.PART_BYTES = 64
     if "/" in asked:
         tried("random months", lambda: stored_months(client, sorted(Path(asked).iterdir())))
     for case in (stored, many_hosts, groups, wrong_inputs, outputs, long_trace):
-        month.PART_BYTES = 64 if case is stored else 1 << 12
+        month.PART_BYTES = 1 << 23 if case is stored else 1 << 10
         with tempfile.TemporaryDirectory() as folder:
             if "/" in asked or asked in ("", case.__name__):
                 tried(case.__name__.replace("_", " "), lambda: case(client, Path(folder), seed))

@@ -44,6 +44,13 @@ dask() {
     answers test -s "$scheduler"
 }
 
+# empty_servers: the log and the store as they were when they were started.
+empty_servers() {
+    REDISCLI_AUTH=$servers_password redis-cli -p "$log_port" flushall >/dev/null
+    "$python" -c 'import os, psycopg2
+with psycopg2.connect(os.environ["YASLAUREL_FLEET_STORE"]) as db: db.cursor().execute("drop table if exists alert, state, place, fleet")'
+}
+
 # worker PARTITION MESSAGES: a worker in the background; $worker is its process.
 worker() {
     "$fleet" work "$1" --policy demo/policy.bin --messages "$2" --until-idle 1 --tries 40 2>>"$work/said.$1" &

@@ -3,6 +3,7 @@
 from __future__ import annotations
 
 import argparse
+import logging
 import os
 import signal
 import sys
@@ -46,6 +47,8 @@ def month(given: argparse.Namespace) -> int:
         lines = sys.stdin if given.list == "-" else open(given.list)
         with lines:
             traces = traces_listed(lines, given.folder, given.as_month)
+    # What its client would say at length of a lost scheduler or worker is told below, or made good.
+    logging.getLogger("distributed.client").setLevel(logging.CRITICAL)
     connect: Any = distributed.Client
     try:
         client = connect(given.scheduler, timeout=given.patience)

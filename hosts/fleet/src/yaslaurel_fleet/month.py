@@ -11,6 +11,7 @@ import os
 import sys
 import tempfile
 import time
+from collections import Counter
 from concurrent.futures import CancelledError
 from dataclasses import dataclass
 from pathlib import Path
@@ -23,8 +24,8 @@ from tqdm import tqdm
 from .errors import FleetError
 
 RECORD_BYTES = 8
-PART_BYTES = 1 << 22
-"""How much of a trace is read at once; a trace of any length takes no more memory."""
+PART_BYTES = 1 << 23
+"""How much of a trace is read at once; a trace of any length takes no more memory. The month program's limit fits in one part."""
 TRACE_COST = 1 << 15
 """What opening a trace and starting its session cost, in bytes that could be judged in that time."""
 TASK_BYTES = 1 << 23
@@ -39,6 +40,10 @@ ALIVE_SECONDS = 0.5
 
 as_completed: Any = distributed.as_completed
 """The engine's functions have no types, so what it gives is Any until it is named here."""
+
+
+Counts = Tuple[int, int, int, int, int, Dict[int, int]]
+"""The fields of figures."""
 
 
 @dataclass(frozen=True)
@@ -120,30 +125,38 @@ def grouped(traces: Sequence[Trace], task_bytes: int = TASK_BYTES) -> List[Tuple
     return sorted((tuple(group) for group in groups), key=lambda group: sum(trace.length for trace in group), reverse=True)
 
 
-def short_figures(answer: yaslaurel.Answer) -> yaslaurel.Figures:
-    """The figures of a last record that is short: it is refused, as in the month program."""
-    if not answer.refused:
-        raise FleetError(f"a short record was answered {answer.verdict}")
-    return yaslaurel.Figures(records=1, refused=1)
-
-
 def trace_figures(policy: yaslaurel.Policy, trace: Trace) -> yaslaurel.Figures:
-    """The figures of one trace in a session of its own, read in parts, whose figures add up."""
-    session, total, taken = yaslaurel.Session(policy), yaslaurel.Figures(), 0
-    room = memoryview(bytearray(min(PART_BYTES, trace.length + 1)))
+    """The figures of one trace in a session of its own. A long one is read in parts, whose figures add up."""
     with open(trace.path, "rb") as file:
-        while taken <= trace.length and (length := file.readinto(room)):
-            whole = length - length % RECORD_BYTES
-            total += session.figures(room[:whole])
-            if whole < length:
-                total += short_figures(session.step(room[whole:length]))
-            taken += length
+        if trace.length <= PART_BYTES:
+            found = file.read(PART_BYTES + 1)
+            figures, taken = yaslaurel.Figures.of(policy, found), len(found)
+        else:
+            session, figures, taken, room = yaslaurel.Session(policy), yaslaurel.Figures(), 0, memoryview(bytearray(PART_BYTES))
+            while taken <= trace.length and (length := file.readinto(room)):
+                figures += session.figures(room[:length - length % RECORD_BYTES])
+                taken += length
     if taken != trace.length:
         raise FleetError(f"{trace.path}: {trace.length} bytes when the run began, {'more' if taken > trace.length else taken} when it was read")
-    return total
+    return figures
 
 
-def task_figures(task: Task) -> List[Tuple[str, Optional[yaslaurel.Figures]]]:
+def counts_of(figures: yaslaurel.Figures) -> Counts:
+    """Figures as plain numbers, which are quickly sent."""
+    return figures.records, figures.accepted, figures.alerts, figures.refused, figures.blocked, dict(figures.by_container)
+
+
+def total_of(counts: Iterable[Counts]) -> yaslaurel.Figures:
+    """The sum, by Python's own numbers: `+` of the package, by the proved function, takes ten times as long for many hosts."""
+    records = accepted = alerts = refused = blocked = 0
+    places = Counter[int]()
+    for one in counts:
+        records, accepted, alerts, refused, blocked = records + one[0], accepted + one[1], alerts + one[2], refused + one[3], blocked + one[4]
+        places.update(one[5])
+    return yaslaurel.Figures(records, accepted, alerts, refused, blocked, places)
+
+
+def task_figures(task: Task) -> List[Tuple[str, Optional[Counts]]]:
     """What a worker does: the figures of each trace of a task, by the library of the version that the run began with."""
     if yaslaurel.library_version() != task.version:
         raise FleetError(f"a worker has the library in version {yaslaurel.library_version()}, the run {task.version}")
@@ -151,15 +164,15 @@ def task_figures(task: Task) -> List[Tuple[str, Optional[yaslaurel.Figures]]]:
     for trace in task.traces:
         left_out = task.as_month and trace.length > MONTH_LIMIT * RECORD_BYTES
         try:
-            found.append((trace.name, None if left_out else trace_figures(policy, trace)))
+            found.append((trace.name, None if left_out else counts_of(trace_figures(policy, trace))))
         except OSError as error:
             raise FleetError(f"{trace.path}: {error.strerror}") from None
     return found
 
 
-def gathered(client: Any, tasks: Sequence[Task], patience: float, bar: bool) -> Dict[str, Optional[yaslaurel.Figures]]:
+def gathered(client: Any, tasks: Sequence[Task], patience: float, bar: bool) -> Dict[str, Optional[Counts]]:
     """The figures by host. A result is released as soon as it is here, so that a worker's death does not have it worked out again."""
-    found: Dict[str, Optional[yaslaurel.Figures]] = {}
+    found: Dict[str, Optional[Counts]] = {}
     results = as_completed(client.map(task_figures, tasks, pure=False, retries=0))
     alive = asked = time.monotonic()
     with tqdm(total=sum(len(task.traces) for task in tasks), unit=" hosts", disable=not (bar and sys.stderr.isatty())) as progress:
@@ -180,7 +193,8 @@ def gathered(client: Any, tasks: Sequence[Task], patience: float, bar: bool) -> 
             now = time.monotonic()
             if now - asked > ALIVE_SECONDS:
                 asked = now
-                alive = now if client.scheduler_info()["workers"] else alive
+                # of a client that is looking for its scheduler nothing is asked: it has told its futures already
+                alive = now if client.status != "running" or client.scheduler_info()["workers"] else alive
                 if now - alive > patience:
                     raise FleetError(f"no worker for {patience:g} seconds")
     return found
@@ -200,8 +214,9 @@ def fleet_month(client: Any, policy: yaslaurel.Policy, traces: Sequence[Trace], 
     missing = [trace.name for trace in traces if trace.name not in found]
     if missing or len(found) != len(traces):
         raise FleetError(f"{len(missing)} traces are without figures, {', '.join(missing[:5])} among them")
-    figures = tuple((trace.name, found[trace.name]) for trace in traces)
-    return Month(figures, sum((one for _, one in figures if one is not None), yaslaurel.Figures()))
+    counts = [(trace.name, found[trace.name]) for trace in traces]
+    figures = tuple((name, None if one is None else yaslaurel.Figures(*one)) for name, one in counts)
+    return Month(figures, total_of(one for _, one in counts if one is not None))
 
 
 def written(text: str, out: Optional[Path], shown: TextIO = sys.stdout) -> None:
