@@ -19,20 +19,24 @@
 #   make dist              the release in target/dist, for makers without the prover: a tarball with libraries, programs, manual,
 #                          documents and examples, and its SHA256SUMS
 #   make deb               the same as Debian's packages
+#   make fleet             the command `yaslaurel-fleet` for many hosts (docs/FLEET.md), with the Python package, in target/fleet, and prints where it is
+#   make fleet-demo        three hosts on one machine: a log, a store and two workers of their own, and the alerts
 #   make python            the Python package (docs/PYTHON.md), as source distribution and wheel in target/python, and prints where
 #
 # Change it (contributors)
 #   make setup             installs what is missing by apt, as root: tools/needed.txt lists it
 #   make test              everything that can fail, as the gate runs it; as root it begins with make setup
-#   make soak              what takes long: live runs of `record` (races many times, the watched programs as another user too), 10,000 questions to policies, planted faults of hosts/analysis
+#   make soak              what takes long: live runs of `record` (races many times, the watched programs as another user too), 10,000 questions to policies, planted faults of hosts/analysis,
+#                          and workers of many hosts killed for longer
 #   make bench             ratios against Rust, in one run
+#   make fleet-bench       many hosts beside the C loop, and the live monitor's throughput and recovery, in one run
 #   make covering          the cover test alone, which the bench and a host test measure
 #   make mutants CRATE=..  small changes of a crate, one at a time: which are still proved? SPECS=1 changes definitions, ABOVE=1 asks the
 #                          crates that stand on it too, COUNT=10, SEED=1
 #   make generated         the tables and pictures that documents have from the sources
 
 .DEFAULT_GOAL = help
-.PHONY: help try demo month policy record command night profiles-demo vendor-demo lib install install-programs uninstall dist deb python setup test soak bench covering mutants generated
+.PHONY: help try demo month policy record command night profiles-demo vendor-demo fleet fleet-demo fleet-bench lib install install-programs uninstall dist deb python setup test soak bench covering mutants generated
 
 PREFIX = /usr/local
 BINDIR = $(PREFIX)/bin
@@ -129,6 +133,15 @@ dist:
 deb: dist
 	@packaging/deb target/dist
 
+fleet: lib
+	@hosts/fleet/install target/fleet
+
+fleet-demo: lib
+	@demo/fleet/run
+
+fleet-bench: lib
+	@bench/fleet/run
+
 python: lib
 	@hosts/python/package target/python
 
@@ -145,6 +158,8 @@ soak: lib
 	@tests/host/record/soak
 	@tests/host/analysis/run $(SEED) 10000
 	@tests/host/analysis/faults $(SEED)
+	@for program in watch month; do tools/prove $$program >&2 || exit 1; done
+	@tests/host/fleet/soak
 
 bench: lib covering
 	bench/run
