@@ -55,7 +55,7 @@ pub fn events_in(session: &mut [u64], records: &[u8], events: &mut [u64]) -> Res
 ///
 /// # Panics
 /// If they are fewer, or no answer of the library.
-#[must_use]
+#[must_use = "it may be an alert"]
 pub fn event(numbers: &[u64]) -> Event {
     let number = u32::try_from(numbers[at::ANSWER]).expect("an answer has 32 bits");
     let position = u32::try_from(numbers[at::POSITION]).expect("a position has 32 bits");

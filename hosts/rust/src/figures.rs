@@ -117,7 +117,7 @@ impl Add for Figures {
 
 impl fmt::Debug for Figures {
     fn fmt(&self, f: &mut fmt::Formatter<'_>) -> fmt::Result {
-        let alerts: Vec<_> = (0..=255).filter_map(|c| (self.alerts_at(c) > 0).then(|| (c, self.alerts_at(c)))).collect();
+        let alerts: Vec<_> = (0..=255).filter(|&c| self.alerts_at(c) > 0).map(|c| (c, self.alerts_at(c))).collect();
         f.debug_struct("Figures")
             .field("records", &self.records())
             .field("accepted", &self.accepted())

@@ -63,10 +63,10 @@ use std::fmt;
 
 pub use composition::{compose, compose_into};
 pub use container::{Container, Kind};
+pub use events::{event, events_in, Event, Gathered};
 pub use explain::{
     explain, explain_in, links_length, trace_records, why, why_in, Chain, Origin, Recording, Why, WhyByName, WHY_LENGTH,
 };
-pub use events::{event, events_in, Event, Gathered};
 pub use figures::{add_figures_in, figures_in, Figures};
 pub use game::{play, Move, Outcome};
 pub use operation::Operation;

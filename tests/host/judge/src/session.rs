@@ -387,8 +387,10 @@ pub fn events(session: &mut [u64], records: &[u8], room: usize) -> Events {
 /// number" (`include/yaslaurel.h`).
 pub fn figures(session: &mut [u64], records: &[u8]) -> Vec<u64> {
     let answers: Vec<Answer> = records.chunks(RECORD).map(|record| step(session, record)).collect();
-    let count = |wanted: &[Outcome]| answers.iter().filter(|answer| wanted.contains(&outcome(answer.number))).count() as u64;
-    let counts = [&[Outcome::Quiet, Outcome::Alert][..], &[Outcome::Alert], &[Outcome::Refused], &[Outcome::Blocked]].map(count);
+    let count =
+        |wanted: &[Outcome]| answers.iter().filter(|answer| wanted.contains(&outcome(answer.number))).count() as u64;
+    let counts =
+        [&[Outcome::Quiet, Outcome::Alert][..], &[Outcome::Alert], &[Outcome::Refused], &[Outcome::Blocked]].map(count);
     let at = |c: u64| answers.iter().filter(|answer| answer.number == ALERT && answer.receiver == c).count() as u64;
     [answers.len() as u64].into_iter().chain(counts).chain((0..CONTAINERS.most as u64).map(at)).collect()
 }

@@ -21,7 +21,10 @@ pub const PART: Part = Part {
     make: |r| Box::new(make(r)),
     needs: &[
         Need::Numbers(EVENTS, &[session::ALERT, session::BLOCKED, 7, 10, 11, 12, 13, 14, 15, 18]),
-        Need::Words(ENDS, &["refused with 9", "all taken", "room used up at the end", "records left", "without a record"]),
+        Need::Words(
+            ENDS,
+            &["refused with 9", "all taken", "room used up at the end", "records left", "without a record"],
+        ),
         Need::Words(COUNTS, &["refused with 9", "alerts", "blocked", "sum refused with 9", "sum that wraps"]),
     ],
 };
@@ -139,7 +142,9 @@ fn numbers((place, answer): &(usize, Answer)) -> [u64; event::LENGTH] {
     let Answer { number, receiver, tag, position } = *answer;
     match outcome(number) {
         Outcome::Refused => [*place as u64, number.into(), 0, 0, 0],
-        Outcome::Quiet | Outcome::Alert | Outcome::Blocked => [*place as u64, number.into(), receiver, tag, position.into()],
+        Outcome::Quiet | Outcome::Alert | Outcome::Blocked => {
+            [*place as u64, number.into(), receiver, tag, position.into()]
+        }
     }
 }
 
@@ -184,9 +189,8 @@ impl Gathers {
         let (bytes, bytes_length) = (bench.record.pointer(), bench.record.length());
         let (at, room) = (events.pointer_mut(), events.length());
         // SAFETY: as `lent` says; the two numbers are ours.
-        let number = unsafe {
-            ffi::yaslaurel_events(words, length, bytes, bytes_length, at, room, &mut taken, &mut written)
-        };
+        let number =
+            unsafe { ffi::yaslaurel_events(words, length, bytes, bytes_length, at, room, &mut taken, &mut written) };
         let mut stands: Vec<u64> = expected.loud.iter().flat_map(numbers).collect();
         let loud = expected.loud.len();
         stands.resize(self.room, FILLER);
@@ -239,7 +243,13 @@ impl Gathers {
         None
     }
 
-    fn one_sum(&self, total: &mut Guarded<u64>, sum: &mut [u64], counted: &Guarded<u64>, c: &mut Counters) -> Difference {
+    fn one_sum(
+        &self,
+        total: &mut Guarded<u64>,
+        sum: &mut [u64],
+        counted: &Guarded<u64>,
+        c: &mut Counters,
+    ) -> Difference {
         let refused = self.total != figures::LENGTH || self.wide != figures::LENGTH;
         c.add(COUNTS, "sum refused with 9", u64::from(refused));
         if !refused {
