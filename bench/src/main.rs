@@ -36,8 +36,8 @@ use plain::{Natural, Tuned};
 use race::{median, race, Outcome, Variant};
 use yaslaurel::layout::image::{CONTAINERS, HEADER};
 use yaslaurel::layout::profiles::{PATHS, PATH_LIMIT, TEXT_LIMIT};
-use yaslaurel::layout::record;
 use yaslaurel::layout::session::{container, rule, BEHALF, KIND, NOBODY, PERMIT, RULE_MIXTURES, RUN};
+use yaslaurel::layout::{event, figures, record};
 use yaslaurel::{ffi, Matrix, Verdict, OUTPUT_LENGTH, SESSION_LENGTH};
 
 const ROUNDS: usize = 31;
@@ -280,6 +280,69 @@ fn batches() {
             "| {name}, {alerts} alerts | {:.1} | {single:.2} | {iterator:.2} | {natural:.2} |",
             outcome.nanoseconds
         );
+    }
+}
+
+/// A batch gathered as events, whose answers are summed up as those of a run are.
+fn gathered_run(session: &mut [u64], mut records: &[u8]) -> u64 {
+    let mut events = [0; 64 * event::LENGTH];
+    let mut sum = 0;
+    while !records.is_empty() {
+        let gathered = yaslaurel::events_in(session, records, &mut events).expect("the lengths are right");
+        for told in events.chunks(event::LENGTH).take(gathered.written) {
+            sum = mixed(
+                sum,
+                (told[event::ANSWER] as u32, told[event::RECEIVER], told[event::TAG], told[event::POSITION] as u32),
+            );
+        }
+        records = &records[records.len().min(record::LENGTH * gathered.taken)..];
+    }
+    sum
+}
+
+/// How many records are not quiet, by runs.
+fn counted_run(session: &mut [u64], records: &[u8]) -> u64 {
+    yaslaurel::run_in(session, records).count() as u64
+}
+
+/// The same by figures.
+fn figured_run(session: &mut [u64], records: &[u8]) -> u64 {
+    let mut numbers = [0; figures::LENGTH];
+    yaslaurel::figures_in(session, records, &mut numbers).expect("the lengths are right");
+    numbers[figures::ALERTS] + numbers[figures::REFUSED] + numbers[figures::BLOCKED]
+}
+
+/// Batches of 1,024 records: events and figures against runs.
+fn gathers() {
+    println!("\n## Events and figures of a batch of 1,024 records\n");
+    println!(
+        "| records | run ns a record | events ns a record | run to events | run to figures |\n|---|---|---|---|---|"
+    );
+    type Run = fn(&mut [u64], &[u8]) -> u64;
+    let one = started(&work::policy(1, 6));
+    for (name, damaged) in [("mixed, rules of 1", 0), ("mixed, one in ten refused with 7", 10)] {
+        let mut records = work::records(&[1, 1, 2, 3, 4], 1_024);
+        if damaged > 0 {
+            records.iter_mut().step_by(damaged).for_each(|bytes| bytes[record::CODE] = 200);
+        }
+        let bytes = &records.concat()[..];
+        let against = |first: Run, second: Run| {
+            let copies = [std::cell::RefCell::new(one.clone()), std::cell::RefCell::new(one.clone())];
+            let mut variants: Vec<Variant<'_>> = [("first", first), ("second", second)]
+                .into_iter()
+                .zip(&copies)
+                .map(|((name, run), copy)| Variant {
+                    name,
+                    prepare: Box::new(|| copy.borrow_mut().copy_from_slice(&one)),
+                    run: Box::new(move || run(&mut copy.borrow_mut(), std::hint::black_box(bytes))),
+                })
+                .collect();
+            race(ROUNDS, records.len(), &mut variants)
+        };
+        let (events, figured) = (against(library_run, gathered_run), against(counted_run, figured_run));
+        let (to_events, to_figures) = (events.ratios[0].1, figured.ratios[0].1);
+        let nanoseconds = events.nanoseconds;
+        println!("| {name} | {nanoseconds:.1} | {:.1} | {to_events:.2} | {to_figures:.2} |", nanoseconds / to_events);
     }
 }
 
@@ -693,6 +756,7 @@ fn main() -> io::Result<()> {
         }
         ["batches"] => {
             batches();
+            gathers();
             return Ok(());
         }
         ["images"] => {
@@ -737,6 +801,7 @@ fn main() -> io::Result<()> {
     operations();
     cover::cover();
     batches();
+    gathers();
     trims::trims();
     explanations::explanations();
     images();

@@ -6,7 +6,7 @@ ghost use Rattle.answers.specs.Answers.{received, answerNumber};
 ghost use Rattle.monitor.specs.Steps.{stepAnswer, stepEffect};
 ghost use Rattle.monitor.specs.Stops.{ran, ranEffect};
 ghost use Rattle.events.specs.Events.{gathered, gatherSession, gatherEvents};
-ghost use Rattle.totals.specs.Totals.{totalRefusal, totalSession, totalFigures, addRefusal, addFigures};
+ghost use Rattle.totals.specs.Totals.{totalRefusal, totalSession, totalNumbers, addRefusal, addFigures};
 ghost use Rattle.trim.specs.Trims.{trimAnswer, trimEffect};
 ghost use Rattle.witness.specs.Explains.{explainAnswer, explainSteps, explainLinks};
 ghost use Rattle.certificate.specs.Whys.{whyRefusal, whyEffect, whySteps, whyLinks};
@@ -160,9 +160,9 @@ pub extern "C" fn yaslaurel_figures(session: &mut [u64], records: &[u8], figures
     ensures { λ r. ⌜
         (r ≡ totalRefusal (now (session .entry)) (now (figures .entry)))
         × (now (session .exit) ≡ totalSession (now (session .entry)) (now (records .entry)) (now (figures .entry)))
-        × (now (figures .exit) ≡ totalFigures (now (session .entry)) (now (records .entry)) (now (figures .entry))) ⌝ }
+        × (now (figures .exit) ≡ totalNumbers (now (session .entry)) (now (records .entry)) (now (figures .entry))) ⌝ }
 {
-    totals::count(session, records, figures)
+    totals::count_trace(session, records, figures)
 }
 
 // 0 with each figure added to its like in the total; else 9, and everything is as it was.

@@ -18,7 +18,7 @@ use Rattle.answers.proofs.Cases.{quiet-no-alert, quiet-no-blocked}
 use Rattle.image.specs.Limits.{containerLimit}
 use Rattle.figures.specs.Figures.{alertAt}
 use Rattle.totals.specs.Totals.{figuresLength}
-use Rattle.totals.specs.Places.{alertsAt, containersAt, placeOf, oneCounted, eventCounted}
+use Rattle.totals.specs.Places.{alertCountAt, containerCountsAt, countPlace, oneCounted, eventCounted}
 
 -- what is counted at a place of these; of the first two nothing
 unfoldable pub placeTest : ℕ → Answer → Bool
@@ -52,9 +52,9 @@ pub event-length : (f : List ℕ) (a : Answer) → length (eventCounted f a) ≡
 unfolding eventCounted
 event-length f a = by (isAlert a)
   where
-    by : (b : Bool) → length (cond b (oneCounted (oneCounted f (placeOf a)) (containersAt + receiverOf a)) (oneCounted f (placeOf a))) ≡ length f
-    by true = one-length (oneCounted f (placeOf a)) (containersAt + receiverOf a) ∙ one-length f (placeOf a)
-    by false = one-length f (placeOf a)
+    by : (b : Bool) → length (cond b (oneCounted (oneCounted f (countPlace a)) (containerCountsAt + receiverOf a)) (oneCounted f (countPlace a))) ≡ length f
+    by true = one-length (oneCounted f (countPlace a)) (containerCountsAt + receiverOf a) ∙ one-length f (countPlace a)
+    by false = one-length f (countPlace a)
 
 pub one-here : (f : List ℕ) (k i : ℕ) → i ≡ k → k < length f → getD f i 0 + 1 < 2 ^ 64 → getD (oneCounted f k) i 0 ≡ getD f i 0 + 1
 unfolding oneCounted
@@ -66,17 +66,17 @@ one-other f k i n = getD-set-other f k i _ 0 n
 
 -- ---- the steps of the code
 
-pub place-below : (a : Answer) → placeOf a < containersAt
+pub place-below : (a : Answer) → countPlace a < containerCountsAt
 place-below (Given Quiet e) = omega arith
 place-below (Given Alert e) = omega arith
 place-below (Given Blocked e) = omega arith
 place-below (Refused n) = omega arith
 
-pub event-other : (f : List ℕ) (a : Answer) → isAlert a ≡ false → oneCounted f (placeOf a) ≡ eventCounted f a
+pub event-other : (f : List ℕ) (a : Answer) → isAlert a ≡ false → oneCounted f (countPlace a) ≡ eventCounted f a
 unfolding eventCounted
 event-other f a h = rw h
 
-pub event-alert : (f : List ℕ) (a : Answer) → isAlert a ≡ true → oneCounted (oneCounted f (placeOf a)) (containersAt + receiverOf a) ≡ eventCounted f a
+pub event-alert : (f : List ℕ) (a : Answer) → isAlert a ≡ true → oneCounted (oneCounted f (countPlace a)) (containerCountsAt + receiverOf a) ≡ eventCounted f a
 unfolding eventCounted
 event-alert f a h = rw h
 
@@ -85,8 +85,8 @@ one-out : (f : List ℕ) (k : ℕ) → length f ≤ k → oneCounted f k ≡ f
 unfolding oneCounted
 one-out f k l = set-out f k _ l
 
-pub event-beyond : (f : List ℕ) (a : Answer) → isAlert a ≡ true → length f ≡ figuresLength → containerLimit ≤ receiverOf a → oneCounted f (placeOf a) ≡ eventCounted f a
-event-beyond f a h l m = sym (one-out (oneCounted f (placeOf a)) (containersAt + receiverOf a) (omega (arith, l, one-length f (placeOf a), m))) ∙ event-alert f a h
+pub event-beyond : (f : List ℕ) (a : Answer) → isAlert a ≡ true → length f ≡ figuresLength → containerLimit ≤ receiverOf a → oneCounted f (countPlace a) ≡ eventCounted f a
+event-beyond f a h l m = sym (one-out (oneCounted f (countPlace a)) (containerCountsAt + receiverOf a) (omega (arith, l, one-length f (countPlace a), m))) ∙ event-alert f a h
 
 -- ---- one more answer that is not quiet
 
@@ -96,17 +96,17 @@ module _ (f : List ℕ) (l : length f ≡ figuresLength) where
 
   -- in the count of an alert's receiver, or not
   alerted : (r c i : ℕ) (b : Bool) → i ≡ 5 + c → eqb r c ≡ b → i < figuresLength → (b ≡ true → getD f i 0 + 1 < 2 ^ 64)
-      → getD (oneCounted (oneCounted f alertsAt) (containersAt + r)) i 0 ≡ getD f i 0 + cond b 1 0
+      → getD (oneCounted (oneCounted f alertCountAt) (containerCountsAt + r)) i 0 ≡ getD f i 0 + cond b 1 0
   alerted r c i true ie e m h =
-      let o = one-other f alertsAt i (λ z. omega (arith, ie)) in
-      one-here (oneCounted f alertsAt) (containersAt + r) i (omega (arith, ie, eqb-true r c e)) (omega (arith, ie, l, one-length f alertsAt, m, eqb-true r c e)) (omega (arith, o, h refl))
+      let o = one-other f alertCountAt i (λ z. omega (arith, ie)) in
+      one-here (oneCounted f alertCountAt) (containerCountsAt + r) i (omega (arith, ie, eqb-true r c e)) (omega (arith, ie, l, one-length f alertCountAt, m, eqb-true r c e)) (omega (arith, o, h refl))
       ∙ ap (λ (n : ℕ). n + 1) o
   alerted r c i false ie e m h =
-      one-other (oneCounted f alertsAt) (containersAt + r) i (λ w. eqb-false r c e (omega (arith, ie, w))) ∙ one-other f alertsAt i (λ w. omega (arith, ie)) ∙ same i
+      one-other (oneCounted f alertCountAt) (containerCountsAt + r) i (λ w. eqb-false r c e (omega (arith, ie, w))) ∙ one-other f alertCountAt i (λ w. omega (arith, ie)) ∙ same i
 
   -- an alert is counted behind its count in that of its receiver alone
-  alert-at : (r i : ℕ) → i < 5 → getD (oneCounted (oneCounted f alertsAt) (containersAt + r)) i 0 ≡ getD (oneCounted f alertsAt) i 0
-  alert-at r i m = one-other (oneCounted f alertsAt) (containersAt + r) i (λ z. omega arith)
+  alert-at : (r i : ℕ) → i < 5 → getD (oneCounted (oneCounted f alertCountAt) (containerCountsAt + r)) i 0 ≡ getD (oneCounted f alertCountAt) i 0
+  alert-at r i m = one-other (oneCounted f alertCountAt) (containerCountsAt + r) i (λ z. omega arith)
 
   -- at each place there is one more exactly if the answer passes its test
   pub event-at : (a : Answer) (i : ℕ) → isQuiet a ≡ false → 2 ≤ i → i < figuresLength → (placeTest i a ≡ true → getD f i 0 + 1 < 2 ^ 64)

@@ -1,4 +1,4 @@
--- FIGURES IN LENT NUMBERS: what is proved of them. `totalFigures` (specs/Totals.antt) is all that a call leaves in the numbers. It is stated over
+-- FIGURES IN LENT NUMBERS: what is proved of them. `totalNumbers` (specs/Totals.antt) is all that a call leaves in the numbers. It is stated over
 -- `traceFigures`, of which crates/figures/proofs/Theorems.antt says what the figures are: the accepted those of the history, the alerts
 -- exactly the accepted and judged steps whose receiver is forbidden what it holds.
 use Prim.Native.Nat.{ℕ, zero, suc, _+_, _%_, _^_, _≤_, _<_}
@@ -21,7 +21,7 @@ use Rattle.figures.proofs.CounterLaws.{values-list}
 use Rattle.figures.proofs.FigureLaws.{count-most}
 use Rattle.figures.proofs.MonthLaws.{records-length}
 use Rattle.figures.proofs.Theorems.{figures-cut}
-use Rattle.totals.specs.Totals.{figuresLength, figureNumbers, totalGood, totalRefusal, totalFigures, totalSession, addedNumbers, addGood, addRefusal, addFigures}
+use Rattle.totals.specs.Totals.{figuresLength, figureNumbers, totalGood, totalRefusal, totalNumbers, totalSession, addedNumbers, addGood, addRefusal, addFigures}
 use Rattle.totals.proofs.FigureNumbers.{figureAt, numbers-length, numbers-at}
 use Rattle.totals.proofs.TotalLoop.{total-9, add-refused}
 
@@ -50,11 +50,11 @@ figures-length = numbers-length
 
 -- It is accepted exactly where session and figures have their lengths; else it is refused by 9, and nothing changes.
 pub total-accepted : (s t f : List ℕ) → totalGood s f ≡ true
-    → (totalRefusal s f ≡ 0) × (totalSession s t f ≡ partSession s t) × (totalFigures s t f ≡ figureNumbers (traceFigures s t))
-unfolding totalRefusal totalSession totalFigures
+    → (totalRefusal s f ≡ 0) × (totalSession s t f ≡ partSession s t) × (totalNumbers s t f ≡ figureNumbers (traceFigures s t))
+unfolding totalRefusal totalSession totalNumbers
 total-accepted s t f g = rw g (refl, refl, refl)
 
-pub total-refused : (s t f : List ℕ) → totalGood s f ≡ false → (totalRefusal s f ≡ lentLength) × (totalSession s t f ≡ s) × (totalFigures s t f ≡ f)
+pub total-refused : (s t f : List ℕ) → totalGood s f ≡ false → (totalRefusal s f ≡ lentLength) × (totalSession s t f ≡ s) × (totalNumbers s t f ≡ f)
 total-refused s t f g = let h = total-9 s t f g in (sym (h .0), sym (h .1), sym (h .2))
 
 -- ---- sums

@@ -1,4 +1,4 @@
--- The loop of `count`, record by record: what is counted, and what is left of the trace, is the whole of it. The refusals of both calls.
+-- The loop of `count_trace`, record by record: what is counted, and what is left of the trace, is the whole of it. The refusals of both calls.
 use Prim.Native.Nat.{ℕ, zero, suc, _+_, _-_, _%_, _^_, _≤_, _<_}
 use native.Mathlib.Omega.{arith}
 use mathlib.Core.Path.{_≡_, refl, sym, ap, _∙_}
@@ -28,8 +28,8 @@ use Rattle.figures.proofs.CounterLaws.{values-length, values-at}
 use Rattle.figures.proofs.FigureLaws.{count-most}
 use Rattle.figures.proofs.MonthLaws.{records-length}
 use Rattle.figures.proofs.Theorems.{accepted-refused}
-use Rattle.totals.specs.Totals.{figuresLength, figureNumbers, totalGood, totalRefusal, totalFigures, totalSession, addedNumbers, addGood, addRefusal, addFigures}
-use Rattle.totals.specs.Places.{refusedAt, blockedAt, eventCounted, finished}
+use Rattle.totals.specs.Totals.{figuresLength, figureNumbers, totalGood, totalRefusal, totalNumbers, totalSession, addedNumbers, addGood, addRefusal, addFigures}
+use Rattle.totals.specs.Places.{refusedCountAt, blockedCountAt, eventCounted, finished}
 use Rattle.totals.proofs.FigureNumbers.{figureAt, numbers-length, numbers-at}
 use Rattle.totals.proofs.CountedEvents.{placeTest, quiet-place, event-at}
 use Rattle.totals.proofs.CountedEvents as events
@@ -141,11 +141,11 @@ module _ (s₀ t s f : List ℕ) (records at : ℕ) (h : Totalling s₀ t s f re
   all = let z = ap length (no-record t at l) in omega (arith, h .count, z)
 
   -- each record is accepted, refused or blocked
-  each : figureAt (traceFigures s₀ t) 1 + getD f refusedAt 0 + getD f blockedAt 0 ≡ records
+  each : figureAt (traceFigures s₀ t) 1 + getD f refusedCountAt 0 + getD f blockedCountAt 0 ≡ records
   unfolding traceFigures figureAt
   each = omega (arith, accepted-refused s₀ (traceRecords t), whole 3 (omega arith) (omega arith), whole 4 (omega arith) (omega arith), all)
 
-  pub total-left : getD f refusedAt 0 + getD f blockedAt 0 ≤ records
+  pub total-left : getD f refusedCountAt 0 + getD f blockedCountAt 0 ≤ records
   total-left = omega (arith, each)
 
   at-place : (i : ℕ) → i < figuresLength → getD (finished f records) i 0 ≡ figureAt (traceFigures s₀ t) i
@@ -171,14 +171,14 @@ module _ (s₀ t s f : List ℕ) (records at : ℕ) (h : Totalling s₀ t s f re
   unfolding runEffect
   left-session = rw (no-record t at l) at (h .leaves)
 
-  pub total-end : (f₀ f′ : List ℕ) → totalGood s₀ f₀ ≡ true → f′ ≡ finished f records → (0 ≡ totalRefusal s₀ f₀) × (s ≡ totalSession s₀ t f₀) × (f′ ≡ totalFigures s₀ t f₀)
-  unfolding totalRefusal totalSession totalFigures
+  pub total-end : (f₀ f′ : List ℕ) → totalGood s₀ f₀ ≡ true → f′ ≡ finished f records → (0 ≡ totalRefusal s₀ f₀) × (s ≡ totalSession s₀ t f₀) × (f′ ≡ totalNumbers s₀ t f₀)
+  unfolding totalRefusal totalSession totalNumbers
   total-end f₀ f′ g e = rw g (refl, left-session, e ∙ numbers)
 
 -- ---- 9
 
-pub total-9 : (s t f : List ℕ) → totalGood s f ≡ false → (lentLength ≡ totalRefusal s f) × (s ≡ totalSession s t f) × (f ≡ totalFigures s t f)
-unfolding totalRefusal totalSession totalFigures
+pub total-9 : (s t f : List ℕ) → totalGood s f ≡ false → (lentLength ≡ totalRefusal s f) × (s ≡ totalSession s t f) × (f ≡ totalNumbers s t f)
+unfolding totalRefusal totalSession totalNumbers
 total-9 s t f g = rw g (refl, refl, refl)
 
 pub bad-session : (s f : List ℕ) → (length s ≡ sessionLength → ⊥) → totalGood s f ≡ false

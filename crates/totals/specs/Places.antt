@@ -12,30 +12,30 @@ use Rattle.figures.specs.Figures.{countLimit}
 
 -- ---- the places of the numbers
 
-abbrev pub recordsAt : ℕ
-recordsAt = 0
+abbrev pub recordCountAt : ℕ
+recordCountAt = 0
 
-abbrev pub acceptedAt : ℕ
-acceptedAt = 1
+abbrev pub acceptedCountAt : ℕ
+acceptedCountAt = 1
 
-abbrev pub alertsAt : ℕ
-alertsAt = 2
+abbrev pub alertCountAt : ℕ
+alertCountAt = 2
 
-abbrev pub refusedAt : ℕ
-refusedAt = 3
+abbrev pub refusedCountAt : ℕ
+refusedCountAt = 3
 
-abbrev pub blockedAt : ℕ
-blockedAt = 4
+abbrev pub blockedCountAt : ℕ
+blockedCountAt = 4
 
-abbrev pub containersAt : ℕ
-containersAt = 1 + countLimit
+abbrev pub containerCountsAt : ℕ
+containerCountsAt = 1 + countLimit
 
 -- the last count that an answer belongs to
-abbrev pub placeOf : Answer → ℕ
-placeOf (Given Quiet e) = acceptedAt
-placeOf (Given Alert e) = alertsAt
-placeOf (Given Blocked e) = blockedAt
-placeOf (Refused n) = refusedAt
+abbrev pub countPlace : Answer → ℕ
+countPlace (Given Quiet e) = acceptedCountAt
+countPlace (Given Alert e) = alertCountAt
+countPlace (Given Blocked e) = blockedCountAt
+countPlace (Refused n) = refusedCountAt
 
 -- ---- counting
 
@@ -45,8 +45,8 @@ oneCounted f k = set f k (more (getD f k 0))
 
 -- with one more answer that is not quiet: in its count, and of an alert in that of its receiver
 unfoldable pub eventCounted : List ℕ → Answer → List ℕ
-eventCounted f a = cond (isAlert a) (oneCounted (oneCounted f (placeOf a)) (containersAt + receiverOf a)) (oneCounted f (placeOf a))
+eventCounted f a = cond (isAlert a) (oneCounted (oneCounted f (countPlace a)) (containerCountsAt + receiverOf a)) (oneCounted f (countPlace a))
 
 -- with so many records in all, of which those that are neither refused nor blocked are accepted
 unfoldable pub finished : List ℕ → ℕ → List ℕ
-finished f records = set (set f recordsAt records) acceptedAt (records - getD f refusedAt 0 - getD f blockedAt 0)
+finished f records = set (set f recordCountAt records) acceptedCountAt (records - getD f refusedCountAt 0 - getD f blockedCountAt 0)

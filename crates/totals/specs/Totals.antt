@@ -30,8 +30,8 @@ totalGood s f = sessionLengthGood s && eqb (length f) figuresLength
 unfoldable pub totalRefusal : List ℕ → List ℕ → ℕ
 totalRefusal s f = cond (totalGood s f) 0 lentLength
 
-unfoldable pub totalFigures : List ℕ → List ℕ → List ℕ → List ℕ
-totalFigures s t f = cond (totalGood s f) (figureNumbers (traceFigures s t)) f
+unfoldable pub totalNumbers : List ℕ → List ℕ → List ℕ → List ℕ
+totalNumbers s t f = cond (totalGood s f) (figureNumbers (traceFigures s t)) f
 
 unfoldable pub totalSession : List ℕ → List ℕ → List ℕ → List ℕ
 totalSession s t f = cond (totalGood s f) (partSession s t) s

@@ -3,8 +3,8 @@ ghost use mathlib.Core.Path.{_≡_};
 ghost use Prim.Native.Nat.{_+_, _≤_, _<_};
 ghost use lib.ListN.{length, getD};
 ghost use Rattle.figures.specs.Counters.{valuesBelow};
-ghost use Rattle.totals.specs.Totals.{figuresLength, totalRefusal, totalFigures, totalSession, addRefusal, addFigures};
-ghost use Rattle.totals.specs.Places.{refusedAt, blockedAt, placeOf, oneCounted, eventCounted, finished};
+ghost use Rattle.totals.specs.Totals.{figuresLength, totalRefusal, totalNumbers, totalSession, addRefusal, addFigures};
+ghost use Rattle.totals.specs.Places.{refusedCountAt, blockedCountAt, countPlace, oneCounted, eventCounted, finished};
 use answers::Answer;
 use answers::Verdict;
 use image::CONTAINER_LIMIT;
@@ -30,7 +30,7 @@ const CONTAINERS_AT: usize = 5;
 // ---- counting
 
 // Each number 0.
-fn clear(figures: &mut [u64])
+fn clear_figures(figures: &mut [u64])
     ensures { λ _. ⌜ now (figures .exit) ≡ valuesBelow (λ k. 0) (length (now (figures .entry))) ⌝ }
 {
     let mut k: usize = 0;
@@ -41,7 +41,7 @@ fn clear(figures: &mut [u64])
 }
 
 // One more at a place.
-fn add_one(figures: &mut [u64], k: usize)
+fn add_at(figures: &mut [u64], k: usize)
     requires { ⌜ k < length (now figures) ⌝ }
     ensures { λ _. ⌜ now (figures .exit) ≡ oneCounted (now (figures .entry)) k ⌝ }
 {
@@ -49,8 +49,8 @@ fn add_one(figures: &mut [u64], k: usize)
 }
 
 // The last count that an answer belongs to.
-fn place_of(answer: Answer) -> usize
-    ensures { λ r. ⌜ r ≡ placeOf answer ⌝ }
+fn count_place(answer: Answer) -> usize
+    ensures { λ r. ⌜ r ≡ countPlace answer ⌝ }
 {
     match answer {
         Answer::Given(verdict, _) => match verdict {
@@ -67,20 +67,20 @@ fn add_event(figures: &mut [u64], answer: Answer)
     requires { ⌜ length (now figures) ≡ figuresLength ⌝ }
     ensures { λ _. ⌜ now (figures .exit) ≡ eventCounted (now (figures .entry)) answer ⌝ }
 {
-    add_one(figures, place_of(answer));
+    add_at(figures, count_place(answer));
     if !answers::is_alert(answer) {
         return;
     }
     let received = answers::received_of(answer);
     let receiver = received.receiver;
     if receiver < CONTAINER_LIMIT {
-        add_one(figures, CONTAINERS_AT + receiver);
+        add_at(figures, CONTAINERS_AT + receiver);
     }
 }
 
 // So many records in all: those that are neither refused nor blocked are accepted.
 fn finish(figures: &mut [u64], records: u64)
-    requires { ⌜ (length (now figures) ≡ figuresLength) × (getD (now figures) refusedAt 0 + getD (now figures) blockedAt 0 ≤ records) ⌝ }
+    requires { ⌜ (length (now figures) ≡ figuresLength) × (getD (now figures) refusedCountAt 0 + getD (now figures) blockedCountAt 0 ≤ records) ⌝ }
     ensures { λ _. ⌜ now (figures .exit) ≡ finished (now (figures .entry)) records ⌝ }
 {
     let accepted = records - figures[REFUSED_AT] - figures[BLOCKED_AT];
@@ -90,11 +90,11 @@ fn finish(figures: &mut [u64], records: u64)
 
 // 0 with the figures of the records of the trace, run on the session to their end; 9 unless the session has 5,536 numbers and the figures
 // 261, and all is as it was. Any bytes and any numbers are counted.
-pub fn count(session: &mut [u64], trace: &[u8], figures: &mut [u64]) -> u32
+pub fn count_trace(session: &mut [u64], trace: &[u8], figures: &mut [u64]) -> u32
     ensures { λ r. ⌜
         (r ≡ totalRefusal (now (session .entry)) (now (figures .entry)))
         × (now (session .exit) ≡ totalSession (now (session .entry)) (now (trace .entry)) (now (figures .entry)))
-        × (now (figures .exit) ≡ totalFigures (now (session .entry)) (now (trace .entry)) (now (figures .entry))) ⌝ }
+        × (now (figures .exit) ≡ totalNumbers (now (session .entry)) (now (trace .entry)) (now (figures .entry))) ⌝ }
 {
     if session.len() != SESSION_LENGTH {
         return answers::LENT_LENGTH;
@@ -102,7 +102,7 @@ pub fn count(session: &mut [u64], trace: &[u8], figures: &mut [u64]) -> u32
     if figures.len() != FIGURES_LENGTH {
         return answers::LENT_LENGTH;
     }
-    clear(figures);
+    clear_figures(figures);
     let mut records: u64 = 0;
     let mut at: usize = 0;
     while at < trace.len() {

@@ -39,6 +39,25 @@ extern "C" {
         tag: *mut u64,
         position: *mut u32,
     ) -> u32;
+    pub fn yaslaurel_events(
+        session: *mut u64,
+        session_len: usize,
+        records: *const u8,
+        records_len: usize,
+        events: *mut u64,
+        events_len: usize,
+        taken: *mut usize,
+        written: *mut usize,
+    ) -> u32;
+    pub fn yaslaurel_figures(
+        session: *mut u64,
+        session_len: usize,
+        records: *const u8,
+        records_len: usize,
+        figures: *mut u64,
+        figures_len: usize,
+    ) -> u32;
+    pub fn yaslaurel_figures_add(total: *mut u64, total_len: usize, figures: *const u64, figures_len: usize) -> u32;
     pub fn yaslaurel_trace_trim(
         image: *const u8,
         image_len: usize,

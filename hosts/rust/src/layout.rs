@@ -120,6 +120,42 @@ pub mod record {
     pub const NO_USER: u16 = 65535;
 }
 
+/// An event, in numbers of 64 bits.
+pub mod event {
+    /// Where the place of its record is.
+    pub const PLACE: usize = 0;
+    /// Where its answer is.
+    pub const ANSWER: usize = 1;
+    /// Where the receiver is; 0 for a refusal, as the tag and the position.
+    pub const RECEIVER: usize = 2;
+    /// Where the tag is.
+    pub const TAG: usize = 3;
+    /// Where the position is.
+    pub const POSITION: usize = 4;
+    /// Numbers of an event.
+    pub const LENGTH: usize = 5;
+}
+
+/// The figures of records, in numbers of 64 bits.
+pub mod figures {
+    use super::image::CONTAINERS;
+
+    /// Where the number of records is.
+    pub const RECORDS: usize = 0;
+    /// Where that of the accepted ones is, alerts among them.
+    pub const ACCEPTED: usize = 1;
+    /// Where that of the alerts is.
+    pub const ALERTS: usize = 2;
+    /// Where that of the refused ones is.
+    pub const REFUSED: usize = 3;
+    /// Where that of the blocked ones is.
+    pub const BLOCKED: usize = 4;
+    /// Where the alerts of the containers begin.
+    pub const CONTAINERS_AT: usize = 5;
+    /// Numbers of figures.
+    pub const LENGTH: usize = CONTAINERS_AT + CONTAINERS.most;
+}
+
 /// The reason of an alert, in numbers of 64 bits, as [`why_in`](crate::why_in) writes it.
 pub mod why {
     use super::session::RULE_MIXTURES;

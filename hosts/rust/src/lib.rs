@@ -45,8 +45,10 @@
 
 mod composition;
 mod container;
+mod events;
 mod explain;
 pub mod ffi;
+mod figures;
 mod game;
 pub mod layout;
 mod operation;
@@ -61,9 +63,11 @@ use std::fmt;
 
 pub use composition::{compose, compose_into};
 pub use container::{Container, Kind};
+pub use events::{event, events_in, Event, Gathered};
 pub use explain::{
     explain, explain_in, links_length, trace_records, why, why_in, Chain, Origin, Recording, Why, WhyByName, WHY_LENGTH,
 };
+pub use figures::{add_figures_in, figures_in, Figures};
 pub use game::{play, Move, Outcome};
 pub use operation::Operation;
 pub use policy::{Policy, PolicyContainer, PolicyError};
@@ -392,6 +396,45 @@ impl Session {
     #[inline]
     pub fn run<'a>(&'a mut self, records: &'a [u8]) -> Run<'a> {
         run_in(&mut self.words[..], records)
+    }
+
+    /// What is not quiet of a batch of records, as [`Session::run`] has it, by as few calls of the library as there are
+    /// 256 such records: each record's place in the slice, and its alert, that it is blocked, or its refusal.
+    ///
+    /// ```
+    /// use yaslaurel::{matrix_policy, Operation, Refusal, Session};
+    /// let mut session = Session::start(&matrix_policy(&[1], &[1], 1)?)?;
+    /// let quiet = Operation::Read { process: 1, object: 0 }.record();
+    /// let records = [&quiet[..], &[0; 8], &quiet[..], &[1, 0, 1]].concat();
+    /// let refused = Err(Refusal::OperationRecord);
+    /// assert_eq!(session.events(&records), [(1, refused), (3, refused)]);
+    /// # Ok::<(), Refusal>(())
+    /// ```
+    #[must_use = "an alert may be among them"]
+    pub fn events(&mut self, records: &[u8]) -> Vec<Event> {
+        events::gather(&mut self.words[..], records)
+    }
+
+    /// Judges a batch of records to its end, and counts them by their answers.
+    ///
+    /// ```
+    /// use yaslaurel::{matrix_policy, Operation, Session};
+    /// let mut session = Session::start(&matrix_policy(&[5, 3, 2], &[1, 2, 10], 4)?)?;
+    /// let mut records = Operation::Read { process: 4, object: 2 }.record().to_vec();
+    /// records.extend(Operation::Append { process: 4, object: 0 }.record());
+    /// records.extend(Operation::Read { process: 5, object: 0 }.record());
+    /// let first = session.figures(&records);
+    /// records.clear();
+    /// records.extend(Operation::Append { process: 5, object: 1 }.record());
+    /// records.extend(Operation::Read { process: 6, object: 9 }.record());
+    /// let all = first + session.figures(&records);
+    /// assert_eq!((all.records(), all.accepted(), all.alerts(), all.refused(), all.blocked()), (5, 4, 1, 1, 0));
+    /// assert_eq!(all.alerts_at(1), 1);
+    /// # Ok::<(), yaslaurel::Refusal>(())
+    /// ```
+    #[must_use = "an alert may be among them"]
+    pub fn figures(&mut self, records: &[u8]) -> Figures {
+        figures::count(&mut self.words[..], records)
     }
 
     /// What a number stands for just now; nothing for a free one.

@@ -876,6 +876,7 @@ static int random_matrices(uint64_t *seed, int round)
 }
 
 #include "explanations.h"
+#include "gathers.h"
 
 /* Random bytes and numbers everywhere: every answer is one that the function can give. */
 static void random_bytes(void)
@@ -1110,6 +1111,8 @@ int main(void)
     step_example();
     what_if_example();
     batch_example();
+    event_example();
+    figures_example();
     trim_examples();
     leaving_example();
     behalf_example();

@@ -10,6 +10,9 @@ void ignored(uint8_t *bytes, uint64_t *words, uint32_t *rows, size_t length)
     yaslaurel_session_start(bytes, length, words, length);
     yaslaurel_step(words, length, bytes, length, words, words, rows);
     yaslaurel_run(words, length, bytes, length, &length, words, words, rows);
+    yaslaurel_events(words, length, bytes, length, words, length, &length, &length);
+    yaslaurel_figures(words, length, bytes, length, words, length);
+    yaslaurel_figures_add(words, length, words, length);
     yaslaurel_trace_trim(bytes, length, bytes, length, bytes, length, &length);
     yaslaurel_explain(bytes, length, bytes, length, 0, 0, words, length, words, length, words, words);
     yaslaurel_why(bytes, length, bytes, length, words, length, words, length, words, length);

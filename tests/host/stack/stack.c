@@ -52,7 +52,8 @@ static uint32_t answer;
 static uint64_t receiver, tag;
 static uint32_t position;
 static uint32_t count, source, target;
-static size_t taken;
+static size_t taken, written;
+static uint64_t events[YASLAUREL_EVENT_LENGTH], figures[YASLAUREL_FIGURES_LENGTH], total[YASLAUREL_FIGURES_LENGTH];
 
 /* Each caller notes its stack pointer, then calls. */
 #define NOTE() __asm__ volatile("mov %%rsp, %0" : "=m"(at_call))
@@ -91,6 +92,25 @@ static void call_run(void)
 {
     NOTE();
     answer = yaslaurel_run(session, SESSION, record, sizeof record, &taken, &receiver, &tag, &position);
+}
+
+static void call_events(void)
+{
+    NOTE();
+    answer = yaslaurel_events(session, SESSION, record, sizeof record, events, sizeof events / sizeof events[0], &taken,
+                              &written);
+}
+
+static void call_figures(void)
+{
+    NOTE();
+    answer = yaslaurel_figures(session, SESSION, record, sizeof record, figures, YASLAUREL_FIGURES_LENGTH);
+}
+
+static void call_figures_add(void)
+{
+    NOTE();
+    answer = yaslaurel_figures_add(total, YASLAUREL_FIGURES_LENGTH, figures, YASLAUREL_FIGURES_LENGTH);
 }
 
 static void call_trim(void)
@@ -172,6 +192,9 @@ static struct function {
     {"yaslaurel_session_start", call_start, YASLAUREL_SESSION_START_STACK, 0},
     {"yaslaurel_step", call_step, YASLAUREL_STEP_STACK, 0},
     {"yaslaurel_run", call_run, YASLAUREL_RUN_STACK, 0},
+    {"yaslaurel_events", call_events, YASLAUREL_EVENTS_STACK, 0},
+    {"yaslaurel_figures", call_figures, YASLAUREL_FIGURES_STACK, 0},
+    {"yaslaurel_figures_add", call_figures_add, YASLAUREL_FIGURES_ADD_STACK, 0},
     {"yaslaurel_trace_trim", call_trim, YASLAUREL_TRACE_TRIM_STACK, 0},
     {"yaslaurel_explain", call_explain, YASLAUREL_EXPLAIN_STACK, 0},
     {"yaslaurel_why", call_why, YASLAUREL_WHY_STACK, 0},
@@ -184,7 +207,7 @@ static struct function {
     {"yaslaurel_image_compose", call_compose, YASLAUREL_IMAGE_COMPOSE_STACK, 0},
 };
 
-enum { VERSION, CHECK, NORMALISE, START, STEP, RUN, TRIM, EXPLAIN, WHY, VERDICT, SILENT, GAME, JUDGE, POLICY, PROFILES, COMPOSE };
+enum { VERSION, CHECK, NORMALISE, START, STEP, RUN, EVENTS, FIGURES, FIGURES_ADD, TRIM, EXPLAIN, WHY, VERDICT, SILENT, GAME, JUDGE, POLICY, PROFILES, COMPOSE };
 
 /* Runs a call on the painted stack and keeps the most that was found. */
 static void measure(int which)
@@ -258,7 +281,8 @@ static void steps(void)
         uint32_t u = code == YASLAUREL_EXEC || code == YASLAUREL_NEW_FILE ? (uint32_t)(draw() % YASLAUREL_USERS)
                                                                          : YASLAUREL_NO_USER;
         yaslaurel_record(code, p, code == YASLAUREL_END ? p : o, u, record);
-        measure(i % 2 == 0 ? STEP : RUN);
+        static const int turns[] = {STEP, RUN, EVENTS, FIGURES, FIGURES_ADD};
+        measure(turns[i % 5]);
     }
 }
 

@@ -7,6 +7,7 @@ mod compositions;
 mod cuts;
 mod explanations;
 mod games;
+mod gathers;
 mod guarded;
 mod histories;
 mod images;
@@ -40,4 +41,5 @@ pub const PARTS: &[Part] = &[
     games::ALL,
     explanations::PART,
     reasons::PART,
+    gathers::PART,
 ];

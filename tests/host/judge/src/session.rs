@@ -360,6 +360,41 @@ pub fn run(session: &mut [u64], records: &[u8]) -> Run {
     Run { answer: Answer { number: QUIET, receiver: 0, tag: 0, position: 0 }, taken }
 }
 
+/// What a call gathers of records: how many it took, and what was not quiet, by the record's place.
+pub struct Events {
+    pub taken: usize,
+    pub loud: Vec<(usize, Answer)>,
+}
+
+/// Records one behind the other, where there is room for so many events: "stops before the first record for which `events` has no
+/// room for one more event" (`include/yaslaurel.h`).
+pub fn events(session: &mut [u64], records: &[u8], room: usize) -> Events {
+    let mut events = Events { taken: 0, loud: Vec::new() };
+    for record in records.chunks(RECORD) {
+        if events.loud.len() == room {
+            break;
+        }
+        let answer = step(session, record);
+        if outcome(answer.number) != Outcome::Quiet {
+            events.loud.push((events.taken, answer));
+        }
+        events.taken += 1;
+    }
+    events
+}
+
+/// "how many there are, how many were accepted (alerts among them), alerted, refused and blocked, then the alerts of each container
+/// number" (`include/yaslaurel.h`).
+pub fn figures(session: &mut [u64], records: &[u8]) -> Vec<u64> {
+    let answers: Vec<Answer> = records.chunks(RECORD).map(|record| step(session, record)).collect();
+    let count =
+        |wanted: &[Outcome]| answers.iter().filter(|answer| wanted.contains(&outcome(answer.number))).count() as u64;
+    let counts =
+        [&[Outcome::Quiet, Outcome::Alert][..], &[Outcome::Alert], &[Outcome::Refused], &[Outcome::Blocked]].map(count);
+    let at = |c: u64| answers.iter().filter(|answer| answer.number == ALERT && answer.receiver == c).count() as u64;
+    [answers.len() as u64].into_iter().chain(counts).chain((0..CONTAINERS.most as u64).map(at)).collect()
+}
+
 #[cfg(test)]
 mod tests {
     use super::*;

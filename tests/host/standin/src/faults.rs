@@ -267,4 +267,20 @@ faults! {
     Reason16Taken, reasons, differential calls fuzz, "16 numbers are enough for a reason";
     TraceBeforePolicy, reasons, differential calls fuzz, "25 goes before 1 to 6";
     RefusedReasonClears, reasons, differential calls fuzz, "a refused reason clears its numbers";
+    PlaceFromOne, gathers, differential calls, "the places of events begin from 1";
+    LastEventDropped, gathers, differential calls, "the last event for which there is room is not taken";
+    StaleReceiver, gathers, differential calls, "the event of a refusal has the receiver of the record before it";
+    BlockedNoEvent, gathers, differential, "a blocked record leaves no event";
+    EventPositionUntold, gathers, differential calls, "events leave out the position";
+    EventsOnCopy, gathers, differential calls, "gathering events leaves the session as it was";
+    EventsBehindCleared, gathers, differential calls, "the numbers behind the events are cleared";
+    SmallRoomTaken, gathers, differential calls, "a room for no event is taken";
+    RefusedEventsClearCounts, gathers, differential calls, "events refused with 9 clear the counts";
+    FiguresCountedOn, gathers, differential calls, "figures are counted on from what stood there";
+    AlertsNotAccepted, gathers, differential calls, "alerts are not among the accepted";
+    AlertOfProcess, gathers, differential calls, "an alert is counted to its process and not to its receiver";
+    AlertCountedTwice, gathers, differential calls, "an alert is counted twice at its receiver";
+    BlockedAsRefused, gathers, differential, "blocked records are counted as refused";
+    ContainersNotAdded, gathers, differential calls, "a sum leaves out the alerts of the containers";
+    SumStops, gathers, differential calls, "a sum stops at the greatest number";
 }

@@ -5,6 +5,7 @@ mod composition;
 mod explain;
 pub mod faults;
 mod game;
+mod gather;
 mod owners;
 mod profiles;
 mod silence;
@@ -172,6 +173,65 @@ pub unsafe extern "C" fn yaslaurel_run(
         }
     }
     run.answer.number
+}
+
+/// # Safety
+/// As `include/yaslaurel.h` says.
+#[no_mangle]
+pub unsafe extern "C" fn yaslaurel_events(
+    words: *mut u64,
+    words_length: usize,
+    records: *const u8,
+    records_length: usize,
+    events: *mut u64,
+    events_length: usize,
+    taken: *mut usize,
+    written: *mut usize,
+) -> u32 {
+    let session = from_raw_parts_mut(words, words_length);
+    let records = from_raw_parts(records, records_length);
+    match gather::events(session, records, from_raw_parts_mut(events, events_length)) {
+        Some((judged, told)) => {
+            *taken = judged;
+            *written = told;
+            0
+        }
+        None => {
+            if planted(Fault::RefusedEventsClearCounts) {
+                *taken = 0;
+                *written = 0;
+            }
+            9
+        }
+    }
+}
+
+/// # Safety
+/// As `include/yaslaurel.h` says.
+#[no_mangle]
+pub unsafe extern "C" fn yaslaurel_figures(
+    words: *mut u64,
+    words_length: usize,
+    records: *const u8,
+    records_length: usize,
+    figures: *mut u64,
+    figures_length: usize,
+) -> u32 {
+    let session = from_raw_parts_mut(words, words_length);
+    let records = from_raw_parts(records, records_length);
+    gather::figures(session, records, from_raw_parts_mut(figures, figures_length))
+}
+
+/// # Safety
+/// As `include/yaslaurel.h` says.
+#[no_mangle]
+pub unsafe extern "C" fn yaslaurel_figures_add(
+    total: *mut u64,
+    total_length: usize,
+    figures: *const u64,
+    figures_length: usize,
+) -> u32 {
+    gather::add(from_raw_parts_mut(total, total_length), from_raw_parts(figures, figures_length))
 }
 
 /// # Safety

@@ -1,4 +1,4 @@
--- `totals::count`. Invariant: what is counted, and what is left of the trace, is the whole of it (`Totalling`).
+-- `totals::count_trace`. Invariant: what is counted, and what is left of the trace, is the whole of it (`Totalling`).
 use Prim.Native.Nat.{_-_}
 use native.Mathlib.Omega.{arith}
 use mathlib.Core.Path.{ap, _∙_}
@@ -8,8 +8,8 @@ use Rattle.lists.proofs.Bools.{passes-test, fails-test}
 use Rattle.records.proofs.TraceRecords.{record-length}
 use Rattle.figures.specs.Counters.{valuesBelow}
 use Rattle.totals.proofs.TotalLoop.{Totalling, total-start, total-quiet, total-event, total-left, total-end, total-9, bad-session, bad-numbers, good-lengths}
-use Rattle.totals.proofs.count.Statement.{statement}
-use Rattle.totals.proofs.count.Tie as tie
+use Rattle.totals.proofs.count_trace.Statement.{statement}
+use Rattle.totals.proofs.count_trace.Tie as tie
 
 abbrev Inv-loop : tie.InvT-loop
 Inv-loop session₀ trace figures₀ records₀ at₀ session figures records at = Totalling session₀ trace session figures records at
@@ -24,7 +24,7 @@ returns-2 : tie.Need-returns-2 Inv-loop μ-loop
 returns-2 c = total-9 _ _ _ (bad-numbers _ _ (c .before .if1 .left) (c .if2 .taken))
 
 loop-holds : tie.Need-loop-holds Inv-loop μ-loop
-loop-holds c = total-start _ _ _ (c .before .before .clear .ensures ∙ ap (valuesBelow (λ k. 0)) (c .before .before .before .before .if2 .left))
+loop-holds c = total-start _ _ _ (c .before .before .clear-figures .ensures ∙ ap (valuesBelow (λ k. 0)) (c .before .before .before .before .if2 .left))
 
 add-at : tie.Need-add-at Inv-loop μ-loop
 add-at c = omega (arith, record-length _ _ _ (c .before .before .before .before .before .loop-test .taken) (c .before .before .before .before .record-at .ensures))
@@ -71,8 +71,8 @@ returns-3 c =
     total-end _ _ _ _ _ _ (loop .loop .inv) (c .before .before .before .before .loop-test .left) _ _
     (good-lengths _ _ (lengths .before .if1 .left) (lengths .if2 .left)) (c .before .before .finish .ensures)
 
-pub count-spec : {M : Type 1} → statement M
-count-spec =
+pub count-trace-spec : {M : Type 1} → statement M
+count-trace-spec =
     tie.close
     (tie.spec
     Inv-loop

@@ -1,11 +1,11 @@
--- `totals::clear`. Invariant: the numbers below k are 0 (`Changing`).
+-- `totals::clear_figures`. Invariant: the numbers below k are 0 (`Changing`).
 use Prim.Native.Nat.{_-_}
 use mathlib.Core.Path.{refl}
 use lib.ListN.{length}
 use Rattle.figures.proofs.CountedParts.{Changing, changing-start, changing-next, changing-end}
 use borrow.Author.Needs.{needs}
-use Rattle.totals.proofs.clear.Statement.{statement}
-use Rattle.totals.proofs.clear.Tie as tie
+use Rattle.totals.proofs.clear_figures.Statement.{statement}
+use Rattle.totals.proofs.clear_figures.Tie as tie
 
 abbrev Inv-loop : tie.InvT-loop
 Inv-loop figures₀ k₀ figures k = Changing (λ i n. 0) (length figures₀) figures₀ figures k
@@ -22,8 +22,8 @@ loop-again c = changing-next _ _ _ _ _ _ (c .before .loop .inv) (search needs) r
 returns : tie.Need-returns Inv-loop μ-loop
 returns c = changing-end _ _ _ _ _ (c .before .loop .inv) (search needs)
 
-pub clear-spec : {M : Type 1} → statement M
-clear-spec =
+pub clear-figures-spec : {M : Type 1} → statement M
+clear-figures-spec =
     tie.close
     (tie.spec
     Inv-loop

@@ -1,15 +1,15 @@
--- `totals::add_one`. One place is set.
+-- `totals::add_at`. One place is set.
 use Rattle.totals.specs.Places.{oneCounted}
 use borrow.Author.Needs.{needs}
-use Rattle.totals.proofs.add_one.Statement.{statement}
-use Rattle.totals.proofs.add_one.Tie as tie
+use Rattle.totals.proofs.add_at.Statement.{statement}
+use Rattle.totals.proofs.add_at.Tie as tie
 
 returns : tie.Need-returns
 unfolding oneCounted
 returns c = rw (c .more .ensures)
 
-pub add-one-spec : {M : Type 1} → statement M
-add-one-spec =
+pub add-at-spec : {M : Type 1} → statement M
+add-at-spec =
     tie.close
     (tie.spec
     (λ c. search needs)
