@@ -1,6 +1,6 @@
 -- The cases of `normalise`: a short output, a refused image, an accepted one, and one that names no rule.
 use Prim.Native.Nat.{ℕ, _≤_, _<_}
-use mathlib.Core.Path.{_≡_, refl, sym, _∙_}
+use mathlib.Core.Path.{_≡_, refl, sym, ap, _∙_}
 use mathlib.Core.Bool.{true, _&&_}
 use mathlib.Core.List.{List, [], _∷_}
 use native.Mathlib.Omega.{arith}
@@ -78,9 +78,13 @@ module _ (i : List ℕ) (e : checkOf i ≡ 0) where
 
 -- ---- a policy that names no rule
 
+empty-policy : (rules : List Use) → normalPolicy (policyGiven [] [] rules) ≡ record { containers = []; users = []; rules = []; owners = [] }
+unfolding normalPolicy policyOf writtenUses writtenBy uses placeUses numbered owned policyGiven containersIn usersIn records cut
+empty-policy rules = refl
+
 empty-image : (rules : List Use) → normalImage (policyGiven [] [] rules) ≡ headerBytes 0 0 0 0
-unfolding normalImage normalPolicy policyOf writtenUses writtenBy uses placeUses numbered owned policyGiven containersIn usersIn records cut encode framed header pair spansOf joined headerBytes pairBytes bytesOf
-empty-image rules = refl
+unfolding normalImage encode framed header pair spansOf joined headerBytes pairBytes bytesOf
+empty-image rules = ap encode (empty-policy rules)
 
 no-bytes : (s : List ℕ) → length s ≡ 0 → s ≡ []
 no-bytes [] h = refl
