@@ -11,7 +11,8 @@
 //! operations` measures single operations alone, `bench batches` runs of records, `bench profiles` texts of profiles, `bench
 //! cover` the cover test of a rule of eight, `bench proposals` proposals to withdraw rights, `bench games` games of a desk
 //! against a guard, `bench trims` traces trimmed to their alert, `bench compositions` pairs of images, `bench
-//! explanations` chains and reasons of alerts.
+//! explanations` chains and reasons of alerts, `bench matrices` verdicts, `bench limits` the bytes and instructions of calls, which valgrind
+//! counts of `bench repeat NUMBER SIDE COUNT`, `bench recorded FOLDER..` traces of real runs.
 //! `bench listing` is the watch program in natural Rust (`BufWriter`, `writeln!`), `bench figures` the month program, for the
 //! comparison of whole programs; `bench trace COUNT` writes the policy and trace that both watch programs read.
 
@@ -19,10 +20,12 @@ mod compositions;
 mod cover;
 mod explanations;
 mod games;
+mod limits;
 mod month;
 mod plain;
 mod profiles;
 mod race;
+mod recorded;
 mod trims;
 mod work;
 
@@ -779,6 +782,22 @@ fn main() -> io::Result<()> {
             explanations::explanations();
             return Ok(());
         }
+        ["limits"] => {
+            limits::limits();
+            return Ok(());
+        }
+        ["repeat", number, side, count] => {
+            limits::repeat(number, side, count);
+            return Ok(());
+        }
+        ["matrices"] => {
+            matrices();
+            return Ok(());
+        }
+        ["recorded", ..] => {
+            recorded::recorded(&args[1..]);
+            return Ok(());
+        }
         ["proposals"] => {
             proposals();
             return Ok(());
@@ -811,6 +830,7 @@ fn main() -> io::Result<()> {
     proposals();
     texts();
     growth();
+    limits::limits();
     watch(words.first().unwrap_or(&"target/bin/watch"))?;
     figures(words.get(1).unwrap_or(&"target/bin/month"))
 }

@@ -1,8 +1,9 @@
 // The normaliser, and the writer of normal images that it and other producers of a policy call (the paper, "Policy image").
 ghost use mathlib.Core.Path.{_≡_};
-ghost use mathlib.Core.Bool.{true, cond};
+ghost use mathlib.Core.Bool.{true, cond, _&&_};
 ghost use mathlib.Core.List.{[], map};
 ghost use Prim.Native.Nat.{_+_, _*_, _/_, _≤_, _<_};
+ghost use lib.Dec.{eqb};
 ghost use lib.ListN.{length, getD, take};
 ghost use Rattle.lists.specs.Lists.{joined, every, position};
 ghost use Rattle.fields.specs.Bytes.{records};
@@ -601,7 +602,14 @@ fn rewrite_many(
     write_many(containers, users, &forms[0..n], out)
 }
 
-// The normal image of the policy of an image's sections: its length.
+// There is no container and no user, so that no rule is in use.
+fn names_nothing(containers: &[u8], users: &[u8]) -> bool
+    ensures { λ r. ⌜ r ≡ (eqb (length (now (containers .entry))) 0 && eqb (length (now (users .entry))) 0) ⌝ }
+{
+    containers.len() == 0 && users.len() == 0
+}
+
+// The normal image of the policy of an image's sections: its length. Without any use of a rule it is a header alone, and no table is made.
 fn rewrite(containers: &[u8], users: &[u8], rules: &[u8], mixtures: &[u8], out: &mut [u8]) -> usize
     requires { ⌜ SectionsAccepted (now containers) (now users) (now rules) (now mixtures) × (outputBound ≤ length (now out)) ⌝ }
     ensures { λ r. ⌜
@@ -609,11 +617,13 @@ fn rewrite(containers: &[u8], users: &[u8], rules: &[u8], mixtures: &[u8], out: 
         (now (out .entry)) (now (out .exit)) 0 r
         ⌝ }
 {
-    if rules.len() / image::RULE_SIZE <= FEW_RULES {
-        rewrite_few(containers, users, rules, mixtures, out)
-    } else {
-        rewrite_many(containers, users, rules, mixtures, out)
+    if names_nothing(containers, users) {
+        return write_header(out, 0, 0, 0, 0);
     }
+    if rules.len() / image::RULE_SIZE <= FEW_RULES {
+        return rewrite_few(containers, users, rules, mixtures, out);
+    }
+    rewrite_many(containers, users, rules, mixtures, out)
 }
 
 // The normal image of an image: its length, or the refusal.

@@ -1,0 +1,7 @@
+/* Of a build that the bench watches. */
+int one(void);
+
+int main(void)
+{
+    return one() - 1;
+}

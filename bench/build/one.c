@@ -1,0 +1,5 @@
+/* Of a build that the bench watches. */
+int one(void)
+{
+    return 1;
+}
