@@ -8,6 +8,7 @@ import random
 import subprocess
 import sys
 import tempfile
+import threading
 from pathlib import Path
 
 import psycopg2
@@ -347,7 +348,37 @@ def lost_log(seed, sent):
     fleet.close()
 
 
-CASES = [plain, killed_everywhere, two_at_once, gaps, snapshots, policies, malformed, lost_log, forgotten_sessions]
+def standing_by(seed, sent):
+    """A worker that stands by waits until the connection of the other has ended."""
+    fleet, first, second = Fleet(partitions=1), Store(STORE), Store(STORE)
+    first.stand_by(0)
+    waiting = threading.Thread(target=second.stand_by, args=(0,))
+    waiting.start()
+    waiting.join(0.3)
+    assert waiting.is_alive(), "both have the partition"
+    first.close()
+    waiting.join(20)
+    assert not waiting.is_alive(), "the other still waits"
+    second.close()
+    fleet.close()
+
+
+def trimmed(seed, sent):
+    """A log of which only what is committed is dropped."""
+    fleet, rng = Fleet(partitions=1), random.Random(seed)
+    count = fleet.log.publish(messages(rng, sent, 5)) + fleet.log.publish(messages(rng, sent, 5))
+    done = False
+    while not done:
+        worker = fleet.worker(0)
+        done = worker.turn(40, 0) is None
+        worker.log.trim(0, worker.place)
+        worker.store.close()
+    assert fleet.log.redis.xlen(stream(0)) < count - 100, "nothing was dropped"
+    same(fleet, sent)
+    fleet.close()
+
+
+CASES = [standing_by, trimmed, plain, killed_everywhere, two_at_once, gaps, snapshots, policies, malformed, lost_log, forgotten_sessions]
 
 
 def cases(seed, some):
