@@ -378,7 +378,21 @@ def trimmed(seed, sent):
     fleet.close()
 
 
-CASES = [standing_by, trimmed, plain, killed_everywhere, two_at_once, gaps, snapshots, policies, malformed, lost_log, forgotten_sessions]
+def statuses(seed, sent):
+    """Arguments, servers and files that are wrong are failures, and told apart from alerts and refusals."""
+    fleet, policy = Fleet(partitions=1), str(ROOT / "demo" / "policy.bin")
+    fleet.log.publish([Message(min(sent), 0, sent[min(sent)])])
+    work = ["work", "0", "--policy", policy, "--until-idle", "0.1"]
+    wrong = [[], ["nothing"], ["work"], ["publish", "host"], ["publish", "a b=-"], ["publish", "host=missing.bin"], [*work, "--store", "postgresql://nobody@127.0.0.1:1/none"],
+             [*work, "--log", "redis://127.0.0.1:1/0", "--tries", "1"], ["work", "7", "--policy", policy], ["work", "0", "--policy", "missing.bin"], ["init", "--policy", policy, "--partitions", "3"]]
+    for words in wrong:
+        unchanged(fleet, lambda: note(main(words) == 5, f"status 5: {' '.join(words)[:60]}"))
+    unchanged(fleet, lambda: note(main(["work", "0", "--policy", str(ROOT / "demo" / "trace.bin")]) == 4, "status 4: a policy that is refused"))
+    assert main(["alerts"]) == 0 and main(["status"]) == 2 and main(work) == 0 and main(["status"]) == 0 and main(["alerts", "--lines"]) == 3
+    fleet.close()
+
+
+CASES = [statuses, standing_by, trimmed, plain, killed_everywhere, two_at_once, gaps, snapshots, policies, malformed, lost_log, forgotten_sessions]
 
 
 def cases(seed, some):

@@ -246,8 +246,11 @@ def arguments() -> argparse.ArgumentParser:
 
 
 def main(words: Optional[Sequence[str]] = None) -> int:
-    parser = arguments()
-    given = parser.parse_args(words)
+    """Runs a command, and gives its exit status: whatever was not foreseen is a failure too, and told."""
+    try:
+        given = arguments().parse_args(words)
+    except SystemExit as ended:
+        return FleetError.status if ended.code else 0
     for name, variable in (("log", LOG), ("store", STORE)):
         if name in given and getattr(given, name) is None and not (given.command == "publish" and name == "store"):
             told(f"--{name} or {variable} says where it is")
@@ -259,10 +262,13 @@ def main(words: Optional[Sequence[str]] = None) -> int:
         return error.status
     except OSError as error:
         told(f"{error.filename}: {error.strerror}" if error.filename else str(error))
-        return FleetError.status
-    except (psycopg2.Error, redis.RedisError) as error:
-        told(f"{'the store' if isinstance(error, psycopg2.Error) else 'the log'}: {str(error).strip()}")
-        return FleetError.status
+    except psycopg2.Error as error:
+        told(f"the store: {str(error).strip()}")
+    except redis.RedisError as error:
+        told(f"the log: {error}")
+    except (Exception, KeyboardInterrupt) as error:
+        told(f"{type(error).__name__}: {error}")
+    return FleetError.status
 
 
 if __name__ == "__main__":

@@ -127,7 +127,7 @@ def trace_figures(policy: yaslaurel.Policy, trace: Trace) -> yaslaurel.Figures:
     """The figures of one trace in a session of its own. A long one is read in parts, whose figures add up."""
     with open(trace.path, "rb") as file:
         if trace.length <= PART_BYTES:
-            found = file.read(PART_BYTES + 1)
+            found = file.read(trace.length + 1)
             figures, taken = yaslaurel.Figures.of(policy, found), len(found)
         else:
             session, figures, taken, room = yaslaurel.Session(policy), yaslaurel.Figures(), 0, memoryview(bytearray(PART_BYTES))
