@@ -19,7 +19,8 @@ LIVE, MONTH = "live_cases.py", "month_cases.py"
 
 FAULTS = [
     ("the offset is not compared", LIVE, "two_at_once", "store.py", " and at = %s and (select digest", " and %s is not null and (select digest"),
-    ("the offset is committed in a transaction of its own, before the states", LIVE, "killed_everywhere", "store.py", "            if states:\n", "            self.db.commit()\n            if states:\n"),
+    ("the offset is committed in a transaction of its own, before the states", LIVE, "killed_everywhere", "store.py",
+     "            if states:\n", "            self.db.commit()\n            if states:\n"),
     ("the states are committed before the alerts", LIVE, "killed_everywhere", "store.py", "            if alerts:\n", "            self.db.commit()\n            if alerts:\n"),
     ("the alerts are committed before the states", LIVE, "killed_everywhere", "live.py", "        self.store.commit(self.part, self.policy.digest, self.place, turn.after, states, turn.events)",
      "        self.store.commit(self.part, self.policy.digest, self.place, self.place, [], turn.events)\n"
@@ -29,9 +30,11 @@ FAULTS = [
      "        self.store.commit(self.part, self.policy.digest, self.place, turn.after, [], turn.events)"),
     ("a message that comes twice is judged twice", LIVE, "killed_everywhere", "live.py", "session.feed(message.first, message.records)", "session.events(message.records)"),
     ("the first state that changed is not kept", LIVE, "plain", "live.py", "in sorted(turn.hosts)]", "in sorted(turn.hosts)[1:]]"),
-    ("a state that is there already is not replaced", LIVE, "plain", "store.py", "do update set taken = excluded.taken, \"\n                               \"snapshot = excluded.snapshot\"", "do nothing\""),
+    ("a state that is there already is not replaced", LIVE, "plain", "store.py",
+     "do update set taken = excluded.taken, \"\n                               \"snapshot = excluded.snapshot\"", "do nothing\""),
     ("a gap is passed over", LIVE, "gaps", "live.py", "                return turn\n            turn.after", "                continue\n            turn.after"),
-    ("a malformed message is passed over", LIVE, "malformed", "live.py", "                return messages, NotFollowed(f\"partition {self.part}, message {place}: {fault}\")", "                continue"),
+    ("a malformed message is passed over", LIVE, "malformed", "live.py",
+     "                return messages, NotFollowed(f\"partition {self.part}, message {place}: {fault}\")", "                continue"),
     ("a gap is committed with its turn", LIVE, "gaps", "live.py", "            except yaslaurel.Gap as gap:\n", "            except yaslaurel.Gap as gap:\n                turn.after = place\n"),
     ("a session whose snapshot does not restore begins anew", LIVE, "snapshots", "live.py", "                raise FleetError(f\"host {state.host}: {error}\") from None",
      "                session = yaslaurel.Session(self.policy)"),
@@ -42,16 +45,19 @@ FAULTS = [
     ("a log of another fleet is taken", LIVE, "policies", "live.py", "if log.whose() != (fleet.fleet, fleet.partitions):", "if False:"),
     ("a host of another partition is taken", LIVE, "malformed", "log.py", "    if partition(host, partitions) != part:", "    if False:"),
     ("a number that is none is taken", LIVE, "malformed", "log.py", "not found[b\"n\"].isdigit() or ", ""),
-    ("refused records are no events", LIVE, "plain", "live.py", "for event in session.feed(message.first, message.records)]", "for event in session.feed(message.first, message.records) if not event.refused]"),
+    ("refused records are no events", LIVE, "plain", "live.py",
+     "for event in session.feed(message.first, message.records)]", "for event in session.feed(message.first, message.records) if not event.refused]"),
     ("the place of an event is one further", LIVE, "plain", "store.py", "Found(host, event.place,", "Found(host, event.place + 1,"),
     ("a log that has lost its end goes on before the store's place", LIVE, "lost_log", "log.py", "if order(self.last(part)) >= order(place):", "if True:"),
     ("traces of a task share a session", MONTH, "many_hosts", "month.py", "session, figures, taken, room = yaslaurel.Session(policy), ",
      "session, figures, taken, room = trace_figures.__dict__.setdefault(policy.image, yaslaurel.Session(policy)), "),
     ("each part of a trace has a session of its own", MONTH, "many_hosts", "month.py", "figures += session.figures(", "figures += yaslaurel.Session(policy).figures("),
-    ("the last group of traces is lost, and nobody asks", MONTH, "many_hosts", "month.py", "sum(trace.length for trace in group), reverse=True)", "sum(trace.length for trace in group), reverse=True)[:-1]"),
+    ("the last group of traces is lost", MONTH, "many_hosts", "month.py",
+     "sum(trace.length for trace in group), reverse=True)", "sum(trace.length for trace in group), reverse=True)[:-1]"),
     ("the total has the first trace twice", MONTH, "stored", "month.py", "for _, one in counts if one is not None)", "for _, one in counts + counts[:1] if one is not None)"),
     ("a trace that has grown or shrunk is counted", MONTH, "wrong_inputs", "month.py", "    if taken != trace.length:", "    if False:"),
-    ("a trace that is gone counts as empty", MONTH, "wrong_inputs", "month.py", "            raise FleetError(f\"{trace.path}: {error.strerror}\") from None\n    return found", "            found.append((trace.name, counts_of(yaslaurel.Figures())))\n    return found"),
+    ("a trace that is gone counts as empty", MONTH, "wrong_inputs", "month.py",
+     "            raise FleetError(f\"{trace.path}: {error.strerror}\") from None\n    return found", "            found.append((trace.name, counts_of(yaslaurel.Figures())))\n    return found"),
     ("a cut trace is taken", MONTH, "wrong_inputs", "month.py", "    if length % RECORD_BYTES and not as_month:", "    if False:"),
     ("a short last record is left out", MONTH, "stored", "month.py", "yaslaurel.Figures.of(policy, found), len(found)", "yaslaurel.Figures.of(policy, found[:len(found) // 8 * 8]), len(found)"),
     ("over 1,000,000 records are counted as the month program does not", MONTH, "long_trace", "month.py", "trace.length > MONTH_LIMIT * RECORD_BYTES", "trace.length > 2 * MONTH_LIMIT * RECORD_BYTES"),
@@ -89,10 +95,12 @@ def found(number, work):
     (_, script, case, *_), folder = FAULTS[number], planted(number, work)
     words = [str(number), case] if script == LIVE else ["local", str(number), case]
     servers = database(number) if script == LIVE else {}
-    ran = subprocess.run([sys.executable, HERE / script, *words], env={**os.environ, **servers, "PYTHONPATH": str(folder)}, stdout=subprocess.PIPE, stderr=subprocess.STDOUT, text=True, check=False)
+    variables = {**os.environ, **servers, "PYTHONPATH": str(folder)}
+    ran = subprocess.run([sys.executable, HERE / script, *words], env=variables, stdout=subprocess.PIPE, stderr=subprocess.PIPE, text=True, check=False)
     lines = [line for line in ran.stdout.splitlines() if line.startswith("FAILED ")]
     broken = [line for line in lines if "NameError" in line or "SyntaxError" in line or "ImportError" in line]
-    return ran.returncode == 1 and bool(lines) and not broken and " passed, " in ran.stdout.splitlines()[-1], lines[:1] or ran.stdout.splitlines()[-3:]
+    counted = any(line.endswith(" failed") and " passed, " in line for line in ran.stdout.splitlines()[-1:])
+    return ran.returncode == 1 and bool(lines) and not broken and counted, lines[:1] or (ran.stdout + ran.stderr).splitlines()[-3:]
 
 
 if __name__ == "__main__":

@@ -8,6 +8,7 @@ import random
 import subprocess
 import sys
 import tempfile
+import threading
 from pathlib import Path
 
 import psycopg2
@@ -347,7 +348,51 @@ def lost_log(seed, sent):
     fleet.close()
 
 
-CASES = [plain, killed_everywhere, two_at_once, gaps, snapshots, policies, malformed, lost_log, forgotten_sessions]
+def standing_by(seed, sent):
+    """A worker that stands by waits until the connection of the other has ended."""
+    fleet, first, second = Fleet(partitions=1), Store(STORE), Store(STORE)
+    first.stand_by(0)
+    waiting = threading.Thread(target=second.stand_by, args=(0,))
+    waiting.start()
+    waiting.join(0.3)
+    assert waiting.is_alive(), "both have the partition"
+    first.close()
+    waiting.join(20)
+    assert not waiting.is_alive(), "the other still waits"
+    second.close()
+    fleet.close()
+
+
+def trimmed(seed, sent):
+    """A log of which only what is committed is dropped."""
+    fleet, rng = Fleet(partitions=1), random.Random(seed)
+    count = fleet.log.publish(messages(rng, sent, 5)) + fleet.log.publish(messages(rng, sent, 5))
+    done = False
+    while not done:
+        worker = fleet.worker(0)
+        done = worker.turn(40, 0) is None
+        worker.log.trim(0, worker.place)
+        worker.store.close()
+    assert fleet.log.redis.xlen(stream(0)) < count - 100, "nothing was dropped"
+    same(fleet, sent)
+    fleet.close()
+
+
+def statuses(seed, sent):
+    """Arguments, servers and files that are wrong are failures, and told apart from alerts and refusals."""
+    fleet, policy = Fleet(partitions=1), str(ROOT / "demo" / "policy.bin")
+    fleet.log.publish([Message(min(sent), 0, sent[min(sent)])])
+    work = ["work", "0", "--policy", policy, "--until-idle", "0.1"]
+    wrong = [[], ["nothing"], ["work"], ["publish", "host"], ["publish", "a b=-"], ["publish", "host=missing.bin"], [*work, "--store", "postgresql://nobody@127.0.0.1:1/none"],
+             [*work, "--log", "redis://127.0.0.1:1/0", "--tries", "1"], ["work", "7", "--policy", policy], ["work", "0", "--policy", "missing.bin"], ["init", "--policy", policy, "--partitions", "3"]]
+    for words in wrong:
+        unchanged(fleet, lambda: note(main(words) == 5, f"status 5: {' '.join(words)[:60]}"))
+    unchanged(fleet, lambda: note(main(["work", "0", "--policy", str(ROOT / "demo" / "trace.bin")]) == 4, "status 4: a policy that is refused"))
+    assert main(["alerts"]) == 0 and main(["status"]) == 2 and main(work) == 0 and main(["status"]) == 0 and main(["alerts", "--lines"]) == 3
+    fleet.close()
+
+
+CASES = [statuses, standing_by, trimmed, plain, killed_everywhere, two_at_once, gaps, snapshots, policies, malformed, lost_log, forgotten_sessions]
 
 
 def cases(seed, some):

@@ -3,7 +3,9 @@ it takes; and what must end a run.
 month_cases.py cluster SCHEDULER-FILE SEED: the same fleet on a scheduler and workers that are processes, which are killed in the middle.
 """
 
+import contextlib
 import json
+import logging
 import os
 import random
 import resource
@@ -218,13 +220,15 @@ def in_the_middle(run, action):
 
 def ended(run, text, action):
     found = in_the_middle(run, action)
-    assert isinstance(found, FleetError) and text in str(found), f"told {found!r}"
+    assert isinstance(found, FleetError) and text in str(found), f"told {repr(found)[:300]}"
 
 
 def cluster(file, seed):
     address, scheduler = json.loads(Path(file).read_text())["address"], int(os.environ["SCHEDULER_PID"])
+    logging.getLogger("distributed.client").setLevel(logging.CRITICAL)
     client = distributed.Client(address)
     client.wait_for_workers(2, timeout=30)
+    everyone = list(client.run(os.getppid).values())
     policy = yaslaurel.Policy(DEMO.read_bytes())
     with tempfile.TemporaryDirectory() as name:
         folder, real = Path(name) / "traces", Path(name) / "real"
@@ -247,8 +251,14 @@ def cluster(file, seed):
             os.kill(nanny, signal.SIGKILL) if nannies else None
             os.kill(pid, signal.SIGKILL)
 
+        def kill_all():
+            """All nannies, with which their workers end."""
+            for nanny in everyone:
+                with contextlib.suppress(ProcessLookupError):
+                    os.kill(nanny, signal.SIGKILL)
+
         def same(found):
-            assert isinstance(found, month.Month), repr(found)
+            assert isinstance(found, month.Month), repr(found)[:300]
             assert found.text() == expected, "other lines"
 
         tried("a worker killed in the middle", lambda: same(in_the_middle(run, lambda: kill(False))))
@@ -264,13 +274,19 @@ def cluster(file, seed):
         found_few = traces_in(few)
         tried("a worker killed again and again ends the run", lambda: refused(FleetError, "died each time", lambda: fleet_month(client, policy, found_few, task_bytes=1)))
         client.unregister_worker_plugin("poison")
-        tried("without a worker the run ends", lambda: ended(lambda: run(patience=1), "no worker for 1 seconds", lambda: [kill(True) for _ in client.scheduler_info()["workers"]]))
+        tried("without a worker the run ends", lambda: ended(lambda: run(patience=1), "no worker for 1 seconds", kill_all))
         worker = subprocess.Popen([sys.executable, "-m", "distributed.cli.dask_worker", address, "--host", "127.0.0.1", "--nthreads", "1", "--no-nanny", "--no-dashboard",
                                    "--local-directory", str(Path(name) / "worker")], stderr=subprocess.DEVNULL)
         client.wait_for_workers(1, timeout=30)
-        client.close()
-        lost = in_the_middle(lambda: subprocess.run([sys.executable, "-m", "yaslaurel_fleet.command", *command], stderr=subprocess.PIPE, check=False), lambda: time.sleep(1) or
-                             os.kill(scheduler, signal.SIGKILL))
+
+        def lose():
+            """Kills the scheduler once it has tasks of another client than this one."""
+            own = client.id
+            while not client.run_on_scheduler(lambda dask_scheduler: sum(len(other.wants_what) for key, other in dask_scheduler.clients.items() if key.startswith("Client") and key != own)):
+                time.sleep(0.02)
+            os.kill(scheduler, signal.SIGKILL)
+
+        lost = in_the_middle(lambda: subprocess.run([sys.executable, "-m", "yaslaurel_fleet.command", *command], stderr=subprocess.PIPE, check=False), lose)
         note(lost.returncode == 5 and b"yaslaurel-fleet: the scheduler was lost" in lost.stderr and out.read_text() == "old\n", "a scheduler that is lost ends the run, and nothing is written")
         note(main([*command, "--patience", "1"]) == 5 and out.read_text() == "old\n", "without a scheduler there is no run")
         worker.kill()

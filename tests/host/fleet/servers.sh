@@ -1,12 +1,12 @@
 # Shared by tests/host/fleet/run and soak: the engines as processes, and workers of the live monitor that are killed. Source it behind tests/host/common.sh.
 . hosts/fleet/servers.sh
 here=$root/tests/host/fleet
-started=()
 
-# ended: ends all that was started, also where the test is interrupted.
+# ended: ends all that was started and has not ended, also where the test is interrupted.
 ended() {
+    local pid
     stop_servers
-    for pid in "${started[@]}"; do kill -KILL "$pid" 2>/dev/null; done
+    for pid in $(jobs -pr); do kill -KILL "$pid" 2>/dev/null; done
     rm -rf "$work"
 }
 trap ended EXIT
@@ -29,17 +29,17 @@ counted() {
     add_counts "$work/counted"
 }
 
-# dask: a scheduler and two workers with their nannies, as a user starts them; $scheduler is the file with the address.
+# dask: a scheduler and two workers with their nannies, as a user starts them; $scheduler is the file with the address, nannies their processes.
 dask() {
     local options=(--no-dashboard --dashboard-address 127.0.0.1:0 --host 127.0.0.1) number
     scheduler=$work/scheduler.json
     setpriv --pdeathsig KILL "$python" -m distributed.cli.dask_scheduler "${options[@]}" --port 0 --scheduler-file "$scheduler" >"$work/scheduler.log" 2>&1 &
     export SCHEDULER_PID=$!
-    started+=($!)
+    nannies=()
     for number in 1 2; do
         setpriv --pdeathsig KILL "$python" -m distributed.cli.dask_worker "${options[@]}" --nthreads 1 --scheduler-file "$scheduler" --local-directory "$work/worker-$number" \
             >"$work/worker-$number.log" 2>&1 &
-        started+=($!)
+        nannies+=($!)
     done
     answers test -s "$scheduler"
 }
@@ -55,7 +55,6 @@ with psycopg2.connect(os.environ["YASLAUREL_FLEET_STORE"]) as db: db.cursor().ex
 worker() {
     "$fleet" work "$1" --policy demo/policy.bin --messages "$2" --until-idle 1 --tries 40 2>>"$work/said.$1" &
     worker=$!
-    started+=("$worker")
 }
 
 # killed_live KILLS HOSTS RECORDS MESSAGES: all messages are sent twice while workers run on two partitions; they are killed at random moments and started again, and the

@@ -181,17 +181,11 @@ def skip(given: argparse.Namespace) -> int:
     return 0
 
 
-def arguments() -> argparse.ArgumentParser:
-    parser = argparse.ArgumentParser("yaslaurel-fleet", description="Yaslaurel for many hosts. Exit status: 0 quiet, 1 alerts or blocked, 2 not followed or refused, "
-                                     "3 both, 4 the policy is refused or another, 5 a failure, 6 replaced by another worker.")
-    parser.add_argument("--version", action="version", version=yaslaurel.__version__)
-    commands = parser.add_subparsers(dest="command", required=True, metavar="COMMAND")
-    servers = argparse.ArgumentParser(add_help=False)
-    servers.add_argument("--log", default=os.environ.get(LOG), help=f"URL of the Redis server, else {LOG}")
-    servers.add_argument("--store", default=os.environ.get(STORE), help=f"URL of the PostgreSQL database, else {STORE}")
-    policy = argparse.ArgumentParser(add_help=False)
-    policy.add_argument("--policy", type=Path, required=True, help="the policy image; names are those of its folder")
+Commands = Any
+"""The subcommands of a parser, for which argparse has no public type."""
 
+
+def month_arguments(commands: Commands, policy: argparse.ArgumentParser) -> None:
     one = commands.add_parser("month", parents=[policy], help="figures of each host's trace and their total, on Dask distributed")
     one.add_argument("scheduler", help="address of the scheduler, as tcp://HOST:8786")
     one.add_argument("folder", type=Path, help="where the traces are, under the same path at each worker: all *.bin but policy.bin")
@@ -202,6 +196,7 @@ def arguments() -> argparse.ArgumentParser:
     one.add_argument("--patience", type=float, default=30, help="seconds without a scheduler or a worker")
     one.set_defaults(run=month)
 
+def live_arguments(commands: Commands, policy: argparse.ArgumentParser, servers: argparse.ArgumentParser) -> None:
     one = commands.add_parser("init", parents=[policy, servers], help="makes the tables of a new fleet, and says in the log whose it is")
     one.add_argument("--partitions", type=int, default=1)
     one.set_defaults(run=init)
@@ -233,12 +228,29 @@ def arguments() -> argparse.ArgumentParser:
     one.add_argument("part", type=int)
     one.add_argument("message", help="its identity, as the worker has told it")
     one.set_defaults(run=skip)
+
+def arguments() -> argparse.ArgumentParser:
+    parser = argparse.ArgumentParser("yaslaurel-fleet", description="Yaslaurel for many hosts. Exit status: 0 quiet, 1 alerts or blocked, 2 not followed or refused, "
+                                     "3 both, 4 the policy is refused or another, 5 a failure, 6 replaced by another worker.")
+    parser.add_argument("--version", action="version", version=yaslaurel.__version__)
+    commands = parser.add_subparsers(dest="command", required=True, metavar="COMMAND")
+    servers = argparse.ArgumentParser(add_help=False)
+    servers.add_argument("--log", default=os.environ.get(LOG), help=f"URL of the Redis server, else {LOG}")
+    servers.add_argument("--store", default=os.environ.get(STORE), help=f"URL of the PostgreSQL database, else {STORE}")
+    policy = argparse.ArgumentParser(add_help=False)
+    policy.add_argument("--policy", type=Path, required=True, help="the policy image; names are those of its folder")
+
+    month_arguments(commands, policy)
+    live_arguments(commands, policy, servers)
     return parser
 
 
 def main(words: Optional[Sequence[str]] = None) -> int:
-    parser = arguments()
-    given = parser.parse_args(words)
+    """Runs a command, and gives its exit status: whatever was not foreseen is a failure too, and told."""
+    try:
+        given = arguments().parse_args(words)
+    except SystemExit as ended:
+        return FleetError.status if ended.code else 0
     for name, variable in (("log", LOG), ("store", STORE)):
         if name in given and getattr(given, name) is None and not (given.command == "publish" and name == "store"):
             told(f"--{name} or {variable} says where it is")
@@ -250,10 +262,13 @@ def main(words: Optional[Sequence[str]] = None) -> int:
         return error.status
     except OSError as error:
         told(f"{error.filename}: {error.strerror}" if error.filename else str(error))
-        return FleetError.status
-    except (psycopg2.Error, redis.RedisError) as error:
-        told(f"{'the store' if isinstance(error, psycopg2.Error) else 'the log'}: {str(error).strip()}")
-        return FleetError.status
+    except psycopg2.Error as error:
+        told(f"the store: {str(error).strip()}")
+    except redis.RedisError as error:
+        told(f"the log: {error}")
+    except (Exception, KeyboardInterrupt) as error:
+        told(f"{type(error).__name__}: {error}")
+    return FleetError.status
 
 
 if __name__ == "__main__":

@@ -12,7 +12,6 @@ import sys
 import tempfile
 import time
 from collections import Counter
-from concurrent.futures import CancelledError
 from dataclasses import dataclass
 from pathlib import Path
 from typing import Any, Dict, Iterable, List, Optional, Sequence, TextIO, Tuple
@@ -33,8 +32,7 @@ TASK_BYTES = 1 << 23
 MONTH_LIMIT = 1_000_000
 MONTH_REFUSAL = 19
 """What the month program prints in the place of the figures of a trace with more records than its limit."""
-POLL_SECONDS = 0.02
-RESULT_SECONDS = 2.0
+POLL_SECONDS = 0.005
 ALIVE_SECONDS = 0.5
 """How often it is asked whether there is a worker at all."""
 
@@ -129,7 +127,7 @@ def trace_figures(policy: yaslaurel.Policy, trace: Trace) -> yaslaurel.Figures:
     """The figures of one trace in a session of its own. A long one is read in parts, whose figures add up."""
     with open(trace.path, "rb") as file:
         if trace.length <= PART_BYTES:
-            found = file.read(PART_BYTES + 1)
+            found = file.read(trace.length + 1)
             figures, taken = yaslaurel.Figures.of(policy, found), len(found)
         else:
             session, figures, taken, room = yaslaurel.Session(policy), yaslaurel.Figures(), 0, memoryview(bytearray(PART_BYTES))
@@ -170,31 +168,34 @@ def task_figures(task: Task) -> List[Tuple[str, Optional[Counts]]]:
     return found
 
 
+def whole(result: Any) -> List[Tuple[str, Optional[Counts]]]:
+    """What a task gave. The engine hands over what a task raised as a result too, and that it was cancelled."""
+    if isinstance(result, list):
+        return result
+    raise result[1] if isinstance(result, tuple) else FleetError(f"the scheduler was lost, and a task with it: {result}")
+
+
 def gathered(client: Any, tasks: Sequence[Task], patience: float, bar: bool) -> Dict[str, Optional[Counts]]:
     """The figures by host. A result is released as soon as it is here, so that a worker's death does not have it worked out again."""
     found: Dict[str, Optional[Counts]] = {}
-    results = as_completed(client.map(task_figures, tasks, pure=False, retries=0))
+    results = as_completed(client.map(task_figures, tasks, pure=False, retries=0), with_results=True)
     alive = asked = time.monotonic()
     with tqdm(total=sum(len(task.traces) for task in tasks), unit=" hosts", disable=not (bar and sys.stderr.isatty())) as progress:
         while not results.is_empty():
-            for future in results.next_batch(block=False):
-                try:
-                    some = future.result(timeout=RESULT_SECONDS)
-                except distributed.TimeoutError:
-                    results.add(future)  # its worker died with the result, and it is worked out again
-                    continue
+            for future, result in results.next_batch(block=False):
                 future.release()
-                for name, figures in some:
+                for name, figures in whole(result):
                     if name in found:
                         raise FleetError(f"{name}: figures came twice")
                     found[name] = figures
-                progress.update(len(some))
+                    progress.update()
             time.sleep(POLL_SECONDS)
+            if client.status != "running":
+                raise FleetError("the scheduler was lost")
             now = time.monotonic()
             if now - asked > ALIVE_SECONDS:
                 asked = now
-                # of a client that is looking for its scheduler nothing is asked: it has told its futures already
-                alive = now if client.status != "running" or client.scheduler_info()["workers"] else alive
+                alive = now if client.scheduler_info()["workers"] else alive
                 if now - alive > patience:
                     raise FleetError(f"no worker for {patience:g} seconds")
     return found
@@ -209,7 +210,7 @@ def fleet_month(client: Any, policy: yaslaurel.Policy, traces: Sequence[Trace], 
         found = gathered(client, tasks, patience, bar)
     except distributed.KilledWorker as error:
         raise FleetError(f"a task's worker died each time that it was tried: {error}") from None
-    except (CancelledError, OSError) as error:
+    except OSError as error:
         raise FleetError(f"the scheduler was lost: {error}") from None
     missing = [trace.name for trace in traces if trace.name not in found]
     if missing or len(found) != len(traces):
