@@ -791,6 +791,7 @@ static void try_profiles(void)
 
 #include "compositions.h"
 #include "explanations.h"
+#include "gathers.h"
 
 /* Whether a function gave each of the wanted answers; prints the counts if asked. */
 static int reached(int print, const char *name, const unsigned long *counts, const int *wanted, size_t count)
@@ -839,7 +840,7 @@ static void reserve_all(void)
     reserve(&record_at, (BATCH + 1) * RECORD);
     reserve(&reads_at, 64);
     reserve(&writes_at, 64);
-    reserve(&numbers_at, 64);
+    reserve(&numbers_at, WORD * (FIGURES + 8));
     reserve(&taken_at, 64);
     reserve(&text_at, sizeof text);
     reserve(&positions_at, POSITIONS + 40);
@@ -861,6 +862,8 @@ static void try_session(void)
     for (size_t count = below(4); count > 0; count--) {
         try_run(0);
     }
+    try_events();
+    try_figures();
     for (size_t count = below(4); count > 0; count--) {
         try_step(1);
     }
