@@ -144,7 +144,7 @@ pub extern "C" fn yaslaurel_events(
         × (now (taken .exit) ≡ gatheredAfter (gathered (now (session .entry)) (now (records .entry)) (now (events .entry))) (now (taken .entry)))
         × (now (written .exit) ≡ writtenAfter (gathered (now (session .entry)) (now (records .entry)) (now (events .entry))) (now (written .entry))) ⌝ }
 {
-    let gathered = events::gather(session, records, events);
+    let gathered = events::gather_events(session, records, events);
     let refusal = gathered.refusal;
     if refusal != 0 {
         return refusal;

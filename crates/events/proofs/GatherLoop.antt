@@ -1,4 +1,4 @@
--- The loop of `gather`, record by record: what the records come to that are left, behind what was gathered, is what the whole trace comes to.
+-- The loop of `gather_events`, record by record: what the records come to that are left, behind what was gathered, is what the whole trace comes to.
 use Prim.Native.Nat.{ℕ, suc, _+_, _-_, _*_, _/_, _≤_, _<_}
 use native.Mathlib.Omega.{arith}
 use mathlib.Core.Path.{_≡_, refl, sym, ap, _∙_}

@@ -32,7 +32,7 @@ fn put_event(events: &mut [u64], at: usize, place: usize, answer: Answer)
 
 // The records of the trace on the session, which must have 5,536 numbers, with an event for each that is not answered quiet, up to the first
 // record for which there is no room for one more event. Any bytes and any numbers end in an answer.
-pub fn gather(session: &mut [u64], trace: &[u8], events: &mut [u64]) -> Gathered
+pub fn gather_events(session: &mut [u64], trace: &[u8], events: &mut [u64]) -> Gathered
     ensures { λ r. ⌜
         (r ≡ gathered (now (session .entry)) (now (trace .entry)) (now (events .entry)))
         × (now (session .exit) ≡ gatherSession (now (session .entry)) (now (trace .entry)) (now (events .entry)))

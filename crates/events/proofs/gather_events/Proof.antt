@@ -1,4 +1,4 @@
--- `events::gather`. Invariant: what is left, behind what was gathered, comes to the whole (`Gathering`).
+-- `events::gather_events`. Invariant: what is left, behind what was gathered, comes to the whole (`Gathering`).
 use Prim.Native.Nat.{_-_}
 use native.Mathlib.Omega.{arith}
 use mathlib.Core.Path.{refl}
@@ -7,8 +7,8 @@ use borrow.Author.Needs.{needs}
 use Rattle.lists.proofs.Bools.{passes-test, fails-test}
 use Rattle.records.proofs.TraceRecords.{record-length}
 use Rattle.events.proofs.GatherLoop.{Gathering, gather-start, gather-end, gather-quiet, gather-full, gather-event, gather-9, bad-session, bad-room}
-use Rattle.events.proofs.gather.Statement.{statement}
-use Rattle.events.proofs.gather.Tie as tie
+use Rattle.events.proofs.gather_events.Statement.{statement}
+use Rattle.events.proofs.gather_events.Tie as tie
 
 abbrev Inv-loop : tie.InvT-loop
 Inv-loop session₀ trace events₀ room taken₀ written₀ at₀ session events taken written at = Gathering session₀ trace events₀ session events room taken written at
@@ -77,8 +77,8 @@ loop-again-2 c =
 returns-4 : tie.Need-returns-4 Inv-loop μ-loop
 returns-4 c = gather-end _ _ _ _ _ _ _ _ _ (c .before .loop .inv) (c .loop-test .left) _ refl
 
-pub gather-spec : {M : Type 1} → statement M
-gather-spec =
+pub gather-events-spec : {M : Type 1} → statement M
+gather-events-spec =
     tie.close
     (tie.spec
     Inv-loop
