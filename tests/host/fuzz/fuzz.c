@@ -864,6 +864,7 @@ static void try_session(void)
     }
     try_events();
     try_figures();
+    try_sum();
     for (size_t count = below(4); count > 0; count--) {
         try_step(1);
     }

@@ -1,5 +1,6 @@
 /*
- * Events and figures of a batch on the session as it stands, for fuzz.c: what they answer and leave is what the records step by step come to.
+ * Events and figures of a batch on the session as it stands, for fuzz.c: what they answer and leave is what the records step by step come to. And sums of
+ * figures, whatever their numbers.
  */
 #ifndef GATHERS_H
 #define GATHERS_H
@@ -86,6 +87,32 @@ static void try_figures(void)
     require(stayed(&session_at, good ? WORD * SESSION : 0), "memory beside the session stays");
     require(!good || memcmp(session_at.slice, stepped, WORD * SESSION) == 0, "figures leave the session that their records leave");
     memcpy(session, stepped, WORD * SESSION);
+}
+
+/* A number of figures: small, large, or so large that sums of two wrap. */
+static uint64_t any_figure(void) { return percent(20) ? UINT64_MAX - below(3) : draw() >> below(64); }
+
+static void try_sum(void)
+{
+    uint64_t total[FIGURES + 8], figures[FIGURES + 8];
+    size_t total_wide = percent(95) ? FIGURES : below(FIGURES + 8), wide = percent(95) ? FIGURES : below(FIGURES + 8);
+    int good = total_wide == FIGURES && wide == FIGURES;
+
+    for (size_t k = 0; k < FIGURES + 8; k++) {
+        total[k] = any_figure();
+        figures[k] = any_figure();
+    }
+    lend(&numbers_at, total, WORD * total_wide);
+    lend(&session_at, figures, WORD * wide);
+    read_only(&session_at, 1);
+    uint32_t answer = yaslaurel_figures_add((uint64_t *)(void *)numbers_at.slice, total_wide, (const uint64_t *)(const void *)session_at.slice, wide);
+    read_only(&session_at, 0);
+    require(answer == (good ? 0u : 9u), "sums are refused with 9 alone");
+    require(stayed(&session_at, 0) && stayed(&numbers_at, good ? WORD * FIGURES : 0), "the figures stay, and in a refusal the total");
+    for (size_t k = 0; good && k < FIGURES; k++) {
+        total[k] += figures[k];
+    }
+    require(!good || memcmp(numbers_at.slice, total, WORD * FIGURES) == 0, "each number is added to its like, and wraps");
 }
 
 #endif

@@ -281,6 +281,6 @@ faults! {
     AlertOfProcess, gathers, differential calls fuzz, "an alert is counted to its process and not to its receiver";
     AlertCountedTwice, gathers, differential calls fuzz, "an alert is counted twice at its receiver";
     BlockedAsRefused, gathers, differential fuzz, "blocked records are counted as refused";
-    ContainersNotAdded, gathers, differential calls, "a sum leaves out the alerts of the containers";
-    SumStops, gathers, differential calls, "a sum stops at the greatest number";
+    ContainersNotAdded, gathers, differential calls fuzz, "a sum leaves out the alerts of the containers";
+    SumStops, gathers, differential calls fuzz, "a sum stops at the greatest number";
 }
