@@ -1,4 +1,4 @@
-"""month.py SCHEDULER-FILE WORKERS POLICY FOLDER LOOP: records a second of a fleet's month on Dask, in tasks of 20 hosts, and of the C loop, in turns within one run."""
+"""month.py SCHEDULER-FILE WORKERS POLICY FOLDER LOOP PER-TASK: records a second of a fleet's month on Dask, with so many hosts a task, and of the C loop, in turns within one run."""
 
 import json
 import resource
@@ -11,9 +11,10 @@ import distributed
 import yaslaurel
 from yaslaurel_fleet.month import TRACE_COST, fleet_month, traces_in
 
-ROUNDS, PER_TASK = 5, 20
+ROUNDS = 5
 
-file, workers, image, folder, loop = sys.argv[1:]
+file, workers, image, folder, loop, per_task = sys.argv[1:]
+PER_TASK = int(per_task)
 client = distributed.Client(json.loads(Path(file).read_text())["address"])
 client.wait_for_workers(int(workers), timeout=60)
 policy, traces = yaslaurel.Policy.from_file(image), traces_in(Path(folder))

@@ -3,6 +3,8 @@ and what a worker must refuse. What is in the store is compared with an undistur
 live_cases.py publish FOLDER, live_cases.py compare FOLDER: the same for workers that are processes: FOLDER has a trace for each host.
 """
 
+import contextlib
+import io
 import os
 import random
 import subprocess
@@ -388,7 +390,9 @@ def statuses(seed, sent):
     for words in wrong:
         unchanged(fleet, lambda: note(main(words) == 5, f"status 5: {' '.join(words)[:60]}"))
     unchanged(fleet, lambda: note(main(["work", "0", "--policy", str(ROOT / "demo" / "trace.bin")]) == 4, "status 4: a policy that is refused"))
-    assert main(["alerts"]) == 0 and main(["status"]) == 2 and main(work) == 0 and main(["status"]) == 0 and main(["alerts", "--lines"]) == 3
+    with contextlib.redirect_stdout(io.StringIO()):
+        found = [main(words) for words in (["alerts"], ["status"], work, ["status"], ["alerts", "--lines"])]
+    assert found == [0, 2, 0, 0, 3], found
     fleet.close()
 
 

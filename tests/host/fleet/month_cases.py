@@ -189,11 +189,11 @@ class Poison(distributed.WorkerPlugin):
 
         kept = month.trace_figures
 
-        def poisoned(policy, trace):
+        def poisoned(policy, trace, room):
             if trace.name == "poison.bin":
                 import os
                 os.kill(os.getpid(), 9)
-            return kept(policy, trace)
+            return kept(policy, trace, room)
 
         month.trace_figures = poisoned
 

@@ -13,6 +13,7 @@ import tempfile
 import time
 from collections import Counter
 from dataclasses import dataclass
+from io import FileIO
 from pathlib import Path
 from typing import Any, Dict, Iterable, List, Optional, Sequence, TextIO, Tuple
 
@@ -123,20 +124,35 @@ def grouped(traces: Sequence[Trace], task_bytes: int = TASK_BYTES) -> List[Tuple
     return sorted((tuple(group) for group in groups), key=lambda group: sum(trace.length for trace in group), reverse=True)
 
 
-def trace_figures(policy: yaslaurel.Policy, trace: Trace) -> yaslaurel.Figures:
-    """The figures of one trace in a session of its own. A long one is read in parts, whose figures add up."""
-    with open(trace.path, "rb") as file:
-        if trace.length <= PART_BYTES:
-            found = file.read(trace.length + 1)
-            figures, taken = yaslaurel.Figures.of(policy, found), len(found)
+def trace_figures(policy: yaslaurel.Policy, trace: Trace, room: memoryview) -> yaslaurel.Figures:
+    """The figures of one trace in a session of its own. One that does not fit into the room is read in parts, whose figures add up."""
+    with open(trace.path, "rb", buffering=0) as file:
+        taken = filled(file, room)
+        if taken < len(room):
+            figures = yaslaurel.Figures.of(policy, room[:taken])
         else:
-            session, figures, taken, room = yaslaurel.Session(policy), yaslaurel.Figures(), 0, memoryview(bytearray(PART_BYTES))
-            while taken <= trace.length and (length := file.readinto(room)):
+            session = yaslaurel.Session(policy)
+            figures = session.figures(room)
+            while taken <= trace.length and (length := filled(file, room)):
                 figures += session.figures(room[:length - length % RECORD_BYTES])
                 taken += length
     if taken != trace.length:
         raise FleetError(f"{trace.path}: {trace.length} bytes when the run began, {'more' if taken > trace.length else taken} when it was read")
     return figures
+
+
+def filled(file: FileIO, room: memoryview) -> int:
+    """Reads a file until the room is full or the file ends; gives how many bytes there are."""
+    length = 0
+    while length < len(room) and (some := file.readinto(room[length:])):
+        length += some
+    return length
+
+
+def room_for(traces: Sequence[Trace]) -> memoryview:
+    """Memory for the longest of some traces and a record more, or for a part of it, used again for each."""
+    longest = max((trace.length for trace in traces), default=0)
+    return memoryview(bytearray(min(PART_BYTES, longest - longest % RECORD_BYTES + 2 * RECORD_BYTES)))
 
 
 def counts_of(figures: yaslaurel.Figures) -> Counts:
@@ -158,11 +174,11 @@ def task_figures(task: Task) -> List[Tuple[str, Optional[Counts]]]:
     """What a worker does: the figures of each trace of a task, by the library of the version that the run began with."""
     if yaslaurel.library_version() != task.version:
         raise FleetError(f"a worker has the library in version {yaslaurel.library_version()}, the run {task.version}")
-    policy, found = yaslaurel.Policy(task.image), []
+    policy, room, found = yaslaurel.Policy(task.image), room_for(task.traces), []
     for trace in task.traces:
         left_out = task.as_month and trace.length > MONTH_LIMIT * RECORD_BYTES
         try:
-            found.append((trace.name, None if left_out else counts_of(trace_figures(policy, trace))))
+            found.append((trace.name, None if left_out else counts_of(trace_figures(policy, trace, room))))
         except OSError as error:
             raise FleetError(f"{trace.path}: {error.strerror}") from None
     return found
