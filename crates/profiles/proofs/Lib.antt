@@ -3,6 +3,7 @@ pub mod Theorems
 pub mod Examples
 pub mod Walks
 pub mod NoteLaws
+pub mod HashMarks
 pub mod TokenLaws
 pub mod ProfileLines
 pub mod ReadingLaws

@@ -145,6 +145,10 @@ place-among p (q ∷ qs) = by (sameList p q) (place-among p qs)
 
 -- ---- one note more
 
+pub note-hashed : (at : ℕ) (p : List ℕ) → at < textLimit → noteOf at p / textLimit ≡ pathHash p
+unfolding noteOf
+note-hashed at p l = omega arith
+
 module _ (t notes : List ℕ) (count at n : ℕ) (g : ToNote t notes count at n) where
   pub noted-small : (hash : ℕ) → hash ≡ pathHash (take n (drop at t)) → hash * textLimit < 2 ^ 63
   noted-small hash k = rw k (hash-small (take n (drop at t)) (g .good))
@@ -179,7 +183,7 @@ module _ (t notes : List ℕ) (count at n : ℕ) (g : ToNote t notes count at n)
         pub notes-long : length after ≡ length notes
         notes-long = ap length after-is ∙ length-set notes count (noteOf at (take n (drop at t)))
 
-        notes-are : take (count + 1) after ≡ take count notes ++ (noteOf at (take n (drop at t)) ∷ [])
+        pub notes-are : take (count + 1) after ≡ take count notes ++ (noteOf at (take n (drop at t)) ∷ [])
         notes-are = ap₂ take (add-one count) after-is ∙ take-suc-set notes count (noteOf at (take n (drop at t))) (g .room)
 
         module _ (f : pathIn (drop at t) ≡ take n (drop at t)) where
@@ -189,15 +193,11 @@ module _ (t notes : List ℕ) (count at n : ℕ) (g : ToNote t notes count at n)
               let z : (pathHash (take n (drop at t)) * textLimit + at) % textLimit ≡ at = omega (arith, g .place) in
               ap (λ (k : ℕ). pathIn (drop k t)) z ∙ f
 
-          note-hashed : noteOf at (take n (drop at t)) / textLimit ≡ pathHash (take n (drop at t))
-          unfolding noteOf
-          note-hashed = omega (arith, g .place)
-
           note-good : noteGood t (noteOf at (take n (drop at t))) ≡ true
           unfolding noteGood
           note-good =
               let x = noteOf at (take n (drop at t)) in
-              and-in (ap pathGood note-is ∙ g .good) (eq-eqb (x / textLimit) (pathHash (notedPath t x)) (note-hashed ∙ ap pathHash (sym note-is)))
+              and-in (ap pathGood note-is ∙ g .good) (eq-eqb (x / textLimit) (pathHash (notedPath t x)) (note-hashed at (take n (drop at t)) (g .place) ∙ ap pathHash (sym note-is)))
 
           pub notes-good : every (noteGood t) (take (count + 1) after) ≡ true
           notes-good =

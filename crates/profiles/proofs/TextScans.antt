@@ -1,6 +1,6 @@
 -- The text is judged from its lines, one after the other, with a note of each path that is profiled and a number for each line
 -- that names a path.
-use Prim.Native.Nat.{ℕ, _+_, _-_, _*_, _≤_, _<_}
+use Prim.Native.Nat.{ℕ, _+_, _-_, _*_, _/_, _≤_, _<_}
 use mathlib.Core.Path.{_≡_, refl, sym, ap, ap₂, _∙_}
 use mathlib.Core.Bool.{Bool, true, false, not, _&&_}
 use mathlib.Core.List.{List, [], _∷_, _++_, append-nil}
@@ -17,8 +17,10 @@ use Rattle.profiles.specs.Reading.{opens, enters, closes, lineText, path
 use Rattle.profiles.specs.Texts.{textLimit, readsWell, textGood}
 use Rattle.profiles.specs.Scanning.{noLine, profileKind, entryKind, endKind, lineAt}
 use Rattle.profiles.specs.LineWords.{lineWord, textWords, mayStand, noText, Judged, profileLeast, entryLeast}
-use Rattle.profiles.specs.Notes.{noteGood, ToNote, notedPaths, notedPlace, withNote}
+use Rattle.profiles.specs.Notes.{noteGood, pathHash, ToNote, notedPaths, notedPlace, withNote}
+use Rattle.profiles.specs.Marks.{markWords, hasMark, withMark, Marked}
 use Rattle.profiles.proofs.NoteLaws.{is-known, is-new, notes-long, notes-good, paths-more}
+use Rattle.profiles.proofs.HashMarks.{marked-more}
 use Rattle.profiles.specs.declared.ScannedLine.{ScannedLine}
 use Rattle.profiles.specs.declared.ScannedText.{ScannedText}
 use Rattle.profiles.proofs.ProfileLines.{line-long, modes-text-long}
@@ -28,23 +30,24 @@ use Rattle.profiles.proofs.LineWordLaws.{Small, small-line, wordsFrom, 
 use Rattle.profiles.proofs.JudgedText.{leftGood, left-whole, left-end, left-none, profile-inside, profile-again, profile-new, entry-outside, entry-inside, end-outside, end-inside}
 
 -- what is left of the text is judged as the whole is
-pub record TextScanned (t notes₀ words₀ notes words : List ℕ) (at count named : ℕ) (b : Bool) : Type 0 where
+pub record TextScanned (t notes₀ words₀ notes marks words : List ℕ) (at count named : ℕ) (b : Bool) : Type 0 where
   pub short : length t ≤ textLimit
   pub room : length t ≤ profileLeast * length notes
   pub size : length notes ≡ length notes₀
   pub place : at ≤ length t
   pub few : count * profileLeast ≤ at
   pub noted : every (noteGood t) (take count notes) ≡ true
+  pub marked : Marked notes marks count
   pub rest : leftGood t (notedPaths t notes count) b at ≡ readsWell (readingOf t)
   pub wide : length t ≤ entryLeast * length words
   pub width : length words ≡ length words₀
   pub fewer : entryLeast * named ≤ at
   pub listed : take named words ++ wordsFrom t at ≡ textWords t
 
-pub text-start : (t notes words : List ℕ) → length t ≤ textLimit → length t ≤ profileLeast * length notes → length t ≤ entryLeast * length words
-    → TextScanned t notes words notes words 0 0 0 false
+pub text-start : (t notes marks words : List ℕ) → length t ≤ textLimit → length t ≤ profileLeast * length notes → length marks ≡ markWords → length t ≤ entryLeast * length words
+    → TextScanned t notes words notes marks words 0 0 0 false
 unfolding notedPaths wordsFrom textWords
-text-start t notes words s r w =
+text-start t notes marks words s r m w =
     record {
       short = s;
       room = r;
@@ -52,6 +55,7 @@ text-start t notes words s r w =
       place = omega arith;
       few = omega arith;
       noted = every-nil (noteGood t);
+      marked = record { long = m; hashes = every-nil (λ n. hasMark marks (n / textLimit)) };
       rest = left-whole t;
       wide = w;
       width = refl;
@@ -84,7 +88,7 @@ stand-none : (k : ℕ) (b : Bool) → k ≡ noLine → mayStand k b ≡ false
 unfolding mayStand
 stand-none k b e = rw e
 
-module _ (t notes₀ words₀ notes words : List ℕ) (at count named : ℕ) (b : Bool) (g : TextScanned t notes₀ words₀ notes words at count named b) where
+module _ (t notes₀ words₀ notes marks words : List ℕ) (at count named : ℕ) (b : Bool) (g : TextScanned t notes₀ words₀ notes marks words at count named b) where
   pub text-end : length t ≤ at → Judged t words (readsWell (readingOf t)) (record { good = not b; count = named })
   text-end l =
       record {
@@ -143,14 +147,15 @@ module _ (t notes₀ words₀ notes words : List ℕ) (at count named : ℕ) (b 
             (ap (λ (p : List ℕ). known p (notedPaths t notes count)) (sym (profile .text)) ∙ is-known t notes count (s .path) (s .length) profile-to-note r e l))
             ∙ left-as false o
 
-        module _ (l : count ≤ r) (after : List ℕ) (w : after ≡ withNote t notes count (s .path) (s .length)) where
+        module _ (l : count ≤ r) (after : List ℕ) (w : after ≡ withNote t notes count (s .path) (s .length))
+            (marked : List ℕ) (x : marked ≡ withMark marks (pathHash (take (s .length) (drop (s .path) t)))) where
           path-new : known (profile .path) (notedPaths t notes count) ≡ false
           path-new = ap (λ (p : List ℕ). known p (notedPaths t notes count)) (sym (profile .text)) ∙ is-new t notes count (s .path) (s .length) profile-to-note r e l
 
           found : pathIn (drop (s .path) t) ≡ take (s .length) (drop (s .path) t)
           found = profile .found ∙ sym (profile .text)
 
-          pub profile-passed : (w : ℕ) → w ≡ lineWord s → TextScanned t notes₀ words₀ after (set words named w) (s .next) (count + 1) (named + 1) true
+          pub profile-passed : (w : ℕ) → w ≡ lineWord s → TextScanned t notes₀ words₀ after marked (set words named w) (s .next) (count + 1) (named + 1) true
           profile-passed v y =
               let n : length after ≡ length notes = notes-long t notes count (s .path) (s .length) profile-to-note r e l after w in
               record {
@@ -160,6 +165,7 @@ module _ (t notes₀ words₀ notes words : List ℕ) (at count named : ℕ) (b 
                 place = profile .ahead;
                 few = omega (arith, g .few, profile .room, profile .start, profile .size, path-long);
                 noted = notes-good t notes count (s .path) (s .length) profile-to-note r e l after w found;
+                marked = marked-more t notes count (s .path) (s .length) profile-to-note r e l after w marks marked (g .marked) x;
                 rest =
                     ap₂ (λ (ps : List (List ℕ)) (k : ℕ). leftGood t ps true k)
                     (paths-more t notes count (s .path) (s .length) profile-to-note r e l after w found ∙ ap (λ (p : List ℕ). notedPaths t notes count ++ (p ∷ [])) (profile .text))
@@ -205,7 +211,7 @@ module _ (t notes₀ words₀ notes words : List ℕ) (at count named : ℕ) (b 
           )
 
       pub entry-passed : (c : Bool) → c ≡ mayStand (s .kind) b → not c ≡ false → (w : ℕ) → w ≡ lineWord s
-          → TextScanned t notes₀ words₀ notes (set words named w) (s .next) count (named + 1) b
+          → TextScanned t notes₀ words₀ notes marks (set words named w) (s .next) count (named + 1) b
       entry-passed c d z v y =
           let e : b ≡ true = entry-inside′ c d z in
           record {
@@ -215,6 +221,7 @@ module _ (t notes₀ words₀ notes words : List ℕ) (at count named : ℕ) (b 
             place = entry .ahead;
             few = omega (arith, g .few, entry-ahead);
             noted = g .noted;
+            marked = g .marked;
             rest =
                 ap₂ (λ (d : Bool) (k : ℕ). leftGood t (notedPaths t notes count) d k) e (entry .next)
                 ∙ sym (entry-inside t (notedPaths t notes count) at i (entry .entry) (entry .reads))
@@ -238,7 +245,7 @@ module _ (t notes₀ words₀ notes words : List ℕ) (at count named : ℕ) (b 
       end-stops : b ≡ false → false ≡ readsWell (readingOf t)
       end-stops e = sym (end-outside t (notedPaths t notes count) at i (end .reads)) ∙ left-as false e
 
-      end-left : b ≡ true → (v : ℕ) → TextScanned t notes₀ words₀ notes (set words named v) (s .next) count named false
+      end-left : b ≡ true → (v : ℕ) → TextScanned t notes₀ words₀ notes marks (set words named v) (s .next) count named false
       end-left e v =
           record {
             short = g .short;
@@ -247,6 +254,7 @@ module _ (t notes₀ words₀ notes words : List ℕ) (at count named : ℕ) (b 
             place = end .ahead;
             few = omega (arith, g .few, end-ahead);
             noted = g .noted;
+            marked = g .marked;
             rest =
                 ap (leftGood t (notedPaths t notes count) false) (end .next)
                 ∙ sym (end-inside t (notedPaths t notes count) at i (end .reads))
@@ -283,7 +291,7 @@ module _ (t notes₀ words₀ notes words : List ℕ) (at count named : ℕ) (b 
       pub end-less : length t - s .next < length t - at
       end-less = omega (arith, end-ahead ends, end ends .ahead)
 
-      pub end-passed : (w : ℕ) → TextScanned t notes₀ words₀ notes (set words named w) (s .next) count named false
+      pub end-passed : (w : ℕ) → TextScanned t notes₀ words₀ notes marks (set words named w) (s .next) count named false
       end-passed w = end-left ends (sym (stand-end (s .kind) b ends) ∙ sym d ∙ not-false c z) w
 
 -- ---- the length of the text

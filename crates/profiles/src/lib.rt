@@ -7,6 +7,7 @@ ghost use lib.ListN.{length, replicate};
 ghost use Rattle.profiles.specs.Reading.{readingOf};
 ghost use Rattle.profiles.specs.Texts.{textLimit, readsWell, textGood};
 ghost use Rattle.profiles.specs.Notes.{lengthLimit};
+ghost use Rattle.profiles.specs.Marks.{markWords};
 ghost use Rattle.profiles.specs.Scanning.{modesLimit};
 ghost use Rattle.profiles.specs.LineWords.{lineWord, namedPath, wordLimit, mayStand, noText, Judged, scannedOf, tableOf, profileLeast, entryLeast, shortLimit};
 
@@ -164,10 +165,14 @@ const SHORT_LIMIT: usize = FEW_PROFILES * PROFILE_LEAST;
 
 const PROFILE_LIMIT: usize = TEXT_LIMIT / PROFILE_LEAST + 1;
 
+// The words with a mark for each of so many hashes.
+pub const MARK_WORDS: usize = 128;
+
 // The lines of a text are profiles, and no path is profiled twice; the numbers of its lines. There are not more notes and numbers than
 // room for them, by the least bytes of the lines.
-fn scan_lines(text: &[u8], notes: &mut [u64], words: &mut [u32]) -> ScannedText
-    requires { ⌜ (length (now text) ≤ textLimit) × (length (now text) ≤ profileLeast * length (now notes)) × (length (now text) ≤ entryLeast * length (now words)) ⌝ }
+fn scan_lines(text: &[u8], notes: &mut [u64], marks: &mut [u64], words: &mut [u32]) -> ScannedText
+    requires { ⌜ (length (now text) ≤ textLimit) × (length (now text) ≤ profileLeast * length (now notes)) × (length (now marks) ≡ markWords)
+        × (length (now text) ≤ entryLeast * length (now words)) ⌝ }
     ensures { λ r. ⌜ Judged (now (text .entry)) (now (words .exit)) (readsWell (readingOf (now (text .entry)))) r ⌝ }
 {
     let mut at = 0;
@@ -182,7 +187,7 @@ fn scan_lines(text: &[u8], notes: &mut [u64], words: &mut [u32]) -> ScannedText
         words[count] = line_word(line);
         at = line.next;
         if line.kind == PROFILE_LINE {
-            if notes::note_path(text, notes, profiles, line.path, line.length) < profiles {
+            if notes::note_path(text, notes, marks, profiles, line.path, line.length) < profiles {
                 return no_text();
             }
             profiles += 1;
@@ -206,7 +211,8 @@ fn scan_short(text: &[u8], words: &mut [u32]) -> ScannedText
     ensures { λ r. ⌜ Judged (now (text .entry)) (now (words .exit)) (readsWell (readingOf (now (text .entry)))) r ⌝ }
 {
     let mut notes = [0u64; FEW_PROFILES];
-    scan_lines(text, &mut notes, words)
+    let mut marks = [0u64; MARK_WORDS];
+    scan_lines(text, &mut notes, &mut marks, words)
 }
 
 fn scan_long(text: &[u8], words: &mut [u32]) -> ScannedText
@@ -214,7 +220,8 @@ fn scan_long(text: &[u8], words: &mut [u32]) -> ScannedText
     ensures { λ r. ⌜ Judged (now (text .entry)) (now (words .exit)) (readsWell (readingOf (now (text .entry)))) r ⌝ }
 {
     let mut notes = [0u64; PROFILE_LIMIT];
-    scan_lines(text, &mut notes, words)
+    let mut marks = [0u64; MARK_WORDS];
+    scan_lines(text, &mut notes, &mut marks, words)
 }
 
 // Whether the text is not too long, has a reading, and profiles no path twice; if so, the numbers of its lines in front.
