@@ -7,8 +7,16 @@ ghost use Rattle.events.specs.Events.{eventLength, eventOf, gathered, ga
 use answers::Answer;
 use session::SESSION_LENGTH;
 
-// The numbers of an event.
+// The numbers of an event, and where each stands behind its place.
 pub const EVENT_LENGTH: usize = 5;
+
+const EVENT_ANSWER_AT: usize = 1;
+
+const EVENT_RECEIVER_AT: usize = 2;
+
+const EVENT_TAG_AT: usize = 3;
+
+const EVENT_POSITION_AT: usize = 4;
 
 // What is gathered: the refusal, 0 if there is none, how many records are taken, and how many events are written.
 pub struct Gathered {
@@ -24,10 +32,10 @@ fn put_event(events: &mut [u64], at: usize, place: usize, answer: Answer)
 {
     let received = answers::received_of(answer);
     events[at] = place as u64;
-    events[at + 1] = answers::number(answer) as u64;
-    events[at + 2] = received.receiver as u64;
-    events[at + 3] = received.tag;
-    events[at + 4] = received.position as u64;
+    events[at + EVENT_ANSWER_AT] = answers::number(answer) as u64;
+    events[at + EVENT_RECEIVER_AT] = received.receiver as u64;
+    events[at + EVENT_TAG_AT] = received.tag;
+    events[at + EVENT_POSITION_AT] = received.position as u64;
 }
 
 // The records of the trace on the session, which must have 5,536 numbers, with an event for each that is not answered quiet, up to the first

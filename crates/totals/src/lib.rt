@@ -11,10 +11,8 @@ use image::CONTAINER_LIMIT;
 use session::SESSION_LENGTH;
 use std::num::wrapping_add_u64;
 
-// The numbers of figures, and where each stands: the records, those accepted, the alerts, those refused and blocked, then the alerts of each
-// container.
-pub const FIGURES_LENGTH: usize = 261;
-
+// Where each number of figures stands, and how many there are: the records, those accepted, the alerts, those refused and blocked, then the
+// alerts of each container.
 const RECORDS_AT: usize = 0;
 
 const ACCEPTED_AT: usize = 1;
@@ -26,6 +24,8 @@ const REFUSED_AT: usize = 3;
 const BLOCKED_AT: usize = 4;
 
 const CONTAINERS_AT: usize = 5;
+
+pub const FIGURES_LENGTH: usize = CONTAINERS_AT + CONTAINER_LIMIT;
 
 // ---- counting
 

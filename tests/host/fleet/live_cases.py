@@ -382,14 +382,16 @@ def trimmed(seed, sent):
 
 def statuses(seed, sent):
     """Arguments, servers and files that are wrong are failures, and told apart from alerts and refusals."""
-    fleet, policy = Fleet(partitions=1), str(ROOT / "demo" / "policy.bin")
+    fleet, policy, trace = Fleet(partitions=1), str(ROOT / "demo" / "policy.bin"), ROOT / "demo" / "trace.bin"
     fleet.log.publish([Message(min(sent), 0, sent[min(sent)])])
     work = ["work", "0", "--policy", policy, "--until-idle", "0.1"]
     wrong = [[], ["nothing"], ["work"], ["publish", "host"], ["publish", "a b=-"], ["publish", "host=missing.bin"], [*work, "--store", "postgresql://nobody@127.0.0.1:1/none"],
-             [*work, "--log", "redis://127.0.0.1:1/0", "--tries", "1"], ["work", "7", "--policy", policy], ["work", "0", "--policy", "missing.bin"], ["init", "--policy", policy, "--partitions", "3"]]
+             [*work, "--log", "redis://127.0.0.1:1/0", "--tries", "1"], ["work", "7", "--policy", policy], ["work", "0", "--policy", "missing.bin"], ["init", "--policy", policy, "--partitions", "3"],
+             ["init", "--policy", policy, "--partitions", "0"], ["publish", "--records", "0", f"host={trace}"], ["publish", "--first", "-1", f"host={trace}"],
+             ["publish", "--first", "1000", f"host={trace}"], [*work, "--messages", "0"]]
     for words in wrong:
         unchanged(fleet, lambda: note(main(words) == 5, f"status 5: {' '.join(words)[:60]}"))
-    unchanged(fleet, lambda: note(main(["work", "0", "--policy", str(ROOT / "demo" / "trace.bin")]) == 4, "status 4: a policy that is refused"))
+    unchanged(fleet, lambda: note(main(["work", "0", "--policy", str(trace)]) == 4, "status 4: a policy that is refused"))
     with contextlib.redirect_stdout(io.StringIO()):
         found = [main(words) for words in (["alerts"], ["status"], work, ["status"], ["alerts", "--lines"])]
     assert found == [0, 2, 0, 0, 3], found

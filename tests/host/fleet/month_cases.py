@@ -123,6 +123,8 @@ def long_trace(client, folder, seed):
 
 def wrong_inputs(client, folder, seed):
     policy = yaslaurel.Policy(DEMO.read_bytes())
+    refused(FleetError, "there is no trace in it", lambda: traces_in(folder))
+    refused(FleetError, "the list has no trace", lambda: traces_listed(["", "\n"], folder))
     fleet(folder, seed, 4, 50)
     (folder / "list").write_text("host-000.bin\nhost-777.bin\n")
     refused(FleetError, "host-777.bin: there is no such trace", lambda: traces_listed(["host-000.bin", "host-777.bin"], folder))

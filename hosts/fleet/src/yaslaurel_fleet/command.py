@@ -8,7 +8,7 @@ import os
 import signal
 import sys
 from pathlib import Path
-from typing import IO, Any, Iterator, Optional, Sequence, Tuple
+from typing import IO, Any, Callable, Iterator, Optional, Sequence, Tuple
 
 import psycopg2
 import redis
@@ -91,6 +91,17 @@ def host_and_trace(text: str) -> Tuple[str, str]:
     return host, path
 
 
+def at_least(least: int) -> Callable[[str], int]:
+    """An argument that is a whole number, this one at least."""
+
+    def read(text: str) -> int:
+        if int(text) < least:
+            raise argparse.ArgumentTypeError(f"{text} is less than {least}")
+        return int(text)
+
+    return read
+
+
 def publish(given: argparse.Namespace) -> int:
     """Sends the whole records of each trace; those of standard input as they come."""
     log = Log(given.log)
@@ -98,6 +109,8 @@ def publish(given: argparse.Namespace) -> int:
         left = bytearray()
         with sys.stdin.buffer if path == "-" else open(path, "rb") as file:
             if given.first and path != "-":
+                if file.seek(0, os.SEEK_END) < RECORD_BYTES * given.first:
+                    raise FleetError(f"{path}: it has fewer than {given.first} records")
                 file.seek(RECORD_BYTES * given.first)
             sent = log.publish(pieces(file, host, given.first, given.records, left), batch=1 if path == "-" else BATCH)
         print(f"{host}: {sent} messages", flush=True)
@@ -192,29 +205,29 @@ def month_arguments(commands: Commands, policy: argparse.ArgumentParser) -> None
     one.add_argument("--list", help="a file, or -, with a trace in each line; else all of the folder")
     one.add_argument("--out", type=Path, help="written when whole; else standard output")
     one.add_argument("--as-month", action="store_true", help="as the month program: a short last record counts as refused, over 1,000,000 records are left out with 19")
-    one.add_argument("--task-bytes", type=int, default=1 << 23, help="bytes of traces in a task, about")
+    one.add_argument("--task-bytes", type=at_least(1), default=1 << 23, help="bytes of traces in a task, about")
     one.add_argument("--patience", type=float, default=30, help="seconds without a scheduler or a worker")
     one.set_defaults(run=month)
 
 def live_arguments(commands: Commands, policy: argparse.ArgumentParser, servers: argparse.ArgumentParser) -> None:
     one = commands.add_parser("init", parents=[policy, servers], help="makes the tables of a new fleet, and says in the log whose it is")
-    one.add_argument("--partitions", type=int, default=1)
+    one.add_argument("--partitions", type=at_least(1), default=1)
     one.set_defaults(run=init)
 
     one = commands.add_parser("publish", parents=[servers], help="sends traces, or records as they come on standard input")
     one.add_argument("traces", nargs="+", type=host_and_trace, metavar="HOST=TRACE")
-    one.add_argument("--first", type=int, default=0, help="number of the first record to send, from 0; standard input begins with it")
-    one.add_argument("--records", type=int, default=500, help="records of a message at most")
+    one.add_argument("--first", type=at_least(0), default=0, help="number of the first record to send, from 0; standard input begins with it")
+    one.add_argument("--records", type=at_least(1), default=500, help="records of a message at most")
     one.set_defaults(run=publish)
 
     one = commands.add_parser("work", parents=[policy, servers], help="judges the records of a partition, and commits")
     one.add_argument("part", type=int)
-    one.add_argument("--messages", type=int, default=200, help="messages of a commit at most")
+    one.add_argument("--messages", type=at_least(1), default=200, help="messages of a commit at most")
     one.add_argument("--until-idle", type=float, help="ends when nothing has come for so many seconds")
     one.add_argument("--stand-by", action="store_true", help="waits until no other worker that was started so has the partition")
-    one.add_argument("--sessions", type=int, default=4096, help="sessions kept in memory")
+    one.add_argument("--sessions", type=at_least(1), default=4096, help="sessions kept in memory")
     one.add_argument("--trim", action="store_true", help="drops messages from the log once they are committed")
-    one.add_argument("--tries", type=int, default=12, help="how often the log is tried again when its connection breaks")
+    one.add_argument("--tries", type=at_least(0), default=12, help="how often the log is tried again when its connection breaks")
     one.set_defaults(run=work)
 
     one = commands.add_parser("alerts", parents=[servers], help="what was not quiet, in words")

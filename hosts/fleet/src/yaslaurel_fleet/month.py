@@ -98,6 +98,8 @@ def traces_in(folder: Path, as_month: bool = False) -> List[Trace]:
         names = sorted(entry.name for entry in os.scandir(folder) if entry.name.endswith(".bin") and entry.name != "policy.bin")
     except OSError as error:
         raise FleetError(f"{folder}: {error.strerror}") from None
+    if not names and not as_month:
+        raise FleetError(f"{folder}: there is no trace in it")
     return [trace_of(name, folder / name, as_month) for name in names]
 
 
@@ -105,6 +107,8 @@ def traces_listed(lines: Iterable[str], folder: Path, as_month: bool = False) ->
     """The traces of a list, a path in each line, seen from the folder; the path as it is written is the host's name."""
     traces = [trace_of(line, folder / line, as_month) for line in (text.rstrip("\n") for text in lines) if line]
     names = {trace.name for trace in traces}
+    if not names and not as_month:
+        raise FleetError("the list has no trace")
     if len(names) < len(traces):
         twice = next(trace.name for k, trace in enumerate(traces) if trace.name in {other.name for other in traces[:k]})
         raise FleetError(f"{twice}: stands in the list twice")
