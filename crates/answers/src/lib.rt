@@ -1,5 +1,7 @@
 // What the product answers: the refusal numbers, the answer to a record, and the tally of a run (the paper, "Operations" and
 // "Refused because ..").
+#![tactic(auto)]
+
 ghost use Rattle.std.specs.Prelude.{◌≡◌, ◌<◌, ◌||◌, if◌then◌else◌};
 ghost use Rattle.answers.specs.Answers.{received, is_quiet, is_alert, is_blocked, is_refused, accepted, received_of, answer_number, answer_with};
 ghost use Rattle.answers.specs.Tallies.{more, no_tally, tallied};
@@ -95,7 +97,7 @@ pub const BLOCKED_NUMBER: u32 = 257;
 // ---- the answer to a record
 
 // What an access that was not refused is answered.
-#[derive(Drop)]
+#[derive(Clone, Copy)]
 pub enum Verdict {
     Quiet,
     Alert,
@@ -104,7 +106,7 @@ pub enum Verdict {
 
 // The receiver of an access, its tag afterwards, and the position of the first mixture of its permit rule that covers the tag; what
 // these would be, where the access was blocked.
-#[derive(Drop)]
+#[derive(Clone, Copy)]
 pub struct Received {
     pub receiver: usize,
     pub tag: u64,
@@ -112,7 +114,7 @@ pub struct Received {
 }
 
 // A verdict on what was received, or the refusal's number.
-#[derive(Drop)]
+#[derive(Clone, Copy)]
 pub enum Answer {
     Given(Verdict, Received),
     Refused(u32),
@@ -251,7 +253,7 @@ pub fn answer_with(number: u32, receiver: u64, tag: u64, position: u32) -> Answe
 // ---- the tally of a run
 
 // How many records there were, and how many of them were answered by an alert, and refused. The counts wrap at 2 to the 64.
-#[derive(Drop)]
+#[derive(Clone, Copy)]
 pub struct Tally {
     pub records: u64,
     pub alerts: u64,

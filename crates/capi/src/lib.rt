@@ -1,4 +1,6 @@
 // The functions that hosts call: include/yaslaurel.h has them as C sees them. Each only calls the library's own function.
+#![tactic(auto)]
+
 ghost use Rattle.std.specs.Prelude.{◌≡◌};
 ghost use Rattle.image.specs.Image.{check_of};
 ghost use Rattle.session.specs.Session.{start_answer, start_effect};

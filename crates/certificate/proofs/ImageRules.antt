@@ -22,7 +22,7 @@ use Rattle.image.specs.Limits.{container_run_at, rule_count_at, rule_owner_at, u
 use Rattle.image.specs.Policy.{Container, unrestricted_rule, rule_at, owner_at}
 use Rattle.image.specs.Image.{part, container_in, containers_in, users_in, rules_in, owners_in, mixtures_in, policy_in, check_of}
 use Rattle.image.proofs.AcceptedImage.{accepted_spans}
-use Rattle.image.proofs.RecordsByPlace.{containers_count, users_count, rules_count, owners_count, rule_fits, rule_at_lem, owner_at}
+use Rattle.image.proofs.RecordsByPlace.{containers_count, users_count, rules_count, owners_count, rule_fits, rule_at_lem, owner_at_lem}
 use Rattle.image.proofs.RulesByNumber.{from_length}
 use Rattle.certificate.specs.Whys.{permit_of, run_of, user_number, covers_by, run_forbids}
 use Rattle.certificate.specs.Marks.{forbids_at}
@@ -127,7 +127,7 @@ module _ (i : List ℕ) (n : ℕ) where
     pub owner_there : {x : ℕ} → n < length s / rule_size → x ≡ field s (n * rule_size + rule_owner_at) size16 → x ≡ owner_at (policy_in i).owners n
     unfolding owner_at policy_in
     owner_there {x} l f =
-        rw (ne_eqb n unrestricted_number d) (f ∙ ap (λ (y : List ℕ). field y (n * rule_size + rule_owner_at) size16) e ∙ sym (owner_at (part i 2) n (rw e at l)))
+        rw (ne_eqb n unrestricted_number d) (f ∙ ap (λ (y : List ℕ). field y (n * rule_size + rule_owner_at) size16) e ∙ sym (owner_at_lem (part i 2) n (rw e at l)))
 
   -- the mixtures of the rule with the number n
   pub rule_all : n ≡ unrestricted_number → rule_at (policy_in i).rules n ≡ unrestricted tag_width

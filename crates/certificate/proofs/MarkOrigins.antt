@@ -31,9 +31,9 @@ element_drop l zero = refl
 element_drop [] (suc n) = refl
 element_drop (x ∷ l) (suc n) = element_drop l n
 
-pub record_of : (t : List ℕ) (n : ℕ) (r : List ℕ) → get_elem? (trace_records t) n ≡ some r → record_of t n ≡ r
+pub record_of_lem : (t : List ℕ) (n : ℕ) (r : List ℕ) → get_elem? (trace_records t) n ≡ some r → record_of t n ≡ r
 unfolding record_of
-record_of t n r e = on (dec_lt (n * record_length) (length t))
+record_of_lem t n r e = on (dec_lt (n * record_length) (length t))
   where
     at : get_elem? (trace_records (drop (n * record_length) t)) 0 ≡ some r
     at = ap (λ (l : List (List ℕ)). get_elem? l 0) (sym (records_rest n t)) ∙ sym (element_drop (trace_records t) n) ∙ e
@@ -76,7 +76,7 @@ module _ (t s : List ℕ) where
   -- record number n of the trace, accepted
   module _ (n : ℕ) (r : List ℕ) (is : AcceptedRecord s (trace_records t) n r) where
     here : record_of t n ≡ r
-    here = record_of t n r is.0
+    here = record_of_lem t n r is.0
 
     asks_here : Asked (request_in (record_of t n))
     asks_here = rw here (accepted_asked (run_effect s (take n (trace_records t))) r is.1)

@@ -1,5 +1,7 @@
 // Why the last record of a trace is answered by an alert or blocked: the rule that forbids, where it comes from, and an atom that each
 // of its mixtures lacks (the paper, "Chains").
+#![tactic(auto)]
+
 ghost use Rattle.std.specs.Prelude.{◌≡◌, map, ◌+◌, ◌/◌, ◌^◌, ◌≤◌, ◌<◌, length, take, drop};
 ghost use Rattle.std.proofs.Math.ListN.{get_elem?};
 ghost use Rattle.fields.specs.Writing.{overwritten};
@@ -150,7 +152,7 @@ fn mark_own(marks: &mut [u64])
 }
 
 // The last answer to a trace: whether it forbids, its receiver and tag, and the mark of the receiver.
-#[derive(Drop)]
+#[derive(Clone, Copy)]
 pub struct Judgement {
     pub forbidden: bool,
     pub receiver: usize,
@@ -367,7 +369,7 @@ const USER_ORIGIN: u64 = 2;
 const RUN_ORIGIN: u64 = 3;
 
 // The rule: where it comes from, the record, the container, user or file, its number, and where the chain of a run rule begins.
-#[derive(Drop)]
+#[derive(Clone, Copy)]
 pub struct Told {
     pub kind: u64,
     pub at: u64,

@@ -20,7 +20,7 @@ use Rattle.rules.specs.declared.Bounded.{Bounded}
 use Rattle.rules.proofs.SetLaws.{holds_is, holds_not}
 use Rattle.rules.proofs.BoundedLaws.{bounded_test}
 use Rattle.rule_words.specs.Words.{rule_width, rule_of, words_of, kept_well}
-use Rattle.rule_words.proofs.WordLaws.{bounded_words, words_nine}
+use Rattle.rule_words.proofs.WordLaws.{bounded_words_lem, words_nine}
 use Rattle.rule_words.proofs.KeptWords.{kept_words, kept_normal, kept_short}
 use Rattle.composition.specs.Composed.{enters, entering, composed_rule}
 use Rattle.composition.specs.Tables.{entering_limit, Entered, WordsComposed}
@@ -151,5 +151,5 @@ module _ (c : ℕ) (ws other : List ℕ) {b : Bounded} (e : b ≡ bounded_of (co
   words_put h w =
       let f : true ≡ leb (length (composed_rule c (rule_of ws) (rule_of other))) mixture_limit = sym (not-false b.fits h) ∙ fits_told in
       let l : length (composed_rule c (rule_of ws) (rule_of other)) ≤ mixture_limit = leb-true (length (composed_rule c (rule_of ws) (rule_of other))) mixture_limit (sym f) in
-      let x = w ∙ bounded_words (composed_rule c (rule_of ws) (rule_of other)) b e l in
+      let x = w ∙ bounded_words_lem (composed_rule c (rule_of ws) (rule_of other)) b e l in
       record { told = f; long = ap length x ∙ words_nine (composed_rule c (rule_of ws) (rule_of other)) l; words = λ _. x }

@@ -21,7 +21,7 @@ use Rattle.image.specs.Policy.{owner_at, named}
 use Rattle.image.specs.Image.{part, policy_in, rules_in, owners_in, check_of}
 use Rattle.image.specs.Normal.{Use, normal_at, use_at}
 use Rattle.image.proofs.AcceptedImage.{accepted_spans}
-use Rattle.image.proofs.RecordsByPlace.{rules_count, owner_at}
+use Rattle.image.proofs.RecordsByPlace.{rules_count, owner_at_lem}
 use Rattle.image.proofs.RulesByNumber.{normal_short, named_own}
 use Rattle.normaliser.specs.Writer.{form_width, form_row}
 use Rattle.normaliser.proofs.RuleForms.{row_put}
@@ -37,7 +37,7 @@ owner_none rules n e = sym (rw (eq-eqb n unrestricted_number e))
 pub owner_own : (rules : List ℕ) (n : ℕ) → named (length rules / rule_size) n ≡ true → (n ≡ unrestricted_number → ⊥) → {o : ℕ} → o ≡ field rules (n * rule_size + rule_owner_at) size16
     → o ≡ owner_at (owners_in rules) n
 unfolding owner_at
-owner_own rules n h d e = e ∙ sym (rw (ne_eqb n unrestricted_number d) (owner_at rules n (named_own (length rules / rule_size) n h d)))
+owner_own rules n h d e = e ∙ sym (rw (ne_eqb n unrestricted_number d) (owner_at_lem rules n (named_own (length rules / rule_size) n h d)))
 
 -- ---- the row of a use
 
@@ -74,9 +74,9 @@ module _ (u : Use) (short : length u.mixtures ≤ mixture_limit) where
   unfolding form_row
   row_owner = sym (get_or-drop rule_width (words_of u.mixtures ++ (u.owner ∷ [])) 0 0) ∙ ap (λ (x : List ℕ). get_or x 0 0) (drop_at (words_of u.mixtures) (u.owner ∷ []) rule_width nine)
 
-  pub row_words : take (rule_width - 0) (form_row u) ≡ words_of u.mixtures
+  pub row_words_lem : take (rule_width - 0) (form_row u) ≡ words_of u.mixtures
   unfolding form_row
-  row_words = take_at (words_of u.mixtures) (u.owner ∷ []) rule_width nine
+  row_words_lem = take_at (words_of u.mixtures) (u.owner ∷ []) rule_width nine
 
   pub row_long : length (form_row u) ≡ form_width
   unfolding form_row
@@ -110,7 +110,7 @@ module _ (u : Use) (short : length u.mixtures ≤ mixture_limit) where
 
     -- the words as they are lent
     pub row_lent : {row : List ℕ} → row ≡ form_row u → (length (take (rule_width - 0) row) ≡ rule_width) × (kept_well (take (rule_width - 0) row) ≡ true)
-    row_lent e = words_well (ap (take (rule_width - 0)) e ∙ row_words)
+    row_lent e = words_well (ap (take (rule_width - 0)) e ∙ row_words_lem)
 
     pub set_lent : {row : List ℕ} → row ≡ form_row u → (o : ℕ) → (length (take (rule_width - 0) (set row rule_width o)) ≡ rule_width) × (kept_well (take (rule_width - 0) (set row rule_width o)) ≡ true)
     set_lent e o = words_well (ap (λ (x : List ℕ). take (rule_width - 0) (set x rule_width o)) e ∙ set_words o)
@@ -123,7 +123,7 @@ module _ (c : ℕ) (u v : Use) (su : length u.mixtures ≤ mixture_limit) (sv : 
   rows_composed {row} {other} p q {o} e {ws} {b} w =
       let x : rule_of (take (rule_width - 0) (set row rule_width o)) ≡ u.mixtures =
       ap (λ (y : List ℕ). rule_of (take (rule_width - 0) (set y rule_width o))) p ∙ ap rule_of (set_words u su o) ∙ words_rule u.mixtures in
-      let y : rule_of (take (rule_width - 0) other) ≡ v.mixtures = ap (λ (y : List ℕ). rule_of (take (rule_width - 0) y)) q ∙ ap rule_of (row_words v sv) ∙ words_rule v.mixtures in
+      let y : rule_of (take (rule_width - 0) other) ≡ v.mixtures = ap (λ (y : List ℕ). rule_of (take (rule_width - 0) y)) q ∙ ap rule_of (row_words_lem v sv) ∙ words_rule v.mixtures in
       let r : composed_rule c (rule_of (take (rule_width - 0) (set row rule_width o))) (rule_of (take (rule_width - 0) other)) ≡ composed_rule c u.mixtures v.mixtures = ap₂ (composed_rule c) x y in
       let z : o ≡ composed_owner u.owner v.owner =
       e ∙ ap₂ composed_owner (ap (λ (y : List ℕ). get_or y rule_width 0) p ∙ row_owner u su) (ap (λ (y : List ℕ). get_or y rule_width 0) q ∙ row_owner v sv) in

@@ -1,4 +1,6 @@
 // Two policies composed, with the consent of the owners of sources (change request No. 11, after source document 003).
+#![tactic(auto)]
+
 ghost use Rattle.std.specs.Prelude.{◌≡◌, true, ◌&&◌, map, ◌+◌, ◌*◌, ◌/◌, ◌≤◌, ◌<◌, length, get_or};
 ghost use Rattle.lists.specs.Counting.{count_from};
 ghost use Rattle.lists.specs.Lists.{same_list, joined};
@@ -30,7 +32,7 @@ const CONTAINER_BYTES: usize = image::CONTAINER_LIMIT * image::CONTAINER_SIZE;
 const USER_BYTES: usize = image::USER_LIMIT * image::USER_SIZE;
 
 // What is answered: the refusal, 0 if there is none, and the length of the image that was written. Apart, for a length of 20 there is.
-#[derive(Drop)]
+#[derive(Clone, Copy)]
 pub struct Composition {
     pub refusal: u32,
     pub length: usize,

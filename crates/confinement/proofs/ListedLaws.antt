@@ -13,7 +13,7 @@ use Rattle.rules.specs.Rules.{normal, unrestricted}
 use Rattle.rules.specs.Answers.{data_width, tag_width, mixture_limit, padded, bounded_of}
 use Rattle.rules.specs.declared.Bounded.{Bounded}
 use Rattle.rule_words.specs.Words.{rule_width, words_of}
-use Rattle.rule_words.proofs.WordLaws.{words_nine, bounded_words}
+use Rattle.rule_words.proofs.WordLaws.{words_nine, bounded_words_lem}
 use Rattle.image.specs.Limits.{no_owner}
 use Rattle.image.specs.Policy.{unrestricted_rule}
 use Rattle.normaliser.specs.Writer.{unowned, form_width, form_row}
@@ -93,7 +93,7 @@ module _ (r : List ℕ) (b : Bounded) (e : b ≡ bounded_of (normal r)) where
   form_put before {ws} l h w =
       let f : true ≡ leb (length (normal r)) mixture_limit = sym (not-false b.fits h) ∙ fits_told in
       let n : length (normal r) ≤ mixture_limit = leb-true (length (normal r)) mixture_limit (sym f) in
-      let x : ws ≡ words_of (normal r) = w ∙ bounded_words (normal r) b e n in
+      let x : ws ≡ words_of (normal r) = w ∙ bounded_words_lem (normal r) b e n in
       record { told = f; words = row_put before ws no_owner l (ap length x ∙ words_nine (normal r) n) ∙ ap (λ (y : List ℕ). y ++ (no_owner ∷ [])) x }
 
 -- ---- a list that is handed on

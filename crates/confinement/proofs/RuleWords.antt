@@ -92,10 +92,10 @@ unfolding or_else
 else_some f [] z p m = absurd (Memᴰ.not-nil m)
 else_some f (x ∷ l) z p m = refl
 
-if_some : (l : List Profile) (r z : List ℕ) (p : Profile) → Memᴰ p l → if_some l r z ≡ r
+if_some_lem : (l : List Profile) (r z : List ℕ) (p : Profile) → Memᴰ p l → if_some l r z ≡ r
 unfolding if_some
-if_some [] r z p m = absurd (Memᴰ.not-nil m)
-if_some (x ∷ l) r z p m = refl
+if_some_lem [] r z p m = absurd (Memᴰ.not-nil m)
+if_some_lem (x ∷ l) r z p m = refl
 
 -- and only one: no path is profiled twice
 at_one : (q : List ℕ) (ps : List Profile) (p : Profile) → profiled_once ps ≡ true → Memᴰ p ps → q ≡ p.path → profiles_at q ps ≡ p ∷ []
@@ -314,7 +314,7 @@ module _ (ps : List Profile) (good : limits_good ps ≡ true) (k : ℕ) (l : k <
         run_at
         ∙ rw (
           at_none path ps free,
-          if_some (programs_with unconfined path ps) unrestricted_rule
+          if_some_lem (programs_with unconfined path ps) unrestricted_rule
               (or_else (map (run_mixture ns) (programs_with inheriting path ps)) (if_some (programs_with confined path ps) [] unrestricted_rule)) p
               ((with_chosen unconfined path ps p).1 (m, w)),
         )
@@ -339,7 +339,7 @@ module _ (ps : List Profile) (good : limits_good ps ≡ true) (k : ℕ) (l : k <
       module _ (apart : NoneWith ps inheriting path) where
         pub run_confined : SomeWith ps confined path → get_or (rules_of ps) (2 * k + 1) [] ≡ []
         unfolding or_else normal sort unheld_in distinct
-        run_confined (p, m, w) = run_rest ∙ rw (with_none inheriting path ps apart, if_some (programs_with confined path ps) [] unrestricted_rule p ((with_chosen confined path ps p).1 (m, w)))
+        run_confined (p, m, w) = run_rest ∙ rw (with_none inheriting path ps apart, if_some_lem (programs_with confined path ps) [] unrestricted_rule p ((with_chosen confined path ps p).1 (m, w)))
 
         pub run_unnamed : NoneWith ps confined path → get_or (rules_of ps) (2 * k + 1) [] ≡ unrestricted_rule
         unfolding or_else if_some

@@ -1,4 +1,6 @@
 // The policy that profiles stand for, written as a normal image (change request No. 1).
+#![tactic(auto)]
+
 ghost use Rattle.std.specs.Prelude.{◌≡◌, ℕ, ◌+◌, ◌*◌, ◌^◌, ◌≤◌, ◌<◌, length, get_or, take, replicate, cond, [], map};
 ghost use Rattle.rules.specs.Answers.{data_width, tag_width};
 ghost use Rattle.normaliser.specs.Writer.{form_width};

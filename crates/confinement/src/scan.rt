@@ -124,7 +124,7 @@ fn number_of(
 }
 
 // A path's number, and how many paths there are with it.
-#[derive(Drop)]
+#[derive(Clone, Copy)]
 struct Number {
     number: usize,
     count: usize,
@@ -171,7 +171,7 @@ fn place(
 // ---- the text
 
 // How many paths and programs a text has.
-#[derive(Drop)]
+#[derive(Clone, Copy)]
 pub struct Counts {
     pub paths: usize,
     pub programs: usize,

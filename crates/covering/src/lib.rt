@@ -1,4 +1,6 @@
 // The covering test alone as a C function, to be measured (change request No. 3). No host calls it.
+#![tactic(auto)]
+
 ghost use Rattle.std.specs.Prelude.{◌≡◌};
 ghost use Rattle.rules.specs.Rules.{cover_place};
 

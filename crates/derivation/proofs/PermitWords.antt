@@ -23,7 +23,7 @@ use Rattle.rules.specs.declared.Bounded.{Bounded}
 use Rattle.rules.specs.Rules.{normal}
 use Rattle.rules.proofs.RuleLaws.{normal_length}
 use Rattle.rule_words.specs.Words.{rule_width, rule_of, words_of, kept_well}
-use Rattle.rule_words.proofs.WordLaws.{words_nine, bounded_words}
+use Rattle.rule_words.proofs.WordLaws.{words_nine, bounded_words_lem}
 use Rattle.rule_words.proofs.KeptWords.{kept_normal}
 use Rattle.image.specs.Limits.{no_owner}
 use Rattle.image.specs.Normal.{free_use}
@@ -170,7 +170,7 @@ module _ (ws : List ℕ) (l : length (rule_of ws) ≤ mixture_limit) (e : ws ≡
 
   pub settle_made : (r : List ℕ) (m : Bounded) (out : List ℕ) → r ≡ rule_of ws → m ≡ bounded_of (normal r) → out ≡ m.count ∷ m.mixtures → out ≡ words_of (normal (rule_of ws))
   settle_made r m out f g h =
-      h ∙ bounded_words (normal (rule_of ws)) m (g ∙ ap (λ (x : List ℕ). bounded_of (normal x)) f) (omega (arith, l, normal_length (rule_of ws)))
+      h ∙ bounded_words_lem (normal (rule_of ws)) m (g ∙ ap (λ (x : List ℕ). bounded_of (normal x)) f) (omega (arith, l, normal_length (rule_of ws)))
 
 -- ---- the objects, one after the other
 

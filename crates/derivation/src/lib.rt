@@ -1,4 +1,6 @@
 // The policy derived from an access matrix (the paper, "Matrix").
+#![tactic(auto)]
+
 ghost use Rattle.std.specs.Prelude.{◌≡◌, map, ◌+◌, ◌*◌, ◌≤◌, ◌<◌, length, replicate};
 ghost use Rattle.fields.specs.Writing.{Wrote};
 ghost use Rattle.lists.specs.Lists.{joined};

@@ -1,4 +1,6 @@
 // The events of a trace: each record that is not answered quiet, with its place, gathered into lent numbers.
+#![tactic(auto)]
+
 ghost use Rattle.std.specs.Prelude.{◌≡◌, ◌+◌, ◌≤◌, length};
 ghost use Rattle.fields.specs.Writing.{Wrote};
 ghost use Rattle.events.specs.Events.{event_length, event_of, gathered, gather_session, gather_events};
@@ -18,7 +20,7 @@ const EVENT_TAG_AT: usize = 3;
 const EVENT_POSITION_AT: usize = 4;
 
 // What is gathered: the refusal, 0 if there is none, how many records are taken, and how many events are written.
-#[derive(Drop)]
+#[derive(Clone, Copy)]
 pub struct Gathered {
     pub refusal: u32,
     pub taken: usize,

@@ -2,6 +2,8 @@
 // rule that forbids, the atom that each of its mixtures lacks, and how that came to the receiver. Both files are in the working folder. The text is
 // `explanations_of` of the two files: its lines are those of `explanations`, and the loops here run, explain and write. What fails
 // outside is told on standard error, and there is then no total line. `sent` counts the bytes handed to standard output.
+#![tactic(auto)]
+
 ghost use Rattle.std.specs.Prelude.{◌≡◌, cond, [], ◌+◌, ◌≤◌, ◌<◌, length, take, drop, get_or};
 ghost use Rattle.lists.specs.Lists.{elem};
 ghost use Rattle.rules.specs.Answers.{tag_width};
@@ -268,7 +270,7 @@ fn explained_with(explained: u64, answer: Answer) -> u64
 }
 
 // The records so far, how many of them were explained, and whether all went well.
-#[derive(Drop)]
+#[derive(Clone, Copy)]
 pub struct Progress {
     pub good: bool,
     pub records: u64,

@@ -1,5 +1,7 @@
 // The lines that explain an alert or a blocked access, into a lent buffer. Each function writes its text at a place of the buffer and
 // returns the place behind it; every other byte is left. The steps of a chain are written in parts.
+#![tactic(auto)]
+
 ghost use Rattle.std.specs.Prelude.{[], ◌∷◌, ◌+◌, ◌*◌, ◌≤◌, ◌≡◌, length, take, drop};
 ghost use Rattle.lists.specs.Lists.{elem};
 ghost use Rattle.fields.specs.Ascii.{ascii};

@@ -1,4 +1,6 @@
 // Numbers in bytes, little-endian (the paper: "Stored numbers are little-endian").
+#![tactic(auto)]
+
 ghost use Rattle.std.specs.Prelude.{◌≡◌, ◌+◌, ◌^◌, ◌≤◌, ◌<◌, length};
 ghost use Rattle.fields.specs.Bytes.{bytes_of, field};
 ghost use Rattle.fields.specs.Writing.{Wrote};

@@ -1,4 +1,6 @@
 // The month's figures: the records of a trace counted by their answers, and the lines that show the counts (change request No. 6).
+#![tactic(auto)]
+
 ghost use Rattle.std.specs.Prelude.{◌≡◌, ℕ, ◌+◌, ◌*◌, ◌%◌, ◌^◌, ◌≤◌, [], ◌∷◌, ◌++◌, length, if◌then◌else◌, slice_index};
 ghost use Rattle.answers.specs.Refusals.{trace_length};
 ghost use Rattle.listing.specs.Text.{decimal};

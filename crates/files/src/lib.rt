@@ -2,6 +2,8 @@
 // the system's text, and never passes for a complete result. What the system took and gave is stated by `write_some`, `read_some`, `open`,
 // `tell` and `tell_error`, which are to be believed (specs/Calls.antt); everything else is proved from these. The counts of the bytes moved are lent,
 // so that no call is forgotten.
+#![tactic(auto)]
+
 ghost use Rattle.std.specs.Prelude.{◌≡◌, ◌≤◌, true, false, length, take};
 ghost use Rattle.files.specs.Calls.{Told, DoneOrTold, Handed, OpenedAs, WroteSome, ReadSome, OpenedFile, PartRead, FileLoaded};
 
@@ -9,7 +11,7 @@ use libc::{STDERR_FILENO, STDOUT_FILENO};
 use std::num::wrapping_add_u64;
 
 // How a call that moves bytes went: so many were moved, none yet and it is to be tried again, or it failed.
-#[derive(Drop)]
+#[derive(Clone, Copy)]
 pub enum Move {
     Moved(usize),
     Again,
@@ -124,7 +126,7 @@ pub fn write_front(out: &[u8], end: usize, sent: &mut u64) -> bool
 // ---- files
 
 // A file that was asked for by name.
-#[derive(Drop)]
+#[derive(Clone, Copy)]
 pub enum Opened {
     File(i32),
     Missing,
@@ -164,7 +166,7 @@ fn read_some(fd: i32, name: &[u8], buf: &mut [u8], place: &mut u64) -> Move
 }
 
 // What was read: whether all went well, how many bytes stand at the front of the buffer, and whether they are the last.
-#[derive(Drop)]
+#[derive(Clone, Copy)]
 pub struct Part {
     pub good: bool,
     pub size: usize,

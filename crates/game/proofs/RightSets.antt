@@ -59,9 +59,9 @@ module _ (s r w : ℕ) (ls : s < side_limit) (lr : r < 8) (lw : w < 8) where
       (all_at (λ r. all_below (λ w. all_below (row_right s r w) right_count) 8) 8 r
       (all_at (λ s. all_below (λ r. all_below (λ w. all_below (row_right s r w) right_count) 8) 8) side_limit s all_rows ls) lr) lw) l)
 
-  row_fits : placed_row s r w < 2 ^ right_count
+  row_fits_lem : placed_row s r w < 2 ^ right_count
   unfolding row_fits
-  row_fits =
+  row_fits_lem =
       ltb-true (placed_row s r w) 262144
       (all_at (row_fits s r) 8 w (all_at (λ r. all_below (row_fits s r) 8) 8 r (all_at (λ s. all_below (λ r. all_below (row_fits s r) 8) 8) side_limit s all_fits ls) lr) lw)
 
@@ -104,7 +104,7 @@ module _ (reads writes : List ℕ) (z : Rows reads writes) where
   pub gathering_next : (rights s : ℕ) → Gathering reads writes rights s → s < length reads
       → Gathering reads writes (bit_or rights ((get_or reads s 0 + 512 * get_or writes s 0) * 2 ^ (3 * s) % 4294967296)) (s + 1)
   gathering_next rights s g l =
-      let fits = row_fits s (get_or reads s 0) (get_or writes s 0) ls (z.small_reads s) (z.small_writes s) in
+      let fits = row_fits_lem s (get_or reads s 0) (get_or writes s 0) ls (z.small_reads s) (z.small_writes s) in
       record { place = omega arith; done = done; small = or_lt right_count rights (placed_row s (get_or reads s 0) (get_or writes s 0)) g.small fits }
     where
       ls : s < side_limit

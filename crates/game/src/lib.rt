@@ -1,4 +1,6 @@
 // Desk against guard: who can force the outcome of a game on an access matrix (change request No. 14).
+#![tactic(auto)]
+
 ghost use Rattle.std.specs.Prelude.{◌≡◌, true, ◌^◌, ◌≤◌, ◌<◌};
 ghost use Rattle.matrix.specs.Rows.{bits_of};
 ghost use Rattle.game.specs.Limits.{side_limit, right_count, move_count};
@@ -47,7 +49,7 @@ const READ: u32 = 1;
 const APPEND: u32 = 3;
 
 // The rights that stand, and the subjects and objects that hold a's information, each as a set of bits.
-#[derive(Drop)]
+#[derive(Clone, Copy)]
 pub struct Position {
     pub rights: u32,
     pub subjects: u32,
@@ -55,7 +57,7 @@ pub struct Position {
 }
 
 // A move of the desk.
-#[derive(Drop)]
+#[derive(Clone, Copy)]
 pub enum Move {
     Read { subject: u32, object: u32 },
     Append { subject: u32, object: u32 },
@@ -63,7 +65,7 @@ pub enum Move {
 }
 
 // The answer to a game: refused, as a matrix or as a game, or who can force the outcome, with the desk's first winning move.
-#[derive(Drop)]
+#[derive(Clone, Copy)]
 pub enum Outcome {
     Malformed,
     OutOfBounds,
@@ -72,7 +74,7 @@ pub enum Outcome {
 }
 
 // An outcome in numbers: 1 the desk, 0 the guard, or the refusal; then the move, 1 read, 3 append, 0 pass, its subject and its object.
-#[derive(Drop)]
+#[derive(Clone, Copy)]
 pub struct OutcomeValues {
     pub number: u32,
     pub code: u32,

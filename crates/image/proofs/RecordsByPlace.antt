@@ -115,6 +115,6 @@ owners_are r = by (records rule_size r)
     by (x ∷ l) = ap (λ (k : List ℕ). (span_in x).owner ∷ k) (by l)
 
 -- the owner of rule n
-pub owner_at : (r : List ℕ) (n : ℕ) → n < length r / rule_size → get_or (owners_in r) n no_owner ≡ rule_owner r n
+pub owner_at_lem : (r : List ℕ) (n : ℕ) → n < length r / rule_size → get_or (owners_in r) n no_owner ≡ rule_owner r n
 unfolding owners_in
-owner_at r n l = map_at (λ s. s.owner) (spans_in r) n span_zero no_owner (omega (arith, spans_count r)) ∙ ap (λ (s : Span). s.owner) (span_at r n l)
+owner_at_lem r n l = map_at (λ s. s.owner) (spans_in r) n span_zero no_owner (omega (arith, spans_count r)) ∙ ap (λ (s : Span). s.owner) (span_at r n l)

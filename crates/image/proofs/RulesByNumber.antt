@@ -14,7 +14,7 @@ use Rattle.rules.specs.declared.Bounded.{Bounded}
 use Rattle.rules.specs.Rules.{normal, unrestricted}
 use Rattle.rules.specs.Answers.{bounded_of, tag_width, mixture_limit}
 use Rattle.rule_words.specs.Words.{words_of}
-use Rattle.rule_words.proofs.WordLaws.{bounded_words}
+use Rattle.rule_words.proofs.WordLaws.{bounded_words_lem}
 use Rattle.image.specs.Policy.{unrestricted_rule, rule_at, named}
 use Rattle.image.specs.Image.{mixtures_in, rules_in, rule_records_good}
 use Rattle.image.specs.Normal.{normal_at}
@@ -48,7 +48,7 @@ unrestricted_one = omega arith
 
 pub unrestricted_words : (rules : List (List ℕ)) (n : ℕ) (b : Bounded) (out : List ℕ)
     → n ≡ unrestricted_number → b ≡ bounded_of (unrestricted tag_width) → out ≡ b.count ∷ b.mixtures → out ≡ words_of (normal_at rules n)
-unrestricted_words rules n b out e f h = h ∙ bounded_words (unrestricted tag_width) b f unrestricted_one ∙ ap words_of (sym (unrestricted_at rules n e))
+unrestricted_words rules n b out e f h = h ∙ bounded_words_lem (unrestricted tag_width) b f unrestricted_one ∙ ap words_of (sym (unrestricted_at rules n e))
 
 pub named_own : (k n : ℕ) → named k n ≡ true → (n ≡ unrestricted_number → ⊥) → n < k
 unfolding named

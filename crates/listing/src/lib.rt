@@ -1,6 +1,8 @@
 // The listing that the watch program prints, line by line, into a lent buffer (the paper, "Checked examples").
 // Each function writes its text at a place of the buffer and returns the place behind it. Every other byte is left by the
 // public ones; a part of a step's line may change up to four bytes behind it, which the next part overwrites.
+#![tactic(auto)]
+
 ghost use Rattle.std.specs.Prelude.{◌≡◌, [], ◌∷◌, ◌++◌, ◌+◌, ◌%◌, ◌≤◌, ◌<◌, length};
 ghost use Rattle.fields.specs.Bytes.{bytes_of};
 ghost use Rattle.fields.specs.Writing.{Wrote};
@@ -231,7 +233,7 @@ pub fn put_named(out: &mut [u8], at: usize, name: &[u8], n: u64, end: u8) -> usi
 }
 
 // A word of at most eight letters: the bytes of a number, the first letter lowest, and how many of them it has.
-#[derive(Drop)]
+#[derive(Clone, Copy)]
 struct Word {
     letters: u64,
     length: usize,

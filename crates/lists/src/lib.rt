@@ -1,1 +1,2 @@
 // Lists and tests: the definitions and laws of this crate have no code of their own.
+#![tactic(auto)]

@@ -1,4 +1,6 @@
 // An access matrix: which flows it composes beyond those that it grants (the paper, "Matrix").
+#![tactic(auto)]
+
 ghost use Rattle.std.specs.Prelude.{◌≡◌, ℕ, ◌+◌, ◌≤◌, ◌<◌, true, ◌&&◌, length, get_or};
 ghost use Rattle.matrix.specs.Limits.{subject_limit, object_limit};
 ghost use Rattle.matrix.specs.Flows.{matrix_good, rows_within, count_good, has, granted};
@@ -11,7 +13,7 @@ pub const SUBJECT_LIMIT: usize = 8;
 pub const OBJECT_LIMIT: usize = 32;
 
 // The answer to a matrix: refused, or whether each composed flow is granted. If not: how many are not, and the first of them.
-#[derive(Drop)]
+#[derive(Clone, Copy)]
 pub enum Consistency {
     Refused,
     Consistent,

@@ -1,4 +1,6 @@
 // The monitor: a record on a lent session, and a run over many records (the paper, "Operations" and "Refused ..").
+#![tactic(auto)]
+
 ghost use Rattle.std.specs.Prelude.{◌≡◌, ◌<◌};
 ghost use Rattle.answers.specs.Refusals.{operation_record};
 ghost use Rattle.answers.specs.Answers.{received, refused, answer_number, received_after};
@@ -52,7 +54,7 @@ pub fn step(session: &mut [u64], bytes: &[u8]) -> Answer
 // ---- a run
 
 // What a run comes to: the answer at which it stops, and how many records it takes.
-#[derive(Drop)]
+#[derive(Clone, Copy)]
 pub struct Ran {
     pub answer: Answer,
     pub taken: usize,

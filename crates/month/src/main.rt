@@ -2,6 +2,8 @@
 // them in total (change request No. 6). The files are in the working folder. The text is `month_text` of them: its lines are those of
 // `figures`, and the loops here read, count and write. What fails outside is told on standard error, and there is then no total line.
 // `sent` counts the bytes handed to standard output.
+#![tactic(auto)]
+
 ghost use Rattle.std.specs.Prelude.{◌≡◌, length};
 ghost use Rattle.image.specs.Image.{check_of, policy_in};
 ghost use Rattle.session.specs.Limits.{session_length};
@@ -23,7 +25,7 @@ const POLICY_ROOM: usize = image::IMAGE_LIMIT + 1;
 const PART_SIZE: usize = 65536;
 
 // The records so far, and whether all went well.
-#[derive(Drop)]
+#[derive(Clone, Copy)]
 pub struct Progress {
     pub good: bool,
     pub records: u64,

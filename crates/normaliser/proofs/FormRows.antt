@@ -21,7 +21,7 @@ use Rattle.rule_words.proofs.WordLaws.{words_nine}
 use Rattle.image.specs.Limits.{size16, no_owner, rule_size, rule_owner_at, rule_limit}
 use Rattle.image.specs.Image.{Span, spans_in, mixtures_in, rule_in, rules_in, owners_in, rule_records_good}
 use Rattle.image.specs.Normal.{Use, free_use, normal_image}
-use Rattle.image.proofs.RecordsByPlace.{rules_count, owner_at, rule_at_lem, rule_fits}
+use Rattle.image.proofs.RecordsByPlace.{rules_count, owner_at_lem, rule_at_lem, rule_fits}
 use Rattle.fields.specs.Writing.{Wrote}
 use Rattle.normaliser.specs.Writer.{form_width, form_row, normal_use, policy_given, form_words, policy_at, Tabled, Answered}
 use Rattle.normaliser.specs.Sections.{owned_rule, owned_in, SectionsAccepted}
@@ -63,7 +63,7 @@ module _ (rules mixtures : List ℕ) where
     owner_of =
         sym (map_at (λ u. u.owner) (owned_in rules mixtures) k free_use no_owner (omega (arith, owned_count)))
         ∙ ap (λ (x : List ℕ). get_or x k no_owner) owned_owners
-        ∙ owner_at rules k l
+        ∙ owner_at_lem rules k l
 
 abbrev pub word_rows : List ℕ → List ℕ → List (List ℕ)
 word_rows rules mixtures = map form_row (map normal_use (owned_in rules mixtures))
@@ -106,8 +106,8 @@ module _ (rules mixtures : List ℕ) (good : rule_records_good rules mixtures �
 
   -- ---- row by row
 
-  word_rows : length (word_rows rules mixtures) ≡ length rules / rule_size
-  word_rows = length-map (map normal_use given) form_row ∙ length-map given normal_use ∙ owned_count rules mixtures
+  word_rows_lem : length (word_rows rules mixtures) ≡ length rules / rule_size
+  word_rows_lem = length-map (map normal_use given) form_row ∙ length-map given normal_use ∙ owned_count rules mixtures
 
   word_row : (k : ℕ) → k < length rules / rule_size → form_row (normal_use (get_or given k free_use)) ≡ get_or (word_rows rules mixtures) k []
   word_row k l =
@@ -126,18 +126,18 @@ module _ (rules mixtures : List ℕ) (good : rule_records_good rules mixtures �
 
   module _ {forms₀ forms : List ℕ} {k : ℕ} (g : RowsWritten (word_rows rules mixtures) forms₀ 0 forms (k * form_width) k) where
     pub forms_room : k < length rules / rule_size → k * form_width + form_width ≤ length forms
-    forms_room l = omega (arith, rows_room g (omega (arith, word_rows)), ap length (word_row k l), word_long k l)
+    forms_room l = omega (arith, rows_room g (omega (arith, word_rows_lem)), ap length (word_row k l), word_long k l)
 
     pub forms_next : k < length rules / rule_size → {ws : List ℕ} → ws ≡ form_row (normal_use (get_or given k free_use))
         → RowsWritten (word_rows rules mixtures) forms₀ 0 (put_mid (k * form_width) (k * form_width + form_width - k * form_width) forms ws) ((k + 1) * form_width) (k + 1)
     forms_next l {ws} e =
         let n : k * form_width + form_width ≡ (k + 1) * form_width = omega arith in
         let w = part_wrote forms ws (k * form_width) form_width (ap length e ∙ word_long k l) in
-        rows_next g (omega (arith, word_rows)) (e ∙ word_row k l) (record { buffer = w.buffer; ends = sym n ∙ w.ends })
+        rows_next g (omega (arith, word_rows_lem)) (e ∙ word_row k l) (record { buffer = w.buffer; ends = sym n ∙ w.ends })
 
     pub forms_end : length forms₀ ≡ length rules / rule_size * form_width → length rules / rule_size ≤ k → forms ≡ form_words given
     unfolding form_words
-    forms_end h l = wrote_whole (h ∙ sym given_length) (rows_end g (omega (arith, word_rows)))
+    forms_end h l = wrote_whole (h ∙ sym given_length) (rows_end g (omega (arith, word_rows_lem)))
 
 -- ---- the part of the table that is lent
 

@@ -19,12 +19,12 @@ use Rattle.normaliser.proofs.RuleRows as rules
 
 -- ---- pairs, container records and the header
 
-pub pair_size : (a b : ℕ) → length (pair_bytes a b) ≡ pair_size
+pub pair_size_lem : (a b : ℕ) → length (pair_bytes a b) ≡ pair_size
 unfolding pair_bytes bytes_of
-pair_size a b = refl
+pair_size_lem a b = refl
 
 pub pair_ends : (a b : ℕ) {before after : List ℕ} {at next : ℕ} → Wrote (pair_bytes a b) before after at next → next ≡ at + pair_size
-pair_ends a b {at = at} w = w.ends ∙ ap (λ (k : ℕ). at + k) (pair_size a b)
+pair_ends a b {at = at} w = w.ends ∙ ap (λ (k : ℕ). at + k) (pair_size_lem a b)
 
 pub pair_wrote : (a b : ℕ) {before mid after : List ℕ} {at n next : ℕ} → at + pair_size ≤ length before
     → Wrote (bytes_of size16 a) before mid at n → Wrote (bytes_of size16 b) mid after n next → Wrote (pair_bytes a b) before after at next
@@ -55,12 +55,12 @@ unfolding header_bytes
 header_wrote c u r m {s} {t} {v} {w} {x} {a = a} h p q y z k =
     let np : a ≡ 0 + 2 = wrote_ends 2 leading_number p in
     let lt : length t ≡ length s = wrote_length (omega (arith, bytes_length 2 leading_number)) p in
-    let lv : length v ≡ length t = wrote_length (omega (arith, p.ends, pair_size header_size c)) q in
-    let lw : length w ≡ length v = wrote_length (omega (arith, p.ends, q.ends, pair_size header_size c, pair_size (header_size + c) u)) y in
+    let lv : length v ≡ length t = wrote_length (omega (arith, p.ends, pair_size_lem header_size c)) q in
+    let lw : length w ≡ length v = wrote_length (omega (arith, p.ends, q.ends, pair_size_lem header_size c, pair_size_lem (header_size + c) u)) y in
     wrote_join (omega arith) p
     (wrote_join (omega (arith, p.ends)) q
-    (wrote_join (omega (arith, p.ends, q.ends, pair_size header_size c)) y
-    (wrote_join (omega (arith, p.ends, q.ends, y.ends, pair_size header_size c, pair_size (header_size + c) u)) z k)))
+    (wrote_join (omega (arith, p.ends, q.ends, pair_size_lem header_size c)) y
+    (wrote_join (omega (arith, p.ends, q.ends, y.ends, pair_size_lem header_size c, pair_size_lem (header_size + c) u)) z k)))
 
 header_is : (c u r m : List ℕ) → header_bytes (length c) (length u) (length r) (length m) ≡ header c u r m
 unfolding header_bytes pair_bytes header pair

@@ -33,9 +33,9 @@ use Rattle.normaliser.specs.Sections.{mixture_bytes, mixture_section}
 -- ---- one rule
 
 module _ (forms : List ℕ) (v : ℕ) (h : form_good forms v ≡ true) where
-  form_in : v < length forms / form_width
+  form_in_lem : v < length forms / form_width
   unfolding form_good
-  form_in = ltb-true v (length forms / form_width) (and_0 (ltb v (length forms / form_width)) _ h)
+  form_in_lem = ltb-true v (length forms / form_width) (and_0 (ltb v (length forms / form_width)) _ h)
 
   form_small : get_or forms (v * form_width) 0 ≤ mixture_limit
   unfolding form_good
@@ -57,7 +57,7 @@ module _ (forms : List ℕ) (v : ℕ) (h : form_good forms v ≡ true) where
   form_count : length (form_at forms v) ≡ get_or forms (v * form_width) 0
   form_count =
       ap length form_is
-      ∙ omega (arith, length-take (get_or forms (v * form_width) 0) (drop (v * form_width + 1) forms), length-drop (v * form_width + 1) forms, form_small, form_in)
+      ∙ omega (arith, length-take (get_or forms (v * form_width) 0) (drop (v * form_width + 1) forms), length-drop (v * form_width + 1) forms, form_small, form_in_lem)
 
   owner_is : form_owner forms v ≡ get_or forms (v * form_width + rule_width) 0
   unfolding form_owner use_of form_in words_at
@@ -81,7 +81,7 @@ pub rule_here : (forms order : List ℕ) (j : ℕ) → every (form_good forms) o
 rule_here forms order j h l =
     let g : form_good forms (get_or order j 0) ≡ true = every_get_d (form_good forms) order j 0 l h in
     let k : ℕ = get_or order j 0 in
-    record { inside = form_in forms k g; small = form_small forms k g; count = form_count forms k g; owner = owner_is forms k g; part = form_part forms k g }
+    record { inside = form_in_lem forms k g; small = form_small forms k g; count = form_count forms k g; owner = owner_is forms k g; part = form_part forms k g }
 
 -- ---- rules one behind the other
 

@@ -1,4 +1,6 @@
 // The normaliser, and the writer of normal images that it and other producers of a policy call (the paper, "Policy image").
+#![tactic(auto)]
+
 ghost use Rattle.std.specs.Prelude.{◌≡◌, true, cond, ◌&&◌, [], map, ◌+◌, ◌*◌, ◌/◌, ◌≤◌, ◌<◌, eqb, length, get_or, take};
 ghost use Rattle.lists.specs.Lists.{joined, every, position};
 ghost use Rattle.fields.specs.Bytes.{records};

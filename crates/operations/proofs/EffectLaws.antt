@@ -73,8 +73,8 @@ lent_permit s c l = ap (λ (x : List ℕ). (row_of x).permit) (row_lent s c) ∙
 pub permit_short_lem : (s : List ℕ) (c : ℕ) → UsedAt s c → length ((view s).row c).permit ≤ mixture_limit
 permit_short_lem s c h = rw (view_row s c h.low) (row_used s c h).permit_short
 
-pub run_short : (s : List ℕ) (c : ℕ) → UsedAt s c → length ((view s).row c).run ≤ mixture_limit
-run_short s c h = rw (view_row s c h.low) (row_used s c h).run_short
+pub run_short_lem : (s : List ℕ) (c : ℕ) → UsedAt s c → length ((view s).row c).run ≤ mixture_limit
+run_short_lem s c h = rw (view_row s c h.low) (row_used s c h).run_short
 
 -- another tag and run rule, as a row
 content_seen : (s : List ℕ) (c : ℕ) → UsedAt s c → (t : ℕ) (r : List ℕ) (m : Bounded) → m ≡ bounded_of r → length r ≤ mixture_limit → (ws : List ℕ) → ws ≡ content_words (lent s c) t m
@@ -294,7 +294,7 @@ module _ (s : List ℕ) (p o : ℕ) where
       let w : Row = write_row ((view s).row p) ((view s).row o) in
       put_done s (write p o) refl (write_blocks t et ∙ free) a ws
       (ea ∙ ap₂ (λ (x : List ℕ) (y : ℕ). cover_answer o x y) (lent_permit s o uo.low) et ∙ verdict_covers (write p o) w (write_blocks t et ∙ free) refl)
-      (content_seen s o uo t ((view s).row p).run m em (run_short s p (ready_process s (write p o) h)) ws ew
+      (content_seen s o uo t ((view s).row p).run m em (run_short_lem s p (ready_process s (write p o) h)) ws ew
       ∙ ap (λ (y : ℕ). row_words (record { kind = ((view s).row o).kind; tag = y; permit = ((view s).row o).permit; run = ((view s).row p).run; behalf = ((view s).row o).behalf })) et)
 
   pub fork_fit : Ready s (fork p o) → (m : Bounded) → m ≡ bounded_of ((view s).row p).permit → (length (lent s o) ≡ row_width) × (m.count ≤ mixture_limit)
@@ -309,7 +309,7 @@ module _ (s : List ℕ) (p o : ℕ) where
   unfolding entry fork_row meet_good every
   fork_done h m em n en t et b eb a ws ea ew =
       let up : UsedAt s p = ready_process s (fork p o) h in
-      replace_done s (fork p o) refl (fork_row ((view s).row p)) refl m n a ws refl (process_kind_lem s (fork p o) h) em (permit_short_lem s p up) en (run_short s p up)
+      replace_done s (fork p o) refl (fork_row ((view s).row p)) refl m n a ws refl (process_kind_lem s (fork p o) h) em (permit_short_lem s p up) en (run_short_lem s p up)
       (rw et at ea) (rw (et, eb) at ew)
 
 -- the two rules that an exec meets, and their places
@@ -366,7 +366,7 @@ module _ (s : List ℕ) (p o u : ℕ) (h : Ready s (exec p o u)) (m : Bounded) (
       let d : Done s (exec p o u) a (returned s p ws) =
       replace_done s (exec p o u) (exec_meet ∙ f) (exec_row ((view s).row p) ((view s).row o) (rule_or ((view s).user u)) u) refl m
       (bounded_of ((view s).row o).run) a ws refl (process_kind_lem s (exec p o u) h) em (exec_short f) refl
-      (run_short s o (ready_object s (exec p o u) h refl)) ea refl in
+      (run_short_lem s o (ready_object s (exec p o u) h refl)) ea refl in
       (d.0, es ∙ sym (row_returned s p ws) ∙ d.1)
 
 all_short : length (unrestricted tag_width) ≤ mixture_limit

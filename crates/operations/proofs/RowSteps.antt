@@ -26,7 +26,7 @@ use Rattle.rules.proofs.MeetLaws.{meet_one}
 use Rattle.session.specs.Limits.{row_width, user_width, users_at, kind_at, tag_at, permit_at, run_at, behalf_at, user_rule_at}
 use Rattle.rule_words.specs.Words.{rule_width, rule_of, words_of}
 use Rattle.session.specs.Rows.{Row, InUse, row_of, row_words, permit_words, run_words, container_row, user_row, user_rule_words, user_rule_of}
-use Rattle.rule_words.proofs.WordLaws.{bounded_words}
+use Rattle.rule_words.proofs.WordLaws.{bounded_words_lem}
 use Rattle.rule_words.proofs.KeptWords.{kept_count, kept_normal, kept_words, rule_length}
 use Rattle.session.proofs.RowMeaning.{row_permit, good_counts, good_used, good_words, good_permit, good_run, user_kept, good_declared}
 use Rattle.session.proofs.RowPuts.{container_row_length, user_row_length}
@@ -119,13 +119,13 @@ module _ (s : List ℕ) (c : ℕ) (h : UsedAt s c) where
         behalf = (row_of (container_row s c)).behalf;
       })
   unfolding content_words bounded_words row_words row_of
-  content_row t r m e l = ap₂ (λ (x y : List ℕ). get_or (container_row s c) kind_at 0 ∷ t ∷ (x ++ (y ++ (get_or (container_row s c) behalf_at 0 ∷ [])))) permit_kept_words (bounded_words r m e l)
+  content_row t r m e l = ap₂ (λ (x y : List ℕ). get_or (container_row s c) kind_at 0 ∷ t ∷ (x ++ (y ++ (get_or (container_row s c) behalf_at 0 ∷ [])))) permit_kept_words (bounded_words_lem r m e l)
 
 -- a new row, as a row
 pub new_row : (k t : ℕ) (p r : List ℕ) (m n : Bounded) (b : ℕ) → m ≡ bounded_of p → length p ≤ mixture_limit → n ≡ bounded_of r → length r ≤ mixture_limit
     → new_words k t m n b ≡ row_words (record { kind = k; tag = t; permit = p; run = r; behalf = b })
 unfolding new_words bounded_words row_words
-new_row k t p r m n b e l f d = ap₂ (λ (x y : List ℕ). k ∷ t ∷ (x ++ (y ++ (b ∷ [])))) (bounded_words p m e l) (bounded_words r n f d)
+new_row k t p r m n b e l f d = ap₂ (λ (x y : List ℕ). k ∷ t ∷ (x ++ (y ++ (b ∷ [])))) (bounded_words_lem p m e l) (bounded_words_lem r n f d)
 
 -- ---- rules that are made
 
@@ -275,9 +275,9 @@ both_behind a b =
     ∷ bit_and (get_or a 5 0) (get_or b 5 0) ∷ bit_and (get_or a 6 0) (get_or b 6 0) ∷ bit_and (get_or a 7 0) (get_or b 7 0) ∷ bit_and (get_or a 8 0) (get_or b 8 0) ∷ []
 
 module _ (a b : List ℕ) (k : Kept a) (l : Kept b) (e : length (rule_of a) ≡ length (rule_of b)) where
-  both_behind : both_behind a b ≡ placewise (behind a) (behind b)
+  both_behind_lem : both_behind a b ≡ placewise (behind a) (behind b)
   unfolding placewise
-  both_behind = refl
+  both_behind_lem = refl
 
   behind_padded : (ws : List ℕ) → Kept ws → behind ws ≡ padded (rule_of ws)
   unfolding words_of
@@ -286,7 +286,7 @@ module _ (a b : List ℕ) (k : Kept a) (l : Kept b) (e : length (rule_of a) ≡ 
   both_padded : both_behind a b ≡ padded (placewise (rule_of a) (rule_of b))
   unfolding padded
   both_padded =
-      both_behind
+      both_behind_lem
       ∙ ap₂ placewise (behind_padded a k) (behind_padded b l ∙ ap (λ (n : ℕ). rule_of b ++ replicate (mixture_limit - n) 0) (sym e))
       ∙ padded_placewise (mixture_limit - length (rule_of a)) (rule_of a) (rule_of b) e
       ∙ ap (λ (n : ℕ). placewise (rule_of a) (rule_of b) ++ replicate (mixture_limit - n) 0) (sym (placewise_length (rule_of a) (rule_of b) e))

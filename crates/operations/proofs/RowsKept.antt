@@ -20,7 +20,7 @@ use Rattle.image.specs.Policy.{unrestricted_rule}
 use Rattle.rule_words.specs.Words.{rule_width, rule_of, words_of, all_zero}
 use Rattle.session.specs.Limits.{row_width, permit_at, nobody}
 use Rattle.session.specs.Rows.{Row, row_of, row_words, permit_words, run_words, behalf_good, container_row_good, InUse, user_row}
-use Rattle.session.proofs.RowMeaning.{nobody_good, row_length, row_words, row_good, good_declared}
+use Rattle.session.proofs.RowMeaning.{nobody_good, row_length, row_words_lem, row_good, good_declared}
 use Rattle.chains.specs.History.{Step, read, write, append, exec, fork, new_file, new_volatile, end, delete}
 use Rattle.chains.specs.Table.{free_row, read_row, write_row, append_row, exec_row, fork_row, new_file_row, new_volatile_row, rule_or, entry, fits, meet_good}
 use Rattle.operations.specs.View.{view}
@@ -49,7 +49,7 @@ laid_short w W =
 pub laid_used : (w : Row) → InUse w → Laid w
 laid_used w W = record {
   long = row_length w W.permit_short W.run_short;
-  said = row_words w W.permit_short W.run_short;
+  said = row_words_lem w W.permit_short W.run_short;
   good = row_good w W;
 }
 

@@ -1,5 +1,7 @@
 // The operations on a lent session: what a request is refused for because of the session, and what it does (the paper,
 // "Operations" and "Refused because of the session").
+#![tactic(auto)]
+
 ghost use Rattle.std.specs.Prelude.{◌≡◌, true, cond, ◌&&◌, ◌||◌, [], ◌∷◌, eqb, ◌≤◌, ◌<◌, length, get_or, take};
 ghost use Rattle.lists.specs.Conditions.{first_failed};
 ghost use Rattle.answers.specs.Answers.{received, quiet, blocked, answer_number, received_after};

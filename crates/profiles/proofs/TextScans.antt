@@ -64,9 +64,9 @@ text_start t notes marks words s r m w =
     }
 
 -- a text that is refused
-pub no_text : (t words : List ℕ) (b : Bool) (s : ScannedText) → s ≡ no_text → false ≡ b → Judged t words b s
+pub no_text_lem : (t words : List ℕ) (b : Bool) (s : ScannedText) → s ≡ no_text → false ≡ b → Judged t words b s
 unfolding no_text
-no_text t words b s e h =
+no_text_lem t words b s e h =
     let g : s.good ≡ false = ap (λ (x : ScannedText). x.good) e in
     record { right = g ∙ h; room = λ k. clash k g; listed = λ k. clash k g }
 

@@ -1,5 +1,7 @@
 // The text of profiles (change request No. 1): the test of a text, and the numbers of its lines. The module scanning has the line at a
 // place, notes the paths that are profiled.
+#![tactic(auto)]
+
 ghost use Rattle.std.specs.Prelude.{◌≡◌, true, ◌+◌, ◌*◌, ◌≤◌, ◌<◌, length, replicate};
 ghost use Rattle.profiles.specs.Reading.{reading_of};
 ghost use Rattle.profiles.specs.Texts.{text_limit, reads_well, text_good};
@@ -52,14 +54,14 @@ pub const MODE_UX_SCRUBBED: u64 = 512;
 // ---- what is scanned
 
 // A mode's bit and its length; 0 and 0 where there is no mode.
-#[derive(Drop)]
+#[derive(Clone, Copy)]
 pub struct ScannedMode {
     pub bit: u64,
     pub width: usize,
 }
 
 // The bits of modes, and the place behind them.
-#[derive(Drop)]
+#[derive(Clone, Copy)]
 pub struct ScannedModes {
     pub bits: u64,
     pub next: usize,
@@ -75,7 +77,7 @@ pub const ENTRY_LINE: usize = 2;
 pub const END_LINE: usize = 3;
 
 // A line: what it is, where its path begins and how long that is, the bits of its modes, and where the next line begins.
-#[derive(Drop)]
+#[derive(Clone, Copy)]
 pub struct ScannedLine {
     pub kind: usize,
     pub path: usize,
@@ -103,7 +105,7 @@ const ENTRY_LEAST: usize = PATH_LEAST + 2 + LINE_END;
 pub const WORD_LIMIT: usize = TEXT_LIMIT / ENTRY_LEAST + 1;
 
 // The path that a line names: where it begins, how long it is, and the modes on it, none in a profile's first line.
-#[derive(Drop)]
+#[derive(Clone, Copy)]
 pub struct NamedPath {
     pub start: usize,
     pub size: usize,
@@ -132,7 +134,7 @@ pub fn named_path(word: u32) -> NamedPath
 // ---- the text
 
 // Whether a text is good, and if so, how many of its lines name a path.
-#[derive(Drop)]
+#[derive(Clone, Copy)]
 pub struct ScannedText {
     pub good: bool,
     pub count: usize,

@@ -1,4 +1,6 @@
 // The operation record: the table of codes, and what a record of 8 bytes asks for (the paper, "Operations").
+#![tactic(auto)]
+
 ghost use Rattle.std.specs.Prelude.{◌≡◌, ◌&&◌, ◌≤◌, ◌<◌, length, take, drop};
 ghost use Rattle.fields.specs.Bytes.{bytes_of};
 ghost use Rattle.records.specs.Codes.{code_count, code_at};
@@ -29,7 +31,7 @@ pub const END_CODE: usize = 8;
 pub const CODE_COUNT: usize = 10;
 
 // What a code needs of its object, as the set of the kinds that serve, and whether it names a user.
-#[derive(Drop)]
+#[derive(Clone, Copy)]
 pub struct Code {
     pub object: u8,
     pub user: bool,
@@ -114,7 +116,7 @@ const FIELD_VALUES: u64 = 65536;
 const NO_USER: usize = 65535;
 
 // What a record asks for.
-#[derive(Drop)]
+#[derive(Clone, Copy)]
 pub struct Request {
     pub code: usize,
     pub p: usize,

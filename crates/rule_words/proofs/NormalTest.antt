@@ -14,7 +14,7 @@ use borrow.Author.Tests.{ltb-true, ltb-false}
 use Rattle.lists.proofs.Bools.{or_0, or_1, or_cases, or_none, or_assoc, clash, refuted}
 use Rattle.rules.proofs.SetLaws.{holds_is, holds_not, holds_le}
 use Rattle.lists.proofs.Elem.{elem_here, elem_there, elem_cases, elem_none}
-use Rattle.rules.proofs.RuleLaws.{is_normal, normal_ascends, normal_antichain}
+use Rattle.rules.proofs.RuleLaws.{is_normal_lem, normal_ascends, normal_antichain}
 use Rattle.rules.specs.Order.{Ascending, Antichain}
 use Rattle.rules.specs.Sets.{holds}
 use Rattle.lists.specs.Lists.{elem}
@@ -150,7 +150,7 @@ normal_eq r h = sym (normal_is r h)
 
 -- mixtures that ascend, none holding another, are their own normal form
 normal_by : (r : List ℕ) → Ascending r → Antichain r → is_normal r ≡ true
-normal_by r a c = is_normal_of r (sym (is_normal r r a c (λ t. refl)))
+normal_by r a c = is_normal_of r (sym (is_normal_lem r r a c (λ t. refl)))
 
 module _ (r : List ℕ) (j : ℕ) where
   pub front_not : is_normal (take j r) ≡ false → false ≡ is_normal r

@@ -17,9 +17,9 @@ use Rattle.rules.specs.Answers.{mixture_limit, padded, bounded_of}
 use Rattle.rules.specs.declared.Bounded.{Bounded}
 use Rattle.rule_words.specs.Words.{rule_width, rule_of, words_of, is_normal}
 
-pub bounded_words : (rule : List ℕ) (m : Bounded) → m ≡ bounded_of rule → length rule ≤ mixture_limit → m.count ∷ m.mixtures ≡ words_of rule
+pub bounded_words_lem : (rule : List ℕ) (m : Bounded) → m ≡ bounded_of rule → length rule ≤ mixture_limit → m.count ∷ m.mixtures ≡ words_of rule
 unfolding words_of
-bounded_words rule m e l = ap (λ (x : Bounded). x.count ∷ x.mixtures) (e ∙ bounded_some rule (le-leb (length rule) mixture_limit l))
+bounded_words_lem rule m e l = ap (λ (x : Bounded). x.count ∷ x.mixtures) (e ∙ bounded_some rule (le-leb (length rule) mixture_limit l))
 
 pub words_nine : (rule : List ℕ) → length rule ≤ mixture_limit → length (words_of rule) ≡ rule_width
 unfolding words_of padded

@@ -6,7 +6,7 @@ use mathlib.Core.List.Memᴰ
 use mathlib.Core.List.{List, [], ◌∷◌, ◌++◌, Memᴰ}
 use mathlib.Core.Logic.{⊎_elim}
 use Rattle.lists.proofs.Elem.{elem_cases, elem_none}
-use Rattle.rules.proofs.RuleLaws.{is_normal, normal_unique, normal_normal, covers_meet}
+use Rattle.rules.proofs.RuleLaws.{is_normal_lem, normal_unique, normal_normal, covers_meet}
 use Rattle.lists.proofs.Bools.{and_in, and_0, and_1, same_test}
 use Rattle.rules.specs.Sets.{holds}
 use Rattle.rules.specs.Rules.{covers, normal, intersections, meet, unrestricted, meet_all, all_cover}
@@ -15,7 +15,7 @@ use native.Mathlib.Omega.{arith}
 -- a rule of one mixture is in normal form
 pub normal_one : (m : ℕ) → normal (m ∷ []) ≡ m ∷ []
 normal_one m =
-    sym (is_normal (m ∷ []) (m ∷ []) ((λ n h. elem_none n h), tt)
+    sym (is_normal_lem (m ∷ []) (m ∷ []) ((λ n h. elem_none n h), tt)
     (λ a b p q h. ⊎_elim (λ x. ⊎_elim (λ y. omega arith) (λ y. elem_none b y) (elem_cases b m [] q)) (λ x. elem_none a x) (elem_cases a m [] p))
     (λ t. refl))
 

@@ -20,7 +20,7 @@ use Rattle.rules.specs.Order.{Ascending, Antichain}
 use Rattle.rules.specs.Rules.{covers, normal, intersections, meet, refines}
 use Rattle.rules.specs.Placewise.{placewise, within, held_apart, pair_apart, apart, alike}
 use Rattle.rules.proofs.SetLaws.{holds_is, holds_not, holds_trans, holds_le, holds_and, holds_empty}
-use Rattle.rules.proofs.RuleLaws.{covers_by, covers_at, covers_part, covers_intersections, is_normal}
+use Rattle.rules.proofs.RuleLaws.{covers_by, covers_at, covers_part, covers_intersections, is_normal_lem}
 use Rattle.rules.proofs.CoverLaws.{First, place_found}
 use Rattle.rules.proofs.RefineLaws.{covers_refines, refines_meet}
 
@@ -215,4 +215,4 @@ module _ (r s : List ℕ) (e : length r ≡ length s) (h : alike r s ≡ true) w
 
   pub alike_meet : placewise r s ≡ meet r s
   unfolding meet
-  alike_meet = is_normal (placewise r s) (intersections r s) alike_ascends alike_antichain alike_covers
+  alike_meet = is_normal_lem (placewise r s) (intersections r s) alike_ascends alike_antichain alike_covers

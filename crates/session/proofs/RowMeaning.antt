@@ -59,9 +59,9 @@ module _ (w : Row) (p : length w.permit ≤ mixture_limit) (r : length w.run ≤
           ∙ ap (drop rule_width) (drop_at (words_of w.permit) (words_of w.run ++ (w.behalf ∷ [])) rule_width (words_nine w.permit p))
           ∙ drop_at (words_of w.run) (w.behalf ∷ []) rule_width (words_nine w.run r)
 
-  pub row_words : row_of (row_words w) ≡ w
+  pub row_words_lem : row_of (row_words w) ≡ w
   unfolding row_of
-  row_words =
+  row_words_lem =
       let e : rule_of (permit_words (row_words w)) ≡ w.permit = ap rule_of row_permit ∙ words_rule w.permit in
       let f : rule_of (run_words (row_words w)) ≡ w.run = ap rule_of row_run ∙ words_rule w.run in
       said e f row_behalf

@@ -16,7 +16,7 @@ use Rattle.image.proofs.WrittenMeaning.{form_good, place_good, Encodable, form_n
 use Rattle.session.specs.Limits.{session_length, row_width, user_width}
 use Rattle.session.specs.Rows.{row_of, free_words, container_row_good, InUse, user_words, undeclared_words, user_row_good, container_row, user_row}
 use Rattle.session.specs.Session.{start_row, place_words, start_of}
-use Rattle.session.proofs.RowMeaning.{row_words, row_good, free_good, user_good, undeclared_good}
+use Rattle.session.proofs.RowMeaning.{row_words_lem, row_good, free_good, user_good, undeclared_good}
 use Rattle.session.proofs.StartedSession.{form_short, place_used, session_length_lem, session_row, session_user}
 
 no_place : Place
@@ -57,7 +57,7 @@ module _ (p : Policy) (h : Sound p) where
     pub start_said : row_of (container_row (start_of p) c) ≡ start_row (place_of p.rules (get_or p.containers c z))
     unfolding place_words
     start_said =
-        ap row_of start_row_lem ∙ row_words (start_row (place_of p.rules (get_or p.containers c z))) start_used.permit_short start_used.run_short
+        ap row_of start_row_lem ∙ row_words_lem (start_row (place_of p.rules (get_or p.containers c z))) start_used.permit_short start_used.run_short
 
     start_kept : container_row_good (container_row (start_of p) c) ≡ true
     unfolding place_words

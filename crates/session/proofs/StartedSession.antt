@@ -22,7 +22,7 @@ use Rattle.image.proofs.WrittenMeaning.{form_good, shape_good, place_good, Encod
 use Rattle.session.specs.Limits.{session_length, row_width, user_width, users_at}
 use Rattle.session.specs.Rows.{Row, row_words, row_of, InUse, user_words, user_rule_of, container_row, user_row}
 use Rattle.session.specs.Session.{filled, start_tag, start_row, place_words, session_of}
-use Rattle.session.proofs.RowMeaning.{nobody_good, row_length, row_words, row_kind, user_length, user_words_lem}
+use Rattle.session.proofs.RowMeaning.{nobody_good, row_length, row_words_lem, row_kind, user_length, user_words_lem}
 use Rattle.fields.proofs.WidthRows.{wide}
 use Rattle.session.proofs.RowsOfOneWidth.{used, all_wide, filled_length, filled_row, filled_apart}
 
@@ -143,7 +143,7 @@ words_apart p q h k e =
     let u : InUse (start_row p) = place_used p h in
     let v : InUse (start_row q) = place_used q k in
     at_start_apart p q
-    (sym (row_words (start_row p) u.permit_short u.run_short) ∙ ap row_of e ∙ row_words (start_row q) v.permit_short v.run_short)
+    (sym (row_words_lem (start_row p) u.permit_short u.run_short) ∙ ap row_of e ∙ row_words_lem (start_row q) v.permit_short v.run_short)
 
 user_apart : (r s : List ℕ) → form_good r ≡ true → form_good s ≡ true → user_words r ≡ user_words s → r ≡ s
 user_apart r s h k e = sym (user_words_lem r (form_short r h)) ∙ ap user_rule_of e ∙ user_words_lem s (form_short s k)

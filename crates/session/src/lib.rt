@@ -1,4 +1,6 @@
 // The session: the test of a row, and the start (the paper, "Session").
+#![tactic(auto)]
+
 ghost use Rattle.std.specs.Prelude.{◌≡◌, true, ◌||◌, [], ◌∷◌, ◌++◌, map, eqb, ltb, ◌*◌, ◌/◌, ◌≤◌, length, replicate};
 ghost use Rattle.rules.specs.Answers.{data_width};
 ghost use Rattle.image.specs.Limits.{no_atom, container_limit, user_limit, container_size, user_size, rule_size};

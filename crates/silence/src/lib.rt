@@ -1,4 +1,6 @@
 // A silent matrix: no session from its derived policy, of accesses that it allows, raises an alert (change request No. 8).
+#![tactic(auto)]
+
 ghost use Rattle.std.specs.Prelude.{◌≡◌, ◌<◌, true, length};
 ghost use Rattle.rules.specs.Rules.{covers};
 ghost use Rattle.matrix.specs.Limits.{object_limit};
@@ -8,7 +10,7 @@ ghost use Rattle.derivation.specs.Derived.{permit_of};
 ghost use Rattle.silence.specs.Silent.{silent, silence_number, matrix_silence};
 
 // The answer to a matrix: refused, or whether it is silent.
-#[derive(Drop)]
+#[derive(Clone, Copy)]
 pub enum Silence {
     Refused,
     Silent,

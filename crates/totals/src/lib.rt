@@ -1,4 +1,6 @@
 // The figures of a trace in lent numbers of 64 bits, and figures added to a total: the counts of the month's figures (crates/figures), for callers.
+#![tactic(auto)]
+
 ghost use Rattle.std.specs.Prelude.{◌≡◌, ◌+◌, ◌<◌, ◌≤◌, length, slice_index};
 ghost use Rattle.figures.specs.Counters.{values_below};
 ghost use Rattle.totals.specs.Totals.{figures_length, total_refusal, total_numbers, total_session, add_refusal, add_figures};

@@ -1,4 +1,6 @@
 // The listing of a trace, part by part, into a lent buffer (the paper, "Checked examples").
+#![tactic(auto)]
+
 ghost use Rattle.std.specs.Prelude.{◌≡◌, ◌+◌, ◌≤◌, length, take};
 ghost use Rattle.fields.specs.Writing.{Wrote};
 ghost use Rattle.listing.specs.Buffer.{line_limit, buffer_size, ListedText};
@@ -16,7 +18,7 @@ const PART_RECORDS: usize = 512;
 pub const PART_LIMIT: usize = PART_RECORDS * RECORD_LENGTH;
 
 // The tally of the records so far, and the place behind their lines.
-#[derive(Drop)]
+#[derive(Clone, Copy)]
 pub struct Listed {
     pub tally: Tally,
     pub end: usize,

@@ -37,8 +37,8 @@ module _ (image t ps : List ℕ) (last : ℕ) (ok : check_of image ≡ 0) (w : w
   ends : last ≡ last_of t
   ends = e ∙ whole.ends
 
-  pub last_fits : in_trace t last ≡ true
-  last_fits = ap (in_trace t) e ∙ whole.last_fits
+  pub last_fits_lem : in_trace t last ≡ true
+  last_fits_lem = ap (in_trace t) e ∙ whole.last_fits
 
   -- the positions in front of the last, as they are lent
   front_part : take (last - 0) (drop 0 ps) ≡ front_of t
@@ -48,7 +48,7 @@ module _ (image t ps : List ℕ) (last : ℕ) (ok : check_of image ≡ 0) (w : w
       ap₂ (λ (n : ℕ) (x : List ℕ). take n x) z numbers ∙ take_count 0 (last_of t) trim_limit (omega (arith, ends, last_small))
 
   pub part_fits : every (in_trace t) (take (last - 0) (drop 0 ps)) ≡ true
-  part_fits = ap (every (in_trace t)) front_part ∙ front_fits t last ends last_fits
+  part_fits = ap (every (in_trace t)) front_part ∙ front_fits t last ends last_fits_lem
 
   module _ (zeros : List ℕ) {work work' : List ℕ} {r : Bool} (s : work ≡ start_effect image zeros) (z : length zeros ≡ session_length)
       (tried : Tried work t (take (last - 0) (drop 0 ps)) last work' r) where
@@ -74,7 +74,7 @@ module _ (image t ps : List ℕ) (last : ℕ) (ok : check_of image ≡ 0) (w : w
       leaves = l.1;
       alike = tried.stays m l.1 ∙ ap (drop m) begun;
       ends = ends;
-      last_fits = last_fits;
+      last_fits = last_fits_lem;
       small = last_small;
       room = ap length numbers ∙ count_length 0 trim_limit;
       front = (let q : last - 0 ≡ last = omega arith in sym (ap (λ (n : ℕ). take n ps) q) ∙ front_part);

@@ -1,4 +1,6 @@
 // A trace trimmed to its alert (change request No. 13).
+#![tactic(auto)]
+
 ghost use Rattle.std.specs.Prelude.{◌≡◌, true, ◌<◌, ◌≤◌, ◌%◌, length};
 ghost use Rattle.lists.specs.Lists.{every};
 ghost use Rattle.lists.specs.Counting.{count_from};
@@ -18,7 +20,7 @@ use session::{ROW_WIDTH, SESSION_LENGTH, USERS_AT};
 pub const TRIM_LIMIT: usize = 256;
 
 // The refusal, or 0 and how many positions are kept.
-#[derive(Drop)]
+#[derive(Clone, Copy)]
 pub struct Trimmed {
     pub refusal: u32,
     pub kept: usize,

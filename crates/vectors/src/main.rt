@@ -1,4 +1,6 @@
 // The checked examples of the paper that are run and not proved; the listing is the watch program's.
+#![tactic(auto)]
+
 use image::{HEADER_SIZE, OUTPUT_BOUND};
 use libc::STDOUT_FILENO;
 use records::RECORD_LENGTH;

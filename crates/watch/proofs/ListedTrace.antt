@@ -35,8 +35,8 @@ use Rattle.watch.specs.Runs.{TraceListed, Watched, ListingShown}
 
 -- ---- no record
 
-pub no_text : (t : Tally) (s : List ℕ) → part_text t s [] ≡ []
-no_text t s = unfold part_text lines_of trace_records Rattle.fields.specs.Bytes.cut in refl
+pub no_text_lem : (t : Tally) (s : List ℕ) → part_text t s [] ≡ []
+no_text_lem t s = unfold part_text lines_of trace_records Rattle.fields.specs.Bytes.cut in refl
 
 pub no_count : (t : Tally) (s : List ℕ) → part_tally t s [] ≡ t
 no_count t s = unfold part_tally tallied_all run_answers trace_records Rattle.fields.specs.Bytes.cut in refl
@@ -73,7 +73,7 @@ between_start name s part t sent e l =
             taken = taken_none name 0;
             leaves = sym (no_step s);
             counts = e ∙ sym (no_count no_tally s);
-            handed = handed_as (sym (no_text no_tally s)) (handed_none sent);
+            handed = handed_as (sym (no_text_lem no_tally s)) (handed_none sent);
           };
     }
 
@@ -130,7 +130,7 @@ trace_missing name s t a m e =
       file = inr (m, refl);
       leaves = sym (no_step s);
       counts = e ∙ sym (no_count no_tally s);
-      handed = handed_as (sym (no_text no_tally s)) (handed_none a);
+      handed = handed_as (sym (no_text_lem no_tally s)) (handed_none a);
     }
 
 pub all_watched : {name : List ℕ} (s s' : List ℕ) (t : Tally) (a b d e : ℕ) → name ≡ ascii "trace.bin" → Handed heading a b → TraceListed name s s' t b d → Handed (total_of t) d e → Watched s a e

@@ -2,6 +2,8 @@
 // (the paper, "Checked examples"). Both files are in the working folder. The listing is `listing_of` of the two files: its text is
 // that of `trace_listing`, and the loop here reads, lists and writes. What fails outside is told on standard error, and the
 // listing then has no total line. `sent` counts the bytes handed to standard output.
+#![tactic(auto)]
+
 ghost use Rattle.files.specs.Calls.{DoneOrTold, OpenedAs, Handed};
 ghost use Rattle.listing.specs.Lines.{policy_line};
 ghost use Rattle.watch.specs.Runs.{TraceListed, Watched, ListingShown};
@@ -15,7 +17,7 @@ use trace_listing::PART_LIMIT;
 const POLICY_ROOM: usize = image::IMAGE_LIMIT + 1;
 
 // The tally of the records so far, and whether all went well.
-#[derive(Drop)]
+#[derive(Clone, Copy)]
 pub struct Progress {
     pub good: bool,
     pub tally: Tally,

@@ -1,4 +1,6 @@
 // A proposal to withdraw rights of a matrix, judged (change request No. 7).
+#![tactic(auto)]
+
 ghost use Rattle.std.specs.Prelude.{◌≡◌, ℕ, ◌<◌, ◌&&◌, eqb, length};
 ghost use Rattle.matrix.specs.Limits.{object_limit};
 ghost use Rattle.matrix.specs.Flows.{has, matrix_of};
@@ -9,7 +11,7 @@ ghost use Rattle.withdrawals.specs.Returns.{FlowTable, reached_from, table_close
 use matrix::{OBJECT_LIMIT, fill_granted, matrix_good};
 
 // The answer to a proposal: accepted, the first condition that fails, or refused.
-#[derive(Drop)]
+#[derive(Clone, Copy)]
 pub enum Judgement {
     Accepted,
     RightAdded,

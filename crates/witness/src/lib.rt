@@ -1,4 +1,6 @@
 // How an atom came into a container, and how a run rule did: a chain, step by step (the paper, "Chains").
+#![tactic(auto)]
+
 ghost use Rattle.std.specs.Prelude.{◌≡◌, true, [], ◌+◌, ◌/◌, ◌%◌, ◌≤◌, ◌<◌, length, take, drop};
 ghost use Rattle.std.proofs.Math.ListN.{get_elem?};
 ghost use Rattle.lists.specs.Lists.{same_list, every};
@@ -31,14 +33,14 @@ pub const FIRST_NODE: usize = 258;
 
 // A chain: the number of the file where it begins, 256 if there is none, and where the numbers of its records stand in the buffer, from
 // there to its end.
-#[derive(Drop)]
+#[derive(Clone, Copy)]
 pub struct Found {
     pub file: usize,
     pub first: usize,
 }
 
 // The refusal, or 0 and the chain.
-#[derive(Drop)]
+#[derive(Clone, Copy)]
 pub struct Explained {
     pub refusal: u32,
     pub file: usize,

@@ -1,11 +1,11 @@
 -- The two tests of the definition.
-use Rattle.profiles.proofs.TextScans.{no_text, long_text, short_text}
+use Rattle.profiles.proofs.TextScans.{no_text_lem, long_text, short_text}
 use borrow.Author.Rules.{rules}
 use Rattle.profiles.proofs.judge_text.Statement.{statement}
 use Rattle.profiles.proofs.judge_text.Tie as tie
 
 returns : tie.Need-returns
-returns c = no_text _ _ _ _ c.no_text.ensures (long_text _ c.before.if1.true)
+returns c = no_text_lem _ _ _ _ c.no_text.ensures (long_text _ c.before.if1.true)
 
 returns-2 : tie.Need-returns-2
 returns-2 c = short_text _ _ _ c.before.before.before.before.before.if1.false c.before.before.scan-short.ensures

@@ -6,7 +6,7 @@ use Rattle.profiles.proofs.LineWordLaws.{Small}
 use Rattle.profiles.proofs.TextScans.{
   TextScanned,
   text_start,
-  no_text,
+  no_text_lem,
   text_end,
   word_room,
   word_small,
@@ -36,7 +36,7 @@ loop-holds c =
     text_start start.args.text.now start.args.notes.now start.args.marks.now start.args.words.now start.requires.0 start.requires.1 start.requires.2 start.requires.3
 
 returns : tie.Need-returns invariant-loop decreases-loop
-returns c = no_text _ _ _ _ c.no_text.ensures (text_stops _ _ _ _ _ _ _ _ _ _ c.before.before.before.before.before.loop.invariant
+returns c = no_text_lem _ _ _ _ c.no_text.ensures (text_stops _ _ _ _ _ _ _ _ _ _ c.before.before.before.before.before.loop.invariant
     _ c.before.before.before.line_at_lem.ensures c.before.before.before.before.loop_test.true _ c.before.before.may-stand.ensures c.before.if1.true)
 
 line-word-requires : tie.Need-line-word-requires invariant-loop decreases-loop
@@ -60,7 +60,7 @@ returns-2 : tie.Need-returns-2 invariant-loop decreases-loop
 returns-2 c =
     let b6 = c.before.before.before.before.before.before in let b12 = b6.before.before.before.before.before.before in
     let turn = b12.before.before.before in
-    no_text _ _ _ _ c.no-text2.ensures
+    no_text_lem _ _ _ _ c.no-text2.ensures
     (profile_repeats _ _ _ _ _ _ _ _ _ _ turn.before.loop.invariant _ b12.before.before.line_at_lem.ensures turn.loop_test.true
     b6.before.before.before.if2.true _ b6.note-path.ensures.0 _ b12.before.may-stand.ensures b12.if1.false c.before.if3.true)
 

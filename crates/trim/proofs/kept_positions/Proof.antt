@@ -4,7 +4,7 @@ use mathlib.Core.Path.{refl}
 use lib.ListN.{length-set}
 use borrow.Author.Tests.{not-true, not-false}
 use Rattle.trim.proofs.WholeTraces.{whole_is}
-use Rattle.trim.proofs.TrimmedTraces.{last_small, last_fits, part_fits, found_none, trimmable, found_some}
+use Rattle.trim.proofs.TrimmedTraces.{last_small, last_fits_lem, part_fits, found_none, trimmable, found_some}
 use borrow.Author.Rules.{rules}
 use Rattle.trim.proofs.kept_positions.Statement.{statement}
 use Rattle.trim.proofs.kept_positions.Tie as tie
@@ -23,7 +23,7 @@ cut-counts-requires c κs =
     let b8 = c.before.before.before.before.before.before.before.before in
     let b13 = b8.before.before.before.before.before in (
       part_fits _ _ _ _ b13.requires.0 b13.requires.1 refl b8.number.ensures,
-      last_fits _ _ _ _ b13.requires.0 b13.requires.1 refl b8.number.ensures,
+      last_fits_lem _ _ _ _ b13.requires.0 b13.requires.1 refl b8.number.ensures,
       last_small _ _ _ _ b13.requires.0 b13.requires.1 refl b8.number.ensures,
     )
 
