@@ -1,4 +1,4 @@
--- `operations::perform_record`. What `perform` ensures of the request that the number asks for: the answer's number is handed on, and
+-- `operations::perform_word`. What `perform` ensures of the request that the number asks for: the answer's number is handed on, and
 -- what it received unless it is a refusal.
 use mathlib.Core.Path.{sym, ap, ◌∙◌}
 use Rattle.fields.specs.Bytes.{bytes_of}
@@ -6,8 +6,8 @@ use Rattle.answers.specs.Answers.{is_refused, received_of, answer_number}
 use Rattle.records.specs.Records.{record_length}
 use Rattle.operations.proofs.PerformLaws.{named, performed_record}
 use borrow.Author.Rules.{rules}
-use Rattle.operations.proofs.perform_record.Statement.{statement}
-use Rattle.operations.proofs.perform_record.Tie as tie
+use Rattle.operations.proofs.perform_word.Statement.{statement}
+use Rattle.operations.proofs.perform_word.Tie as tie
 
 code-at-requires : tie.Need-code-at-requires
 code-at-requires c κs =
@@ -37,8 +37,8 @@ returns-2 c =
     let gives = ap is_refused (sym done.0) ∙ sym received.before.before.is-refused.ensures ∙ received.before.if1.false in
     (c.number2.ensures ∙ ap answer_number done.0, done.1, rw gives (received.received-of.ensures ∙ ap received_of done.0), λ l. search (rules, received.received-of.type-inv))
 
-pub perform_record_spec : {M : Type 1} → statement M
-perform_record_spec =
+pub perform_word_spec : {M : Type 1} → statement M
+perform_word_spec =
     tie.close
     (tie.spec
     (λ c κs. search rules)

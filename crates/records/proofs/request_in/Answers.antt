@@ -2,11 +2,7 @@
 use Prim.Native.Nat.{◌^◌, ◌<◌}
 use native.Mathlib.Omega.{arith}
 use Rattle.records.proofs.TestLaws.{request_is}
-use Rattle.records.proofs.request_in.Statement.{statement}
-use Rattle.records.proofs.request_in.Tie as tie
+use Rattle.records.proofs.request_in.Goals as goal
 
-returns : tie.Need-returns
+pub returns : goal.returns
 returns c = let l : c.args.w < 2 ^ 64 = omega (arith, c.ranges.w) in request_is c.args.w l
-
-pub request_in_spec : {M : Type 1} → statement M
-request_in_spec = tie.close (tie.spec returns)
