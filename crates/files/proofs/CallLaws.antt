@@ -1,8 +1,10 @@
 -- A text handed on, and a file read, call by call: what is done so far.
-use Rattle.std.proofs.Common.{◌≡◌, ℕ, ◌+◌, ◌-◌, ◌<◌, ◌≤◌, Bool, true, false, List, ◌++◌, length, take, drop, ℤ, sym, refl, ap, ◌∙◌, subst, inl, inr, arith, length-drop, length-take, length-take-le, take_all, take-add}
+use Rattle.std.proofs.Common.{◌≡◌, ℕ, ◌+◌, ◌-◌, ◌<◌, ◌≤◌, Bool, true, false, List, ◌++◌, length, take, drop, sym, refl, ap, ◌∙◌, subst, inl, inr, arith, length-drop, length-take, length-take-le, take_all, take-add}
 use lib.Seq.{take-length, take-append-add, take-append-le}
 use borrow.Rule.Slice.PartMut.{mid_of, post_of, put_mid, take_put, same_len_mid}
 use Rattle.lists.proofs.Bools.{never}
+use Rattle.std.specs.declared.fs.File.{File}
+use Rattle.std.specs.Fd.{file_raw_fd}
 use Rattle.files.specs.declared.Move.{Move}
 use Rattle.files.specs.declared.Move.TheVariants.{Moved, Again, Failed}
 use Rattle.files.specs.declared.Opened.{Opened}
@@ -143,7 +145,7 @@ unread_part name r buffer a b t h =
 
 -- ---- a file by name
 
-pub opened_as : {r : Opened} {fd : ℤ} (name : List ℕ) → r ≡ opened.File fd → OpenedFile r name → OpenedAs name fd
+pub opened_as : {r : Opened} {file : File} (name : List ℕ) → r ≡ opened.File file → OpenedFile r name → OpenedAs name (file_raw_fd file)
 opened_as name e h = rw e at h
 
 pub missing_as : {r : Opened} (name : List ℕ) → r ≡ opened.Missing → OpenedFile r name → Absent name

@@ -1,9 +1,10 @@
--- What the system was asked and how it answered. C's `read`, `write` and `open` have no contract on bytes, so each of these says what
--- one call did, in one place (`write_some`, `read_some`, `open`; `tell` and `tell_error` for standard error), and everything above is proved from
--- the laws below. The fields are private: a program's proof can neither make one of these up nor take one apart, it can only put them
+-- What the system was asked and how it answered. The reads, writes and openings of std have no contract on bytes, so each of these says
+-- what one call did, in one place (`write_some`, `read_some`, `open`; `tell` for standard error), and everything above is proved from the
+-- laws below. The fields are private: a program's proof can neither make one of these up nor take one apart, it can only put them
 -- one behind the other.
 use Rattle.std.specs.Prelude.{◌≡◌, ℕ, ◌+◌, ◌%◌, ◌^◌, ◌<◌, ◌≤◌, Bool, true, false, ◌⊎◌, List, [], ◌++◌, length, take, ℤ}
 use Rattle.std.proofs.Common.{arith, subst, length-append, length-take}
+use Rattle.std.specs.Fd.{file_raw_fd}
 use Rattle.files.specs.declared.Move.{Move}
 use Rattle.files.specs.declared.Move.TheVariants.{Moved, Again, Failed}
 use Rattle.files.specs.declared.Opened.{Opened}
@@ -16,7 +17,7 @@ use Rattle.files.specs.declared.Part.{Part}
 pub record Told : Type 0 where
   told : Unit {0}
 
--- TO BE BELIEVED, cited by the proofs of `tell` and `tell_error` alone
+-- TO BE BELIEVED, cited by the proof of `tell` alone
 pub told_by_system : Told
 told_by_system = record { told = tt }
 
@@ -115,7 +116,7 @@ ReadSome Failed name buffer before after = Told
 
 -- a file asked for by name
 abbrev pub OpenedFile : Opened → List ℕ → Type 0
-OpenedFile (opened.File fd) name = OpenedAs name fd
+OpenedFile (opened.File file) name = OpenedAs name (file_raw_fd file)
 OpenedFile opened.Missing name = Absent name
 OpenedFile opened.Failed name = Told
 
