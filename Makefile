@@ -90,8 +90,8 @@ vendor-demo:
 
 # The crate of the library's functions, and those that it stands on: proved and built again where a source, a definition or a proof
 # of one of them has changed.
-CRATES = capi $(shell sed -n 's/^capi://p' crates.txt)
-target/lib/libyaslaurel.a: crates.txt $(shell find $(CRATES:%=crates/%) -name '*.rt' -o -name '*.antt')
+CRATES = capi $(shell sed -n 's/^capi staticlib://p' crates.txt)
+target/lib/libyaslaurel.a: crates.txt $(shell find $(CRATES:%=crates/%) -name out -prune -o -name '*.rt' -print -o -name '*.antt' -print)
 	@tools/prove --archive capi
 	@mkdir -p target/lib
 	@cp target/staticlib/libcapi.a $@

@@ -33,15 +33,15 @@ have() {
 # counts: the last line of a test.
 counts() { echo "$passed passed, $failed failed$([ "$skipped" -eq 0 ] || echo ", $skipped skipped")"; }
 
-# add_counts LOG: adds the last such line of a log; a log without one counts as a failure.
+# add_counts LOG: adds the last such line of a log, which may say more in brackets; a log without one counts as a failure.
 add_counts() {
     local line
-    line=$(grep -E '^[0-9]+ passed, [0-9]+ failed(, [0-9]+ skipped)?$' "$1" | tail -n 1)
+    line=$(grep -E '^[0-9]+ passed, [0-9]+ failed(, [0-9]+ skipped)?( \(.*\))?$' "$1" | tail -n 1)
     if [ -z "$line" ]; then
         note 1 "a last line \`N passed, M failed\`"
         return
     fi
-    set -- $line
+    set -- ${line%% (*}
     passed=$((passed + $1))
     failed=$((failed + $3))
     skipped=$((skipped + ${5:-0}))

@@ -31,7 +31,8 @@ def read(path="crates.txt"):
     with open(path, encoding="utf-8") as file:
         for line in file:
             if line.strip() and not line.startswith("#"):
-                name, below = line.split(":")
+                head, below = line.split(":")
+                name = head.split()[0]
                 stands[name] = [other for other in below.split() if other in stands]
     return stands
 
@@ -64,7 +65,7 @@ def kind(name):
     if os.path.exists(f"{folder}/main.rt"):
         return "program"
     texts = [open(f"{folder}/{file}", encoding="utf-8").read() for file in sorted(os.listdir(folder))] if os.path.isdir(folder) else []
-    if any("#[no_mangle]" in text for text in texts):
+    if any("#[unsafe(no_mangle)]" in text for text in texts):
         return "calls"
     return "crate" if any("fn " in text for text in texts) else "words"
 

@@ -17,7 +17,7 @@ def text_of(name):
 
 
 def crates():
-    return [line.split(":")[0] for line in text_of("crates.txt").split("\n") if line and not line.startswith("#")]
+    return [line.split(":")[0].split()[0] for line in text_of("crates.txt").split("\n") if line and not line.startswith("#")]
 
 
 def around(text, at, patterns):
