@@ -1,5 +1,5 @@
 -- Figures as numbers: which figure stands at which place.
-use Rattle.std.proofs.Common.{◌≡◌, ℕ, zero, suc, ◌+◌, ◌<◌, ◌∷◌, ◌++◌, length, get_or, refl, ap, arith, length-append}
+use Rattle.std.proofs.Common.{◌≡◌, ℕ, zero, suc, ◌+◌, ◌<◌, ◌∷◌, ◌++◌, length, get_or, refl, arith, length-append}
 use Rattle.image.specs.Limits.{container_limit}
 use Rattle.figures.specs.Figures.{Figures, count_limit}
 use Rattle.figures.specs.Counters.{values_below}

@@ -1,5 +1,5 @@
 -- The loop of `count_trace`, record by record: what is counted, and what is left of the trace, is the whole of it. The refusals of both calls.
-use Rattle.std.proofs.Common.{◌≡◌, ℕ, zero, suc, ◌+◌, ◌-◌, ◌%◌, ◌^◌, ◌<◌, ◌≤◌, Bool, true, false, cond, List, [], ◌∷◌, length, get_or, take, drop, set, sym, refl, ap, ◌∙◌, arith, length-set, get_or-set_other, get_or-set_same, ext_get_or, eq-eqb, ne_eqb}
+use Rattle.std.proofs.Common.{◌≡◌, ℕ, zero, suc, ◌+◌, ◌%◌, ◌^◌, ◌<◌, ◌≤◌, Bool, true, false, cond, List, [], ◌∷◌, length, get_or, take, drop, set, sym, refl, ap, ◌∙◌, arith, length-set, get_or-set_other, get_or-set_same, ext_get_or, eq-eqb, ne_eqb}
 use Rattle.lists.proofs.Bools.{and_in}
 use Rattle.answers.specs.Refusals.{lent_length}
 use Rattle.answers.specs.declared.Answer.{Answer}
@@ -105,7 +105,7 @@ module _ (s₀ t s f : List ℕ) (records at : ℕ) (h : Totalling s₀ t s f re
 
   pub total_event : is_quiet a ≡ false → length t < 2 ^ 64 → (f' : List ℕ) → f' ≡ event_counted f a → Totalling s₀ t s' f' (records + 1) (at + length x)
   total_event q n f' e =
-      counted f' (ap length e ∙ events.event_length f a ∙ h.wide)
+      counted f' (ap length e ∙ events.event_length_lem f a ∙ h.wide)
       (λ i m b. ap (λ (y : List ℕ). get_or y i 0) e ∙ event_at f h.wide a i q m b (λ p.
       let z : ◌≡◌ {A = ℕ} (cond (place_test i a) 1 0) 1 = ap (λ (y : Bool). cond {A = ℕ} y 1 0) p in
       omega (arith, z, next_count i m b, most s₀ t (place_test i), records_length t, n)))
