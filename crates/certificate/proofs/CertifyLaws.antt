@@ -19,7 +19,7 @@ use Rattle.fields.specs.Writing.{overwritten}
 use Rattle.answers.specs.declared.Answer.{Answer}
 use Rattle.answers.specs.Answers.{is_alert, is_blocked, receiver_of, tag_of}
 use Rattle.answers.proofs.Cases.{alert_accepted}
-use Rattle.rules.specs.Sets.{atom, holds}
+use Rattle.rules.specs.Sets.{atom}
 use Rattle.rules.specs.Answers.{mixture_limit, padded}
 use Rattle.rules.proofs.BoundedLaws.{padded_length}
 use Rattle.image.specs.Limits.{container_limit}

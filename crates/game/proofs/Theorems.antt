@@ -92,7 +92,7 @@ pub game_good_lem : (subjects objects a b rounds withdrawals : ℕ) →
     × (rounds ≤ round_limit)
     × (withdrawals ≤ withdrawal_limit))
 game_good_lem subjects objects a b rounds withdrawals = (
-  λ h. let g = outcomes.game_bounds subjects objects a b rounds withdrawals h in (g.few_subjects, g.few_objects, g.source, g.target, g.apart, g.some, g.most, g.withdrawn),
+  λ h. let g = outcomes.game_bounds_lem subjects objects a b rounds withdrawals h in (g.few_subjects, g.few_objects, g.source, g.target, g.apart, g.some, g.most, g.withdrawn),
   λ h. outcomes.bounds_game subjects objects a b rounds withdrawals
       (record { few_subjects = h.0; few_objects = h.1; source = h.2; target = h.3; apart = h.4; some = h.5; most = h.6; withdrawn = h.7 }),
 )

@@ -1,6 +1,6 @@
 -- Bits of rows as tests.
 use Prim.Native.Nat.{ℕ, zero, suc, ◌+◌, ◌-◌, ◌*◌, ◌/◌, ◌%◌, ◌^◌, ◌≤◌, ◌<◌}
-use mathlib.Core.Path.{◌≡◌, sym, ap, ◌∙◌}
+use mathlib.Core.Path.{◌≡◌, refl, sym, ap, ap₂, ◌∙◌}
 use mathlib.Core.Bool.{Bool, true, false, not, cond, ◌&&◌, ◌||◌}
 use mathlib.Core.Logic.{◌⊎◌, inl, inr}
 use native.Mathlib.Decide.{ℕ_discrete, dec_lt}
@@ -187,3 +187,9 @@ bits_is x w f h e = has_ext x (bits_of f w) (λ k. by k (dec_lt k w))
     by : (k : ℕ) → Dec (k < w) → has x k ≡ has (bits_of f w) k
     by k (yes l) = e k l ∙ sym (bits_has f w k l)
     by k (no l) = has_above x w k h (omega arith) ∙ sym (bits_above f w k (omega arith))
+
+pub bits_same : (f g : ℕ → Bool) (w : ℕ) → ((k : ℕ) → k < w → f k ≡ g k) → bits_of f w ≡ bits_of g w
+unfolding bits_of
+bits_same f g zero e = refl
+bits_same f g (suc w) e =
+    ap₂ (λ (b : Bool) (x : ℕ). cond b 1 0 + 2 * x) (e 0 (omega arith)) (bits_same (λ k. f (suc k)) (λ k. g (suc k)) w (λ k l. e (suc k) (omega arith)))

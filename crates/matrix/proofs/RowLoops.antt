@@ -2,7 +2,7 @@
 use Prim.Native.Nat.{ℕ, zero, suc, ◌+◌, ◌-◌, ◌*◌, ◌/◌, ◌%◌, ◌^◌, ◌≤◌, ◌<◌}
 use mathlib.Core.Path.{◌≡◌, refl, sym, ap, ap₂, ◌∙◌}
 use mathlib.Core.Bool.{Bool, true, false, ◌&&◌, ◌||◌}
-use mathlib.Core.List.{List, ◌++◌}
+use mathlib.Core.List.{List, ◌∷◌, ◌++◌}
 use native.Mathlib.Decide.{ℕ_discrete, dec_lt}
 use native.Mathlib.Numerals.{add-one}
 use native.Mathlib.Nat.{one-mul, mod-eq_of_lt}
@@ -19,7 +19,7 @@ use Rattle.rules.proofs.SetLaws.{atom_or, atoms_holds, holds_le}
 use Rattle.matrix.specs.Flows.{has, subject_carries, granted, rows_within}
 use Rattle.matrix.specs.Rows.{bit_at, bits_of, rows_of, spelling, joined_through, Passed}
 use Rattle.matrix.specs.Limits.{object_limit}
-use Rattle.matrix.proofs.RowBits.{has_is, has_not, has_or, one_bit, has_single, bits_has, bits_above, bits_is}
+use Rattle.matrix.proofs.RowBits.{has_is, has_not, has_or, one_bit, has_single, bits_has, bits_above, bits_is, bits_same}
 
 -- ---- a row of the granted flows: the subjects before s are done
 
@@ -151,6 +151,16 @@ module _ (f : ℕ → ℕ → Bool) (n : ℕ) (rows : List ℕ) where
       by : (a : ℕ) → Dec (a < n) → get_or after a 0 ≡ get_or (spelling f n rows) a 0
       by a (yes p) = e a p ∙ sym (spelling_row a p)
       by a (no p) = r a (omega arith) ∙ sym (spelling_behind a (omega arith))
+
+rows_same : (f g : ℕ → ℕ → Bool) (n : ℕ) → ((a b : ℕ) → a < n → b < object_limit → f a b ≡ g a b) → rows_of f n ≡ rows_of g n
+unfolding rows_of
+rows_same f g zero e = refl
+rows_same f g (suc n) e =
+    ap₂ (λ (x : ℕ) (l : List ℕ). x ∷ l) (bits_same (f 0) (g 0) object_limit (λ b l. e 0 b (omega arith) l)) (rows_same (λ a. f (suc a)) (λ a. g (suc a)) n (λ a b l m. e (suc a) b (omega arith) m))
+
+pub spelling_same : (f g : ℕ → ℕ → Bool) (n : ℕ) (rows : List ℕ) → ((a b : ℕ) → a < n → b < object_limit → f a b ≡ g a b) → spelling f n rows ≡ spelling g n rows
+unfolding spelling
+spelling_same f g n rows e = ap (λ (x : List ℕ). x ++ drop n rows) (rows_same f g n e)
 
 -- ---- rows without a bit beyond the objects, what is read and what is written at once
 

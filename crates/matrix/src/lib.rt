@@ -3,7 +3,7 @@
 
 ghost use Rattle.std.specs.Prelude.{◌≡◌, ℕ, ◌+◌, ◌≤◌, ◌<◌, true, ◌&&◌, length, get_or};
 ghost use Rattle.matrix.specs.Limits.{subject_limit, object_limit};
-ghost use Rattle.matrix.specs.Flows.{matrix_good, rows_within, count_good, has, granted};
+ghost use Rattle.matrix.specs.Flows.{matrix_good, rows_within, count_good, has, granted, composed};
 ghost use Rattle.matrix.specs.Verdicts.{ungranted, flow_count, judged_by, consistency_values, matrix_verdict};
 ghost use Rattle.matrix.specs.Rows.{spelling, row_closed, rows_closed, joined_through, Passed, Reaching, Grown, Closed};
 
@@ -301,6 +301,17 @@ pub fn matrix_good(reads: &[u32], writes: &[u32], objects: u32) -> bool
         return false;
     }
     rows_within(objects, reads, writes)
+}
+
+// The first n rows become those of the composed flows; the others stay.
+pub fn compose_flows(reads: &[u32], writes: &[u32], rows: &mut [u32], n: usize)
+    requires { (matrix_good reads.now writes.now n ≡ true) × (n ≤ length rows.old) }
+    ensures { rows.new ≡ spelling (composed reads.now writes.now n) n rows.old }
+{
+    let mut reach = [0u32; SUBJECT_LIMIT];
+    reach_flows(reads, writes, &mut reach);
+    let m = reads.len();
+    fill_granted(reads, &reach[..m], rows, n);
 }
 
 // The verdict by what the subjects reach.

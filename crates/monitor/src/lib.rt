@@ -34,10 +34,10 @@ pub fn step_into(
         return answers::OPERATION_RECORD;
     }
     let w = records::word_of(bytes);
-    if !records::is_record(w) {
+    if !records::is_record_word(w) {
         return answers::OPERATION_RECORD;
     }
-    operations::perform_record(session, w, receiver, tag, position)
+    operations::perform_word(session, w, receiver, tag, position)
 }
 
 // The same with the answer by value.
@@ -93,10 +93,10 @@ pub fn run(session: &mut [u64], trace: &[u8]) -> Ran
             return refused_at(taken);
         }
         let w = records::word_of(bytes);
-        if !records::is_record(w) {
+        if !records::is_record_word(w) {
             return refused_at(taken);
         }
-        let number = operations::perform_record(session, w, &mut receiver, &mut tag, &mut position);
+        let number = operations::perform_word(session, w, &mut receiver, &mut tag, &mut position);
         if number != answers::QUIET_NUMBER {
             return Ran {
                 answer: answers::answer_with(number, receiver, tag, position),

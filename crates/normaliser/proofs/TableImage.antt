@@ -1,5 +1,5 @@
 -- What is written from the tables is the normal image, and is answered so.
-use Prim.Native.Nat.{ℕ, ◌+◌, ◌/◌, ◌≤◌, ◌<◌}
+use Prim.Native.Nat.{ℕ, ◌/◌, ◌≤◌, ◌<◌}
 use mathlib.Core.Path.{◌≡◌, refl, sym, ap, ap₂, ◌∙◌}
 use mathlib.Core.Bool.{true, false}
 use mathlib.Core.List.{List, [], ◌∷◌, ◌++◌, map}
@@ -123,7 +123,7 @@ module _ (containers users forms : List ℕ) (t : Tabled containers users forms)
         record {
           containers_found = every_left (found classes ranks) (container_uses (containers_in containers)) (users_in users) all_numbers;
           users_found = every_right (found classes ranks) (container_uses (containers_in containers)) (users_in users) all_numbers;
-          forms_good = rw numbers (new.forms_good containers users forms t);
+          forms_good = rw numbers (new.forms_good_lem containers users forms t);
           room =
               omega (
                 arith,

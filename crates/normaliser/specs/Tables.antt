@@ -1,5 +1,5 @@
 -- The tables of the writer: the contracts of this crate's private functions. No public contract cites this file.
-use Rattle.std.specs.Prelude.{ℕ, suc, ◌+◌, ◌-◌, ◌*◌, ◌/◌, ◌≤◌, ◌<◌, ◌≡◌, Bool, true, cond, ◌&&◌, ◌||◌, List, [], ◌∷◌, ◌++◌, eqb, ltb, leb, length, get_or, take}
+use Rattle.std.specs.Prelude.{ℕ, suc, ◌-◌, ◌*◌, ◌/◌, ◌≤◌, ◌<◌, ◌≡◌, Bool, true, cond, ◌&&◌, ◌||◌, List, [], ◌∷◌, ◌++◌, eqb, ltb, leb, length, get_or, take}
 use Rattle.lists.specs.Lists.{elem, position}
 use Rattle.rules.specs.Answers.{mixture_limit}
 use Rattle.image.specs.Limits.{unrestricted_number}

@@ -5,7 +5,9 @@ use mathlib.Core.Logic.{◌⊎◌, inl, inr, ◌≢◌}
 use mathlib.Core.Bool.{Bool, true, false, cond}
 use mathlib.Core.List.{List, [], ◌∷◌, ◌++◌}
 use mathlib.Core.Option.{none, some}
-use lib.ListN.{length}
+use lib.ListN.{length, take}
+use lib.Seq.{take_all}
+use native.Mathlib.Omega.{arith}
 use borrow.Author.Tests.{ne_eqb}
 use Rattle.lists.specs.Lists.{elem, every}
 use Rattle.lists.specs.Conditions.{◌or_refuse◌, first_failed, numbers_of, numbers_distinct}
@@ -22,9 +24,9 @@ use Rattle.chains.specs.History.{Step, end, delete}
 use Rattle.chains.specs.Table.{entry, meet_good, early_conditions, table_conditions}
 use Rattle.records.specs.declared.Request.{Request}
 use Rattle.records.specs.Codes.{code_at}
-use Rattle.records.specs.Records.{request_in, step_in, record_good}
+use Rattle.records.specs.Records.{record_length, request_in, step_in, record_good}
 use Rattle.records.proofs.CodeLaws.{Entered, entered}
-use Rattle.records.proofs.RecordLaws.{asked}
+use Rattle.records.proofs.RecordLaws.{asked, record_long}
 use Rattle.operations.specs.View.{view}
 use Rattle.operations.specs.Effects.{Named, session_conditions, session_refusal, perform_answer, perform_effect}
 use Rattle.operations.specs.EarlyTests.{first_conditions, Ready, late_answer, late_effect}
@@ -68,6 +70,9 @@ perform_done s t e a s₁ (ea, es) = by (meet_good (view s) t) refl
         (ea ∙ rw (g, f), es ∙ rw (g, f))
 
 -- ---- what a request that 9 and 7 do not refuse is, and what it is ready for
+
+pub asked_whole : (r : List ℕ) → record_good r ≡ true → (q : Request) → q ≡ request_in (take record_length r) → q ≡ request_in r
+asked_whole r h q e = e ∙ ap request_in (take_all record_length r (omega (arith, record_long r h)))
 
 pub named : (s r : List ℕ) → length s ≡ session_length → record_good r ≡ true → (q : Request) → q ≡ request_in r → Named s q
 named s r l h q e = rw e (record { long = l; asked = asked r h })

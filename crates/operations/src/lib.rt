@@ -600,7 +600,7 @@ fn perform(s: &mut [u64], q: Request, need: Code) -> Answer
 
 // A record that 7 does not refuse, as the number that its bytes spell, on a session that 9 does not refuse. The answer's number comes
 // back, and receiver, tag and position where they are lent, so that none of it goes through memory twice.
-pub fn perform_record(
+pub fn perform_word(
     s: &mut [u64],
     w: u64,
     receiver: &mut u64,
@@ -625,4 +625,15 @@ pub fn perform_record(
     *tag = e.tag;
     *position = e.position as u32;
     answers::number(answer)
+}
+
+// The same of the record's bytes, with the answer by value.
+pub fn perform_record(s: &mut [u64], bytes: &[u8]) -> Answer
+    requires { (length s.old ≡ session_length) × (record_good bytes.now ≡ true) }
+    ensures { (result ≡ perform_answer s.old (step_in (request_in bytes.now)))
+        × (s.new ≡ perform_effect s.old (step_in (request_in bytes.now))) }
+{
+    let q = records::request_of(&bytes[0..records::RECORD_LENGTH]);
+    let need = records::code_at(q.code);
+    perform(s, q, need)
 }

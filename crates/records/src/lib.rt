@@ -187,7 +187,7 @@ fn user_good(q: Request) -> bool
 }
 
 // The number spells an operation record: the refusal 7 where it does not.
-pub fn is_record(w: u64) -> bool
+pub fn is_record_word(w: u64) -> bool
     ensures { result ≡ record_good (bytes_of record_length w) }
 {
     let q = request_in(w);
@@ -201,6 +201,16 @@ pub fn is_record(w: u64) -> bool
         return false;
     }
     user_good(q)
+}
+
+// The bytes are an operation record: the refusal 7 where they are not.
+pub fn is_record(bytes: &[u8]) -> bool
+    ensures { result ≡ record_good bytes.now }
+{
+    if bytes.len() != RECORD_LENGTH {
+        return false;
+    }
+    is_record_word(word_of(bytes))
 }
 
 // ---- a trace

@@ -1,6 +1,6 @@
 -- CHAINS THAT ARE SHOWN: what is proved of explanations, stated in full and proved by citation. The definitions are in specs/ of this crate
 -- (the chain that is shown, the history of an explanation, what is told and left) and of crate chains (histories, chains).
-use Prim.Native.Nat.{ℕ, ◌-◌}
+use Prim.Native.Nat.{ℕ}
 use native.Mathlib.Omega.{arith}
 use mathlib.Core.Path.{◌≡◌}
 use mathlib.Core.Bool.{true, false}

@@ -1,0 +1,14 @@
+-- Container by container (`Beginning`).
+use Prim.Native.Nat.{◌-◌}
+use mathlib.Core.List.{[]}
+use Rattle.image.specs.Limits.{container_limit}
+use Rattle.image.specs.Image.{containers_in}
+use Rattle.witness.specs.Links.{of_atom}
+use Rattle.witness.proofs.BeginLaws.{Beginning}
+use Rattle.witness.proofs.begin_atom.Given as goal
+
+abbrev pub invariant-loop-c : goal.invariant-loop-c
+invariant-loop-c l = Beginning (containers_in l.cs) [] (of_atom l.d) l.held l.c
+
+abbrev pub decreases-loop-c : goal.decreases-loop-c
+decreases-loop-c l = container_limit - l.c
