@@ -7,7 +7,7 @@ use mathlib.Core.List.{List, [], ◌∷◌, map}
 use lib.ListN.{length, replicate}
 use Rattle.fields.specs.Ascii.{ascii}
 use Rattle.lists.specs.Lists.{every, elem, same_list, joined, known_by, position_by}
-use Rattle.rules.specs.Sets.{atom, holds}
+use Rattle.rules.specs.Sets.{holds}
 use Rattle.rules.specs.Rules.{distinct, held_in, unheld_in, insert, sort, normal, unrestricted}
 use Rattle.fields.specs.Bytes.{bytes_of}
 use Rattle.image.specs.Limits.{file_kind, process_kind, no_atom, unrestricted_number, no_owner}

@@ -68,6 +68,12 @@ pub allowed_rights : (reads writes : List ℕ) (objects : ℕ) (t : Step) → Al
 allowed_rights reads writes objects (read p o) (may_read {s} {k} l m h) = (s, refl, l, m, h)
 allowed_rights reads writes objects (write p o) (may_write {s} {k} l m h) = (s, refl, l, m, h)
 allowed_rights reads writes objects (append p o) (may_append {s} {k} l m h) = (s, refl, l, m, h)
+allowed_rights reads writes objects (fork p o) h = elim h [ ]
+allowed_rights reads writes objects (new_volatile p o) h = elim h [ ]
+allowed_rights reads writes objects (delete p o) h = elim h [ ]
+allowed_rights reads writes objects (exec p o u) h = elim h [ ]
+allowed_rights reads writes objects (new_file p o u) h = elim h [ ]
+allowed_rights reads writes objects (end p) h = elim h [ ]
 
 -- the subject's number tells the subject
 pub right_of : (rows : List ℕ) (subjects objects s k : ℕ) → RightTo rows subjects objects (objects + s) k → has (get_or rows s 0) k ≡ true
@@ -80,6 +86,12 @@ pub allowed_judged : (reads writes : List ℕ) (objects : ℕ) (t : Step) → Al
 allowed_judged reads writes objects (read p o) (may_read l m h) = refl
 allowed_judged reads writes objects (write p o) (may_write l m h) = refl
 allowed_judged reads writes objects (append p o) (may_append l m h) = refl
+allowed_judged reads writes objects (fork p o) h = elim h [ ]
+allowed_judged reads writes objects (new_volatile p o) h = elim h [ ]
+allowed_judged reads writes objects (delete p o) h = elim h [ ]
+allowed_judged reads writes objects (exec p o u) h = elim h [ ]
+allowed_judged reads writes objects (new_file p o u) h = elim h [ ]
+allowed_judged reads writes objects (end p) h = elim h [ ]
 
 module _ (reads writes : List ℕ) (objects : ℕ) (good : matrix_good reads writes objects ≡ true) where
   pub g : Good reads writes objects
@@ -120,3 +132,9 @@ module _ (reads writes : List ℕ) (objects : ℕ) (good : matrix_good reads wri
   spell (read p o) (may_read {s} {k} l m h) = (low_record 1 (objects + s) k, read_spelled (objects + s) k (omega (arith, l, g.few, g.subjects)) (omega (arith, m, g.few)))
   spell (write p o) (may_write {s} {k} l m h) = (low_record 2 (objects + s) k, write_spelled (objects + s) k (omega (arith, l, g.few, g.subjects)) (omega (arith, m, g.few)))
   spell (append p o) (may_append {s} {k} l m h) = (low_record 3 (objects + s) k, append_spelled (objects + s) k (omega (arith, l, g.few, g.subjects)) (omega (arith, m, g.few)))
+  spell (fork p o) h = elim h [ ]
+  spell (new_volatile p o) h = elim h [ ]
+  spell (delete p o) h = elim h [ ]
+  spell (exec p o u) h = elim h [ ]
+  spell (new_file p o u) h = elim h [ ]
+  spell (end p) h = elim h [ ]

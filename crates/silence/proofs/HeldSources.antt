@@ -3,7 +3,7 @@ use Prim.Native.Nat.{ℕ, ◌+◌, ◌-◌, ◌^◌, ◌≤◌, ◌<◌}
 use native.Mathlib.Omega.{arith}
 use native.Mathlib.Decide.{ℕ_discrete}
 use mathlib.Core.Path.{◌≡◌, refl, sym, subst, ap, ◌∙◌}
-use mathlib.Core.Logic.{◌⊎◌, ⊎_elim}
+use mathlib.Core.Logic.{⊎_elim}
 use mathlib.Core.Bool.{Bool, true, false, cond, ◌&&◌}
 use mathlib.Core.List.{List}
 use lib.Pow.{pow-lt}
@@ -29,7 +29,7 @@ use Rattle.matrix.proofs.PathTest.{path_source}
 use Rattle.matrix.proofs.PathFlows.{composed_path}
 use Rattle.matrix.proofs.RowBits.{has_atom, bits_has}
 use Rattle.derivation.specs.Derived.{permit_of}
-use Rattle.chains.specs.History.{Step, read, write, append, receiver}
+use Rattle.chains.specs.History.{Step, read, write, append, receiver, delete, end, exec, fork, new_file, new_volatile}
 use Rattle.chains.specs.Demand.{judged}
 use Rattle.chains.specs.Table.{
   State,
@@ -122,6 +122,12 @@ module _ (reads writes : List ℕ) (n : ℕ) (even : length writes ≡ length re
     passes (write p o) (may_write {s} {k} l m h) = rw (subject_process s l, object_store k m) refl
     passes (append p o) (may_append {s} {k} l m h) =
         rw (subject_process s l, object_store k m, (H.subject s l).run, (H.object k m).run, unrestricted_meet, unrestricted_fits) refl
+    passes (fork p o) h = elim h [ ]
+    passes (new_volatile p o) h = elim h [ ]
+    passes (delete p o) h = elim h [ ]
+    passes (exec p o u) h = elim h [ ]
+    passes (new_file p o u) h = elim h [ ]
+    passes (end p) h = elim h [ ]
 
     -- nothing is blocked: neither an object nor a subject is guarded
     pub never_blocks : (t : Step) → Allowed reads writes n t → blocks t (entry σ t).row ≡ false
@@ -129,6 +135,12 @@ module _ (reads writes : List ℕ) (n : ℕ) (even : length writes ≡ length re
     never_blocks (read p o) (may_read {s} {k} l m h) = rw (H.subject s l).kind refl
     never_blocks (write p o) (may_write {s} {k} l m h) = rw (H.object k m).kind refl
     never_blocks (append p o) (may_append {s} {k} l m h) = rw (H.object k m).kind refl
+    never_blocks (fork p o) h = elim h [ ]
+    never_blocks (new_volatile p o) h = elim h [ ]
+    never_blocks (delete p o) h = elim h [ ]
+    never_blocks (exec p o u) h = elim h [ ]
+    never_blocks (new_file p o u) h = elim h [ ]
+    never_blocks (end p) h = elim h [ ]
 
     -- a row that is put in its place
     put_subject : (s : ℕ) → s < length reads → (w : Row) → SubjectRow reads writes n s w → Holding reads writes n (placed σ (n + s) w)
@@ -190,6 +202,12 @@ module _ (reads writes : List ℕ) (n : ℕ) (even : length writes ≡ length re
     holds_on (read p o) (may_read {s} {k} l m h) = put_subject s l _ (read_row_lem s k l m h)
     holds_on (write p o) (may_write {s} {k} l m h) = put_object k m _ (write_row_lem s k l m h)
     holds_on (append p o) (may_append {s} {k} l m h) = put_object k m _ (append_row_lem s k l m h)
+    holds_on (fork p o) h = elim h [ ]
+    holds_on (new_volatile p o) h = elim h [ ]
+    holds_on (delete p o) h = elim h [ ]
+    holds_on (exec p o u) h = elim h [ ]
+    holds_on (new_file p o u) h = elim h [ ]
+    holds_on (end p) h = elim h [ ]
 
     -- ---- the answer
 
@@ -226,3 +244,9 @@ module _ (reads writes : List ℕ) (n : ℕ) (even : length writes ≡ length re
     stays_quiet q (read p o) (may_read {s} {k} l m h) = covered_quiet (read (n + s) k) _ (subject_covers s _ (read_row_lem s k l m h))
     stays_quiet q (write p o) (may_write {s} {k} l m h) = covered_quiet (write (n + s) k) _ (object_covers k _ m (q k m) (write_row_lem s k l m h))
     stays_quiet q (append p o) (may_append {s} {k} l m h) = covered_quiet (append (n + s) k) _ (object_covers k _ m (q k m) (append_row_lem s k l m h))
+    stays_quiet q (fork p o) h = elim h [ ]
+    stays_quiet q (new_volatile p o) h = elim h [ ]
+    stays_quiet q (delete p o) h = elim h [ ]
+    stays_quiet q (exec p o u) h = elim h [ ]
+    stays_quiet q (new_file p o u) h = elim h [ ]
+    stays_quiet q (end p) h = elim h [ ]

@@ -1,12 +1,11 @@
 -- The paper's listing, every byte: the listing of document 000's image of 118 bytes and of the trace of six records.
 use Prim.Native.Nat.{ℕ}
-use mathlib.Core.Path.{◌≡◌, refl, ap}
+use mathlib.Core.Path.{◌≡◌, refl}
 use mathlib.Core.List.{List, ◌++◌}
 use lib.ListN.{replicate}
 use borrow.Author.Tests.{eq-eqb}
 use Rattle.fields.specs.Ascii.{ascii}
 use Rattle.fields.specs.Bytes.{number_in, field, cut}
-use Rattle.answers.specs.Answers.{quiet, alert, refused}
 use Rattle.answers.specs.Tallies.{no_tally, tallied, tallied_all}
 use Rattle.image.specs.Image.{check_of}
 use Rattle.session.specs.Limits.{session_length}

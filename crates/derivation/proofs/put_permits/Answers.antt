@@ -1,0 +1,30 @@
+use native.Mathlib.Omega.{arith}
+use Rattle.derivation.proofs.PermitWords.{permits_start, permits_room, permits_zero, permits_next, permits_end}
+use Rattle.derivation.proofs.put_permits.Goals as goal
+
+pub loop-b-init : goal.loop-b-init
+loop-b-init c =
+    permits_start c.args.reads.now c.args.writes.now c.args.n c.requires.1 c.requires.3
+
+pub slice_bounds-put_row-end : goal.slice_bounds-put_row-end
+slice_bounds-put_row-end c =
+    permits_room c.args.reads.now c.args.writes.now c.args.n c.requires.1 c.loop-b.invariant c.loop-b-test.true
+
+pub put_row-requires : goal.put_row-requires
+put_row-requires c =
+    let zero = permits_zero c.args.reads.now c.args.writes.now c.args.n c.requires.1 c.loop-b.invariant c.loop-b-test.true c.requires.3 in
+    (c.requires.0, c.requires.1, omega (arith, c.requires.2, c.loop-b-test.true), zero)
+
+pub loop-b-preserved : goal.loop-b-preserved
+loop-b-preserved c =
+    let loop = c.loop-b in
+    let taken = c.loop-b-test.true in
+    permits_next c.args.reads.now c.args.writes.now c.args.n c.requires.1 loop.invariant taken
+    c.put_row.ensures
+
+pub shape_of-words : goal.shape_of-words
+shape_of-words c = c.loop-b.invariant.long
+
+pub returns : goal.returns
+returns c =
+    permits_end c.args.reads.now c.args.writes.now c.args.n c.requires.1 c.loop-b.invariant c.requires.3 c.loop-b-test.false
