@@ -46,14 +46,19 @@ const LINKS_LENGTH: usize = witness::FIRST_NODE + 2 * RECORD_LIMIT;
 // ---- lines
 
 // The steps of a chain, each part handed on before the next is written.
-fn hand_steps(numbers: &[u64], out: &mut [u8; BUFFER_SIZE], sent: &mut u64) -> bool
+fn hand_steps(
+    rt: &HostRuntime,
+    numbers: &[u64],
+    out: &mut [u8; BUFFER_SIZE],
+    sent: &mut u64,
+) -> bool
     ensures { DoneOrTold result (Handed (leading (step_fields numbers.now)) sent.old sent.new) }
 {
     let mut at: usize = 0;
     while at < numbers.len() {
         let part = explanations::part_at(numbers, at);
         let end = explanations::put_steps(out, 0, part);
-        if !files::write_front(out, end, sent) {
+        if !files::write_front(rt, out, end, sent) {
             return false;
         }
         at += part.len();
@@ -63,6 +68,7 @@ fn hand_steps(numbers: &[u64], out: &mut [u8; BUFFER_SIZE], sent: &mut u64) -> b
 
 // A line that ends with the steps of a chain, which are the numbers from `first` on: what stands before them is at the front of the buffer.
 fn hand_line(
+    rt: &HostRuntime,
     end: usize,
     numbers: &[u64],
     first: usize,
@@ -72,13 +78,13 @@ fn hand_line(
     requires { first ≤ length numbers.now }
     ensures { DoneOrTold result (Handed (ended (take end out.old) (drop first numbers.now)) sent.old sent.new) }
 {
-    if !files::write_front(out, end, sent) {
+    if !files::write_front(rt, out, end, sent) {
         return false;
     }
-    if !hand_steps(&numbers[first..], out, sent) {
+    if !hand_steps(rt, &numbers[first..], out, sent) {
         return false;
     }
-    files::write_whole(b"\n", sent)
+    files::write_whole(rt, b"\n", sent)
 }
 
 // ---- one explanation
@@ -95,6 +101,7 @@ fn mixture_of(image: &[u8], rule: usize, j: usize) -> u64
 
 // How an atom came into a container.
 fn show_way(
+    rt: &HostRuntime,
     image: &[u8],
     trace: &[u8],
     c: usize,
@@ -109,7 +116,7 @@ fn show_way(
 {
     let found = witness::explain(image, trace, c, atom, links, steps);
     let end = explanations::put_way(out, 0, atom as u64, found.file as u64);
-    hand_line(end, steps, found.first, out, sent)
+    hand_line(rt, end, steps, found.first, out, sent)
 }
 
 // Whether an earlier mixture lacks the same atom as mixture number j.
@@ -122,6 +129,7 @@ fn lacked_before(why: &[u64], j: usize) -> bool
 
 // A mixture, the atom that it lacks and, unless an earlier one lacks the same, how that came to the receiver.
 fn show_mixture(
+    rt: &HostRuntime,
     image: &[u8],
     trace: &[u8],
     why: &[u64; WHY_LENGTH],
@@ -137,13 +145,14 @@ fn show_mixture(
     let atom = why[WHY_ATOMS_AT + j];
     let mixture = mixture_of(image, why[WHY_RULE_AT] as usize, j);
     let end = explanations::put_lacks(out, 0, mixture, atom);
-    if !files::write_front(out, end, sent) {
+    if !files::write_front(rt, out, end, sent) {
         return false;
     }
     if lacked_before(why, j) {
         return true;
     }
     show_way(
+        rt,
         image,
         trace,
         why[WHY_RECEIVER_AT] as usize,
@@ -157,6 +166,7 @@ fn show_mixture(
 
 // The mixtures of the rule.
 fn show_mixtures(
+    rt: &HostRuntime,
     image: &[u8],
     trace: &[u8],
     why: &[u64; WHY_LENGTH],
@@ -171,7 +181,7 @@ fn show_mixtures(
     let count = why[WHY_COUNT_AT] as usize;
     let mut j: usize = 0;
     while j < count {
-        if !show_mixture(image, trace, why, j, links, steps, out, sent) {
+        if !show_mixture(rt, image, trace, why, j, links, steps, out, sent) {
             return false;
         }
         j += 1;
@@ -181,6 +191,7 @@ fn show_mixtures(
 
 // The rule that forbids.
 fn show_rule(
+    rt: &HostRuntime,
     why: &[u64; WHY_LENGTH],
     steps: &[u64; RECORD_LIMIT],
     out: &mut [u8; BUFFER_SIZE],
@@ -198,11 +209,12 @@ fn show_rule(
         why[WHY_RECORD_AT],
         why[WHY_HOLDER_AT],
     );
-    hand_line(end, steps, why[WHY_CHAIN_AT] as usize, out, sent)
+    hand_line(rt, end, steps, why[WHY_CHAIN_AT] as usize, out, sent)
 }
 
 // The last record of a trace, which is answered by an alert or blocked.
 fn show_explanation(
+    rt: &HostRuntime,
     image: &[u8],
     trace: &[u8],
     n: u64,
@@ -218,19 +230,20 @@ fn show_explanation(
     let mut told = [0u64; WHY_LENGTH];
     certificate::why(image, trace, links, steps, &mut told);
     let end = explanations::put_found(out, 0, blocked, n, told[WHY_RECEIVER_AT]);
-    if !files::write_front(out, end, sent) {
+    if !files::write_front(rt, out, end, sent) {
         return false;
     }
-    if !show_rule(&told, steps, out, sent) {
+    if !show_rule(rt, &told, steps, out, sent) {
         return false;
     }
-    show_mixtures(image, trace, &told, links, steps, out, sent)
+    show_mixtures(rt, image, trace, &told, links, steps, out, sent)
 }
 
 // ---- the trace
 
 // The last record of a trace, which is answered so.
 fn show_record(
+    rt: &HostRuntime,
     image: &[u8],
     trace: &[u8],
     n: u64,
@@ -247,6 +260,7 @@ fn show_record(
         return true;
     }
     show_explanation(
+        rt,
         image,
         trace,
         n,
@@ -279,6 +293,7 @@ pub struct Progress {
 
 // The records of a trace, each run on the session and explained.
 fn show_records(
+    rt: &HostRuntime,
     image: &[u8],
     trace: &[u8],
     session: &mut [u64; SESSION_LENGTH],
@@ -298,6 +313,7 @@ fn show_records(
         let answer = monitor::step(session, bytes);
         at += bytes.len();
         if !show_record(
+            rt,
             image,
             &trace[..at],
             records,
@@ -325,6 +341,7 @@ fn show_records(
 
 // The explanations and the total line, as far as all goes well: true if it does.
 fn show_trace(
+    rt: &HostRuntime,
     image: &[u8],
     trace: &[u8],
     session: &mut [u64; SESSION_LENGTH],
@@ -336,25 +353,26 @@ fn show_trace(
     requires { (check_of image.now ≡ 0) × (length trace.now ≤ trace_size) × (session.old ≡ start_of (policy_in image.now)) }
     ensures { DoneOrTold result (Handed (trace_text image.now trace.now) sent.old sent.new) }
 {
-    let run = show_records(image, trace, session, links, steps, out, sent);
+    let run = show_records(rt, image, trace, session, links, steps, out, sent);
     if !run.good {
         return false;
     }
     let end = explanations::put_total(out, 0, run.records, run.explained);
-    files::write_front(out, end, sent)
+    files::write_front(rt, out, end, sent)
 }
 
 // ---- the files
 
 // The trace has more records than are explained.
-fn tell_too_long()
+fn tell_too_long(rt: &HostRuntime)
     ensures { calls.Told }
 {
-    files::tell(b"trace.bin: over 131,072 records\n");
+    files::tell(rt, b"trace.bin: over 131,072 records\n");
 }
 
 // The trace of the file. A missing one has no record.
 fn show_file(
+    rt: &HostRuntime,
     image: &[u8],
     trace: &mut [u8],
     session: &mut [u64; SESSION_LENGTH],
@@ -366,28 +384,29 @@ fn show_file(
     requires { (check_of image.now ≡ 0) × (session.old ≡ start_of (policy_in image.now)) × (length trace.old ≡ trace_size + 1) }
     ensures { DoneOrTold result (TraceExplained image.now sent.old sent.new) }
 {
-    let loaded = files::load(b"trace.bin", trace);
+    let loaded = files::load(rt, b"trace.bin", trace);
     if !loaded.good {
         return false;
     }
     let n = loaded.size;
     if TRACE_SIZE < n {
-        tell_too_long();
+        tell_too_long(rt);
         return false;
     }
-    show_trace(image, &trace[..n], session, links, steps, out, sent)
+    show_trace(rt, image, &trace[..n], session, links, steps, out, sent)
 }
 
 // The one line of a refused policy.
-fn refuse(refusal: u32, out: &mut [u8; BUFFER_SIZE], sent: &mut u64) -> bool
+fn refuse(rt: &HostRuntime, refusal: u32, out: &mut [u8; BUFFER_SIZE], sent: &mut u64) -> bool
     ensures { DoneOrTold result (Handed (policy_line refusal) sent.old sent.new) }
 {
     let end = listing::put_policy_refused(out, 0, refusal as u64);
-    files::write_front(out, end, sent)
+    files::write_front(rt, out, end, sent)
 }
 
 // Both files: true if all went well.
 fn show_files(
+    rt: &HostRuntime,
     trace: &mut [u8; TRACE_ROOM],
     links: &mut [u64; LINKS_LENGTH],
     steps: &mut [u64; RECORD_LIMIT],
@@ -399,16 +418,17 @@ fn show_files(
     // The session's buffer, which the start fills.
     let mut session = [0u64; SESSION_LENGTH];
     let mut policy = [0u8; POLICY_ROOM];
-    let loaded = files::load(b"policy.bin", &mut policy);
+    let loaded = files::load(rt, b"policy.bin", &mut policy);
     if !loaded.good {
         return false;
     }
     let n = loaded.size;
     let refusal = session::start(&policy[..n], &mut session);
     if refusal != 0 {
-        return refuse(refusal, &mut out, sent);
+        return refuse(rt, refusal, &mut out, sent);
     }
     show_file(
+        rt,
         &policy[..n],
         trace,
         &mut session,
@@ -420,16 +440,16 @@ fn show_files(
 }
 
 // The whole program, with room for the trace and for the chains: true if all went well.
-fn show_explanations(sent: &mut u64) -> bool
+fn show_explanations(rt: &HostRuntime, sent: &mut u64) -> bool
     ensures { DoneOrTold result (ExplanationsShown sent.old sent.new) }
 {
     let mut trace = [0u8; TRACE_ROOM];
     let mut links = [0u64; LINKS_LENGTH];
     let mut steps = [0u64; RECORD_LIMIT];
-    show_files(&mut trace, &mut links, &mut steps, sent)
+    show_files(rt, &mut trace, &mut links, &mut steps, sent)
 }
 
-fn main() {
+fn main(rt: HostRuntime) {
     let mut sent: u64 = 0;
-    show_explanations(&mut sent);
+    show_explanations(&rt, &mut sent);
 }

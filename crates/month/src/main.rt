@@ -5,6 +5,7 @@
 #![tactic(auto)]
 
 ghost use Rattle.std.specs.Prelude.{◌≡◌, length};
+ghost use Rattle.std.specs.Fd.{file_raw_fd};
 ghost use Rattle.image.specs.Image.{check_of, policy_in};
 ghost use Rattle.session.specs.Limits.{session_length};
 ghost use Rattle.session.specs.Session.{start_of};
@@ -17,6 +18,7 @@ use figures::{COUNT_LIMIT, TRACE_LIMIT};
 use image::CONTAINER_LIMIT;
 use listing::BUFFER_SIZE;
 use session::SESSION_LENGTH;
+use std::fs::File;
 
 // One byte more than a policy may have: a longer file is refused for its length and not read further.
 const POLICY_ROOM: usize = image::IMAGE_LIMIT + 1;
@@ -34,13 +36,14 @@ pub struct Progress {
 // A trace in parts of whole records, only the last of which may end short, counted to its end or until it is too long. Nothing says
 // that a file ends, so the turns are counted down, from more than any file has.
 fn add_file(
-    fd: i32,
+    rt: &HostRuntime,
+    file: &File,
     name: &[u8],
     session: &mut [u64],
     counts: &mut [u32; COUNT_LIMIT],
     alerted: &mut [u32],
 ) -> Progress
-    requires { OpenedAs name.now fd × (counts.old ≡ no_counters.counts) × (alerted.old ≡ no_counters.alerted) }
+    requires { OpenedAs name.now (file_raw_fd file.now) × (counts.old ≡ no_counters.counts) × (alerted.old ≡ no_counters.alerted) }
     ensures { DoneOrTold result.good (TraceCounted name.now session.old (counters result.records counts.new alerted.new)) }
 {
     let mut part = [0u8; PART_SIZE];
@@ -49,7 +52,7 @@ fn add_file(
     let mut turns = u64::MAX;
     while turns > 0 {
         turns -= 1;
-        let got = files::read_part(fd, name, &mut part, &mut place);
+        let got = files::read_part(rt, file, name, &mut part, &mut place);
         let n = got.size;
         records = figures::add_part(&part[..n], session, counts, alerted, records);
         if got.last {
@@ -65,7 +68,7 @@ fn add_file(
             };
         }
     }
-    files::tell_spent(name);
+    files::tell_spent(rt, name);
     Progress {
         good: false,
         records: records,
@@ -74,8 +77,9 @@ fn add_file(
 
 // Trace number n, which is there: counted in a new session, shown, and added to the total.
 fn show_trace(
+    rt: &HostRuntime,
     n: usize,
-    fd: i32,
+    file: &File,
     name: &[u8],
     policy: &[u8],
     session: &mut [u64],
@@ -85,7 +89,7 @@ fn show_trace(
     out: &mut [u8; BUFFER_SIZE],
     sent: &mut u64,
 ) -> Progress
-    requires { OpenedAs name.now fd × (check_of policy.now ≡ 0) × (length session.old ≡ session_length) }
+    requires { OpenedAs name.now (file_raw_fd file.now) × (check_of policy.now ≡ 0) × (length session.old ≡ session_length) }
     ensures { DoneOrTold result.good
         (TraceShown n name.now (start_of (policy_in policy.now)) (counters total totals.old sums.old)
         (counters result.records totals.new sums.new) sent.old sent.new) }
@@ -93,13 +97,13 @@ fn show_trace(
     let mut counts = [0u32; COUNT_LIMIT];
     let mut alerted = [0u32; CONTAINER_LIMIT];
     session::start(policy, session);
-    let run = add_file(fd, name, session, &mut counts, &mut alerted);
+    let run = add_file(rt, file, name, session, &mut counts, &mut alerted);
     if !run.good {
         return run;
     }
     let records = run.records;
     let end = figures::put_trace(out, n, records, &counts, &alerted);
-    let written = files::write_front(out, end, sent);
+    let written = files::write_front(rt, out, end, sent);
     let summed = figures::add_total(totals, sums, total, &counts, &alerted, records);
     Progress {
         good: written,
@@ -109,6 +113,7 @@ fn show_trace(
 
 // The lines of the traces up to the first missing name, and the counts in total.
 fn show_traces(
+    rt: &HostRuntime,
     policy: &[u8],
     session: &mut [u64],
     totals: &mut [u32; COUNT_LIMIT],
@@ -125,12 +130,11 @@ fn show_traces(
     let mut n: usize = 0;
     while n < TRACE_LIMIT {
         let name = figures::trace_name(n);
-        match files::open(&name) {
-            files::Opened::File(fd) => {
+        match files::open(rt, &name) {
+            files::Opened::File(file) => {
                 let shown = show_trace(
-                    n, fd, &name, policy, session, totals, sums, total, out, sent,
+                    rt, n, &file, &name, policy, session, totals, sums, total, out, sent,
                 );
-                libc::close(fd);
                 total = shown.records;
                 if !shown.good {
                     return shown;
@@ -159,6 +163,7 @@ fn show_traces(
 
 // The lines of the traces and the total line, as far as all goes well: true if it does.
 fn show_month(
+    rt: &HostRuntime,
     policy: &[u8],
     session: &mut [u64],
     out: &mut [u8; BUFFER_SIZE],
@@ -169,43 +174,43 @@ fn show_month(
 {
     let mut totals = [0u32; COUNT_LIMIT];
     let mut sums = [0u32; CONTAINER_LIMIT];
-    let run = show_traces(policy, session, &mut totals, &mut sums, out, sent);
+    let run = show_traces(rt, policy, session, &mut totals, &mut sums, out, sent);
     if !run.good {
         return false;
     }
     let end = figures::put_total(out, &totals, &sums);
-    files::write_front(out, end, sent)
+    files::write_front(rt, out, end, sent)
 }
 
 // The one line of a refused policy.
-fn refuse(refusal: u32, out: &mut [u8; BUFFER_SIZE], sent: &mut u64) -> bool
+fn refuse(rt: &HostRuntime, refusal: u32, out: &mut [u8; BUFFER_SIZE], sent: &mut u64) -> bool
     ensures { DoneOrTold result (Handed (policy_line refusal) sent.old sent.new) }
 {
     let end = trace_listing::list_refused(out, refusal);
-    files::write_front(out, end, sent)
+    files::write_front(rt, out, end, sent)
 }
 
 // The whole program: true if all went well.
-fn show_all(sent: &mut u64) -> bool
+fn show_all(rt: &HostRuntime, sent: &mut u64) -> bool
     ensures { DoneOrTold result (MonthShown sent.old sent.new) }
 {
     let mut out = [0u8; BUFFER_SIZE];
     // The session's buffer, which each start fills.
     let mut session = [0u64; SESSION_LENGTH];
     let mut policy = [0u8; POLICY_ROOM];
-    let loaded = files::load(b"policy.bin", &mut policy);
+    let loaded = files::load(rt, b"policy.bin", &mut policy);
     if !loaded.good {
         return false;
     }
     let n = loaded.size;
     let refusal = image::check(&policy[..n]);
     if refusal != 0 {
-        return refuse(refusal, &mut out, sent);
+        return refuse(rt, refusal, &mut out, sent);
     }
-    show_month(&policy[..n], &mut session, &mut out, sent)
+    show_month(rt, &policy[..n], &mut session, &mut out, sent)
 }
 
-fn main() {
+fn main(rt: HostRuntime) {
     let mut sent: u64 = 0;
-    show_all(&mut sent);
+    show_all(&rt, &mut sent);
 }

@@ -2,46 +2,50 @@
 #![tactic(auto)]
 
 use image::{HEADER_SIZE, OUTPUT_BOUND};
-use libc::STDOUT_FILENO;
 use records::RECORD_LENGTH;
 use session::SESSION_LENGTH;
+use std::io;
 
 // Writes a line: what was tried, and the number that came of it.
-fn line(name: &[u8], number: u64) {
-    io::write_all(STDOUT_FILENO, name);
-    io::write_all(STDOUT_FILENO, b" ");
-    io::print_decimal(STDOUT_FILENO, number);
-    io::write_all(STDOUT_FILENO, b"\n");
+fn line(rt: &impl Print, name: &str, number: u64) -> io::Result<()> {
+    println!(rt; "{name} {number}")
 }
 
 // "Empty policy: 18 bytes."
-fn empty_policy() {
+fn empty_policy(rt: &impl Print) -> io::Result<()> {
     let image: [u8; HEADER_SIZE] = [5, 0, 18, 0, 0, 0, 18, 0, 0, 0, 18, 0, 0, 0, 18, 0, 0, 0];
     let mut session = [0u64; SESSION_LENGTH];
-    line(b"empty policy, check", image::check(&image) as u64);
+    line(rt, "empty policy, check", image::check(&image) as u64)?;
     line(
-        b"empty policy, start",
+        rt,
+        "empty policy, start",
         session::start(&image, &mut session) as u64,
-    );
-    line(b"17 bytes of it, check", image::check(&image[0..17]) as u64);
+    )?;
+    line(
+        rt,
+        "17 bytes of it, check",
+        image::check(&image[0..17]) as u64,
+    )?;
     let mut out = [0u8; OUTPUT_BOUND];
     line(
-        b"empty policy, length of the normal image",
+        rt,
+        "empty policy, length of the normal image",
         normaliser::normalise(&image, &mut out) as u64,
-    );
+    )
 }
 
 // "Every image now leads with a 16-bit 5, and 2 refuses the old 4."
-fn old_image() {
+fn old_image(rt: &impl Print) -> io::Result<()> {
     let image: [u8; HEADER_SIZE] = [4, 0, 18, 0, 0, 0, 18, 0, 0, 0, 18, 0, 0, 0, 18, 0, 0, 0];
     line(
-        b"empty policy that leads with 4, check",
+        rt,
+        "empty policy that leads with 4, check",
         image::check(&image) as u64,
-    );
+    )
 }
 
 // "a 16-bit owner last, a declared user or 65535 for nobody; 4 checks it": one rule without a mixture, no user.
-fn owners() {
+fn owners(rt: &impl Print) -> io::Result<()> {
     let mut image = [0u8; 24];
     image[0] = 5;
     image[2] = 18;
@@ -50,32 +54,39 @@ fn owners() {
     image[12] = 6;
     image[14] = 24;
     line(
-        b"unused rule of user 0, no user declared, check",
+        rt,
+        "unused rule of user 0, no user declared, check",
         image::check(&image) as u64,
-    );
+    )?;
     image[22] = 255;
     image[23] = 255;
-    line(b"unused rule of nobody, check", image::check(&image) as u64);
+    line(
+        rt,
+        "unused rule of nobody, check",
+        image::check(&image) as u64,
+    )
 }
 
 // "Code 9 with a short session: 9."
-fn short_session() {
+fn short_session(rt: &impl Print) -> io::Result<()> {
     let record: [u8; RECORD_LENGTH] = [9, 0, 4, 0, 2, 0, 255, 255];
     let mut short = [0u64; 5535];
     let mut whole = [0u64; SESSION_LENGTH];
     line(
-        b"code 9, session of 5535",
+        rt,
+        "code 9, session of 5535",
         answers::number(monitor::step(&mut short, &record)) as u64,
-    );
+    )?;
     line(
-        b"code 9, session of 5536",
+        rt,
+        "code 9, session of 5536",
         answers::number(monitor::step(&mut whole, &record)) as u64,
-    );
+    )
 }
 
-fn main() {
-    empty_policy();
-    old_image();
-    owners();
-    short_session();
+fn main(rt: HostRuntime) -> io::Result<()> {
+    empty_policy(&rt)?;
+    old_image(&rt)?;
+    owners(&rt)?;
+    short_session(&rt)
 }
