@@ -280,7 +280,8 @@ module _ (i t links steps out : List ℕ) (bytes : Bytes i) (z : why_refusal i t
         holds = λ k l. rw (is_lacked k (counted k l)) (last_lacked i t bytes ok forbids k (counted k l)).0;
         reaches = λ k l.
             rw (is_lacked k (counted k l))
-            ((last_told i t bytes ok forbids (lacked_by (tag_of (answered i t)) (get_or (rule_at (policy_in i).rules (reason_in i t).rule) k 0))).0 (last_lacked i t bytes ok forbids k (counted k l)).0);
+            ((last_told i t bytes ok forbids (lacked_by (tag_of (answered i t)) (get_or (rule_at (policy_in i).rules (reason_in i t).rule) k 0))).0
+            (last_lacked i t bytes ok forbids k (counted k l)).0);
       }
 
   -- an atom that reaches the receiver has a chain, which begins in a container

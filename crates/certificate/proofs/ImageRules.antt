@@ -67,7 +67,8 @@ module _ (i : List ℕ) (c : ℕ) {s : List ℕ} (e : s ≡ part i 0) where
   unfolding policy_in containers_in
   container_there l =
       let m : c < length (part i 0) / container_size = omega (arith, ap length e, l) in
-      let n : c < length (map container_in (records container_size (part i 0))) = omega (arith, m, length-map (records container_size (part i 0)) container_in, records_count container_size (part i 0)) in
+      let n : c < length (map container_in (records container_size (part i 0))) =
+      omega (arith, m, length-map (records container_size (part i 0)) container_in, records_count container_size (part i 0)) in
       let d : Container = container_in [] in
       element_there (map container_in (records container_size (part i 0))) c d n
       ∙ ap some (record_at container_in container_size c (part i 0) d m)

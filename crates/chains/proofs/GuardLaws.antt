@@ -17,7 +17,8 @@ use Rattle.session.specs.Session.{start_row}
 use Rattle.chains.specs.History.{Step, read, write, append, exec, fork, new_file, new_volatile, end, delete, History, start, ◌▸◌, receiver}
 use Rattle.chains.specs.Guards.{guarded_file, guarded, writing, written_into}
 use Rattle.chains.specs.Demand.{judged}
-use Rattle.chains.specs.Table.{State, free_row, read_row, write_row, append_row, exec_row, fork_row, new_file_row, new_volatile_row, entry, process_good, object_good, alerts, blocks, start_row_of, begin}
+use Rattle.chains.specs.Table.{State, free_row, read_row, write_row, append_row, exec_row, fork_row, new_file_row, new_volatile_row, entry, process_good, object_good, alerts, blocks}
+use Rattle.chains.specs.Table.{start_row_of, begin}
 use Rattle.image.proofs.KindLaws.{process_free, guarded_used, free_kinds_lem}
 use Rattle.chains.proofs.TableStates.{Passed}
 

@@ -29,7 +29,8 @@ module _ (a b : List ℕ) where
   unfolding same_shape policy_in
   shape_not h = sym (rw h)
 
-  pub shape_if : same_containers (containers_in (part a 0)) (containers_in (part b 0)) ≡ true → eqb (length (part a 1) / user_size) (length (part b 1) / user_size) ≡ same_shape (policy_in a) (policy_in b)
+  pub shape_if : same_containers (containers_in (part a 0)) (containers_in (part b 0)) ≡ true
+      → eqb (length (part a 1) / user_size) (length (part b 1) / user_size) ≡ same_shape (policy_in a) (policy_in b)
   unfolding same_shape policy_in
   shape_if h = sym (rw (h, users_count (part a 1), users_count (part b 1)))
 

@@ -31,7 +31,8 @@ use Rattle.image.proofs.Encode.{container_wide}
 use Rattle.image.proofs.Numbering.{use_in, mixtures_in, owner_in}
 use Rattle.image.proofs.RecordsByPlace.{containers_count, users_count}
 use Rattle.image.proofs.WrittenMeaning.{container_atom}
-use Rattle.normaliser.specs.Writer.{form_width, form_row, normal_use, form_words, policy_given, policy_at, container_uses, use_limit, Usable, Tabled, rules_needed, writer_answer, writer_effect, Answered}
+use Rattle.normaliser.specs.Writer.{form_width, form_row, normal_use, form_words, policy_given, policy_at, container_uses, use_limit, Usable, Tabled, rules_needed, writer_answer}
+use Rattle.normaliser.specs.Writer.{writer_effect, Answered}
 use Rattle.normaliser.proofs.WriterLaws.{words_length, words_tabled, words_answered}
 use Rattle.composition.specs.Composed.{composed_use, composed_uses, composed_place, composed_places, composed_owned}
 use Rattle.composition.specs.Images.{short_use, uses_short, rules_few, limit_good}
@@ -113,7 +114,8 @@ module _ (containers users : List ℕ) (r : List Use) (few : length r ≤ use_li
       let i : use_in r k ≡ get_or r k free_use = unfold use_in in (rw (ne_eqb k unrestricted_number (λ z. omega arith))) in
       let n : named (length r) k ≡ true = unfold named in (or_0 (ltb k (length r)) (eqb k unrestricted_number) (lt-ltb k (length r) l)) in
       let m : normal (rule_at (map (λ u. u.mixtures) r) k) ≡ (get_or r k free_use).mixtures =
-      ap normal (mixtures_in r k n ∙ ap (λ (u : Use). u.mixtures) i) ∙ same_eq (normal (get_or r k free_use).mixtures) (get_or r k free_use).mixtures (every_get_d normal_test r k free_use l settled) in
+      ap normal (mixtures_in r k n ∙ ap (λ (u : Use). u.mixtures) i)
+      ∙ same_eq (normal (get_or r k free_use).mixtures) (get_or r k free_use).mixtures (every_get_d normal_test r k free_use l settled) in
       let o : owner_at (map (λ u. u.owner) r) k ≡ (get_or r k free_use).owner = owner_in r k n ∙ ap (λ (u : Use). u.owner) i in
       λ j. record { owner = o j; mixtures = m j }
 

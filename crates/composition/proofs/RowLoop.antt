@@ -66,7 +66,8 @@ module _ (us : List Use) (count : ℕ) (forms : List ℕ) (k : ℕ) (h : Rowing 
             ap₂ take next_place put.buffer
             ∙ unfold overwritten in (take_at (take (k * form_width) forms ++ x) (drop (k * form_width + length x) forms) (k * form_width + form_width) front_long)
             ∙ ap₂ ◌++◌ h.front x_is
-            ∙ sym (joined_more (map form_row us) k (omega (arith, inside, length-map us form_row)) ∙ ap (λ (r : List ℕ). joined (take k (map form_row us)) ++ r) (map_at form_row us k free_use [] inside));
+            ∙ sym (joined_more (map form_row us) k (omega (arith, inside, length-map us form_row))
+            ∙ ap (λ (r : List ℕ). joined (take k (map form_row us)) ++ r) (map_at form_row us k free_use [] inside));
       }
     where
       short : short_use (get_or us k free_use) ≡ true

@@ -94,7 +94,8 @@ module _ (a b consent out : List ℕ) where
       → (output_bound ≤ length out → check_of a ≡ 0 → check_of b ≡ 0 → input_good a b consent ≡ true → limit_good (composed a b consent) ≡ true → X) → X
   cases {X} f g h i j k = at (dec_lt (length out) output_bound)
     where
-      limits : output_bound ≤ length out → check_of a ≡ 0 → check_of b ≡ 0 → input_good a b consent ≡ true → (limit_good (composed a b consent) ≡ true) ⊎ (limit_good (composed a b consent) ≡ false) → X
+      limits : output_bound ≤ length out → check_of a ≡ 0 → check_of b ≡ 0 → input_good a b consent ≡ true
+          → (limit_good (composed a b consent) ≡ true) ⊎ (limit_good (composed a b consent) ≡ false) → X
       limits l p q x (inl e) = k l p q x e
       limits l p q x (inr e) = j l p q x e
 

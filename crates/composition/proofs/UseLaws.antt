@@ -122,7 +122,8 @@ unfolding composed_uses
 uses_self c n [] h = refl
 uses_self c n (u ∷ us) h = ap₂ ◌∷◌ (use_self c u (good_normal n u (every_0 (use_good n) u us h))) (uses_self c n us (every_1 (use_good n) u us h))
 
-uses_good : (c n : ℕ) (us vs : List Use) → every (use_good n) us ≡ true → every (use_good n) vs ≡ true → every short_use (composed_uses c us vs) ≡ true → every (use_good n) (composed_uses c us vs) ≡ true
+uses_good : (c n : ℕ) (us vs : List Use) → every (use_good n) us ≡ true → every (use_good n) vs ≡ true
+    → every short_use (composed_uses c us vs) ≡ true → every (use_good n) (composed_uses c us vs) ≡ true
 unfolding composed_uses
 uses_good c n [] vs h k s = every_nil (use_good n)
 uses_good c n (u ∷ us) [] h k s = every_nil (use_good n)

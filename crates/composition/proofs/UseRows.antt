@@ -112,7 +112,8 @@ module _ (u : Use) (short : length u.mixtures ≤ mixture_limit) where
     pub row_lent : {row : List ℕ} → row ≡ form_row u → (length (take (rule_width - 0) row) ≡ rule_width) × (kept_well (take (rule_width - 0) row) ≡ true)
     row_lent e = words_well (ap (take (rule_width - 0)) e ∙ row_words_lem)
 
-    pub set_lent : {row : List ℕ} → row ≡ form_row u → (o : ℕ) → (length (take (rule_width - 0) (set row rule_width o)) ≡ rule_width) × (kept_well (take (rule_width - 0) (set row rule_width o)) ≡ true)
+    pub set_lent : {row : List ℕ} → row ≡ form_row u → (o : ℕ) → (length (take (rule_width - 0) (set row rule_width o)) ≡ rule_width)
+        × (kept_well (take (rule_width - 0) (set row rule_width o)) ≡ true)
     set_lent e o = words_well (ap (λ (x : List ℕ). take (rule_width - 0) (set x rule_width o)) e ∙ set_words o)
 
 module _ (c : ℕ) (u v : Use) (su : length u.mixtures ≤ mixture_limit) (sv : length v.mixtures ≤ mixture_limit) where

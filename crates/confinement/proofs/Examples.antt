@@ -155,11 +155,13 @@ document_paths = refl
 
 -- the run rules of the two programs
 pub apache_runs : run_mixtures (paths_of document) document (ascii "/usr/bin/apache") ≡ 0x900000006 ∷ []
-unfolding ascii mode_text names_of with_path with_paths paths_of is_one_of some_of reading executing modes_among modes_on file_atoms atoms_from run_mixture profiles_at or_else run_mixtures known_by position_by same_list
+unfolding ascii mode_text names_of with_path with_paths paths_of is_one_of some_of reading executing modes_among modes_on file_atoms
+    atoms_from run_mixture profiles_at or_else run_mixtures known_by position_by same_list
 apache_runs = refl
 
 pub ftpd_runs : run_mixtures (paths_of document) document (ascii "/usr/bin/ftpd") ≡ 0x800000010 ∷ []
-unfolding ascii mode_text names_of with_path with_paths paths_of is_one_of some_of reading executing modes_among modes_on file_atoms atoms_from run_mixture profiles_at or_else run_mixtures known_by position_by same_list
+unfolding ascii mode_text names_of with_path with_paths paths_of is_one_of some_of reading executing modes_among modes_on file_atoms
+    atoms_from run_mixture profiles_at or_else run_mixtures known_by position_by same_list
 ftpd_runs = refl
 
 -- permit rule and run rule of each path

@@ -55,7 +55,8 @@ module _ (ns : List (List ℕ)) (q : List ℕ) where
     where
       by : (b : Bool) → b ≡ meets (mode_bits (modes_on p q)) w
           → chosen_by w more (bits_on q ps) (map (run_mixture ns) ps) ≡ map (λ p. bit_or (run_mixture ns p) more) (programs_with wanted q ps)
-          → cond (meets (mode_bits (modes_on p q)) w) (bit_or (run_mixture ns p) more ∷ chosen_by w more (bits_on q ps) (map (run_mixture ns) ps)) (chosen_by w more (bits_on q ps) (map (run_mixture ns) ps))
+          → cond (meets (mode_bits (modes_on p q)) w) (bit_or (run_mixture ns p) more ∷ chosen_by w more (bits_on q ps) (map (run_mixture ns) ps))
+          (chosen_by w more (bits_on q ps) (map (run_mixture ns) ps))
           ≡ map (λ p. bit_or (run_mixture ns p) more) (cond b (p ∷ programs_with wanted q ps) (programs_with wanted q ps))
       by true e ih = rw (← e) (ap (λ (l : List ℕ). bit_or (run_mixture ns p) more ∷ l) ih)
       by false e ih = rw (← e) ih

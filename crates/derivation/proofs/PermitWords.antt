@@ -62,7 +62,8 @@ pub record PermitListed (reads writes : List ℕ) (b : ℕ) (words : List ℕ) (
   pub words_are : words ≡ 0 ∷ padded done
   pub left : done ++ writer_mixtures (drop s reads) (drop s writes) b ≡ writer_mixtures reads writes b
 
-pub permit_start : (reads writes : List ℕ) (b : ℕ) {words : List ℕ} → length writes ≡ length reads → length reads ≤ subject_limit → words ≡ replicate rule_width 0 → PermitListed reads writes b words 0 0
+pub permit_start : (reads writes : List ℕ) (b : ℕ) {words : List ℕ} → length writes ≡ length reads → length reads ≤ subject_limit
+    → words ≡ replicate rule_width 0 → PermitListed reads writes b words 0 0
 unfolding padded
 permit_start reads writes b e f z = record { place = omega arith; even = e; few = f; done = []; sum = refl; most = omega arith; words_are = z; left = refl }
 
@@ -262,6 +263,7 @@ module _ (reads writes : List ℕ) (n : ℕ) where
           let w = part_wrote words ws (b * form_width) form_width (ap length e ∙ long_row b) in
           rows_next g (omega (arith, permit_rows_lem)) (e ∙ permit_row b l) (record { buffer = w.buffer; ends = sym m ∙ w.ends })
 
-    pub permits_end : {before words : List ℕ} {b : ℕ} → RowsWritten permit_rows before 0 words (b * form_width) b → before ≡ replicate (n * form_width) 0 → n ≤ b → words ≡ form_words (map unowned permits)
+    pub permits_end : {before words : List ℕ} {b : ℕ} → RowsWritten permit_rows before 0 words (b * form_width) b → before
+        ≡ replicate (n * form_width) 0 → n ≤ b → words ≡ form_words (map unowned permits)
     unfolding form_words
     permits_end g z l = wrote_whole (ap length z ∙ length-replicate {A = ℕ} (n * form_width) 0 ∙ sym permits_size) (rows_end g (omega (arith, permit_rows_lem)))

@@ -80,16 +80,19 @@ module _ (i t why : List ℕ) (h : WhyNumbers i t why) (j : ℕ) (l : j < length
   before_is : (b : Bool) → b ≡ elem (get_or why (why_atoms_at + j) 0) (take j (drop why_atoms_at why)) → b ≡ told_already
   before_is b e = e ∙ ap₂ (λ (k : ℕ) (x : List ℕ). elem k x) atom_at atoms_before
 
-  line_is : (m k : ℕ) → m ≡ get_or (mixtures_of i t) j 0 → k ≡ get_or why (why_atoms_at + j) 0 → lacks_line m k ≡ lacks_line (get_or (mixtures_of i t) j 0) (lacked_in i t (get_or (mixtures_of i t) j 0))
+  line_is : (m k : ℕ) → m ≡ get_or (mixtures_of i t) j 0 → k ≡ get_or why (why_atoms_at + j) 0 → lacks_line m k
+      ≡ lacks_line (get_or (mixtures_of i t) j 0) (lacked_in i t (get_or (mixtures_of i t) j 0))
   line_is m k e f = ap₂ (λ (x y : ℕ). lacks_line x y) e (f ∙ atom_at)
 
-  pub mixture_known : (m k a b : ℕ) (r : Bool) → m ≡ get_or (mixtures_of i t) j 0 → k ≡ get_or why (why_atoms_at + j) 0 → r ≡ elem (get_or why (why_atoms_at + j) 0) (take j (drop why_atoms_at why)) → r ≡ true
+  pub mixture_known : (m k a b : ℕ) (r : Bool) → m ≡ get_or (mixtures_of i t) j 0 → k ≡ get_or why (why_atoms_at + j) 0 → r
+      ≡ elem (get_or why (why_atoms_at + j) 0) (take j (drop why_atoms_at why)) → r ≡ true
       → Handed (lacks_line m k) a b → Handed (mixture_text i t j) a b
   unfolding mixture_text
   mixture_known m k a b r e f g p x =
       handed_as (line_is m k e f ∙ sym (append-nil _) ∙ rw (sym (before_is r g) ∙ p) refl) x
 
-  pub mixture_new : (m k a b d : ℕ) (r : Bool) → m ≡ get_or (mixtures_of i t) j 0 → k ≡ get_or why (why_atoms_at + j) 0 → r ≡ elem (get_or why (why_atoms_at + j) 0) (take j (drop why_atoms_at why)) → r ≡ false
+  pub mixture_new : (m k a b d : ℕ) (r : Bool) → m ≡ get_or (mixtures_of i t) j 0 → k ≡ get_or why (why_atoms_at + j) 0 → r
+      ≡ elem (get_or why (why_atoms_at + j) 0) (take j (drop why_atoms_at why)) → r ≡ false
       → Handed (lacks_line m k) a b → Handed (came_in i t k) b d → Handed (mixture_text i t j) a d
   unfolding mixture_text
   mixture_new m k a b d r e f g p x y =

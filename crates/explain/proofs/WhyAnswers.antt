@@ -164,7 +164,8 @@ unfolding rule_told rule_text
 rule_is_told i t why steps h e = rw (h.kind, h.rule, h.owner, h.made, h.holder, e) refl
 
 -- the lines of an explanation, one behind the other
-pub explained : (i t why steps front : List ℕ) (n a b d e : ℕ) (blocked : Bool) → WhyNumbers i t why → drop (get_or why why_chain_at 0) steps ≡ (reason_in i t).chain → blocked ≡ is_blocked (answered i t)
+pub explained : (i t why steps front : List ℕ) (n a b d e : ℕ) (blocked : Bool) → WhyNumbers i t why → drop (get_or why why_chain_at 0) steps
+    ≡ (reason_in i t).chain → blocked ≡ is_blocked (answered i t)
     → front ≡ found_line blocked n (get_or why why_receiver_at 0) → Handed front a b → Handed (rule_told why steps) b d → Handed (mixtures_text i t) d e → Handed (explanation_text i t n) a e
 unfolding explanation_text
 explained i t why steps front n a b d e blocked h g k f x y z =

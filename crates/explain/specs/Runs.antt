@@ -9,7 +9,8 @@ use Rattle.image.specs.Limits.{container_limit, image_limit}
 use Rattle.image.specs.Policy.{owner_at}
 use Rattle.image.specs.Image.{check_of, policy_in}
 use Rattle.records.specs.Records.{record_length}
-use Rattle.certificate.specs.Whys.{why_length, answered, forbidden_last, reason_in, why_receiver_at, why_kind_at, why_record_at, why_holder_at, why_rule_at, why_owner_at, why_chain_at, why_count_at, why_atoms_at}
+use Rattle.certificate.specs.Whys.{why_length, answered, forbidden_last, reason_in, why_receiver_at, why_kind_at, why_record_at, why_holder_at, why_rule_at, why_owner_at, why_chain_at}
+use Rattle.certificate.specs.Whys.{why_count_at, why_atoms_at}
 use Rattle.explanations.specs.Lines.{lacks_line, rule_line}
 use Rattle.files.specs.Calls.{Handed, FileIs, FileLoaded}
 use Rattle.explain.specs.Texts.{mixtures_of, lacked_in, came_in, is_forbidden, records_text, answers_to, trace_text, explanations_of}
@@ -45,7 +46,8 @@ pub record WhyNumbers (i t why : List ℕ) : Type 0 where
 
 -- the line of the rule, as the numbers say it, with the chain that stands in the buffer
 unfoldable pub rule_told : List ℕ → List ℕ → List ℕ
-rule_told why steps = rule_line (get_or why why_kind_at 0) (get_or why why_rule_at 0) (get_or why why_owner_at 0) (get_or why why_record_at 0) (get_or why why_holder_at 0) (drop (get_or why why_chain_at 0) steps)
+rule_told why steps =
+    rule_line (get_or why why_kind_at 0) (get_or why why_rule_at 0) (get_or why why_owner_at 0) (get_or why why_record_at 0) (get_or why why_holder_at 0) (drop (get_or why why_chain_at 0) steps)
 
 -- the lines of mixture number j
 unfoldable pub mixture_text : List ℕ → List ℕ → ℕ → List ℕ

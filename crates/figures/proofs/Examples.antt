@@ -25,7 +25,8 @@ unfolding trace_line too_many figures_line figure_fields name_of rate_fields ale
 containers_rise = refl
 
 pub no_step : trace_line 63 (figures_of []) ≡ ascii "63.bin 0 0 0 0 none\n"
-unfolding trace_line too_many figures_of test_at count_of figures_line figure_fields name_of rate_fields alert_fields count_fields fields_from container_fields line decimal decimal_in digits digit ascii
+unfolding trace_line too_many figures_of test_at count_of figures_line figure_fields name_of rate_fields alert_fields
+    count_fields fields_from container_fields line decimal decimal_in digits digit ascii
 no_step = refl
 
 -- 1,000,000 records are shown, one more is 19

@@ -1,7 +1,8 @@
 -- THE MONTH'S FIGURES: what is proved of them (change requests No. 6 and 9). `month_text` (specs/Months.antt) is every byte that the program
 -- prints. It is stated over `run_answers`, the answers of which demand 3 speaks (crates/monitor/proofs/Theorems.antt). What the program
 -- hands on are the texts of `put_trace` and `put_total` for what `add_part` and `add_total` have counted.
-use Rattle.std.proofs.Common.{◌≡◌, ℕ, zero, suc, ◌+◌, ◌-◌, ◌*◌, ◌/◌, ◌%◌, ◌^◌, ◌<◌, ◌≤◌, Bool, true, false, ◌≢◌, ◌⊎◌, ◌↔◌, List, [], ◌∷◌, ◌++◌, map, length, take, sym, refl, ap, ◌∙◌, inl, inr, mod-lt, arith, take_all, take-take, eq-eqb, ne_eqb}
+use Rattle.std.proofs.Common.{◌≡◌, ℕ, zero, suc, ◌+◌, ◌-◌, ◌*◌, ◌/◌, ◌%◌, ◌^◌, ◌<◌, ◌≤◌, Bool, true, false, ◌≢◌, ◌⊎◌, ◌↔◌, List, [], ◌∷◌, ◌++◌, map, length, take, sym, refl, ap, ◌∙◌, inl}
+use Rattle.std.proofs.Common.{inr, mod-lt, arith, take_all, take-take, eq-eqb, ne_eqb}
 use native.Mathlib.Nat.{div-add-mod}
 use lib.ListN.{length-map}
 use Rattle.lists.proofs.Bools.{decide}
@@ -42,7 +43,8 @@ use Rattle.figures.proofs.LongLaws.{many_records, long_line, figures_line_apart}
 
 -- by their names: the accepted, the alerts, the refused, the blocked
 pub counts_told : (l : List Answer)
-    → (accepted_in (figures_of l) ≡ count_of accepted l) × (alerts_in (figures_of l) ≡ count_of is_alert l) × (refused_in (figures_of l) ≡ count_of is_refused l) × (blocked_in (figures_of l) ≡ count_of is_blocked l)
+    → (accepted_in (figures_of l) ≡ count_of accepted l) × (alerts_in (figures_of l) ≡ count_of is_alert l)
+    × (refused_in (figures_of l) ≡ count_of is_refused l) × (blocked_in (figures_of l) ≡ count_of is_blocked l)
 unfolding figures_of test_at
 counts_told l = (refl, refl, refl, refl)
 

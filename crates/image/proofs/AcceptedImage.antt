@@ -54,7 +54,8 @@ unfolding part_good
 part_end i from k h = leb-true (offset i k + section_length i k) (length i) (and_1 (leb from (offset i k)) h)
 
 module _ (i : List ℕ) (h : pairs_good i ≡ true) where
-  after_0 : (part_good i header_size 0 && (part_good i (offset i 0 + section_length i 0) 1 && (part_good i (offset i 1 + section_length i 1) 2 && part_good i (offset i 2 + section_length i 2) 3))) ≡ true
+  after_0 : (part_good i header_size 0 &&
+      (part_good i (offset i 0 + section_length i 0) 1 && (part_good i (offset i 1 + section_length i 1) 2 && part_good i (offset i 2 + section_length i 2) 3))) ≡ true
   unfolding pairs_good
   after_0 = and_1 (eqb (field i 0 size16) leading_number) h
 

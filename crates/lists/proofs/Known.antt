@@ -78,7 +78,8 @@ module _ {A : Type 0} (same : A → A → Bool) where
     position_at d r [] h = clash h refl
     position_at d r (x ∷ t) h = by (same r x) refl h (position_at d r t)
       where
-        by : (b : Bool) → same r x ≡ b → (b || known_by same r t) ≡ true → (known_by same r t ≡ true → get_or t (position_by same r t) d ≡ r) → get_or (x ∷ t) (cond b 0 (suc (position_by same r t))) d ≡ r
+        by : (b : Bool) → same r x ≡ b → (b || known_by same r t) ≡ true → (known_by same r t ≡ true → get_or t (position_by same r t) d ≡ r)
+            → get_or (x ∷ t) (cond b 0 (suc (position_by same r t))) d ≡ r
         by true e k ih = sym (eq r x e)
         by false e k ih = ih k
 

@@ -144,7 +144,8 @@ module _ (f : ℕ → ℕ → Bool) (n : ℕ) (rows : List ℕ) where
   unfolding bit_at
   spelling_above a b l h = ap (λ (x : ℕ). has x b) (spelling_row a l) ∙ bits_above (f a) object_limit b h
 
-  pub spelling_is : (after : List ℕ) → n ≤ length rows → length after ≡ length rows → ((a : ℕ) → a < n → get_or after a 0 ≡ bits_of (f a) object_limit) → ((a : ℕ) → n ≤ a → get_or after a 0 ≡ get_or rows a 0)
+  pub spelling_is : (after : List ℕ) → n ≤ length rows → length after ≡ length rows → ((a : ℕ) → a < n → get_or after a 0 ≡ bits_of (f a) object_limit)
+      → ((a : ℕ) → n ≤ a → get_or after a 0 ≡ get_or rows a 0)
       → after ≡ spelling f n rows
   spelling_is after h l e r = ext_get_or 0 after (spelling f n rows) (l ∙ sym (spelling_length h)) (λ a m. by a (dec_lt a n))
     where

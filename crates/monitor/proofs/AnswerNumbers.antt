@@ -78,7 +78,8 @@ pub number_refused : (s r : List ℕ) → refusal_of s r ≢ 0
 number_refused s r n = (ap answer_number (refused_answer s r n), never_alert s r, never_blocked s r)
 
 -- "A refusal returns its number, zeros elsewhere"
-pub refused_zeros : (s r : List ℕ) → refusal_of s r ≢ 0 → (is_alert (step_answer s r) ≡ false) × (receiver_of (step_answer s r) ≡ 0) × (tag_of (step_answer s r) ≡ 0) × (position_of (step_answer s r) ≡ 0)
+pub refused_zeros : (s r : List ℕ) → refusal_of s r ≢ 0 → (is_alert (step_answer s r) ≡ false) × (receiver_of (step_answer s r) ≡ 0)
+    × (tag_of (step_answer s r) ≡ 0) × (position_of (step_answer s r) ≡ 0)
 refused_zeros s r n = (ap is_alert (refused_answer s r n), ap receiver_of (refused_answer s r n), ap tag_of (refused_answer s r n), ap position_of (refused_answer s r n))
 
 -- no refusal of a step has the number of another answer

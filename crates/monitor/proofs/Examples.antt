@@ -103,7 +103,12 @@ G = record {
 
 -- the run rules of Q, the second that of a guarded file which permits nothing at all
 abbrev pub H : Policy
-H = record { containers = file no_atom 0 ∷ guarded_file no_atom 2 1 ∷ process ∷ []; users = []; rules = (62 ∷ 61 ∷ 59 ∷ []) ∷ (55 ∷ 47 ∷ 31 ∷ []) ∷ [] ∷ []; owners = no_owner ∷ no_owner ∷ no_owner ∷ [] }
+H = record {
+  containers = file no_atom 0 ∷ guarded_file no_atom 2 1 ∷ process ∷ [];
+  users = [];
+  rules = (62 ∷ 61 ∷ 59 ∷ []) ∷ (55 ∷ 47 ∷ 31 ∷ []) ∷ [] ∷ [];
+  owners = no_owner ∷ no_owner ∷ no_owner ∷ [];
+}
 
 -- files with the atoms 0, 1 and 3, a guarded file with the atom 2, a process and two users: the permit rules of file 1 and of the guarded
 -- file and the rule of user 0 have the mixtures 3, 5 and 6, given in another order; the rule of user 1 has none

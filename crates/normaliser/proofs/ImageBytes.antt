@@ -128,7 +128,8 @@ module _ {c u r m before o1 o2 o3 o4 : List ℕ} {a1 a2 a3 a4 : ℕ} (room : hea
 
 -- the room that is asked for, in the sizes of the sections
 pub sections_room : {containers users forms classes ranks order out : List ℕ} → Writable containers users forms classes ranks order out
-    → header_size + length (container_section containers classes ranks) + length (user_section users classes ranks) + length (rule_section forms order) + length (mixture_section forms order) ≤ length out
+    → header_size + length (container_section containers classes ranks) + length (user_section users classes ranks) + length
+    (rule_section forms order) + length (mixture_section forms order) ≤ length out
 sections_room {containers} {users} {forms} {classes} {ranks} {order} w =
     omega (
       arith,

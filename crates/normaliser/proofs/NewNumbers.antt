@@ -213,7 +213,8 @@ module _ (containers users forms : List ℕ) (t : Tabled containers users forms)
         unfolding new_number number_of
         number_at = ap (λ (b : Bool). cond b unrestricted_number (get_or ranks (class_at classes k) 0 - 1)) is_none ∙ by (same_use (use_at P k) free_use) refl
           where
-            by : (b : Bool) → same_use (use_at P k) free_use ≡ b → cond b unrestricted_number (get_or ranks (class_at classes k) 0 - 1) ≡ cond b unrestricted_number (position_by same_use (use_at P k) T)
+            by : (b : Bool) → same_use (use_at P k) free_use ≡ b → cond b unrestricted_number (get_or ranks (class_at classes k) 0 - 1)
+                ≡ cond b unrestricted_number (position_by same_use (use_at P k) T)
             by true d = refl
             by false d = omega (arith, place_is d)
 

@@ -49,7 +49,8 @@ row_long u h = length-append (words_of u.mixtures) (u.owner ∷ []) ∙ ap (λ (
 -- the words were put, then the owner
 pub row_put : (row ws : List ℕ) (o : ℕ) → length row ≡ form_width → length ws ≡ rule_width → set (put_mid 0 (rule_width - 0) row ws) rule_width o ≡ ws ++ (o ∷ [])
 row_put row ws o h l =
-    ap (λ (x : List ℕ). set (ws ++ x) rule_width o) (drop-cons row rule_width 0 (omega arith) ∙ ap (λ (x : List ℕ). get_or row rule_width 0 ∷ x) (drop_of_length-le row {i = suc rule_width} (omega arith)))
+    ap (λ (x : List ℕ). set (ws ++ x) rule_width o)
+    (drop-cons row rule_width 0 (omega arith) ∙ ap (λ (x : List ℕ). get_or row rule_width 0 ∷ x) (drop_of_length-le row {i = suc rule_width} (omega arith)))
     ∙ ap (λ (k : ℕ). set (ws ++ (get_or row rule_width 0 ∷ [])) k o) (sym l)
     ∙ behind ws
   where

@@ -15,7 +15,8 @@ use Rattle.fields.specs.Writing.{overwritten, Wrote}
 use Rattle.image.specs.Limits.{rule_limit, user_size, mixture_size, output_bound}
 use Rattle.image.specs.Policy.{Container, Policy}
 use Rattle.image.specs.Image.{containers_in, users_in}
-use Rattle.image.specs.Normal.{Use, use_at, owned_place, owned, number_of, container_of, written_by, written_uses, policy_of, normal_policy, container_bytes, span_bytes, spans_of, framed, encode, normal_image}
+use Rattle.image.specs.Normal.{Use, use_at, owned_place, owned, number_of, container_of, written_by, written_uses, policy_of, normal_policy, container_bytes, span_bytes, spans_of, framed}
+use Rattle.image.specs.Normal.{encode, normal_image}
 use Rattle.normaliser.specs.Writer.{form_width, policy_given, forms_in, policy_at, container_uses, Tabled, rules_needed, writer_answer, writer_effect, Answered}
 use Rattle.normaliser.specs.Tables.{use_of, form_at, form_owner, Classified, class_at, class_named, with_classes, Ordered, found}
 use Rattle.normaliser.specs.Sections.{container_section, user_section, rule_section, mixture_bytes, mixture_section, Writable}
@@ -150,7 +151,8 @@ module _ (containers users forms : List ℕ) (t : Tabled containers users forms)
     written c u mixtures owners = framed c u (joined (map span_bytes (spans_of 0 mixtures owners))) (joined (map (bytes_of mixture_size) (joined mixtures)))
 
     -- the sections from the tables are those of the normal policy
-    pub image_is : framed (container_section containers classes ranks) (user_section users classes ranks) (rule_section forms (take m order)) (mixture_section forms (take m order)) ≡ normal_image policy
+    pub image_is : framed (container_section containers classes ranks) (user_section users classes ranks) (rule_section forms (take m order)) (mixture_section forms (take m order))
+        ≡ normal_image policy
     unfolding normal_image container_section user_section rule_section mixture_section mixture_bytes
     image_is =
         ap₂ (λ (c u : List ℕ). written c u (map (form_at forms) (take m order)) (map (form_owner forms) (take m order)))

@@ -239,8 +239,11 @@ module _ (s : List ℕ) (c d t : ℕ) (step : Step) (j : judged step ≡ true) (
 
     withheld_late : (a : Answer) → a ≡ withheld_answer s c d t → Done s step a s
     unfolding late_answer late_effect made_answer made_effect withheld_answer verdict absorbed
-    withheld_late a ea =
-        (ea ∙ ap (λ (k : ℕ). cond (fits (shared_run s c d)) (blocked k t no_position) (refused over_limit)) (sym er) ∙ rw (ew, eg, b, withheld_missed), rw (ew, b) (sym (either (meet_good (view s) step))))
+    withheld_late a ea = (
+      ea ∙ ap (λ (k : ℕ). cond (fits (shared_run s c d)) (blocked k t no_position) (refused over_limit)) (sym er)
+          ∙ rw (ew, eg, b, withheld_missed),
+      rw (ew, b) (sym (either (meet_good (view s) step))),
+    )
 
 one_fits : (r : List ℕ) → every fits (r ∷ []) ≡ fits r
 unfolding every
@@ -377,7 +380,8 @@ all_short = omega arith
 empty_place : (r : List ℕ) (m : Bounded) → m ≡ bounded_of r → length r ≤ mixture_limit → (k : ℕ) → k ≡ cond (eqb m.count 0) no_position 0 → k ≡ cover_place r 0
 empty_place r m e l k ek = ek ∙ rw (e, bounded_some r (le-leb (length r) mixture_limit l)) (sym (place_empty r))
 
-pub file_done : (s : List ℕ) (p o u : ℕ) → Ready s (new_file p o u) → (m : Bounded) → m ≡ bounded_of (rule_or ((view s).user u)) → (n : Bounded) → n ≡ bounded_of (unrestricted tag_width) → (ws : List ℕ)
+pub file_done : (s : List ℕ) (p o u : ℕ) → Ready s (new_file p o u) → (m : Bounded) → m ≡ bounded_of (rule_or ((view s).user u))
+    → (n : Bounded) → n ≡ bounded_of (unrestricted tag_width) → (ws : List ℕ)
     → ws ≡ new_words file_kind 0 m n nobody → (k : ℕ) → k ≡ cond (eqb m.count 0) no_position 0 → Done s (new_file p o u) (quiet o 0 k) (returned s o ws)
 unfolding entry new_file_row unrestricted_rule meet_good every is_guarded
 file_done s p o u h m em n en ws ew k ek =

@@ -47,7 +47,8 @@ module _ (s : List ℕ) (l : length s ≡ session_length) (c : ℕ) (k : c < con
   unfolding placed view
   seen_row d = by (eqb d c) refl
     where
-      by : (b : Bool) → eqb d c ≡ b → cond (ltb d container_limit) (row_of (container_row (put_row s c words) d)) free_row ≡ cond b w (cond (ltb d container_limit) (row_of (container_row s d)) free_row)
+      by : (b : Bool) → eqb d c ≡ b → cond (ltb d container_limit) (row_of (container_row (put_row s c words) d)) free_row
+          ≡ cond b w (cond (ltb d container_limit) (row_of (container_row s d)) free_row)
       by true e =
           subst (λ (x : ℕ). (view (put_row s c words)).row x ≡ w) (sym (eqb-true d c e))
           (view_row (put_row s c words) c k ∙ ap row_of placed_row ∙ W.said)

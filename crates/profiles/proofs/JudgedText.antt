@@ -164,7 +164,8 @@ module _ (t : List ℕ) (seen : List (List ℕ)) (b : Bool) (at : ℕ) where
         (λ h. eq-eqb (length (line_text l ++ w)) (length (drop at t)) (omega (arith, eqb-true (length w) (length (drop next t)) h, n, length-drop at t, length-drop next t, line_room)))
 
     pub left_line : left_good t seen b at
-        ≡ (eqb (length (lines_text (lines_in (drop (at + length (line_text l)) t)))) (length (drop (at + length (line_text l)) t)) && lines_judged seen b (l ∷ lines_in (drop (at + length (line_text l)) t)))
+        ≡ (eqb (length (lines_text (lines_in (drop (at + length (line_text l)) t)))) (length (drop (at + length (line_text l)) t)) && lines_judged seen b
+        (l ∷ lines_in (drop (at + length (line_text l)) t)))
     unfolding left_good
     left_line =
         ap (λ (ls : List Line). eqb (length (lines_text ls)) (length (drop at t)) && lines_judged seen b ls) (lines_more t at l i e)

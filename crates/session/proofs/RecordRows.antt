@@ -50,7 +50,8 @@ module _ (users rules m : List ℕ) (good : every (named (length rules / rule_si
       (every_map (named (length rules / rule_size)) (λ r. leb (length r) mixture_limit) (normal_at (rules_in rules m)) (users_in users)
       (λ n h. le-leb (length (normal_at (rules_in rules m) n)) mixture_limit (normal_short rules m n spans h)) good)
 
-  pub user_given : (i : ℕ) → i < length users / user_size → user_words (normal_at (rules_in rules m) (field users (i * user_size) user_size)) ≡ get_or (user_rows users rules m) i (replicate user_width 0)
+  pub user_given : (i : ℕ) → i < length users / user_size → user_words (normal_at (rules_in rules m) (field users (i * user_size) user_size))
+      ≡ get_or (user_rows users rules m) i (replicate user_width 0)
   unfolding users_in field
   user_given i l =
       let k : i < length (users_in users) = omega (arith, users_count users) in
@@ -91,7 +92,8 @@ module _ (r rules m : List ℕ) (good : container_good (length rules / rule_size
       → k ∷ t ∷ (p ++ (q ++ (nobody ∷ []))) ≡ place_words (place_of (rules_in rules m) (container_in r))
   unfolding place_words row_words start_row place_of container_in
   container_row k t p q e f g h =
-      ap₂ (λ (x y : ℕ). x ∷ y ∷ (p ++ (q ++ (nobody ∷ [])))) e f ∙ ap₂ (λ (x y : List ℕ). field r container_kind_at size8 ∷ start_tag (field r container_atom_at size8) ∷ (x ++ (y ++ (nobody ∷ [])))) g h
+      ap₂ (λ (x y : ℕ). x ∷ y ∷ (p ++ (q ++ (nobody ∷ [])))) e f
+      ∙ ap₂ (λ (x y : List ℕ). field r container_kind_at size8 ∷ start_tag (field r container_atom_at size8) ∷ (x ++ (y ++ (nobody ∷ [])))) g h
 
 -- ---- containers
 

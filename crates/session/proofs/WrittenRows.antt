@@ -78,7 +78,8 @@ user_put [] ws rule h e = absurd (omega arith)
 user_put (x ∷ row) ws rule h e =
     ap₂ (λ (a b : List ℕ). declared ∷ (a ++ b)) e (drop_of_length-le row {i = rule_width} (omega arith)) ∙ ap (λ (a : List ℕ). declared ∷ a) (append-nil (words_of rule))
 
-pub user_long : (row ws rule : List ℕ) → length row ≡ user_width → ws ≡ words_of rule → length rule ≤ mixture_limit → length (put_mid user_rule_at rule_width (set row declared_at declared) ws) ≡ length row
+pub user_long : (row ws rule : List ℕ) → length row ≡ user_width → ws ≡ words_of rule → length rule ≤ mixture_limit
+    → length (put_mid user_rule_at rule_width (set row declared_at declared) ws) ≡ length row
 unfolding user_words
 user_long row ws rule h e l = ap length (user_put row ws rule h e) ∙ omega (arith, words_nine rule l)
 

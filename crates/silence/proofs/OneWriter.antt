@@ -56,7 +56,8 @@ alone_mixed reads writes b m (x ∷ ms) e h = inr (writer_mixed reads writes b m
 module _ (reads writes : List ℕ) (n b : ℕ) (lb : b < n) where
   source_in : (a : ℕ) → Composed reads writes n a b → atom (sources_of reads writes n b) a ≡ 1
   unfolding sources_of
-  source_in a c = has_atom (bits_of (λ k. composed reads writes n k b) n) a (bits_has (λ k. composed reads writes n k b) n a (path_source c) ∙ (composed_path reads writes n a b (path_source c) lb).1 c)
+  source_in a c = has_atom (bits_of (λ k. composed reads writes n k b) n) a
+      (bits_has (λ k. composed reads writes n k b) n a (path_source c) ∙ (composed_path reads writes n a b (path_source c) lb).1 c)
 
   -- one writer that reads every other source, or no source but the object itself
   pub quiet_words : quiet_object reads writes n b ≡ true
@@ -141,7 +142,8 @@ module _ (reads writes : List ℕ) (n b : ℕ) (even : length writes ≡ length 
       to s l w (inl f) = (s, l, w, λ a c. inl (f a c))
       to s l w (inr z) = z
 
-      from : ((s : ℕ) → s < length reads → has (get_or writes s 0) b ≡ true → ReadsSources reads writes n b) → (ms : List ℕ) → writer_mixtures reads writes b ≡ ms → quiet_object reads writes n b ≡ true
+      from : ((s : ℕ) → s < length reads → has (get_or writes s 0) b ≡ true → ReadsSources reads writes n b) → (ms : List ℕ)
+          → writer_mixtures reads writes b ≡ ms → quiet_object reads writes n b ≡ true
       from f [] e = alone_quiet reads writes n even b lb e
       from f (m ∷ r) e = let z = writer reads writes b m r even e in reads_quiet (f z.0 z.1 z.2)
 

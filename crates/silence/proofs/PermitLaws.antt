@@ -91,7 +91,8 @@ module _ {reads writes : List ℕ} {b tag s : ℕ} (g : Permitting reads writes 
     rest = turn true l (has_is (get_or writes s 0) b t) ∙ ap (λ (x : Bool). (x || covers Behind tag) || holds (2 ^ b) tag) (holds_not (bit_or (get_or reads s 0) (2 ^ b)) tag (rw o at h));
   }
 
-  pub permitting_found : s < length reads → get_or writes s 0 / 2 ^ b % 2 ≡ 1 → (own : ℕ) → own ≡ 2 ^ b → bit_and (bit_or (get_or reads s 0) own) tag ≡ tag → true ≡ covers (permit_of reads writes b) tag
+  pub permitting_found : s < length reads → get_or writes s 0 / 2 ^ b % 2 ≡ 1 → (own : ℕ) → own ≡ 2 ^ b
+      → bit_and (bit_or (get_or reads s 0) own) tag ≡ tag → true ≡ covers (permit_of reads writes b) tag
   unfolding covers
   permitting_found l t own o h =
       sym (turn true l (has_is (get_or writes s 0) b t) ∙ ap (λ (x : Bool). (x || covers Behind tag) || holds (2 ^ b) tag) (holds_is (bit_or (get_or reads s 0) (2 ^ b)) tag (rw o at h)))

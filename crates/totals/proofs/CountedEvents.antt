@@ -1,5 +1,6 @@
 -- One more answer in the numbers of the figures, and what stands at each place behind those of the records and the accepted.
-use Rattle.std.proofs.Common.{◌≡◌, ℕ, zero, suc, ◌+◌, ◌^◌, ◌<◌, ◌≤◌, Bool, true, false, cond, eqb, List, length, get_or, sym, refl, ap, ◌∙◌, mod-eq_of_lt, arith, length-set, get_or-set_other, get_or-set_same, eqb-true}
+use Rattle.std.proofs.Common.{◌≡◌, ℕ, zero, suc, ◌+◌, ◌^◌, ◌<◌, ◌≤◌, Bool, true, false, cond, eqb, List, length, get_or, sym, refl, ap, ◌∙◌, mod-eq_of_lt, arith, length-set}
+use Rattle.std.proofs.Common.{get_or-set_other, get_or-set_same, eqb-true}
 use lib.Seq.{set_out}
 use borrow.Author.Tests.{eqb-false}
 use Rattle.lists.proofs.Bools.{clash}
@@ -92,7 +93,8 @@ module _ (f : List ℕ) (l : length f ≡ figures_length) where
       → get_or (one_counted (one_counted f alert_count_at) (container_counts_at + r)) i 0 ≡ get_or f i 0 + cond b 1 0
   alerted r c i true ie e m h =
       let o = one_other f alert_count_at i (λ z. omega (arith, ie)) in
-      one_here (one_counted f alert_count_at) (container_counts_at + r) i (omega (arith, ie, eqb-true r c e)) (omega (arith, ie, l, one_length f alert_count_at, m, eqb-true r c e)) (omega (arith, o, h refl))
+      one_here (one_counted f alert_count_at) (container_counts_at + r) i (omega (arith, ie, eqb-true r c e))
+      (omega (arith, ie, l, one_length f alert_count_at, m, eqb-true r c e)) (omega (arith, o, h refl))
       ∙ ap (λ (n : ℕ). n + 1) o
   alerted r c i false ie e m h =
       one_other (one_counted f alert_count_at) (container_counts_at + r) i (λ w. eqb-false r c e (omega (arith, ie, w))) ∙ one_other f alert_count_at i (λ w. omega (arith, ie)) ∙ same i

@@ -1,5 +1,6 @@
 -- The loop of `count_trace`, record by record: what is counted, and what is left of the trace, is the whole of it. The refusals of both calls.
-use Rattle.std.proofs.Common.{◌≡◌, ℕ, zero, suc, ◌+◌, ◌%◌, ◌^◌, ◌<◌, ◌≤◌, Bool, true, false, cond, List, [], ◌∷◌, length, get_or, take, drop, set, sym, refl, ap, ◌∙◌, arith, length-set, get_or-set_other, get_or-set_same, ext_get_or, eq-eqb, ne_eqb}
+use Rattle.std.proofs.Common.{◌≡◌, ℕ, zero, suc, ◌+◌, ◌%◌, ◌^◌, ◌<◌, ◌≤◌, Bool, true, false, cond, List, [], ◌∷◌, length, get_or, take, drop, set, sym, refl, ap, ◌∙◌, arith, length-set}
+use Rattle.std.proofs.Common.{get_or-set_other, get_or-set_same, ext_get_or, eq-eqb, ne_eqb}
 use Rattle.lists.proofs.Bools.{and_in}
 use Rattle.answers.specs.Refusals.{lent_length}
 use Rattle.answers.specs.declared.Answer.{Answer}

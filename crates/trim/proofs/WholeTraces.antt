@@ -88,7 +88,14 @@ unfolding record_at last_of
 short_bad t h =
     refuted (record_good (take record_length (drop ((length (trace_records t) - 1) * record_length) t)))
     (λ g. let n : ℕ = length (trace_records t) - 1 in
-    omega (arith, h, ((record_good_lem (take record_length (drop (n * record_length) t))).0 g).0, length-take record_length (drop (n * record_length) t), length-drop (n * record_length) t, records_count t))
+    omega (
+      arith,
+      h,
+      ((record_good_lem (take record_length (drop (n * record_length) t))).0 g).0,
+      length-take record_length (drop (n * record_length) t),
+      length-drop (n * record_length) t,
+      records_count t,
+    ))
 
 pub short_counts : (s t : List ℕ) → (length t % record_length ≡ 0 → ⊥) → cut_counts s t (last_of t) (front_of t) ≡ false
 unfolding cut_counts

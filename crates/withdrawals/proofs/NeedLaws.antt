@@ -116,11 +116,13 @@ module _ (old_reads old_writes reads writes flows : List ℕ) (n : ℕ) (j : Jud
   lost_is old rows s k p q = has_without 32 (get_or old s 0) (get_or rows s 0) k p q
 
   pub subject_is : (s : ℕ) → s < length reads → get_or old_reads s 0 < 2 ^ 32 → get_or old_writes s 0 < 2 ^ 32 → get_or reads s 0 < 2 ^ 32 → get_or writes s 0 < 2 ^ 32
-      → losses_needed (bit_at flows) n (bit_and (get_or old_reads s 0) (2 ^ 32 - 1 - get_or reads s 0)) (bit_and (get_or old_writes s 0) (2 ^ 32 - 1 - get_or writes s 0)) (get_or reads s 0) (get_or writes s 0)
+      → losses_needed (bit_at flows) n (bit_and (get_or old_reads s 0) (2 ^ 32 - 1 - get_or reads s 0))
+      (bit_and (get_or old_writes s 0) (2 ^ 32 - 1 - get_or writes s 0)) (get_or reads s 0) (get_or writes s 0)
       ≡ subject_needed (matrix_of old_reads old_writes n) (matrix_of reads writes n) s
   unfolding losses_needed object_needed loss_needed subject_needed read_needed write_needed
   subject_is s l p q u v =
-      all_same (object_needed (bit_at flows) n (bit_and (get_or old_reads s 0) (2 ^ 32 - 1 - get_or reads s 0)) (bit_and (get_or old_writes s 0) (2 ^ 32 - 1 - get_or writes s 0)) (get_or reads s 0) (get_or writes s 0))
+      all_same (object_needed (bit_at flows) n (bit_and (get_or old_reads s 0) (2 ^ 32 - 1 - get_or reads s 0))
+      (bit_and (get_or old_writes s 0) (2 ^ 32 - 1 - get_or writes s 0)) (get_or reads s 0) (get_or writes s 0))
       (λ k. read_needed (matrix_of old_reads old_writes n) (matrix_of reads writes n) s k && write_needed (matrix_of old_reads old_writes n) (matrix_of reads writes n) s k) n
       (λ k m. ap₂ (λ (x y : Bool). x && y)
       (ap₂ (λ (x y : Bool). cond x (not y) true) (lost_is old_reads reads s k p u)

@@ -288,7 +288,8 @@ module _ (P : Policy) (F : Family) (ns : List ℕ) where
       where
         on : Dec (k ≡ receiver s) → Dec (k ≡ container_limit + receiver s) → get_or (held_after (is_rule F) held n s) k 0 < node_of (suc n)
         on (yes e) r =
-            rw (e, main_put) (next_low (get_or held (receiver s) 0) (main_source (is_rule F) held s) (node_of n) (node_of (suc n)) (ends_main (is_rule F) s) (omega (arith, T.low (receiver s))) (omega arith))
+            rw (e, main_put) (next_low (get_or held (receiver s) 0) (main_source (is_rule F) held s) (node_of n) (node_of (suc n))
+            (ends_main (is_rule F) s) (omega (arith, T.low (receiver s))) (omega arith))
         on (no e) (yes r) =
             rw (r, running_put)
             (next_low (get_or held (container_limit + receiver s) 0) (running_source (is_rule F) held s) (node_of n + 1) (node_of (suc n)) (ends_running s)

@@ -72,7 +72,8 @@ numbers_size h n s (r ∷ rs) =
         let z : step_count (extend h (step_of r) (accepted (step_answer s r))) ≡ suc (step_count h)
         = size_next h s r ∙ ap (λ (b : Bool). cond b (suc (step_count h)) (step_count h)) e in
         omega (arith, z)
-    on false e = let z : step_count (extend h (step_of r) (accepted (step_answer s r))) ≡ step_count h = size_next h s r ∙ ap (λ (b : Bool). cond b (suc (step_count h)) (step_count h)) e in omega (arith, z)
+    on false e = let z : step_count (extend h (step_of r) (accepted (step_answer s r))) ≡ step_count h = size_next h s r
+        ∙ ap (λ (b : Bool). cond b (suc (step_count h)) (step_count h)) e in omega (arith, z)
 
 numbers_bound : (n : ℕ) (s : List ℕ) (rs : List (List ℕ)) (i : ℕ) → i < length (numbers_from n s rs)
     → (n ≤ get_or (numbers_from n s rs) i 0) × (get_or (numbers_from n s rs) i 0 < n + length rs)
@@ -194,7 +195,8 @@ accepted_told s rs =
       are = λ i l. of i (spelled start 0 s rs i (omega arith) l);
     }
   where
-    of : (i : ℕ) → Spelled (history_of step_on step_of s rs) 0 s rs (get_or (numbers_from 0 s rs) (i - 0) 0) i → StepOfRecord (history_of step_on step_of s rs) s rs (get_or (numbers_from 0 s rs) i 0) i
+    of : (i : ℕ) → Spelled (history_of step_on step_of s rs) 0 s rs (get_or (numbers_from 0 s rs) (i - 0) 0) i
+        → StepOfRecord (history_of step_on step_of s rs) s rs (get_or (numbers_from 0 s rs) i 0) i
     of i S =
         let y : i - 0 ≡ i = omega arith in
         let z : get_or (numbers_from 0 s rs) i 0 ≡ S.place = ap (λ (j : ℕ). get_or (numbers_from 0 s rs) j 0) (sym y) ∙ S.number ∙ (omega arith) in
@@ -231,7 +233,8 @@ module _ (s : List ℕ) (rs : List (List ℕ)) where
       }
     where
       by : (accepted (step_answer (run_effect s (take (length rs - 1) rs)) r) ≡ true) ⊎ (is_blocked (step_answer (run_effect s (take (length rs - 1) rs)) r) ≡ true)
-          → (accepted (step_answer (run_effect s (take (length rs - 1) rs)) r) ≡ true) ⊎ ((suc (length rs - 1) ≡ length rs) × (is_blocked (step_answer (run_effect s (take (length rs - 1) rs)) r) ≡ true))
+          → (accepted (step_answer (run_effect s (take (length rs - 1) rs)) r) ≡ true)
+          ⊎ ((suc (length rs - 1) ≡ length rs) × (is_blocked (step_answer (run_effect s (take (length rs - 1) rs)) r) ≡ true))
       by (inl a) = inl a
       by (inr b) = inr (omega (arith, ap length e, length-drop (length rs - 1) rs), b)
 
@@ -301,7 +304,8 @@ module _ (s : List ℕ) (rs : List (List ℕ)) where
       last r more e false g = rw (given_spelled (run_effect s (front_of rs)) r g) (with_one r more e g)
 
       on : (m : List (List ℕ)) → last_of rs ≡ m
-          → Told (with_last (history_of step_on step_of s (front_of rs)) (run_effect s (front_of rs)) m) s rs (accepted_numbers s (front_of rs) ++ last_number (length rs - 1) (run_effect s (front_of rs)) m)
+          → Told (with_last (history_of step_on step_of s (front_of rs)) (run_effect s (front_of rs)) m) s rs
+          (accepted_numbers s (front_of rs) ++ last_number (length rs - 1) (run_effect s (front_of rs)) m)
       on [] e = with_none
       on (r ∷ more) e = last r more e (is_refused (step_answer (run_effect s (front_of rs)) r)) refl
 

@@ -1,6 +1,6 @@
 -- `answers::answer_with`. The three numbers that are no refusal's, one after the other.
 use Rattle.answers.specs.Answers.{answer_with}
-use Rattle.std.proofs.Common.{rules, eq-eqb, ne_eqb}
+use Rattle.std.proofs.Common.{eq-eqb, ne_eqb}
 use Rattle.answers.proofs.answer_with.Goals as goal
 
 pub returns-then-number-eq-QUIET_NUMBER : goal.returns-then-number-eq-QUIET_NUMBER

@@ -1,5 +1,4 @@
 -- `answers::count`. Each count by its test.
-use Rattle.std.proofs.Common.{rules}
 use Rattle.answers.specs.Tallies.{tallied}
 use Rattle.answers.proofs.count.Goals as goal
 

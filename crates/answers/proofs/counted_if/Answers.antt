@@ -1,5 +1,4 @@
 -- `answers::counted_if`. The test that was taken.
-use Rattle.std.proofs.Common.{rules}
 use Rattle.answers.proofs.counted_if.Goals as goal
 
 pub returns-then-counts : goal.returns-then-counts

@@ -1,5 +1,4 @@
 -- `answers::received_of`. A refusal has zeros.
-use Rattle.std.proofs.Common.{rules}
 use Rattle.answers.proofs.received_of.Goals as goal
 
 pub returns-in-Refused : goal.returns-in-Refused

@@ -1,6 +1,5 @@
 -- `yaslaurel_events`: the refusal is what `events::gather_events` ensures, and the counts are handed on unless it is one.
 use mathlib.Core.Path.{sym, ap, ◌∙◌}
-use borrow.Author.Rules.{rules}
 use borrow.Author.Tests.{eq-eqb, ne_eqb}
 use Rattle.events.specs.declared.Gathered.{Gathered}
 use Rattle.capi.proofs.yaslaurel_events.Goals as goal

@@ -1,6 +1,5 @@
 -- `yaslaurel_explain`: the refusal is what `witness::explain` ensures, and the two numbers are handed on unless it is one.
 use mathlib.Core.Path.{sym, ap, ◌∙◌}
-use borrow.Author.Rules.{rules}
 use borrow.Author.Tests.{eq-eqb, ne_eqb}
 use Rattle.witness.specs.declared.Explained.{Explained}
 use Rattle.capi.proofs.yaslaurel_explain.Goals as goal

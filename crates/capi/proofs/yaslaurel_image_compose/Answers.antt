@@ -4,7 +4,6 @@ use mathlib.Core.Path.{◌≡◌, sym, ap, ◌∙◌}
 use borrow.Author.Tests.{eq-eqb, ne_eqb}
 use Rattle.composition.specs.declared.Composition.{Composition}
 use Rattle.capi.specs.Hosts.{length_after}
-use borrow.Author.Rules.{rules}
 use Rattle.capi.proofs.yaslaurel_image_compose.Goals as goal
 
 stays : {x y : Composition} (old : ℕ) → x ≡ y → (x.refusal ≡ 0 → ⊥) → old ≡ length_after y old

@@ -1,6 +1,5 @@
 -- `capi::yaslaurel_matrix_game`. The values are handed on, the move's numbers unless the game is refused.
 use mathlib.Core.Path.{ap, ◌∙◌}
-use borrow.Author.Rules.{rules}
 use borrow.Author.Tests.{lt-ltb, le-ltb}
 use Rattle.game.specs.declared.OutcomeValues.{OutcomeValues}
 use Rattle.capi.proofs.yaslaurel_matrix_game.Goals as goal

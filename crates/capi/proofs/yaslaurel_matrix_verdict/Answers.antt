@@ -1,7 +1,6 @@
 -- `capi::yaslaurel_matrix_verdict`. Each case of the verdict gives the number and what is written.
 use mathlib.Core.Path.{sym, ap, ◌∙◌}
 use Rattle.matrix.specs.Verdicts.{consistency_values}
-use borrow.Author.Rules.{rules}
 use Rattle.capi.proofs.yaslaurel_matrix_verdict.Goals as goal
 
 pub returns-in-Refused : goal.returns-in-Refused

@@ -1,6 +1,5 @@
 -- `yaslaurel_trace_trim`: the refusal is what `trim::trim` ensures, and the count is handed on unless it is one.
 use mathlib.Core.Path.{sym, ap, ◌∙◌}
-use borrow.Author.Rules.{rules}
 use borrow.Author.Tests.{eq-eqb, ne_eqb}
 use Rattle.trim.specs.declared.Trimmed.{Trimmed}
 use Rattle.capi.proofs.yaslaurel_trace_trim.Goals as goal

@@ -17,4 +17,5 @@ returns-then-q-ge-NEW_VOLATILE_CODE c =
 
 pub returns : goal.returns
 returns c =
-    mark_stays c.args.marks.now c.args.n c.args.q c.requires.2 c.if-q-eq-EXEC_CODE.false c.if-q-eq-NEW_FILE_CODE.false c.if-q-eq-FORK_CODE.false c.if-q-ge-NEW_VOLATILE_CODE.false c.receiver_of-to.ensures.0
+    mark_stays c.args.marks.now c.args.n c.args.q c.requires.2 c.if-q-eq-EXEC_CODE.false c.if-q-eq-NEW_FILE_CODE.false
+    c.if-q-eq-FORK_CODE.false c.if-q-ge-NEW_VOLATILE_CODE.false c.receiver_of-to.ensures.0

@@ -15,7 +15,8 @@ returns-then-not-write_front c = failed (c.write_front.ensures.told (not-true _ 
 
 pub show_rule-requires : goal.show_rule-requires
 show_rule-requires c =
-    let sized : (length c.args.links.now ≡ links_length) × (length c.args.steps.now ≡ record_limit) = (search rules, search rules) in omega (arith, why_first _ _ _ _ _ c.requires.0 sized.0 sized.1 refl _ c.why.ensures.1)
+    let sized : (length c.args.links.now ≡ links_length) × (length c.args.steps.now ≡ record_limit) =
+    (search rules, search rules) in omega (arith, why_first _ _ _ _ _ c.requires.0 sized.0 sized.1 refl _ c.why.ensures.1)
 
 pub returns-then-not-show_rule : goal.returns-then-not-show_rule
 returns-then-not-show_rule c = failed (c.show_rule.ensures.told (not-true _ c.if-not-show_rule.true-raw))

@@ -2,7 +2,6 @@
 use Prim.Native.Nat.{◌≤◌}
 use native.Mathlib.Omega.{arith}
 use lib.ListN.{length}
-use borrow.Author.Rules.{rules}
 use Rattle.fields.proofs.WritingLaws.{wrote_ends, wrote_halves}
 use Rattle.fields.proofs.put64.Goals as goal
 

@@ -2,7 +2,6 @@
 use Rattle.fields.proofs.FieldLaws.{field_two}
 use Prim.Native.Nat.{◌+◌}
 use native.Mathlib.Omega.{arith}
-use borrow.Author.Rules.{rules}
 use Rattle.fields.proofs.read16.Goals as goal
 
 pub overflow_cast-result : goal.overflow_cast-result

@@ -1,7 +1,6 @@
 -- `fields::read32`. Two fields of 16 bits.
 use Rattle.fields.proofs.FieldLaws.{field_split}
 use native.Mathlib.Omega.{arith}
-use borrow.Author.Rules.{rules}
 use Rattle.fields.proofs.read32.Goals as goal
 
 pub returns : goal.returns

@@ -1,7 +1,6 @@
 -- `fields::read64`. Two fields of 32 bits.
 use Rattle.fields.proofs.FieldLaws.{field_split}
 use native.Mathlib.Omega.{arith}
-use borrow.Author.Rules.{rules}
 use Rattle.fields.proofs.read64.Goals as goal
 
 pub returns : goal.returns

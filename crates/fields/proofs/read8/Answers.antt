@@ -1,7 +1,6 @@
 -- `fields::read8`. One byte.
 use Rattle.fields.proofs.FieldLaws.{field_one}
 use native.Mathlib.Omega.{arith}
-use borrow.Author.Rules.{rules}
 use Rattle.fields.proofs.read8.Goals as goal
 
 pub overflow_cast-result : goal.overflow_cast-result

@@ -24,8 +24,10 @@ returns-then-rounds-lt1 c =
 
 pub returns-then-rounds-gt-ROUND_LIMIT : goal.returns-then-rounds-gt-ROUND_LIMIT
 returns-then-rounds-gt-ROUND_LIMIT c =
-    many_rounds _ _ _ _ _ _ c.if-subjects-gt-SUBJECT_LIMIT.false c.if-objects-gt-OBJECT_LIMIT.false c.if-objects-a.false c.if-objects-b.false c.if-a-b.false c.if-rounds-lt1.false c.if-rounds-gt-ROUND_LIMIT.true
+    many_rounds _ _ _ _ _ _ c.if-subjects-gt-SUBJECT_LIMIT.false c.if-objects-gt-OBJECT_LIMIT.false c.if-objects-a.false
+    c.if-objects-b.false c.if-a-b.false c.if-rounds-lt1.false c.if-rounds-gt-ROUND_LIMIT.true
 
 pub returns : goal.returns
 returns c =
-    withdrawals_left _ _ _ _ _ _ c.if-subjects-gt-SUBJECT_LIMIT.false c.if-objects-gt-OBJECT_LIMIT.false c.if-objects-a.false c.if-objects-b.false c.if-a-b.false c.if-rounds-lt1.false c.if-rounds-gt-ROUND_LIMIT.false
+    withdrawals_left _ _ _ _ _ _ c.if-subjects-gt-SUBJECT_LIMIT.false c.if-objects-gt-OBJECT_LIMIT.false c.if-objects-a.false
+    c.if-objects-b.false c.if-a-b.false c.if-rounds-lt1.false c.if-rounds-gt-ROUND_LIMIT.false

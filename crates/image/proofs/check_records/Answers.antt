@@ -1,17 +1,16 @@
 -- Conditions 4 to 6, each tested once those before it have passed.
-use Prim.Native.Nat.{ℕ, ◌+◌, ◌/◌, ◌≤◌, ◌<◌}
+use Prim.Native.Nat.{ℕ, ◌/◌}
 use native.Mathlib.Omega.{arith}
-use mathlib.Core.Path.{◌≡◌, sym, ap₂, ◌∙◌}
+use mathlib.Core.Path.{sym, ap₂, ◌∙◌}
 use mathlib.Core.List.{List}
 use lib.ListN.{length}
 use Rattle.lists.specs.Lists.{every}
 use Rattle.lists.proofs.Bools.{passes_test, fails_test}
 use Rattle.lists.proofs.Conditions.{passed, failed, none_left}
-use Rattle.image.specs.Limits.{section_count, header_size, rule_size}
-use Rattle.image.specs.Image.{offset, section_length, users_in, rule_records_good, rules_good, containers_good, users_good, image_conditions}
+use Rattle.image.specs.Limits.{rule_size}
+use Rattle.image.specs.Image.{users_in, rule_records_good, rules_good, containers_good, users_good, image_conditions}
 use Rattle.image.specs.Policy.{named}
 use Rattle.image.proofs.AcceptedImage.{part_ends}
-use borrow.Author.Rules.{rules}
 use Rattle.image.proofs.check_records.Goals as goal
 
 -- ---- what each test tells
@@ -37,7 +36,8 @@ section-requires c = ((c.requires.0, (omega arith), part_ends c.args.image.now c
 pub returns-then-not-containers_good : goal.returns-then-not-containers_good
 unfolding image_conditions containers_good rule_records_good rules_good
 returns-then-not-containers_good c =
-    sym (passed _ _ (passes_test ((rw (c.section-rules.ensures, c.section-mixtures.ensures, c.section-users.ensures) at c.rules_good.ensures)) c.if-not-rules_good.false-raw) ∙ failed _ _ (fails_test ((
+    sym (passed _ _ (passes_test ((rw (c.section-rules.ensures, c.section-mixtures.ensures, c.section-users.ensures) at c.rules_good.ensures)) c.if-not-rules_good.false-raw)
+    ∙ failed _ _ (fails_test ((
     rw (c.section.ensures, c.section-rules.ensures) at c.containers_good.ensures)) c.if-not-containers_good.true-raw))
 
 pub returns-then-not-users_good : goal.returns-then-not-users_good

@@ -4,7 +4,6 @@ use Rattle.image.specs.Policy.{container_good}
 use Rattle.image.specs.Image.{container_in}
 use borrow.Author.Tests.{eq-eqb, ne_eqb}
 use mathlib.Core.Path.{sym, ◌∙◌}
-use borrow.Author.Rules.{rules}
 use Rattle.image.proofs.container_good.Goals as goal
 
 pub returns-then-not-is_atom : goal.returns-then-not-is_atom

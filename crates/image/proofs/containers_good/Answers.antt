@@ -1,4 +1,4 @@
-use Rattle.fields.proofs.SectionRecords.{Scanned, scan_start, scan_next, scan_stop, scan_end}
+use Rattle.fields.proofs.SectionRecords.{scan_start, scan_next, scan_stop, scan_end}
 use Rattle.lists.proofs.Bools.{passes_test, fails_test}
 use Rattle.image.specs.Policy.{container_good}
 use Rattle.image.specs.Limits.{container_size}
@@ -8,7 +8,6 @@ use native.Mathlib.Nat.{add-sub_cancel_left}
 use mathlib.Core.Path.{sym}
 use Prim.Native.Nat.{◌-◌}
 use native.Mathlib.Omega.{arith}
-use borrow.Author.Rules.{rules}
 use Rattle.image.proofs.containers_good.Goals as goal
 
 pub loop-i-init : goal.loop-i-init

@@ -2,7 +2,6 @@
 use Rattle.image.specs.Image.{offset, section_length}
 use mathlib.Core.Path.{ap₂}
 use Prim.Native.Nat.{◌+◌}
-use borrow.Author.Rules.{rules}
 use Rattle.image.proofs.end.Goals as goal
 
 pub returns : goal.returns

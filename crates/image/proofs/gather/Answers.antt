@@ -1,5 +1,4 @@
-use borrow.Author.Rules.{rules}
-use Rattle.lists.proofs.Copying.{Copied, copied_start, copied_next, copied_all}
+use Rattle.lists.proofs.Copying.{copied_start, copied_next, copied_all}
 use Rattle.image.proofs.RulesByNumber.{from_length, from_at}
 use Rattle.image.specs.Image.{mixtures_in}
 use lib.ListN.{length, take, drop}

@@ -1,5 +1,4 @@
 -- The tests, one after the other, are those of `is_file`.
-use borrow.Author.Rules.{rules}
 use borrow.Author.Tests.{eq-eqb, ne_eqb}
 use Rattle.image.specs.Limits.{file_kind}
 use Rattle.image.proofs.KindLaws.{file_tests}

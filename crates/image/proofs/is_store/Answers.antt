@@ -1,5 +1,4 @@
 -- The tests, one after the other, are those of `is_store`.
-use borrow.Author.Rules.{rules}
 use Rattle.image.proofs.KindLaws.{store_tests}
 use Rattle.image.proofs.is_store.Goals as goal
 

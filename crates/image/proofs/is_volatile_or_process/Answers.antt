@@ -1,6 +1,5 @@
 -- The tests, one after the other, are those of the disjunction.
 use mathlib.Core.Path.{sym, ◌∙◌}
-use borrow.Author.Rules.{rules}
 use Rattle.image.proofs.is_volatile_or_process.Goals as goal
 
 pub returns-then-is_volatile : goal.returns-then-is_volatile

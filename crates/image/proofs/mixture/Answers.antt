@@ -1,7 +1,6 @@
 -- A field of 8 bytes at its place is a mixture of the section.
 use Rattle.image.proofs.RecordsByPlace.{mixture_at}
 use mathlib.Core.Path.{◌∙◌}
-use borrow.Author.Rules.{rules}
 use Rattle.image.proofs.mixture.Goals as goal
 
 pub returns : goal.returns

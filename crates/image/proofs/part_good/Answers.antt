@@ -1,7 +1,6 @@
 -- The offset and the size are read, and the tests are those of `part_good`.
 use Rattle.image.specs.Image.{part_good, offset, section_length}
 use borrow.Author.Tests.{lt-leb, le-leb}
-use borrow.Author.Rules.{rules}
 use Rattle.image.proofs.part_good.Goals as goal
 
 pub returns-then-offset-from : goal.returns-then-offset-from

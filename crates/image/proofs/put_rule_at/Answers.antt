@@ -2,7 +2,6 @@
 use Rattle.image.proofs.RulesByNumber.{named_own, own_normal, unrestricted_words}
 use Rattle.rule_words.specs.Words.{words_of}
 use mathlib.Core.Path.{ap, ◌∙◌}
-use borrow.Author.Rules.{rules}
 use Rattle.image.proofs.put_rule_at.Goals as goal
 
 pub put_own_rule-requires : goal.put_own_rule-requires

@@ -4,7 +4,6 @@ use Rattle.image.proofs.RulesByNumber.{from_length}
 use Rattle.image.specs.Image.{mixtures_in}
 use native.Mathlib.Omega.{arith}
 use lib.ListN.{length-set}
-use borrow.Author.Rules.{rules}
 use Rattle.image.proofs.put_span.Goals as goal
 
 pub slice_bounds-clear-end : goal.slice_bounds-clear-end

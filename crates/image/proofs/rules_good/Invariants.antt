@@ -1,9 +1,6 @@
 -- The records passed are good with their owners, and the first of the last one is carried along.
-use Rattle.image.proofs.RuleRecordScan.{RulesScanned, rules_start, rules_first, rules_count, rules_over, rules_owner, rules_next, rules_end}
-use Rattle.lists.proofs.Bools.{passes_test, fails_test}
+use Rattle.image.proofs.RuleRecordScan.{RulesScanned}
 use Prim.Native.Nat.{◌-◌}
-use native.Mathlib.Omega.{arith}
-use borrow.Author.Rules.{rules}
 use Rattle.image.proofs.rules_good.Given as goal
 
 abbrev pub invariant-loop-i : goal.invariant-loop-i

@@ -2,7 +2,6 @@
 use Rattle.image.specs.Image.{part, offset, section_length}
 use native.Mathlib.Nat.{add-sub_cancel_left}
 use native.Mathlib.Omega.{arith}
-use borrow.Author.Rules.{rules}
 use Rattle.image.proofs.section.Goals as goal
 
 pub slice_bounds-result-end : goal.slice_bounds-result-end

@@ -1,14 +1,8 @@
 -- The four sections, each tested once the ones before it have passed.
-use Prim.Native.Nat.{ℕ}
 use native.Mathlib.Omega.{arith}
-use mathlib.Core.Path.{◌≡◌}
-use mathlib.Core.Bool.{true}
-use mathlib.Core.List.{List}
 use Rattle.lists.proofs.Bools.{passes_test, fails_test}
-use Rattle.image.specs.Limits.{container_limit, user_limit, rule_limit, container_size, user_size, rule_size}
-use Rattle.image.specs.Image.{part, whole_good, sections_good}
+use Rattle.image.specs.Image.{whole_good, sections_good}
 use Rattle.image.proofs.AcceptedImage.{part_ends}
-use borrow.Author.Rules.{rules}
 use Rattle.image.proofs.sections_good.Goals as goal
 
 -- ---- the tests that have passed, where each is left behind
@@ -36,7 +30,11 @@ section-requires-3 c = (c.requires.0, omega arith, part_ends _ c.requires.1 2 (o
 pub returns-then-not-whole_good-3 : goal.returns-then-not-whole_good-3
 unfolding sections_good
 returns-then-not-whole_good-3 c =
-    simp ((passes_test (rw c.section.ensures at c.whole_good.ensures) c.if-not-whole_good.false-raw), (passes_test (rw c.section-2.ensures at c.whole_good-2.ensures) c.if-not-whole_good-2.false-raw), fails_test (rw c.section-3.ensures at c.whole_good-3.ensures) c.if-not-whole_good-3.true-raw)
+    simp (
+      (passes_test (rw c.section.ensures at c.whole_good.ensures) c.if-not-whole_good.false-raw),
+      (passes_test (rw c.section-2.ensures at c.whole_good-2.ensures) c.if-not-whole_good-2.false-raw),
+      fails_test (rw c.section-3.ensures at c.whole_good-3.ensures) c.if-not-whole_good-3.true-raw,
+    )
 
 pub section-requires-4 : goal.section-requires-4
 section-requires-4 c = (c.requires.0, omega arith, part_ends _ c.requires.1 3 (omega arith))
@@ -44,5 +42,9 @@ section-requires-4 c = (c.requires.0, omega arith, part_ends _ c.requires.1 3 (o
 pub returns : goal.returns
 unfolding sections_good
 returns c =
-    simp ((passes_test (rw c.section.ensures at c.whole_good.ensures) c.if-not-whole_good.false-raw), (passes_test (rw c.section-2.ensures at c.whole_good-2.ensures) c.if-not-whole_good-2.false-raw), (passes_test (rw c.section-3.ensures at c.whole_good-3.ensures) c.if-not-whole_good-3.false-raw))
+    simp (
+      (passes_test (rw c.section.ensures at c.whole_good.ensures) c.if-not-whole_good.false-raw),
+      (passes_test (rw c.section-2.ensures at c.whole_good-2.ensures) c.if-not-whole_good-2.false-raw),
+      (passes_test (rw c.section-3.ensures at c.whole_good-3.ensures) c.if-not-whole_good-3.false-raw),
+    )
     (rw c.section-4.ensures at c.whole_good-4.ensures)

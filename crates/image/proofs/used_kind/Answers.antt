@@ -1,5 +1,4 @@
 -- The tests, one after the other, are those of `used_kind`.
-use borrow.Author.Rules.{rules}
 use Rattle.image.proofs.KindLaws.{used_tests}
 use Rattle.image.proofs.used_kind.Goals as goal
 

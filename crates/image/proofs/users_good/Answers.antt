@@ -1,4 +1,4 @@
-use Rattle.fields.proofs.SectionRecords.{Scanned, scan_start, scan_next, scan_stop, scan_end}
+use Rattle.fields.proofs.SectionRecords.{scan_start, scan_next, scan_stop, scan_end}
 use Rattle.lists.proofs.Bools.{passes_test, fails_test}
 use Rattle.image.specs.Policy.{named}
 use Rattle.fields.specs.Bytes.{number_in, field}
@@ -7,7 +7,6 @@ use mathlib.Core.Path.{sym}
 use Prim.Native.Nat.{◌-◌}
 use native.Mathlib.Omega.{arith}
 use Rattle.image.specs.Limits.{user_size}
-use borrow.Author.Rules.{rules}
 use Rattle.image.proofs.users_good.Goals as goal
 
 pub loop-i-init : goal.loop-i-init

@@ -1,7 +1,6 @@
 -- The tests, one after the other, are those of `whole_good`.
 use Rattle.image.specs.Image.{whole_good}
 use borrow.Author.Tests.{ne_eqb, eq-eqb}
-use borrow.Author.Rules.{rules}
 use Rattle.image.proofs.whole_good.Goals as goal
 
 pub returns-then-s-w-ne0 : goal.returns-then-s-w-ne0

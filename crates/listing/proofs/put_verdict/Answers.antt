@@ -30,7 +30,13 @@ put_tag-position-requires c =
 pub put_position-requires : goal.put_position-requires
 put_position-requires c =
     let a = c.args in
-    omega (arith, ((spare_as (ap (λ (x : List ℕ). x ++ (space ∷ [])) c.verdict_word.ensures.letters) c.put_word-to.ensures)).ends, verdict_length a.verdict, number_length a.received.receiver space, tag_length a.received.tag space)
+    omega (
+      arith,
+      ((spare_as (ap (λ (x : List ℕ). x ++ (space ∷ [])) c.verdict_word.ensures.letters) c.put_word-to.ensures)).ends,
+      verdict_length a.verdict,
+      number_length a.received.receiver space,
+      tag_length a.received.tag space,
+    )
 
 pub returns : goal.returns
 unfolding answer_word answer_fields
@@ -39,11 +45,19 @@ returns c =
     let q = c.put_container_number-tag in
     let t = c.put_tag-position in
     let k = c.put_position in
-    let m : q.result ≤ length q.new.out = omega (arith, ((spare_as (ap (λ (x : List ℕ). x ++ (space ∷ [])) c.verdict_word.ensures.letters) c.put_word-to.ensures)).ends, verdict_length a.verdict, number_length a.received.receiver space) in
-    let j : t.result ≤ length t.new.out = omega (arith, ((spare_as (ap (λ (x : List ℕ). x ++ (space ∷ [])) c.verdict_word.ensures.letters) c.put_word-to.ensures)).ends, verdict_length a.verdict, number_length a.received.receiver space, tag_length a.received.tag space) in
+    let m : q.result ≤ length q.new.out = omega
+    (arith, ((spare_as (ap (λ (x : List ℕ). x ++ (space ∷ [])) c.verdict_word.ensures.letters) c.put_word-to.ensures)).ends, verdict_length a.verdict, number_length a.received.receiver space) in
+    let j : t.result ≤ length t.new.out = omega (
+      arith,
+      ((spare_as (ap (λ (x : List ℕ). x ++ (space ∷ [])) c.verdict_word.ensures.letters) c.put_word-to.ensures)).ends,
+      verdict_length a.verdict,
+      number_length a.received.receiver space,
+      tag_length a.received.tag space,
+    ) in
     let n : 4 ≤ length (decimal a.received.receiver ++ (space ∷ [])) + 2 = omega (arith, number_least a.received.receiver space) in
     let g : 2 ≤ length (hexadecimal a.received.tag ++ (space ∷ [])) + 0 = omega (arith, tag_length a.received.tag space) in
     spare_none
     (spare_as
     (verdict_text (verdict_word a.verdict) (decimal a.received.receiver) (hexadecimal a.received.tag) (decimal a.received.position))
-    (spare_join 0 (omega arith) (spare_join 0 g (spare_join 2 n ((spare_as (ap (λ (x : List ℕ). x ++ (space ∷ [])) c.verdict_word.ensures.letters) c.put_word-to.ensures)) q.ensures) (wrote_spare 0 m t.ensures)) (wrote_spare 0 j k.ensures)))
+    (spare_join 0 (omega arith) (spare_join 0 g (spare_join 2 n ((spare_as (ap (λ (x : List ℕ). x ++ (space ∷ [])) c.verdict_word.ensures.letters) c.put_word-to.ensures)) q.ensures)
+    (wrote_spare 0 m t.ensures)) (wrote_spare 0 j k.ensures)))

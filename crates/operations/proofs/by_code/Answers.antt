@@ -81,5 +81,6 @@ release-requires c =
 pub returns : goal.returns
 returns c =
     let q = c.args.q in
-    released c.args.s.now q (step_leaves q c.requires.0.asked c.if-code-eq-READ_CODE.false c.if-code-eq-WRITE_CODE.false c.if-code-eq-APPEND_CODE.false c.if-code-eq-EXEC_CODE.false c.if-code-eq-FORK_CODE.false c.if-code-eq-NEW_FILE_CODE.false
+    released c.args.s.now q (step_leaves q c.requires.0.asked c.if-code-eq-READ_CODE.false c.if-code-eq-WRITE_CODE.false c.if-code-eq-APPEND_CODE.false
+    c.if-code-eq-EXEC_CODE.false c.if-code-eq-FORK_CODE.false c.if-code-eq-NEW_FILE_CODE.false
     c.if-code-eq-NEW_VOLATILE_CODE.false) _ _ c.release.ensures

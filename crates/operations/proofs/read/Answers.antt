@@ -29,4 +29,5 @@ absorb-requires c =
 
 pub returns : goal.returns
 returns c =
-    read_done c.args.s.now c.args.p c.args.o c.requires _ (c.add_data_atoms-tag.ensures ∙ ap₂ (λ (x y : ℕ). bit_or x (data_of data_width y)) c.tag_of-held.ensures c.tag_of-stored.ensures) _ _ c.absorb.ensures
+    read_done c.args.s.now c.args.p c.args.o c.requires _
+    (c.add_data_atoms-tag.ensures ∙ ap₂ (λ (x y : ℕ). bit_or x (data_of data_width y)) c.tag_of-held.ensures c.tag_of-stored.ensures) _ _ c.absorb.ensures

@@ -1,6 +1,7 @@
 use native.Mathlib.Omega.{arith}
 use Rattle.profiles.proofs.LineWordLaws.{Small}
-use Rattle.profiles.proofs.TextScans.{text_start, no_text_lem, text_end, word_room, word_small, profile_less, profile_to_note, profile_repeats, profile_passed, entry_less, entry_passed, text_stops, end_less, end_passed}
+use Rattle.profiles.proofs.TextScans.{text_start, no_text_lem, text_end, word_room, word_small, profile_less, profile_to_note, profile_repeats, profile_passed, entry_less, entry_passed}
+use Rattle.profiles.proofs.TextScans.{text_stops, end_less, end_passed}
 use Rattle.profiles.proofs.scan_lines.Goals as goal
 
 pub loop-at-init : goal.loop-at-init

@@ -28,23 +28,31 @@ put_rule_at-requires c = (
 
 pub slice_bounds-put_rule_at-end-2 : goal.slice_bounds-put_rule_at-end-2
 slice_bounds-put_rule_at-end-2 c =
-    omega (arith, row_mid c.args.row.now c.put_rule_at.new.words nobody c.read8.result c.start_tag.result c.requires.0 ((c.put_rule_at.auto.words ∙ lent_permit c.args.row.now nobody c.read8.result c.start_tag.result c.requires.0)))
+    omega (
+      arith,
+      row_mid c.args.row.now c.put_rule_at.new.words nobody c.read8.result c.start_tag.result c.requires.0
+          ((c.put_rule_at.auto.words ∙ lent_permit c.args.row.now nobody c.read8.result c.start_tag.result c.requires.0)),
+    )
 
 pub put_rule_at-requires-2 : goal.put_rule_at-requires-2
 put_rule_at-requires-2 c = (
-  lent_run c.args.row.now c.put_rule_at.new.words nobody c.read8.result c.start_tag.result c.requires.0 ((c.put_rule_at.auto.words ∙ lent_permit c.args.row.now nobody c.read8.result c.start_tag.result c.requires.0)),
+  lent_run c.args.row.now c.put_rule_at.new.words nobody c.read8.result c.start_tag.result c.requires.0
+      ((c.put_rule_at.auto.words ∙ lent_permit c.args.row.now nobody c.read8.result c.start_tag.result c.requires.0)),
   rw c.read16-2.ensures.0 (run_named c.args.r.now c.args.rules.now c.args.m.now c.requires.2 c.requires.3),
   c.requires.3,
 )
 
 pub shape_of-row : goal.shape_of-row
 shape_of-row c =
-    row_long c.args.row.now c.put_rule_at.new.words nobody c.read8.result c.start_tag.result c.requires.0 ((c.put_rule_at.auto.words ∙ lent_permit c.args.row.now nobody c.read8.result c.start_tag.result c.requires.0)) c.put_rule_at-2.new.words
-    (c.put_rule_at-2.auto.words ∙ lent_run c.args.row.now c.put_rule_at.new.words nobody c.read8.result c.start_tag.result c.requires.0 ((c.put_rule_at.auto.words ∙ lent_permit c.args.row.now nobody c.read8.result c.start_tag.result c.requires.0)))
+    row_long c.args.row.now c.put_rule_at.new.words nobody c.read8.result c.start_tag.result c.requires.0
+    ((c.put_rule_at.auto.words ∙ lent_permit c.args.row.now nobody c.read8.result c.start_tag.result c.requires.0)) c.put_rule_at-2.new.words
+    (c.put_rule_at-2.auto.words ∙ lent_run c.args.row.now c.put_rule_at.new.words nobody c.read8.result c.start_tag.result c.requires.0
+    ((c.put_rule_at.auto.words ∙ lent_permit c.args.row.now nobody c.read8.result c.start_tag.result c.requires.0)))
 
 pub returns : goal.returns
 returns c =
-    row_put c.args.row.now c.put_rule_at.new.words nobody c.read8.result c.start_tag.result c.requires.0 ((c.put_rule_at.auto.words ∙ lent_permit c.args.row.now nobody c.read8.result c.start_tag.result c.requires.0)) c.put_rule_at-2.new.words
+    row_put c.args.row.now c.put_rule_at.new.words nobody c.read8.result c.start_tag.result c.requires.0
+    ((c.put_rule_at.auto.words ∙ lent_permit c.args.row.now nobody c.read8.result c.start_tag.result c.requires.0)) c.put_rule_at-2.new.words
     ∙ container_row c.args.r.now c.args.rules.now c.args.m.now c.requires.2 c.requires.3 _ _ _ _
     c.read8.ensures.0
     (c.start_tag.ensures ∙ ap start_tag c.read8-2.ensures.0)

@@ -3,7 +3,8 @@ use native.Mathlib.Omega.{arith}
 use mathlib.Core.Path.{sym, ap, ◌∙◌}
 use lib.ListN.{length}
 use Rattle.image.proofs.AcceptedImage.{accepted_section}
-use Rattle.session.proofs.StartSteps.{rows_part_length, spans_lent, containers_lent, users_lent, rows_read, users_read, cleared_long, first_part, second_part, both_parts, wrong_length, refused_image, started}
+use Rattle.session.proofs.StartSteps.{rows_part_length, spans_lent, containers_lent, users_lent, rows_read, users_read, cleared_long, first_part, second_part, both_parts, wrong_length}
+use Rattle.session.proofs.StartSteps.{refused_image, started}
 use Rattle.session.proofs.start.Goals as goal
 
 -- ---- places: the image is accepted; the two sections that each rule is read from are there; the rows are filled
@@ -45,7 +46,8 @@ fill_users-requires c =
     let users = users_lent c.args.image.now _ _ c.section-rules.ensures c.section-mixtures.ensures ((sym c.check-refusal.ensures ∙ c.if-refusal-ne0.false)) _ c.section-2.ensures in (
       second_part c.args.session.now clear.new.words c.if-session-ne-SESSION_LENGTH.false clear.ensures c.fill_containers.new.out
           (ap length ((
-          rows_read c.args.image.now _ _ c.section-rules.ensures c.section-mixtures.ensures _ c.fill_containers.new.out c.section.ensures c.fill_containers.ensures)) ∙ rows_part_length c.args.image.now ((sym c.check-refusal.ensures ∙ c.if-refusal-ne0.false))),
+          rows_read c.args.image.now _ _ c.section-rules.ensures c.section-mixtures.ensures _ c.fill_containers.new.out c.section.ensures c.fill_containers.ensures))
+          ∙ rows_part_length c.args.image.now ((sym c.check-refusal.ensures ∙ c.if-refusal-ne0.false))),
       users.0,
       users.1,
       spans_lent c.args.image.now _ _ c.section-rules.ensures c.section-mixtures.ensures ((sym c.check-refusal.ensures ∙ c.if-refusal-ne0.false)),

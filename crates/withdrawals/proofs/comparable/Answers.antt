@@ -16,7 +16,11 @@ returns-then-not-matrix_good-2 c =
 pub returns-then-not-matrix_good-3 : goal.returns-then-not-matrix_good-3
 unfolding comparable well_formed
 returns-then-not-matrix_good-3 c =
-    simp (passes_test c.matrix_good.ensures c.if-not-matrix_good.false-raw, passes_test c.matrix_good-2.ensures c.if-not-matrix_good-2.false-raw, fails_test c.matrix_good-3.ensures c.if-not-matrix_good-3.true-raw)
+    simp (
+      passes_test c.matrix_good.ensures c.if-not-matrix_good.false-raw,
+      passes_test c.matrix_good-2.ensures c.if-not-matrix_good-2.false-raw,
+      fails_test c.matrix_good-3.ensures c.if-not-matrix_good-3.true-raw,
+    )
 
 pub returns-then-not-same_counts : goal.returns-then-not-same_counts
 unfolding comparable well_formed same_counts

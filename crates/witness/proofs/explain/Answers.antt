@@ -18,13 +18,15 @@ returns-then-refusal-ne0 c =
 pub returns-then-container-ge-CONTAINER_LIMIT : goal.returns-then-container-ge-CONTAINER_LIMIT
 returns-then-container-ge-CONTAINER_LIMIT c =
     answered_refused _ _ _ _ _ _ _ c.refused-then-container-ge-CONTAINER_LIMIT.ensures
-    (refusal_24 _ _ _ _ _ _ (passes_test c.lent_good.ensures c.if-not-lent_good.false-raw) (sym c.check-refusal.ensures ∙ c.if-refusal-ne0.false) (no_container _ _ c.if-container-ge-CONTAINER_LIMIT.true))
+    (refusal_24 _ _ _ _ _ _ (passes_test c.lent_good.ensures c.if-not-lent_good.false-raw) (sym c.check-refusal.ensures ∙ c.if-refusal-ne0.false)
+    (no_container _ _ c.if-container-ge-CONTAINER_LIMIT.true))
     (λ z. omega (arith, z))
 
 pub returns-then-atom-ge-TAG_WIDTH : goal.returns-then-atom-ge-TAG_WIDTH
 returns-then-atom-ge-TAG_WIDTH c =
     answered_refused _ _ _ _ _ _ _ c.refused-then-atom-ge-TAG_WIDTH.ensures
-    (refusal_24 _ _ _ _ _ _ (passes_test c.lent_good.ensures c.if-not-lent_good.false-raw) (sym c.check-refusal.ensures ∙ c.if-refusal-ne0.false) (no_atom _ _ c.if-atom-ge-TAG_WIDTH.true c.if-container-ge-CONTAINER_LIMIT.false))
+    (refusal_24 _ _ _ _ _ _ (passes_test c.lent_good.ensures c.if-not-lent_good.false-raw) (sym c.check-refusal.ensures ∙ c.if-refusal-ne0.false)
+    (no_atom _ _ c.if-atom-ge-TAG_WIDTH.true c.if-container-ge-CONTAINER_LIMIT.false))
     (λ z. omega (arith, z))
 
 pub find_atom-found-requires : goal.find_atom-found-requires
@@ -36,4 +38,5 @@ pub returns : goal.returns
 returns c =
     let f = c.find_atom-found.ensures in
     answered_found c.args.image.now c.args.trace.now c.args.container c.args.atom c.args.links.now c.args.steps.now f.0 f.1 f.2
-    (refusal_none _ _ _ _ _ _ (passes_test c.lent_good.ensures c.if-not-lent_good.false-raw) (sym c.check-refusal.ensures ∙ c.if-refusal-ne0.false) (both_there _ _ c.if-container-ge-CONTAINER_LIMIT.false c.if-atom-ge-TAG_WIDTH.false))
+    (refusal_none _ _ _ _ _ _ (passes_test c.lent_good.ensures c.if-not-lent_good.false-raw) (sym c.check-refusal.ensures ∙ c.if-refusal-ne0.false)
+    (both_there _ _ c.if-container-ge-CONTAINER_LIMIT.false c.if-atom-ge-TAG_WIDTH.false))
