@@ -5,6 +5,7 @@ pub mod DerivedStart
 pub mod AllowedRecords
 pub mod OneWriter
 pub mod ExchangeLaws
+pub mod SourceTables
 pub mod PermitLaws
 pub mod SilenceLaws
 pub mod DerivedSession
