@@ -105,8 +105,9 @@ pub fn run(name: &str, program: &Path, inputs: &Inputs, reader: &mut dyn Reader,
     }
     let (said, names) = (child.stderr.take().expect("it is piped"), inputs.names());
     let teller = thread::spawn(move || tell_lines(said, &names));
-    let lines = BufReader::with_capacity(PIECE, child.stdout.take().expect("it is piped"));
-    if let Err(failure) = print_lines(name, lines, reader, json) {
+    let mut lines = BufReader::with_capacity(PIECE, child.stdout.take().expect("it is piped"));
+    if let Err(failure) = print_lines(name, &mut lines, reader, json) {
+        // While its output is open: a program that finds it closed would tell that too.
         stop(&mut child);
         return Err(failure);
     }
@@ -122,7 +123,7 @@ pub fn run(name: &str, program: &Path, inputs: &Inputs, reader: &mut dyn Reader,
 }
 
 /// Prints the lines of a program as they come, or their objects.
-fn print_lines(name: &str, mut lines: Lines, reader: &mut dyn Reader, json: bool) -> Result<(), Failure> {
+fn print_lines(name: &str, lines: &mut Lines, reader: &mut dyn Reader, json: bool) -> Result<(), Failure> {
     let mut out = BufWriter::with_capacity(PIECE, io::stdout().lock());
     let mut line = Vec::new();
     loop {
