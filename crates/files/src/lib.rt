@@ -10,6 +10,7 @@ ghost use Rattle.files.specs.Calls.{Told, DoneOrTold, Handed, OpenedAs, WroteSom
 
 use std::fs::File;
 use std::io::{Error, ErrorKind, Print, Read, Write};
+use std::time::Duration;
 use std::{fs, str, thread};
 
 // Room for the system's text of an error, with its number: Linux's texts have fifty bytes at most.
@@ -17,6 +18,9 @@ const TEXT_SIZE: usize = 256;
 
 // What stands before the error's number where std shows an error.
 const NUMBER: &[u8] = b" (os error ";
+
+// How many thousandths of a second other processes run before a call that would wait is tried again.
+const PAUSE_MILLIS: u64 = 1;
 
 // The system's error for bytes that are no text: std opens no file of such a name.
 const NO_TEXT: i32 = 84;
@@ -86,7 +90,7 @@ fn tell_error(rt: &HostRuntime, name: &[u8], error: &Error)
     tell(rt, b"\n");
 }
 
-// Whether a call on this file that failed is to be tried again: a signal came, or it would wait, and then another process runs
+// Whether a call on this file that failed is to be tried again: a signal came, or it would wait, and then other processes run
 // first. Any other failure is told.
 fn passing(rt: &HostRuntime, name: &[u8], error: &Error) -> bool
     ensures { result ≡ false → Told }
@@ -94,7 +98,7 @@ fn passing(rt: &HostRuntime, name: &[u8], error: &Error) -> bool
     match error.kind() {
         ErrorKind::Interrupted => true,
         ErrorKind::WouldBlock => {
-            thread::yield_now();
+            thread::sleep(rt, Duration::from_millis(PAUSE_MILLIS));
             true
         }
         _ => {
