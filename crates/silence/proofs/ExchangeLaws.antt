@@ -62,10 +62,10 @@ module _ (reads writes : List ℕ) (n : ℕ) (good : matrix_good reads writes n 
       parts_good writes reads n g.even (omega (arith, g.even, g.some_subjects)) (omega (arith, g.even, g.subjects)) g.some g.few g.writes_good g.reads_good
 
 -- an object by its sources, of what comes to the subjects
-pub quiet_is : (reads writes : List ℕ) (n : ℕ) (reach : List ℕ) → Closed writes reads n reach → (b tag : ℕ) → b < n → ((k : ℕ) → has tag k ≡ granted writes reach b k)
+pub quiet_reached : (reads writes : List ℕ) (n : ℕ) (reach : List ℕ) → Closed writes reads n reach → (b tag : ℕ) → b < n → ((k : ℕ) → has tag k ≡ granted writes reach b k)
     → covers (permit_of reads writes b) tag ≡ quiet_object reads writes n b
 unfolding quiet_object sources_of
-quiet_is reads writes n reach c b tag l e =
+quiet_reached reads writes n reach c b tag l e =
     ap (covers (permit_of reads writes b)) (has_ext tag (bits_of (λ a. composed reads writes n a b) n) (λ k. e k ∙ c.flows b k l ∙ at k (dec_lt k n)))
   where
     at : (k : ℕ) → Dec (k < n) → composed writes reads n b k ≡ has (bits_of (λ a. composed reads writes n a b) n) k

@@ -13,7 +13,9 @@ use Rattle.matrix.proofs.RowBits.{has_ext, bits_has, bits_above}
 use Rattle.matrix.proofs.GoodLaws.{Good, good_parts}
 use Rattle.matrix.proofs.RowLoops.{spelling_fits, spelling_bits, spelling_above}
 use Rattle.matrix.proofs.PathFlows.{composed_beyond}
-use Rattle.silence.specs.Silent.{sources_of}
+use Rattle.rules.specs.Rules.{covers}
+use Rattle.derivation.specs.Derived.{permit_of}
+use Rattle.silence.specs.Silent.{sources_of, quiet_object}
 use Rattle.silence.specs.Tables.{SourceTable}
 use Rattle.silence.proofs.ExchangeLaws.{composed_back, exchanged_good}
 
@@ -46,3 +48,9 @@ module _ (reads writes : List ℕ) (n : ℕ) (good : matrix_good reads writes n 
       at : (b : ℕ) → b < n → (k : ℕ) → Dec (k < n) → composed writes reads n b k ≡ has (bits_of (λ a. composed reads writes n a b) n) k
       at b l k (yes m) = composed_back reads writes n k b ∙ sym (bits_has (λ a. composed reads writes n a b) n k m)
       at b l k (no m) = composed_beyond writes reads n b k g.reads_good l (omega arith) ∙ sym (bits_above (λ a. composed reads writes n a b) n k (omega arith))
+
+-- an object by its row of the table
+pub quiet_is : (reads writes : List ℕ) (n : ℕ) (table : List ℕ) → SourceTable reads writes n table → (b : ℕ) → b < n
+    → covers (permit_of reads writes b) (get_or table b 0) ≡ quiet_object reads writes n b
+unfolding quiet_object
+quiet_is reads writes n table t b l = ap (covers (permit_of reads writes b)) (t.sources b l)

@@ -3,7 +3,7 @@ use mathlib.Core.Path.{sym, ◌∙◌}
 use Rattle.lists.proofs.Bools.{passes_test, fails_test}
 use Rattle.lists.proofs.Below.{passing_start, passing_next, passing_fails, passing_end}
 use Rattle.silence.specs.Silent.{silent}
-use Rattle.silence.proofs.ExchangeLaws.{quiet_is}
+use Rattle.silence.proofs.ExchangeLaws.{quiet_reached}
 use Rattle.silence.proofs.all_quiet.Goals as goal
 
 pub loop-b-init : goal.loop-b-init
@@ -23,13 +23,13 @@ pub returns-then-not-permits : goal.returns-then-not-permits
 unfolding silent
 returns-then-not-permits c =
     passing_fails _ _ _ c.loop-b-test.true
-    (sym (quiet_is _ _ _ _ c.requires _ _ c.loop-b-test.true c.granted_row-tag.ensures)
+    (sym (quiet_reached _ _ _ _ c.requires _ _ c.loop-b-test.true c.granted_row-tag.ensures)
     ∙ fails_test c.permits.ensures c.if-not-permits.true-raw)
 
 pub loop-b-preserved : goal.loop-b-preserved
 loop-b-preserved c =
     passing_next _ _ _ c.loop-b.invariant c.loop-b-test.true
-    (sym (quiet_is _ _ _ _ c.requires _ _ c.loop-b-test.true c.granted_row-tag.ensures)
+    (sym (quiet_reached _ _ _ _ c.requires _ _ c.loop-b-test.true c.granted_row-tag.ensures)
     ∙ passes_test c.permits.ensures c.if-not-permits.false-raw)
 
 pub returns : goal.returns
