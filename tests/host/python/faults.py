@@ -37,7 +37,8 @@ FAULTS = [
     ("figures.py", "judged", "divmod(1000 * self.alerts, self.accepted)", "divmod(1000 * self.alerts, self.records)", "the rate is of all records"),
     ("figures.py", "judged", "words[CONTAINERS_AT + number] = count", "pass", "a sum loses the containers of its first part"),
     ("policy.py", "refused", "self._image = self.normal(image)", "self._image = bytes(image)", "policies differ by how they are spelled"),
-    ("policy.py", "asked", "lib.yaslaurel_matrix_policy(rows(reads),", "lib.yaslaurel_matrix_policy(ffi.cast('uint32_t *', rows(reads)),", "rows are lent that are freed already"),
+    # What stands in freed memory is not to be foretold, so here it is zeros before it is freed.
+    ("policy.py", "asked", "lib.yaslaurel_matrix_policy(rows(reads),", "lib.yaslaurel_matrix_policy((lambda lent: (ffi.cast('uint32_t *', lent), ffi.memmove(lent, bytes(4 * len(lent)), 4 * len(lent)))[0])(rows(reads)),", "rows are lent that are freed already"),
     ("policy.py", "asked", "consent[atom] = 1", "pass", "nobody consents"),
     ("policy.py", "refused", 'raise ForeignNames(f"the names in {folder} are not of {image}")', "pass", "names of another policy are taken"),
     ("explanations.py", "judged", "tuple(steps[first[0] : len(steps)])", "tuple(steps[first[0] + 1 : len(steps)])", "a chain lacks its first record"),
