@@ -5,87 +5,84 @@
 ghost use Rattle.std.specs.Prelude.{◌≡◌, ◌<◌, ◌||◌, if◌then◌else◌};
 ghost use Rattle.answers.specs.Answers.{received, is_quiet, is_alert, is_blocked, is_refused, accepted, received_of, answer_number, answer_with};
 ghost use Rattle.answers.specs.Tallies.{more, no_tally, tallied};
+ghost use Rattle.answers.specs.Outcomes.{refusal_number, outcome_number};
 
 use std::num::wrapping_add_u64;
 
 // ---- the refusals
 
-// An image under 18 or over 20,480 bytes.
-pub const IMAGE_LENGTH: u32 = 1;
+// Why an input, or a record, is refused, with the paper's numbers.
+#[derive(Clone, Copy, Debug, PartialEq, Eq)]
+pub enum Refusal {
+    // An image under 18 or over 20,480 bytes.
+    ImageLength = 1,
+    // The leading number or the pairs of an image.
+    Sections = 2,
+    // A section whose length is no multiple of its record's, or with too many records.
+    RecordCount = 3,
+    RuleRecord = 4,
+    ContainerRecord = 5,
+    // A user's rule number.
+    UserRule = 6,
+    OperationRecord = 7,
+    Matrix = 8,
+    // A session of the wrong length, or an output that is too short.
+    LentLength = 9,
+    // A row of the session that the record names.
+    Row = 10,
+    // The process is none.
+    NoProcess = 11,
+    // The object is of the wrong kind.
+    WrongKind = 12,
+    // The object is not free.
+    NotFree = 13,
+    // The user is not declared.
+    NotDeclared = 14,
+    // A meet of over 8 mixtures.
+    OverLimit = 15,
+    // A text of profiles: its length, its grammar, or a path profiled twice.
+    ProfileText = 16,
+    // Profiles with over 32 paths, or with a rule of over 8 mixtures.
+    ProfileLimit = 17,
+    // A new file for another user than the one on whose behalf the process runs.
+    OtherUser = 18,
+    // A trace of over 1,000,000 records.
+    TraceLength = 19,
+    // Two images of different shapes, or a consent that is not 32 bytes of 0 and 1.
+    CompositionInput = 20,
+    // Two images whose composition has a rule of over 8 mixtures, or over 256 rules.
+    CompositionLimit = 21,
+    // A trace that cannot be trimmed to its alert.
+    TrimTrace = 22,
+    // A game whose objects are not two, or of which a count is outside its bounds.
+    GameBounds = 23,
+    // An explanation of a number that is no container's or no atom's.
+    ExplainBounds = 24,
+    // An explanation of a trace whose last record is neither answered by an alert nor blocked.
+    ExplainTrace = 25,
+}
 
-// The leading number or the pairs of an image.
-pub const SECTIONS: u32 = 2;
+impl Refusal {
+    // The paper's number.
+    pub fn number(self) -> u32
+        ensures { result ≡ refusal_number self }
+    {
+        self as u32
+    }
+}
 
-// A section whose length is no multiple of its record's, or with too many records.
-pub const RECORD_COUNT: u32 = 3;
-
-// A rule record.
-pub const RULE_RECORD: u32 = 4;
-
-// A container record.
-pub const CONTAINER_RECORD: u32 = 5;
-
-// A user's rule number.
-pub const USER_RULE: u32 = 6;
-
-// An operation record.
-pub const OPERATION_RECORD: u32 = 7;
-
-// A matrix.
-pub const MATRIX: u32 = 8;
-
-// A session of the wrong length, or an output that is too short.
-pub const LENT_LENGTH: u32 = 9;
-
-// A row of the session that the record names.
-pub const ROW: u32 = 10;
-
-// The process is none.
-pub const NO_PROCESS: u32 = 11;
-
-// The object is of the wrong kind.
-pub const WRONG_KIND: u32 = 12;
-
-// The object is not free.
-pub const NOT_FREE: u32 = 13;
-
-// The user is not declared.
-pub const NOT_DECLARED: u32 = 14;
-
-// A meet of over 8 mixtures.
-pub const OVER_LIMIT: u32 = 15;
-
-// A text of profiles: its length, its grammar, or a path profiled twice.
-pub const PROFILE_TEXT: u32 = 16;
-
-// Profiles with over 32 paths, or with a rule of over 8 mixtures.
-pub const PROFILE_LIMIT: u32 = 17;
-
-// A new file for another user than the one on whose behalf the process runs.
-pub const OTHER_USER: u32 = 18;
-
-// A trace of over 1,000,000 records.
-pub const TRACE_LENGTH: u32 = 19;
-
-// Two images of different shapes, or a consent that is not 32 bytes of 0 and 1.
-pub const COMPOSITION_INPUT: u32 = 20;
-
-// Two images whose composition has a rule of over 8 mixtures, or over 256 rules.
-pub const COMPOSITION_LIMIT: u32 = 21;
-
-// A trace that cannot be trimmed to its alert.
-pub const TRIM_TRACE: u32 = 22;
-
-// A game whose objects are not two, or of which a count is outside its bounds.
-pub const GAME_BOUNDS: u32 = 23;
-
-// An explanation of a number that is no container's or no atom's.
-pub const EXPLAIN_BOUNDS: u32 = 24;
-
-// An explanation of a trace whose last record is neither answered by an alert nor blocked.
-pub const EXPLAIN_TRACE: u32 = 25;
+// An outcome that gives nothing as one number: 0, or the refusal's.
+pub fn outcome_number(outcome: Result<(), Refusal>) -> u32
+    ensures { result ≡ outcome_number outcome }
+{
+    match outcome {
+        Ok(()) => 0,
+        Err(refusal) => refusal.number(),
+    }
+}
 
 // The number of a quiet answer.
+// Kept: the C interface: an answer goes to C as one number, which these and the refusals are.
 pub const QUIET_NUMBER: u32 = 0;
 
 // The number of an alert, apart from every refusal.
@@ -114,6 +111,7 @@ pub struct Received {
 }
 
 // A verdict on what was received, or the refusal's number.
+// Kept: what may not change: `answer_with` gives `Refused` with every number, and the definitions of the steps answer `refused n` by the number.
 #[derive(Clone, Copy)]
 pub enum Answer {
     Given(Verdict, Received),
@@ -124,80 +122,42 @@ pub enum Answer {
 pub fn is_quiet(answer: Answer) -> bool
     ensures { result ≡ is_quiet answer }
 {
-    match answer {
-        Answer::Given(verdict, _) => match verdict {
-            Verdict::Quiet => true,
-            Verdict::Alert => false,
-            Verdict::Blocked => false,
-        },
-        Answer::Refused(_) => false,
-    }
+    matches!(answer, Answer::Given(Verdict::Quiet, _))
 }
 
 // The access was made, and is not permitted.
 pub fn is_alert(answer: Answer) -> bool
     ensures { result ≡ is_alert answer }
 {
-    match answer {
-        Answer::Given(verdict, _) => match verdict {
-            Verdict::Quiet => false,
-            Verdict::Alert => true,
-            Verdict::Blocked => false,
-        },
-        Answer::Refused(_) => false,
-    }
+    matches!(answer, Answer::Given(Verdict::Alert, _))
 }
 
 // The access would not be permitted, its receiver is guarded, and it was not made.
 pub fn is_blocked(answer: Answer) -> bool
     ensures { result ≡ is_blocked answer }
 {
-    match answer {
-        Answer::Given(verdict, _) => match verdict {
-            Verdict::Quiet => false,
-            Verdict::Alert => false,
-            Verdict::Blocked => true,
-        },
-        Answer::Refused(_) => false,
-    }
+    matches!(answer, Answer::Given(Verdict::Blocked, _))
 }
 
 // The access is not permitted: it was answered by an alert, or blocked.
 pub fn is_forbidden(answer: Answer) -> bool
     ensures { result ≡ (is_alert answer || is_blocked answer) }
 {
-    match answer {
-        Answer::Given(verdict, _) => match verdict {
-            Verdict::Quiet => false,
-            Verdict::Alert => true,
-            Verdict::Blocked => true,
-        },
-        Answer::Refused(_) => false,
-    }
+    matches!(answer, Answer::Given(Verdict::Alert | Verdict::Blocked, _))
 }
 
 // The record was refused.
 pub fn is_refused(answer: Answer) -> bool
     ensures { result ≡ is_refused answer }
 {
-    match answer {
-        Answer::Given(_, _) => false,
-        Answer::Refused(_) => true,
-    }
+    matches!(answer, Answer::Refused(_))
 }
 
 // The access was made.
 pub fn is_accepted(answer: Answer) -> bool
     ensures { result ≡ accepted answer }
 {
-    match answer {
-        Answer::Given(verdict, _) => match verdict {
-            Verdict::Quiet => true,
-            Verdict::Alert => true,
-            Verdict::Blocked => false,
-        },
-        Answer::Refused(_) => false,
-    }
+    matches!(answer, Answer::Given(Verdict::Quiet | Verdict::Alert, _))
 }
 
 // The receiver, its tag and the position; zeros in a refusal.
@@ -219,11 +179,9 @@ pub fn number(answer: Answer) -> u32
     ensures { result ≡ answer_number answer }
 {
     match answer {
-        Answer::Given(verdict, _) => match verdict {
-            Verdict::Quiet => QUIET_NUMBER,
-            Verdict::Alert => ALERT_NUMBER,
-            Verdict::Blocked => BLOCKED_NUMBER,
-        },
+        Answer::Given(Verdict::Quiet, _) => QUIET_NUMBER,
+        Answer::Given(Verdict::Alert, _) => ALERT_NUMBER,
+        Answer::Given(Verdict::Blocked, _) => BLOCKED_NUMBER,
         Answer::Refused(n) => n,
     }
 }

@@ -5,10 +5,10 @@ use Rattle.answers.specs.declared.Received.{Received}
 use Rattle.answers.specs.declared.Answer.{Answer}
 use Rattle.answers.specs.Answers.{is_alert, is_blocked, received_of, answer_number}
 use Rattle.monitor.specs.declared.Ran.{Ran}
-use Rattle.events.specs.declared.Gathered.{Gathered}
-use Rattle.composition.specs.declared.Composition.{Composition}
-use Rattle.trim.specs.declared.Trimmed.{Trimmed}
-use Rattle.witness.specs.declared.Explained.{Explained}
+use Rattle.events.specs.Events.{Gathered}
+use Rattle.composition.specs.Images.{Composition}
+use Rattle.trim.specs.Trims.{Trimmed}
+use Rattle.witness.specs.Explains.{Explained}
 
 -- a number that a host points to: the value, or what stood there if the call is refused
 abbrev pub unless_refused : Bool → ℕ → ℕ → ℕ

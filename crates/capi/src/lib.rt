@@ -24,7 +24,8 @@ ghost use Rattle.composition.specs.Images.{compose_answer, compose_effect};
 ghost use Rattle.capi.specs.Hosts.{stop_after, taken_after, gathered_after, written_after, kept_after, file_after, first_after, value_after, length_after, move_after};
 ghost use Rattle.capi.specs.Versions.{version};
 
-use matrix::Consistency;
+use answers::Refusal;
+use image::CONTAINER_LIMIT;
 
 // The number of a matrix that is not consistent.
 const INCONSISTENT: u32 = 1;
@@ -48,7 +49,7 @@ pub extern "C" fn yaslaurel_version() -> u32
 pub extern "C" fn yaslaurel_image_check(image: &[u8]) -> u32
     ensures { result ≡ check_of image.now }
 {
-    image::check(image)
+    answers::outcome_number(image::check(image))
 }
 
 // The length of the normal image, 18 or more, written to the front of out; else the refusal, 9 or 1 to 6, and out is as it was.
@@ -56,7 +57,10 @@ pub extern "C" fn yaslaurel_image_check(image: &[u8]) -> u32
 pub extern "C" fn yaslaurel_image_normalise(image: &[u8], out: &mut [u8]) -> u32
     ensures { (result ≡ normal_answer image.now out.old) × (out.new ≡ normal_effect image.now out.old) }
 {
-    normaliser::normalise(image, out)
+    match normaliser::normalise(image, out) {
+        Ok(length) => length as u32,
+        Err(refusal) => refusal.number(),
+    }
 }
 
 // 0 if the session was started, else the refusal, 9 or 1 to 6, and the session is as it was.
@@ -64,7 +68,7 @@ pub extern "C" fn yaslaurel_image_normalise(image: &[u8], out: &mut [u8]) -> u32
 pub extern "C" fn yaslaurel_session_start(image: &[u8], session: &mut [u64]) -> u32
     ensures { (result ≡ start_answer image.now session.old) × (session.new ≡ start_effect image.now session.old) }
 {
-    session::start(image, session)
+    answers::outcome_number(session::start(image, session))
 }
 
 // 0 quiet, 256 alert, 257 blocked, with receiver, tag and position, which is 255 where no mixture covers the tag; else the refusal. The
@@ -106,7 +110,7 @@ pub extern "C" fn yaslaurel_run(
     let ran = monitor::run(session, records);
     let answer = ran.answer;
     let number = answers::number(answer);
-    if number == answers::LENT_LENGTH {
+    if number == Refusal::LentLength as u32 {
         return number;
     }
     *taken = ran.taken;
@@ -136,14 +140,14 @@ pub extern "C" fn yaslaurel_events(
         × (taken.new ≡ gathered_after (gathered session.old records.now events.old) taken.old)
         × (written.new ≡ written_after (gathered session.old records.now events.old) written.old) }
 {
-    let gathered = events::gather_events(session, records, events);
-    let refusal = gathered.refusal;
-    if refusal != 0 {
-        return refusal;
+    match events::gather_events(session, records, events) {
+        Ok(gathered) => {
+            *taken = gathered.taken;
+            *written = gathered.written;
+            0
+        }
+        Err(refusal) => refusal.number(),
     }
-    *taken = gathered.taken;
-    *written = gathered.written;
-    refusal
 }
 
 // 0 with the figures of the records, run to their end; else 9, and everything is as it was.
@@ -153,7 +157,7 @@ pub extern "C" fn yaslaurel_figures(session: &mut [u64], records: &[u8], figures
         × (session.new ≡ total_session session.old records.now figures.old)
         × (figures.new ≡ total_numbers session.old records.now figures.old) }
 {
-    totals::count_trace(session, records, figures)
+    answers::outcome_number(totals::count_trace(session, records, figures))
 }
 
 // 0 with each figure added to its like in the total; else 9, and everything is as it was.
@@ -162,7 +166,7 @@ pub extern "C" fn yaslaurel_figures_add(total: &mut [u64], figures: &[u64]) -> u
     ensures { (result ≡ add_refusal total.old figures.now)
         × (total.new ≡ add_figures total.old figures.now) }
 {
-    totals::add(total, figures)
+    answers::outcome_number(totals::add(total, figures))
 }
 
 // 0 with the kept positions at the front of `positions`, in rising order, and how many they are behind `kept`; else the refusal, 9, 1 to 6
@@ -178,13 +182,13 @@ pub extern "C" fn yaslaurel_trace_trim(
         × (positions.new ≡ trim_effect image.now trace.now positions.old)
         × (kept.new ≡ kept_after (trim_answer image.now trace.now positions.old) kept.old) }
 {
-    let trimmed = trim::trim(image, trace, positions);
-    let refusal = trimmed.refusal;
-    if refusal != 0 {
-        return refusal;
+    match trim::trim(image, trace, positions) {
+        Ok(count) => {
+            *kept = count;
+            0
+        }
+        Err(refusal) => refusal.number(),
     }
-    *kept = trimmed.kept;
-    refusal
 }
 
 // 0 with the number of the file where the chain begins, 256 if there is none, and where the numbers of its records stand in the steps, up
@@ -206,14 +210,14 @@ pub extern "C" fn yaslaurel_explain(
         × (file.new ≡ file_after (explain_answer image.now trace.now container atom links.old steps.old) file.old)
         × (first.new ≡ first_after (explain_answer image.now trace.now container atom links.old steps.old) first.old) }
 {
-    let explained = witness::explain(image, trace, container, atom, links, steps);
-    let refusal = explained.refusal;
-    if refusal != 0 {
-        return refusal;
+    match witness::explain(image, trace, container, atom, links, steps) {
+        Ok(found) => {
+            *file = found.file.unwrap_or(CONTAINER_LIMIT) as u64;
+            *first = found.first as u64;
+            0
+        }
+        Err(refusal) => refusal.number(),
     }
-    *file = explained.file as u64;
-    *first = explained.first as u64;
-    refusal
 }
 
 // 0 with the reason in seventeen numbers at the front of `why`, and the records of a run rule's chain at the end of the steps; else the
@@ -231,7 +235,7 @@ pub extern "C" fn yaslaurel_why(
         × (steps.new ≡ why_steps image.now trace.now links.old steps.old why.old)
         × (links.new ≡ why_links image.now trace.now links.old steps.old why.old) }
 {
-    certificate::why(image, trace, links, steps, why)
+    answers::outcome_number(certificate::why(image, trace, links, steps, why))
 }
 
 // 0 consistent, with zeros; 1 with the number of flows and the first of them; else 8, and everything is as it was.
@@ -255,23 +259,18 @@ pub extern "C" fn yaslaurel_matrix_verdict(
         ≡ value_after (matrix_verdict reads.now writes.now objects).number
         (matrix_verdict reads.now writes.now objects).target target.old) }
 {
-    let v = matrix::verdict(reads, writes, objects);
-    match v {
-        Consistency::Refused => answers::MATRIX,
-        Consistency::Consistent => {
+    match matrix::verdict(reads, writes, objects) {
+        Err(refusal) => refusal.number(),
+        Ok(None) => {
             *count = 0;
             *source = 0;
             *target = 0;
             0
         }
-        Consistency::Inconsistent {
-            count: n,
-            source: a,
-            target: b,
-        } => {
-            *count = n;
-            *source = a;
-            *target = b;
+        Ok(Some(found)) => {
+            *count = found.count;
+            *source = found.source;
+            *target = found.target;
             INCONSISTENT
         }
     }
@@ -282,8 +281,7 @@ pub extern "C" fn yaslaurel_matrix_verdict(
 pub extern "C" fn yaslaurel_matrix_silent(reads: &[u32], writes: &[u32], objects: u32) -> u32
     ensures { result ≡ matrix_silence reads.now writes.now objects }
 {
-    let silence = silence::silent(reads, writes, objects);
-    silence::silence_number(silence)
+    silence::silence_number(silence::silent(reads, writes, objects))
 }
 
 // 1 if the desk can force its win, with its first winning move: 1 read, 3 append, 0 pass, its subject and its object. 0 if the guard can
@@ -367,7 +365,10 @@ pub extern "C" fn yaslaurel_matrix_policy(
     ensures { (result ≡ derived_answer reads.now writes.now objects out.old)
         × (out.new ≡ derived_effect reads.now writes.now objects out.old) }
 {
-    derivation::derive(reads, writes, objects, out)
+    match derivation::derive(reads, writes, objects, out) {
+        Ok(length) => length,
+        Err(refusal) => refusal.number(),
+    }
 }
 
 // The length of the image of the policy that a text of profiles stands for, written to the front of out; else the refusal, 9, 16 or
@@ -377,7 +378,10 @@ pub extern "C" fn yaslaurel_profiles_policy(text: &[u8], out: &mut [u8]) -> u32
     ensures { (result ≡ profile_answer text.now out.old)
         × (out.new ≡ profile_effect text.now out.old) }
 {
-    confinement::derive(text, out)
+    match confinement::derive(text, out) {
+        Ok(length) => length as u32,
+        Err(refusal) => refusal.number(),
+    }
 }
 
 // 0 if two images were composed, with the length of the image that was written to the front of out; else the refusal, 9, 1 to 6 for the
@@ -394,11 +398,11 @@ pub extern "C" fn yaslaurel_image_compose(
         × (length.new ≡ length_after (compose_answer first.now second.now consent.now out.old) length.old)
         × (out.new ≡ compose_effect first.now second.now consent.now out.old) }
 {
-    let composed = composition::compose(first, second, consent, out);
-    let refusal = composed.refusal;
-    if refusal != 0 {
-        return refusal;
+    match composition::compose(first, second, consent, out) {
+        Ok(written) => {
+            *length = written;
+            0
+        }
+        Err(refusal) => refusal.number(),
     }
-    *length = composed.length;
-    0
 }

@@ -23,7 +23,7 @@ use Rattle.records.specs.Records.{record_length, request_in, step_of}
 use Rattle.records.specs.Traces.{trace_records}
 use Rattle.records.proofs.TraceRecords.{records_append}
 use Rattle.monitor.specs.Runs.{step_on}
-use Rattle.witness.specs.declared.Found.{Found}
+use Rattle.witness.specs.Found.{Found}
 use Rattle.witness.specs.Witness.{Witness}
 use Rattle.witness.specs.Told.{chain_file, chain_records, found_in, at_end}
 use Rattle.witness.specs.Explains.{rule_numbers}

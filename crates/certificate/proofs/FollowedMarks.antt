@@ -1,11 +1,13 @@
 -- A trace followed record by record: the marks, and the last answer. The least atom that a mixture lacks, looked for from 0 on.
-use Prim.Native.Nat.{ℕ, suc, ◌+◌, ◌/◌, ◌%◌, ◌^◌, ◌≤◌, ◌<◌}
+use Prim.Native.Nat.{ℕ, ◌+◌, ◌/◌, ◌%◌, ◌^◌, ◌≤◌, ◌<◌}
 use native.Mathlib.Omega.{arith}
+use native.Mathlib.Numerals.{add-one}
+use native.Mathlib.Nat.{zero-add}
 use mathlib.Core.Path.{◌≡◌, refl, sym, ap, subst, ◌∙◌}
 use mathlib.Core.Bool.{Bool, true, false, not}
-use mathlib.Core.List.{List, [], ◌∷◌}
+use mathlib.Core.List.{List}
 use lib.Dec.{eqb}
-use lib.ListN.{length, take, drop, get_or, set}
+use lib.ListN.{length, get_or, set}
 use Rattle.lists.proofs.Bools.{passes_test, fails_test}
 use Rattle.lists.proofs.Below.{Failing, least_is, least_none}
 use Rattle.answers.specs.declared.Answer.{Answer}
@@ -21,11 +23,11 @@ use Rattle.records.specs.Records.{record_length, request_in, step_in, Asked}
 use Rattle.records.specs.Traces.{trace_records}
 use Rattle.records.proofs.CodeLaws.{by_code, step_exec, step_file, step_fork}
 use Rattle.records.proofs.RecordLaws.{record_long}
-use Rattle.records.proofs.TraceRecords.{record_length_lem, next_record, no_record}
+use Rattle.records.proofs.TraceRecords.{FirstChunk, next_chunk, no_chunk}
 use Rattle.monitor.specs.Steps.{step_asked, step_answer, step_effect}
 use Rattle.monitor.specs.Runs.{step_on, run_answers, run_effect}
 use Rattle.monitor.proofs.StepLaws.{step_record, accepted_zero}
-use Rattle.witness.proofs.TraceParts.{followed_whole, left_before}
+use Rattle.witness.proofs.TraceParts.{records_count}
 use Rattle.certificate.specs.Origins.{lacks_at, lacked_by}
 use Rattle.certificate.specs.Whys.{last_from, last_answer}
 use Rattle.certificate.specs.Marks.{nowhere_mark, record_mark, next_mark, marks_after, marks_on, marks_all}
@@ -113,58 +115,36 @@ took_marks s r marks n {q} {to} {m} a eq et em = rw (em, et, eq, a)
 
 -- ---- the loop over the records of a trace
 
--- the records before `at` are followed; `answer` is that of the last of them
-pub record Following (trace marks₀ s₀ s marks : List ℕ) (answer : Answer) (at : ℕ) : Type 0 where
-  pub inside : at ≤ length trace
-  pub whole : at < length trace → at % record_length ≡ 0
-  pub session : length s ≡ length s₀
+-- the first n records are followed, and the bytes of `rest` are left; `answer` is that of the last of them
+pub record Following (trace marks₀ s₀ s marks : List ℕ) (answer : Answer) (n : ℕ) (rest : List ℕ) : Type 0 where
   pub long : length marks ≡ container_limit
-  pub same : marks_all marks (at / record_length) s (trace_records (drop at trace)) ≡ marks_all marks₀ 0 s₀ (trace_records trace)
-  pub leaves : run_effect s (trace_records (drop at trace)) ≡ run_effect s₀ (trace_records trace)
-  pub last : last_from answer (run_answers s (trace_records (drop at trace))) ≡ last_answer (run_answers s₀ (trace_records trace))
+  pub count : n + length (trace_records rest) ≡ length (trace_records trace)
+  pub same : marks_all marks n s (trace_records rest) ≡ marks_all marks₀ 0 s₀ (trace_records trace)
+  pub leaves : run_effect s (trace_records rest) ≡ run_effect s₀ (trace_records trace)
+  pub last : last_from answer (run_answers s (trace_records rest)) ≡ last_answer (run_answers s₀ (trace_records trace))
 
-pub following_start : (trace marks s : List ℕ) → length marks ≡ container_limit → Following trace marks s s marks (quiet 0 0 0) 0
+pub following_start : {trace marks s : List ℕ} {n : ℕ} {rest : List ℕ} → length marks ≡ container_limit → n ≡ 0 → rest ≡ trace → Following trace marks s s marks (quiet 0 0 0) n rest
 unfolding last_answer
-following_start trace marks s l = record { inside = omega arith; whole = λ z. omega arith; session = refl; long = l; same = refl; leaves = refl; last = refl }
+following_start {trace} l z e = rw (z, e) (record { long = l; count = zero-add (length (trace_records trace)); same = refl; leaves = refl; last = refl })
 
-module _ (trace marks₀ s₀ s marks : List ℕ) (answer : Answer) (at : ℕ) (h : Following trace marks₀ s₀ s marks answer at) (l : at < length trace)
-    (x s' marks' : List ℕ) (answer' : Answer) (xe : x ≡ take record_length (drop at trace)) (ae : answer' ≡ step_answer s x) (se : s' ≡ step_effect s x)
-    (me : marks' ≡ marks_on marks (at / record_length) s x) where
-  next_same : marks_all marks' (suc (at / record_length)) s' (trace_records (drop (at + length x) trace)) ≡ marks_all marks₀ 0 s₀ (trace_records trace)
-  unfolding marks_all
-  next_same = rw (me, se, xe) (rw (next_record trace at l) at h.same)
+module _ {trace marks₀ s₀ s marks : List ℕ} {answer : Answer} {n : ℕ} {rest : List ℕ} (h : Following trace marks₀ s₀ s marks answer n rest) where
+  module _ {x rest' : List ℕ} (d : FirstChunk rest x rest') where
+    pub following_few : length trace < 2 ^ 64 → n < 2 ^ 62
+    following_few l = omega (arith, l, h.count, ap length (next_chunk d), records_count trace)
 
-  -- the number of the next record matters only if there is one
-  renumber : (marks : List ℕ) (n m : ℕ) (s : List ℕ) (rs : List (List ℕ)) → (0 < length rs → n ≡ m) → marks_all marks n s rs ≡ marks_all marks m s rs
-  unfolding marks_all
-  renumber marks n m s [] e = refl
-  renumber marks n m s (r ∷ rs) e = let z : n ≡ m = e (omega arith) in rw z
+    pub following_next : {s' marks' : List ℕ} {answer' : Answer} {m n' : ℕ} → m ≡ n → n' ≡ n + 1 → answer' ≡ step_answer s x → s' ≡ step_effect s x
+        → marks' ≡ marks_on marks m s x → length marks' ≡ length marks → Following trace marks₀ s₀ s' marks' answer' n' rest'
+    unfolding marks_all run_effect last_from run_answers step_on
+    following_next em en ea es ek el =
+        record {
+          long = el ∙ h.long;
+          count = omega (arith, en, h.count, ap length (next_chunk d));
+          same = rw (ek, es, em, en, add-one n) (rw (next_chunk d) at h.same);
+          leaves = rw es (rw (next_chunk d) at h.leaves);
+          last = rw (ea, es) (rw (next_chunk d) at h.last);
+        }
 
-  next_leaves : run_effect s' (trace_records (drop (at + length x) trace)) ≡ run_effect s₀ (trace_records trace)
-  unfolding run_effect step_on
-  next_leaves = rw (se, xe) (rw (next_record trace at l) at h.leaves)
-
-  next_last : last_from answer' (run_answers s' (trace_records (drop (at + length x) trace))) ≡ last_answer (run_answers s₀ (trace_records trace))
-  unfolding last_from run_answers step_on
-  next_last = rw (ae, se, xe) (rw (next_record trace at l) at h.last)
-
-  pub following_next : length s' ≡ length s → length marks' ≡ length marks → Following trace marks₀ s₀ s' marks' answer' (at + length x)
-  following_next es em =
-      record {
-        inside = (record_length_lem trace x at l xe).1;
-        whole = λ m. omega (arith, followed_whole trace x at xe m, h.whole l);
-        session = es ∙ h.session;
-        long = em ∙ h.long;
-        same =
-            renumber marks' ((at + length x) / record_length) (suc (at / record_length)) s' (trace_records (drop (at + length x) trace))
-            (λ m. omega (arith, followed_whole trace x at xe (left_before trace (at + length x) m), h.whole l))
-            ∙ next_same;
-        leaves = next_leaves;
-        last = next_last;
-      }
-
-pub following_end : (trace marks₀ s₀ s marks : List ℕ) (answer : Answer) (at : ℕ) → Following trace marks₀ s₀ s marks answer at → length trace ≤ at
-    → (answer ≡ last_answer (run_answers s₀ (trace_records trace))) × (s ≡ run_effect s₀ (trace_records trace)) × (marks ≡ marks_all marks₀ 0 s₀ (trace_records trace))
-unfolding marks_all run_effect last_from run_answers
-following_end trace marks₀ s₀ s marks answer at h l =
-    (rw (no_record trace at l) at h.last, rw (no_record trace at l) at h.leaves, rw (no_record trace at l) at h.same)
+  pub following_end : length rest ≡ 0
+      → (answer ≡ last_answer (run_answers s₀ (trace_records trace))) × (s ≡ run_effect s₀ (trace_records trace)) × (marks ≡ marks_all marks₀ 0 s₀ (trace_records trace))
+  unfolding marks_all run_effect last_from run_answers
+  following_end l = (rw (no_chunk rest l) at h.last, rw (no_chunk rest l) at h.leaves, rw (no_chunk rest l) at h.same)

@@ -7,7 +7,7 @@ use mathlib.Core.Bool.{Bool, true, false, not}
 use mathlib.Core.List.{List, [], ◌∷◌, map}
 use mathlib.Core.Option.{Option, none, some}
 use lib.ListN.{length, take, drop, get_or, get_elem?, replicate, length-map, length-take, get_or-eq_default}
-use borrow.Author.Tests.{eq-eqb, ne_eqb, le-leb}
+use borrow.Author.Tests.{eq-eqb, ne_eqb}
 use Rattle.lists.proofs.Bools.{passes_test, fails_test}
 use Rattle.lists.proofs.Copying.{Copied}
 use Rattle.fields.specs.Bytes.{number_in, field, records}
@@ -16,7 +16,7 @@ use Rattle.fields.proofs.SectionRecords.{records_count, record_at}
 use Rattle.rules.specs.declared.Bounded.{Bounded}
 use Rattle.rules.specs.Rules.{covers, unrestricted}
 use Rattle.rules.specs.Answers.{tag_width, mixture_limit, padded, bounded_of}
-use Rattle.rules.proofs.BoundedLaws.{padded_take, padded_length, bounded_fits, bounded_some}
+use Rattle.rules.proofs.BoundedLaws.{padded_take, padded_length, bounded_is}
 use Rattle.image.specs.Limits.{container_size, user_size, rule_size, mixture_size, size8, size16, container_kind_at, container_permit_at}
 use Rattle.image.specs.Limits.{container_run_at, rule_count_at, rule_owner_at, unrestricted_number, no_owner, is_file}
 use Rattle.image.specs.Policy.{Container, unrestricted_rule, rule_at, owner_at}
@@ -163,9 +163,9 @@ module _ (i : List ℕ) (n : ℕ) where
 -- ---- a rule at the 8 places for its mixtures
 
 module _ (r : List ℕ) (l : length r ≤ mixture_limit) {b : Bounded} (e : b ≡ bounded_of r) where
-  is_bounded : b ≡ record { fits = true; count = length r; mixtures = padded r }
+  is_bounded : b ≡ record { count = length r; mixtures = padded r }
   unfolding bounded_of
-  is_bounded = e ∙ bounded_some r (le-leb (length r) mixture_limit l)
+  is_bounded = e
 
   pub bounded_count : b.count ≡ length r
   bounded_count = ap (λ (x : Bounded). x.count) is_bounded
@@ -180,9 +180,9 @@ module _ (r : List ℕ) (l : length r ≤ mixture_limit) {b : Bounded} (e : b �
 
 pub span_end : (m : List ℕ) (first count : ℕ) (out : List ℕ) (j : ℕ) → count ≤ mixture_limit → first + count ≤ length m / mixture_size
     → Copied (take count (drop first (mixtures_in m))) (replicate mixture_limit 0) out 0 j → count ≤ j
-    → ◌≡◌ {A = Bounded} (record { fits = true; count = count; mixtures = out }) (bounded_of (take count (drop first (mixtures_in m))))
+    → ◌≡◌ {A = Bounded} (record { count = count; mixtures = out }) (bounded_of (take count (drop first (mixtures_in m))))
 span_end m first count out j l h g k =
-    bounded_fits (take count (drop first (mixtures_in m))) (take count (drop first (mixtures_in m))) out count refl (from_length m first count h) l
+    bounded_is (take count (drop first (mixtures_in m))) (take count (drop first (mixtures_in m))) out count refl (from_length m first count h)
     (padded_end (take count (drop first (mixtures_in m))) out j g (omega (arith, from_length m first count h, k)))
 
 -- ---- as the code reads it

@@ -1,11 +1,12 @@
 -- The last answer to a trace and the mark of its receiver, on the session that the image starts.
 use Prim.Native.Nat.{ℕ, ◌<◌}
 use native.Mathlib.Omega.{arith}
-use mathlib.Core.Path.{◌≡◌, ap, ◌∙◌}
-use mathlib.Core.Bool.{Bool, ◌||◌}
+use mathlib.Core.Path.{◌≡◌, sym, ap, ◌∙◌}
+use mathlib.Core.Bool.{Bool, true, false, not, ◌||◌}
 use mathlib.Core.List.{List, [], ◌∷◌}
 use mathlib.Core.Logic.{◌⊎◌, inl, inr, ◌≢◌}
 use lib.ListN.{length, get_or}
+use borrow.Author.Tests.{not-true, not-false}
 use Rattle.lists.proofs.Conditions.{zero_or_not}
 use Rattle.answers.specs.declared.Answer.{Answer}
 use Rattle.answers.specs.declared.Received.{Received}
@@ -54,9 +55,8 @@ answered_low i t = receiver_low (start_of (policy_in i)) (trace_records t)
 
 -- ---- what the code answers
 
-module _ (i t zeros : List ℕ) (ok : check_of i ≡ 0) (z : length zeros ≡ session_length) {s marks marks' : List ℕ} {a : Answer} {e : Received}
-    (m : marks ≡ own_marks) (st : s ≡ start_effect i zeros) (f : a ≡ last_answer (run_answers s (trace_records t)))
-    (ms : marks' ≡ marks_all marks 0 s (trace_records t)) (g : e ≡ received_of a) where
+module _ (i t zeros : List ℕ) (ok : check_of i ≡ 0) (z : length zeros ≡ session_length) {s : List ℕ} {a : Answer} (st : s ≡ start_effect i zeros)
+    (f : a ≡ last_answer (run_answers s (trace_records t))) where
   begun : s ≡ start_of (policy_in i)
   begun = st ∙ started_effect i zeros ok z
 
@@ -64,12 +64,24 @@ module _ (i t zeros : List ℕ) (ok : check_of i ≡ 0) (z : length zeros ≡ se
   unfolding answered
   told = f ∙ ap (λ (x : List ℕ). last_answer (run_answers x (trace_records t))) begun
 
-  pub judged_low : e.receiver < container_limit
-  judged_low =
-      let q : e.receiver ≡ receiver_of (answered i t) = ap (λ (x : Received). x.receiver) g ∙ ap receiver_of told in
-      omega (arith, q, answered_low i t)
+  -- whether it forbids, as the code tests it
+  module _ {b : Bool} (h : b ≡ (is_alert a || is_blocked a)) where
+    forbidden : forbidden_last i t ≡ b
+    unfolding forbidden_last
+    forbidden = rw (sym told) (sym h)
 
-  pub judged_is : {b : Bool} → b ≡ (is_alert a || is_blocked a)
-      → record { forbidden = b; receiver = e.receiver; tag = e.tag; mark = get_or marks' e.receiver 0 } ≡ judgement_of i t
-  unfolding judgement_of forbidden_last
-  judged_is {b} h = rw (h, ms, g, told, m, begun)
+    pub judged_none : not b ≡ true → forbidden_last i t ≡ false
+    judged_none q = forbidden ∙ not-true b q
+
+    pub judged_some : not b ≡ false → forbidden_last i t ≡ true
+    judged_some q = forbidden ∙ not-false b q
+
+  module _ {marks marks' : List ℕ} {e : Received} (m : marks ≡ own_marks) (ms : marks' ≡ marks_all marks 0 s (trace_records t)) (g : e ≡ received_of a) where
+    pub judged_low : e.receiver < container_limit
+    judged_low =
+        let q : e.receiver ≡ receiver_of (answered i t) = ap (λ (x : Received). x.receiver) g ∙ ap receiver_of told in
+        omega (arith, q, answered_low i t)
+
+    pub judged_is : record { receiver = e.receiver; tag = e.tag; mark = get_or marks' e.receiver 0 } ≡ judgement_of i t
+    unfolding judgement_of
+    judged_is = rw (ms, g, told, m, begun)

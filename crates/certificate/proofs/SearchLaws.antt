@@ -9,6 +9,7 @@ use mathlib.Core.Logic.{◌≢◌}
 use mathlib.Core.Option.{Option, none, some}
 use lib.ListN.{length, take, drop, get_elem?, drop_of_length-le}
 use lib.Seq.{take_all}
+use Rattle.lists.proofs.Bools.{clash}
 use Rattle.lists.proofs.Places.{some_inj, none_some}
 use Rattle.rules.specs.declared.Bounded.{Bounded}
 use Rattle.rules.specs.Answers.{bounded_of}
@@ -24,7 +25,9 @@ use Rattle.chains.specs.Demand.{history_of}
 use Rattle.records.specs.Records.{step_of}
 use Rattle.records.specs.Traces.{trace_records}
 use Rattle.monitor.specs.Runs.{step_on}
-use Rattle.witness.specs.declared.Found.{Found}
+use Rattle.std.specs.Prelude as Option
+use Rattle.std.specs.Option.{is_some}
+use Rattle.witness.specs.Found.{Found, file_number, Inside}
 use Rattle.witness.specs.Witness.{Witness, first_of, witness}
 use Rattle.witness.specs.Told.{chain_file, chain_records, found_in, at_end}
 use Rattle.witness.specs.Links.{of_rule, links_left}
@@ -250,3 +253,13 @@ module _ (i t : List ℕ) (tag o : ℕ) where
 
         none_left : links ≡ search_links policy (start_of policy) (trace_records t) tag o [] links
         none_left = unfold search_links in refl
+
+-- ---- the file of what is found, as the code tests it
+
+pub inside_some : {b : Bool} (o : Option.Option ℕ) → Inside o → b ≡ is_some o → b ≡ true → file_number o ≢ container_limit
+inside_some Option.None l e h = clash h e
+inside_some (Option.Some f) l e h = λ z. absurd (omega (arith, l, z))
+
+pub none_file : {b : Bool} (o : Option.Option ℕ) → b ≡ is_some o → b ≡ false → file_number o ≡ container_limit
+none_file Option.None e h = refl
+none_file (Option.Some f) e h = clash e h

@@ -1,12 +1,12 @@
 -- What is told of each kind of reason.
-use Prim.Native.Nat.{ℕ, ◌-◌}
+use Prim.Native.Nat.{ℕ, ◌-◌, ◌<◌}
 use native.Mathlib.Omega.{arith}
 use mathlib.Core.Path.{◌≡◌, sym, ap, ◌∙◌}
 use lib.ListN.{get_elem?}
 use borrow.Author.Tests.{eq-eqb, ne_eqb}
 use Rattle.image.specs.Limits.{container_limit, unrestricted_number}
 use Rattle.image.specs.Policy.{Policy}
-use Rattle.witness.specs.declared.Found.{Found}
+use Rattle.witness.specs.Found.{Found}
 use Rattle.certificate.specs.declared.Told.{Told}
 use Rattle.certificate.specs.Whys.{permit_of, run_of, user_number, no_reason, own_reason, user_reason, own_origin, run_origin}
 use Rattle.certificate.specs.Marks.{told_of, run_told}
@@ -31,7 +31,7 @@ module _ (P : Policy) (n : ℕ) (f : Found) where
   unfolding run_told
   found_none {r} e h = rw (eq-eqb f.file container_limit e) (h ∙ sym (told_nothing f.first))
 
-  pub found_file : {m : ℕ} → (f.file ≡ container_limit → ⊥) → m ≡ run_of (get_elem? P.containers f.file)
-      → record { kind = run_origin; at = n; holder = f.file; rule = m; first = f.first } ≡ run_told P n f
+  pub found_file : {file m : ℕ} → f.file ≡ file → file < container_limit → m ≡ run_of (get_elem? P.containers file)
+      → record { kind = run_origin; at = n; holder = file; rule = m; first = f.first } ≡ run_told P n f
   unfolding run_told
-  found_file {m} d e = rw (ne_eqb f.file container_limit d, e)
+  found_file {file} {m} e l em = rw (ne_eqb f.file container_limit (λ z. absurd (omega (arith, e, l, z))), em, e)

@@ -2,15 +2,19 @@
 use Prim.Native.Nat.{ℕ, ◌≤◌, ◌<◌}
 use native.Mathlib.Omega.{arith}
 use mathlib.Core.Path.{◌≡◌, refl, sym, ap, subst, ◌∙◌}
-use mathlib.Core.Bool.{Bool, true, false, not}
+use mathlib.Core.Bool.{Bool, true, false}
 use mathlib.Core.List.{List, [], ◌∷◌, ◌++◌}
-use mathlib.Core.Logic.{◌≢◌, ◌↔◌, ⊎_elim}
+use mathlib.Core.Logic.{◌≢◌, ◌↔◌, ⊎_elim, ◌⊎◌, inl, inr}
 use lib.ListN.{length}
 use borrow.Author.Tests.{ne_eqb, le-leb, lt-leb}
 use Rattle.lists.specs.Lists.{elem}
 use Rattle.lists.specs.Conditions.{Condition, ◌or_refuse◌, first_failed, numbers_of, numbers_distinct}
-use Rattle.lists.proofs.Bools.{and_in, decide, clash, passes_test, fails_test}
+use Rattle.lists.proofs.Bools.{and_in, decide, clash}
 use Rattle.lists.proofs.Conditions.{passed, failed, none_left, first_stops, first_passed, zero_or_not, given_among}
+use Rattle.std.proofs.Common.{Result, Err}
+use Rattle.answers.specs.declared.Refusal.{Refusal}
+use Rattle.answers.specs.Outcomes.{refusal_number, outcome_number}
+use Rattle.answers.proofs.Outcomes.{refusal_number_positive}
 use Rattle.answers.specs.Refusals.{lent_length, explain_trace}
 use Rattle.image.specs.Image.{image_conditions, check_of}
 use Rattle.image.proofs.ImageRefusals.{refused_by_none}
@@ -20,18 +24,15 @@ use Rattle.certificate.specs.Whys.{why_length, room_good, forbidden_last, why_co
 -- ---- the tests of the code
 
 module _ (t links steps out : List ℕ) where
-  pub lent_fails : {b : Bool} → b ≡ lent_good t links steps → not b ≡ true → room_good t links steps out ≡ false
-  unfolding room_good
-  lent_fails {b} e h = let z : lent_good t links steps ≡ false = fails_test e h in rw z
-
-  module _ {b : Bool} (e : b ≡ lent_good t links steps) (h : not b ≡ false) where
-    pub out_short : length out < why_length → room_good t links steps out ≡ false
+  module _ {b : Bool} (e : b ≡ lent_good t links steps) where
+    pub room_short : (b ≡ false) ⊎ ((b ≡ true) × (length out < why_length)) → room_good t links steps out ≡ false
     unfolding room_good
-    out_short l = let z : lent_good t links steps ≡ true = passes_test e h in rw (z, lt-leb why_length (length out) l)
+    room_short (inl h) = rw (← e, h)
+    room_short (inr q) = rw (← e, q.0, lt-leb why_length (length out) q.1)
 
-    pub out_long : why_length ≤ length out → room_good t links steps out ≡ true
+    pub room_long : b ≡ true → why_length ≤ length out → room_good t links steps out ≡ true
     unfolding room_good
-    out_long l = and_in (passes_test e h) (le-leb why_length (length out) l)
+    room_long h l = and_in (sym e ∙ h) (le-leb why_length (length out) l)
 
 -- ---- the refusals
 
@@ -73,9 +74,10 @@ module _ (i t links steps out : List ℕ) where
   Left r out' steps' links' =
       (r ≡ why_refusal i t links steps out) × (out' ≡ why_effect i t links steps out) × (steps' ≡ why_steps i t links steps out) × (links' ≡ why_links i t links steps out)
 
-  pub left_refused : (n : ℕ) → why_refusal i t links steps out ≡ n → n ≢ 0 → Left n out steps links
+  pub left_refused : {r : Result (Unit {0}) Refusal} (f : Refusal) → r ≡ Err f → why_refusal i t links steps out ≡ refusal_number f → Left (outcome_number r) out steps links
   unfolding why_effect why_steps why_links
-  left_refused n e d = let b = ne_eqb (why_refusal i t links steps out) 0 (λ z. d (sym e ∙ z)) in (sym e, rw b, rw b, rw b)
+  left_refused {r} f q e =
+      let b = ne_eqb (why_refusal i t links steps out) 0 (λ z. absurd (omega (arith, refusal_number_positive f, e, z))) in (ap outcome_number q ∙ sym e, rw b, rw b, rw b)
 
   pub refused_all : why_refusal i t links steps out ≢ 0
       → (why_effect i t links steps out ≡ out) × (why_steps i t links steps out ≡ steps) × (why_links i t links steps out ≡ links)

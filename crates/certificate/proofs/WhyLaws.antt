@@ -2,13 +2,13 @@
 use Prim.Native.Nat.{ℕ}
 use native.Mathlib.Omega.{arith}
 use mathlib.Core.Path.{◌≡◌, refl, sym, ap, subst, ◌∙◌}
-use mathlib.Core.Bool.{true, false, not, ◌||◌}
+use mathlib.Core.Bool.{true, false, ◌||◌}
 use mathlib.Core.List.{List, [], ◌∷◌, ◌++◌}
 use mathlib.Core.Logic.{◌⊎◌, inl, inr}
 use lib.Dec.{eqb}
 use lib.ListN.{length}
 use borrow.Author.Tests.{eq-eqb}
-use Rattle.lists.proofs.Bools.{and_0, or_cases, clash, passes_test, fails_test}
+use Rattle.lists.proofs.Bools.{and_0, or_cases, clash}
 use Rattle.fields.specs.Writing.{overwritten}
 use Rattle.answers.specs.declared.Answer.{Answer}
 use Rattle.answers.specs.Answers.{is_alert, is_blocked, is_refused, receiver_of, tag_of}
@@ -142,15 +142,7 @@ module _ (i t : List ℕ) {j : Judgement} (e : j ≡ judgement_of i t) where
   pub judged_good : MarkGood t j.mark
   judged_good = subst (λ (x : Judgement). MarkGood t x.mark) (sym e) (judged_mark i t)
 
-  pub judged_quiet : not j.forbidden ≡ true → forbidden_last i t ≡ false
-  unfolding judgement_of
-  judged_quiet h = fails_test (ap (λ (x : Judgement). x.forbidden) e) h
-
-  judged_forbids : not j.forbidden ≡ false → forbidden_last i t ≡ true
-  unfolding judgement_of
-  judged_forbids h = passes_test (ap (λ (x : Judgement). x.forbidden) e) h
-
-  module _ (h : not j.forbidden ≡ false) where
+  module _ (f : forbidden_last i t ≡ true) where
     judged_tag : j.tag ≡ tag_of (answered i t)
     unfolding judgement_of
     judged_tag = ap (λ (x : Judgement). x.tag) e
@@ -160,7 +152,7 @@ module _ (i t : List ℕ) {j : Judgement} (e : j ≡ judgement_of i t) where
     judged_receiver = ap (λ (x : Judgement). x.receiver) e
 
     judged_reason : mark_reason i t j.tag j.mark ≡ reason_in i t
-    judged_reason = rw (judged_tag, ap (λ (x : Judgement). x.mark) e) (reason_here i t (judged_forbids h))
+    judged_reason = rw (judged_tag, ap (λ (x : Judgement). x.mark) e) (reason_here i t f)
 
     numbers_same : (steps : List ℕ) (w : Reason) → numbers_by (policy_in i) j.receiver j.tag (told_of (length steps) w) ≡ reason_numbers (policy_in i) j.receiver j.tag (length steps) w
     numbers_same steps w = unfold numbers_by reason_numbers in refl
@@ -173,7 +165,7 @@ module _ (i t : List ℕ) {j : Judgement} (e : j ≡ judgement_of i t) where
         → Left i t links steps out 0 out' steps' links'
     unfolding why_effect why_steps why_links why_numbers reason_in
     left_told links steps out g ok {r} {out'} {steps'} {links'} er es el eo =
-        let z : why_refusal i t links steps out ≡ 0 = refusal_none i t links steps out g ok (judged_forbids h) in
+        let z : why_refusal i t links steps out ≡ 0 = refusal_none i t links steps out g ok f in
         let b : eqb (why_refusal i t links steps out) 0 ≡ true = eq-eqb (why_refusal i t links steps out) 0 z in (
           sym z,
           rw b
@@ -181,5 +173,5 @@ module _ (i t : List ℕ) {j : Judgement} (e : j ≡ judgement_of i t) where
               ∙ ap (λ (x : List ℕ). overwritten x 0 out) (numbers_same steps (reason_in i t))
               ∙ (rw (judged_tag, judged_receiver))),
           rw b (es ∙ ap (λ (w : Reason). at_end w.chain steps) judged_reason),
-          rw b (el ∙ (rw (judged_tag, ap (λ (x : Judgement). x.mark) e) (links_here i t (judged_forbids h) links))),
+          rw b (el ∙ (rw (judged_tag, ap (λ (x : Judgement). x.mark) e) (links_here i t f links))),
         )

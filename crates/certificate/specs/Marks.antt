@@ -18,14 +18,14 @@ use Rattle.records.specs.Records.{record_length, request_in, step_of}
 use Rattle.records.specs.Traces.{trace_records}
 use Rattle.monitor.specs.Steps.{step_asked, step_answer, step_effect}
 use Rattle.monitor.specs.Runs.{step_on}
-use Rattle.witness.specs.declared.Found.{Found}
+use Rattle.witness.specs.Found.{Found}
 use Rattle.witness.specs.Witness.{Witness}
 use Rattle.witness.specs.Told.{accepted_numbers, chain_records, found_in, at_end}
 use Rattle.witness.specs.Links.{node_of}
 use Rattle.witness.specs.Explains.{rule_numbers, rule_found, rule_steps, rule_links}
 use Rattle.certificate.specs.Origins.{Origin, own, made, started, nowhere, lacked_by}
 use Rattle.certificate.specs.Whys.{Reason, own_reason, user_reason, no_reason, exec_reason, own_origin, made_origin, run_origin, run_of}
-use Rattle.certificate.specs.Whys.{run_forbids, run_chain, covers_by, user_number, search_links, answered, forbidden_last}
+use Rattle.certificate.specs.Whys.{run_forbids, run_chain, covers_by, user_number, search_links, answered}
 use Rattle.certificate.specs.declared.Judgement.{Judgement}
 use Rattle.certificate.specs.declared.Told.{Told}
 
@@ -65,11 +65,10 @@ marks_all marks n s (r ∷ rs) = marks_all (marks_on marks n s r) (suc n) (step_
 abbrev pub own_marks : List ℕ
 own_marks = count_from 0 container_limit
 
--- the last answer to the trace t from the image i, and the mark of its receiver
+-- of the last answer to the trace t from the image i: its receiver and tag, and the mark of the receiver
 unfoldable pub judgement_of : List ℕ → List ℕ → Judgement
 judgement_of i t =
     record {
-      forbidden = forbidden_last i t;
       receiver = receiver_of (answered i t);
       tag = tag_of (answered i t);
       mark = get_or (marks_all own_marks 0 (start_of (policy_in i)) (trace_records t)) (receiver_of (answered i t)) 0;

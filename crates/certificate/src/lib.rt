@@ -2,8 +2,9 @@
 // of its mixtures lacks (the paper, "Chains").
 #![tactic(auto)]
 
-ghost use Rattle.std.specs.Prelude.{◌≡◌, map, ◌+◌, ◌/◌, ◌^◌, ◌≤◌, ◌<◌, length, take, drop};
+ghost use Rattle.std.specs.Prelude.{◌≡◌, true, false, MatchOption, map, ◌+◌, ◌/◌, ◌^◌, ◌≤◌, ◌<◌, length, take, drop};
 ghost use Rattle.std.proofs.Math.ListN.{get_elem?};
+ghost use Rattle.answers.specs.Outcomes.{outcome_number};
 ghost use Rattle.fields.specs.Writing.{overwritten};
 ghost use Rattle.rules.specs.Answers.{tag_width, mixture_limit, padded, bounded_of};
 ghost use Rattle.image.specs.Limits.{container_limit, mixture_size};
@@ -13,14 +14,16 @@ ghost use Rattle.records.specs.Records.{step_in, Asked};
 ghost use Rattle.records.specs.Traces.{trace_records};
 ghost use Rattle.monitor.specs.Steps.{step_answer, step_effect};
 ghost use Rattle.monitor.specs.Runs.{run_answers, run_effect};
+ghost use Rattle.witness.specs.Found.{found_numbers, Inside};
 ghost use Rattle.witness.specs.Told.{at_end};
 ghost use Rattle.certificate.specs.Origins.{lacks_at, lacked_by};
-ghost use Rattle.certificate.specs.Whys.{permit_of, run_of, user_number, covers_by, no_reason, own_reason, user_reason, why_length, last_answer, why_refusal, why_effect, why_steps, why_links};
+ghost use Rattle.certificate.specs.Whys.{permit_of, run_of, user_number, covers_by, no_reason, own_reason, user_reason};
+ghost use Rattle.certificate.specs.Whys.{why_length, last_answer, forbidden_last, why_refusal, why_effect, why_steps, why_links};
 ghost use Rattle.certificate.specs.Marks.{next_mark, marks_on, marks_all, own_marks, judgement_of, MarkGood};
 ghost use Rattle.certificate.specs.Marks.{forbids_at, Roomy, FileFound, Searched, told_of, run_told, exec_at, exec_links, mark_reason, mark_links, numbers_by};
 
-use answers::{Answer, Received, Verdict};
-use image::CONTAINER_LIMIT;
+use answers::{Answer, Received, Refusal, Verdict};
+use image::{Accepted, CONTAINER_LIMIT};
 use records::{RECORD_LENGTH, Request};
 use rules::{Bounded, MIXTURE_LIMIT, TAG_WIDTH};
 use session::SESSION_LENGTH;
@@ -43,12 +46,10 @@ fn lacks(tag: u64, mixture: u64, k: usize) -> bool
 fn lacked_by(tag: u64, mixture: u64) -> u64
     ensures { result ≡ lacked_by tag mixture }
 {
-    let mut k: usize = 0;
-    while k < TAG_WIDTH {
+    for k in 0..TAG_WIDTH {
         if lacks(tag, mixture, k) {
             return k as u64;
         }
-        k += 1;
     }
     TAG_WIDTH as u64
 }
@@ -59,10 +60,8 @@ fn lacked(tag: u64, mixtures: &[u64]) -> [u64; MIXTURE_LIMIT]
     ensures { result ≡ padded (map (lacked_by tag) mixtures.now) }
 {
     let mut atoms = [0u64; MIXTURE_LIMIT];
-    let mut i: usize = 0;
-    while i < mixtures.len() {
-        atoms[i] = lacked_by(tag, mixtures[i]);
-        i += 1;
+    for (i, &mixture) in mixtures.iter().enumerate() {
+        atoms[i] = lacked_by(tag, mixture);
     }
     atoms
 }
@@ -71,6 +70,7 @@ fn lacked(tag: u64, mixtures: &[u64]) -> [u64; MIXTURE_LIMIT]
 
 // The origin of a container as a mark: below 256 the container of the image whose own permit rule it is, 256 for none, and 257 + n for
 // the new file or the exec that is record number n.
+// Kept: a rule of the project: the marks stand in one array of 256 numbers, a mark being a container's or a record's number, or nowhere.
 const NOWHERE_MARK: usize = 256;
 
 const FIRST_MARK: usize = 257;
@@ -130,11 +130,8 @@ fn follow_trace(session: &mut [u64], trace: &[u8], marks: &mut [u64]) -> Answer
             position: 0,
         },
     );
-    let mut at: usize = 0;
-    while at < trace.len() {
-        let bytes = records::record_at(trace, at);
-        answer = follow_record(session, bytes, marks, at / RECORD_LENGTH);
-        at += bytes.len();
+    for (n, bytes) in trace.chunks(RECORD_LENGTH).enumerate() {
+        answer = follow_record(session, bytes, marks, n);
     }
     answer
 }
@@ -144,50 +141,51 @@ fn mark_own(marks: &mut [u64])
     requires { length marks.old ≡ container_limit }
     ensures { marks.new ≡ own_marks }
 {
-    let mut c: usize = 0;
-    while c < CONTAINER_LIMIT {
+    for c in 0..CONTAINER_LIMIT {
         marks[c] = c as u64;
-        c += 1;
     }
 }
 
-// The last answer to a trace: whether it forbids, its receiver and tag, and the mark of the receiver.
+// The last answer to a trace, which forbids: its receiver and tag, and the mark of the receiver.
 #[derive(Clone, Copy)]
 pub struct Judgement {
-    pub forbidden: bool,
     pub receiver: usize,
     pub tag: u64,
     pub mark: usize,
 }
 
-// The trace on the session that the image starts.
-fn judgement_of(image: &[u8], trace: &[u8]) -> Judgement
-    requires { check_of image.now ≡ 0 }
-    ensures { result ≡ judgement_of image.now trace.now }
+// The trace on the session that the image starts; none if its last answer does not forbid.
+#[inline(never)]
+fn judgement_of(image: Accepted<'_>, trace: &[u8]) -> Option<Judgement>
+    ensures { MatchOption result (forbidden_last image.entry.bytes.now trace.now ≡ false)
+        (λ j. (forbidden_last image.entry.bytes.now trace.now ≡ true) × (j ≡ judgement_of image.entry.bytes.now trace.now)) }
 {
     let mut session = [0u64; SESSION_LENGTH];
     let mut marks = [0u64; CONTAINER_LIMIT];
     mark_own(&mut marks);
-    session::start(image, &mut session);
+    let Ok(()) = session::start(image.bytes, &mut session) else {
+        unreachable!();
+    };
     let answer = follow_trace(&mut session, trace, &mut marks);
+    if !answers::is_forbidden(answer) {
+        return None;
+    }
     let received = answers::received_of(answer);
     let receiver = received.receiver;
-    Judgement {
-        forbidden: answers::is_forbidden(answer),
-        receiver: receiver,
+    Some(Judgement {
+        receiver,
         tag: received.tag,
         mark: marks[receiver] as usize,
-    }
+    })
 }
 
 // ---- the rules of an image that is not refused
 
 // The number of the rule of user u; that of the unrestricted rule if there is no such user.
-fn user_number(image: &[u8], u: usize) -> usize
-    requires { check_of image.now ≡ 0 }
-    ensures { result ≡ user_number (policy_in image.now) u }
+fn user_number(image: Accepted<'_>, u: usize) -> usize
+    ensures { result ≡ user_number (policy_in image.entry.bytes.now) u }
 {
-    let users = image::section(image, 1);
+    let users = image.section(1);
     if users.len() / image::USER_SIZE <= u {
         return image::UNRESTRICTED_NUMBER;
     }
@@ -195,11 +193,10 @@ fn user_number(image: &[u8], u: usize) -> usize
 }
 
 // The number of the permit rule of container c; that of the unrestricted rule if there is no such container.
-fn permit_number(image: &[u8], c: usize) -> usize
-    requires { check_of image.now ≡ 0 }
-    ensures { result ≡ permit_of (get_elem? (policy_in image.now).containers c) }
+fn permit_number(image: Accepted<'_>, c: usize) -> usize
+    ensures { result ≡ permit_of (get_elem? (policy_in image.entry.bytes.now).containers c) }
 {
-    let containers = image::section(image, 0);
+    let containers = image.section(0);
     if containers.len() / image::CONTAINER_SIZE <= c {
         return image::UNRESTRICTED_NUMBER;
     }
@@ -210,11 +207,11 @@ fn permit_number(image: &[u8], c: usize) -> usize
 }
 
 // The number of its run rule.
-fn run_number(image: &[u8], c: usize) -> usize
-    requires { check_of image.now ≡ 0 }
-    ensures { result ≡ run_of (get_elem? (policy_in image.now).containers c) }
+// Kept: no plainer: one function with the place of the field as a parameter would have a contract by cases of that place.
+fn run_number(image: Accepted<'_>, c: usize) -> usize
+    ensures { result ≡ run_of (get_elem? (policy_in image.entry.bytes.now).containers c) }
 {
-    let containers = image::section(image, 0);
+    let containers = image.section(0);
     if containers.len() / image::CONTAINER_SIZE <= c {
         return image::UNRESTRICTED_NUMBER;
     }
@@ -225,11 +222,10 @@ fn run_number(image: &[u8], c: usize) -> usize
 }
 
 // The owner of the rule with the number n.
-fn owner_at(image: &[u8], n: usize) -> usize
-    requires { check_of image.now ≡ 0 }
-    ensures { result ≡ owner_at (policy_in image.now).owners n }
+fn owner_at(image: Accepted<'_>, n: usize) -> usize
+    ensures { result ≡ owner_at (policy_in image.entry.bytes.now).owners n }
 {
-    let rules = image::section(image, 2);
+    let rules = image.section(2);
     if n == image::UNRESTRICTED_NUMBER {
         return image::NO_OWNER;
     }
@@ -245,16 +241,10 @@ fn span_rule(m: &[u8], first: usize, count: usize) -> Bounded
     ensures { result ≡ bounded_of (take count (drop first (mixtures_in m.now))) }
 {
     let mut mixtures = [0u64; MIXTURE_LIMIT];
-    let mut j: usize = 0;
-    while j < count {
+    for j in 0..count {
         mixtures[j] = fields::read64(m, (first + j) * image::MIXTURE_SIZE);
-        j += 1;
     }
-    Bounded {
-        fits: true,
-        count: count,
-        mixtures: mixtures,
-    }
+    Bounded { count, mixtures }
 }
 
 // The rule with the number n, in the image's own order; without mixtures if there is no such rule.
@@ -276,22 +266,20 @@ pub fn rule_at(image: &[u8], n: usize) -> Bounded
 }
 
 // It covers the tag.
-fn covers_by(image: &[u8], n: usize, tag: u64) -> bool
-    requires { check_of image.now ≡ 0 }
-    ensures { result ≡ covers_by (policy_in image.now) n tag }
+fn covers_by(image: Accepted<'_>, n: usize, tag: u64) -> bool
+    ensures { result ≡ covers_by (policy_in image.entry.bytes.now) n tag }
 {
-    let rule = rule_at(image, n);
+    let rule = rule_at(image.bytes, n);
     let mixtures = rule.mixtures;
     let count = rule.count;
     rules::covers(&mixtures[0..count], tag)
 }
 
 // Container c is a file whose run rule does not cover the tag.
-fn run_forbids(image: &[u8], c: usize, tag: u64) -> bool
-    requires { check_of image.now ≡ 0 }
-    ensures { result ≡ forbids_at (policy_in image.now) tag (get_elem? (policy_in image.now).containers c) }
+fn run_forbids(image: Accepted<'_>, c: usize, tag: u64) -> bool
+    ensures { result ≡ forbids_at (policy_in image.entry.bytes.now) tag (get_elem? (policy_in image.entry.bytes.now).containers c) }
 {
-    let containers = image::section(image, 0);
+    let containers = image.section(0);
     if containers.len() / image::CONTAINER_SIZE <= c {
         return false;
     }
@@ -309,50 +297,47 @@ fn run_forbids(image: &[u8], c: usize, tag: u64) -> bool
 
 // The chain of the run rule of container f into o, by the trace.
 fn find_file(
-    image: &[u8],
+    image: Accepted<'_>,
     trace: &[u8],
     f: usize,
     o: usize,
     links: &mut [u64],
     steps: &mut [u64],
 ) -> Found
-    requires { (check_of image.now ≡ 0) × (o < container_limit) × Roomy trace.now links.old steps.old }
-    ensures { FileFound image.now trace.now (run_of (get_elem? (policy_in image.now).containers f)) o
-        links.old steps.old result links.new steps.new }
+    requires { (o < container_limit) × Roomy trace.now links.old steps.old }
+    ensures { FileFound image.entry.bytes.now trace.now (run_of (get_elem? (policy_in image.entry.bytes.now).containers f)) o
+        links.old steps.old (found_numbers result) links.new steps.new × Inside result.file }
 {
-    let rule = rule_at(image, run_number(image, f));
+    let rule = rule_at(image.bytes, run_number(image, f));
     let mixtures = rule.mixtures;
     let count = rule.count;
-    witness::find_rule(image, trace, o, &mixtures[0..count], links, steps)
+    witness::find_rule(image.bytes, trace, o, &mixtures[0..count], links, steps)
 }
 
 // Of the files of the image in rising number whose run rule does not cover the tag, the first whose run rule has a chain into o.
 fn search(
-    image: &[u8],
+    image: Accepted<'_>,
     trace: &[u8],
     o: usize,
     tag: u64,
     links: &mut [u64],
     steps: &mut [u64],
 ) -> Found
-    requires { (check_of image.now ≡ 0) × (o < container_limit) × Roomy trace.now links.old steps.old }
-    ensures { Searched image.now trace.now tag o links.old steps.old result links.new steps.new }
+    requires { (o < container_limit) × Roomy trace.now links.old steps.old }
+    ensures { Searched image.entry.bytes.now trace.now tag o links.old steps.old (found_numbers result) links.new steps.new × Inside result.file }
 {
-    let containers = image::section(image, 0);
+    let containers = image.section(0);
     let count = containers.len() / image::CONTAINER_SIZE;
-    let mut f: usize = 0;
-    while f < count {
-        let at = f;
-        f += 1;
-        if run_forbids(image, at, tag) {
-            let found = find_file(image, trace, at, o, links, steps);
-            if found.file != CONTAINER_LIMIT {
+    for f in 0..count {
+        if run_forbids(image, f, tag) {
+            let found = find_file(image, trace, f, o, links, steps);
+            if found.file.is_some() {
                 return found;
             }
         }
     }
     Found {
-        file: CONTAINER_LIMIT,
+        file: None,
         first: steps.len(),
     }
 }
@@ -360,6 +345,7 @@ fn search(
 // ---- the rule that is told
 
 // Where a rule comes from: the container's own, the user's who made it, of an exec the user's or a run rule.
+// Kept: the C interface: the origin goes to C as one of the seventeen numbers of `why`.
 const OWN_ORIGIN: u64 = 0;
 
 const MADE_ORIGIN: u64 = 1;
@@ -392,9 +378,8 @@ fn no_told(room: usize) -> Told
 }
 
 // The own rule of container c.
-fn own_told(image: &[u8], c: usize, room: usize) -> Told
-    requires { check_of image.now ≡ 0 }
-    ensures { result ≡ told_of room (own_reason (policy_in image.now) c) }
+fn own_told(image: Accepted<'_>, c: usize, room: usize) -> Told
+    ensures { result ≡ told_of room (own_reason (policy_in image.entry.bytes.now) c) }
 {
     Told {
         kind: OWN_ORIGIN,
@@ -406,12 +391,11 @@ fn own_told(image: &[u8], c: usize, room: usize) -> Told
 }
 
 // The rule of user u, by record number n.
-fn user_told(image: &[u8], kind: u64, n: usize, u: usize, room: usize) -> Told
-    requires { check_of image.now ≡ 0 }
-    ensures { result ≡ told_of room (user_reason (policy_in image.now) kind n u) }
+fn user_told(image: Accepted<'_>, kind: u64, n: usize, u: usize, room: usize) -> Told
+    ensures { result ≡ told_of room (user_reason (policy_in image.entry.bytes.now) kind n u) }
 {
     Told {
-        kind: kind,
+        kind,
         at: n as u64,
         holder: u as u64,
         rule: user_number(image, u),
@@ -420,25 +404,25 @@ fn user_told(image: &[u8], kind: u64, n: usize, u: usize, room: usize) -> Told
 }
 
 // The run rule that was found, of the exec that is record number n.
-fn run_told(image: &[u8], n: usize, found: Found) -> Told
-    requires { check_of image.now ≡ 0 }
-    ensures { result ≡ run_told (policy_in image.now) n found }
+fn run_told(image: Accepted<'_>, n: usize, found: Found) -> Told
+    requires { Inside found.file }
+    ensures { result ≡ run_told (policy_in image.entry.bytes.now) n (found_numbers found) }
 {
-    if found.file == CONTAINER_LIMIT {
+    let Some(file) = found.file else {
         return no_told(found.first);
-    }
+    };
     Told {
         kind: RUN_ORIGIN,
         at: n as u64,
-        holder: found.file as u64,
-        rule: run_number(image, found.file),
+        holder: file as u64,
+        rule: run_number(image, file),
         first: found.first,
     }
 }
 
 // Of the exec that is record number n and asks for q, after the trace: the user's rule if it does not cover the tag, else a run rule.
 fn tell_exec(
-    image: &[u8],
+    image: Accepted<'_>,
     trace: &[u8],
     links: &mut [u64],
     steps: &mut [u64],
@@ -446,10 +430,10 @@ fn tell_exec(
     n: usize,
     q: Request,
 ) -> Told
-    requires { (check_of image.now ≡ 0) × (q.o < container_limit) × Roomy trace.now links.old steps.old }
-    ensures { (result ≡ told_of (length steps.old) (exec_at image.now trace.now n q.o q.u tag))
-        × (steps.new ≡ at_end (exec_at image.now trace.now n q.o q.u tag).chain steps.old)
-        × (links.new ≡ exec_links image.now trace.now q.o q.u tag links.old) }
+    requires { (q.o < container_limit) × Roomy trace.now links.old steps.old }
+    ensures { (result ≡ told_of (length steps.old) (exec_at image.entry.bytes.now trace.now n q.o q.u tag))
+        × (steps.new ≡ at_end (exec_at image.entry.bytes.now trace.now n q.o q.u tag).chain steps.old)
+        × (links.new ≡ exec_links image.entry.bytes.now trace.now q.o q.u tag links.old) }
 {
     let o = q.o;
     let u = q.u;
@@ -462,17 +446,17 @@ fn tell_exec(
 
 // The rule that does not cover the tag, by the mark of the container.
 fn tell(
-    image: &[u8],
+    image: Accepted<'_>,
     trace: &[u8],
     links: &mut [u64],
     steps: &mut [u64],
     tag: u64,
     mark: usize,
 ) -> Told
-    requires { (check_of image.now ≡ 0) × MarkGood trace.now mark × Roomy trace.now links.old steps.old }
-    ensures { (result ≡ told_of (length steps.old) (mark_reason image.now trace.now tag mark))
-        × (steps.new ≡ at_end (mark_reason image.now trace.now tag mark).chain steps.old)
-        × (links.new ≡ mark_links image.now trace.now tag mark links.old) }
+    requires { MarkGood trace.now mark × Roomy trace.now links.old steps.old }
+    ensures { (result ≡ told_of (length steps.old) (mark_reason image.entry.bytes.now trace.now tag mark))
+        × (steps.new ≡ at_end (mark_reason image.entry.bytes.now trace.now tag mark).chain steps.old)
+        × (links.new ≡ mark_links image.entry.bytes.now trace.now tag mark links.old) }
 {
     if mark < CONTAINER_LIMIT {
         return own_told(image, mark, steps.len());
@@ -496,11 +480,7 @@ fn put(numbers: &[u64], out: &mut [u64])
     requires { length numbers.now ≤ length out.old }
     ensures { out.new ≡ overwritten numbers.now 0 out.old }
 {
-    let mut i: usize = 0;
-    while i < numbers.len() {
-        out[i] = numbers[i];
-        i += 1;
-    }
+    out[..numbers.len()].copy_from_slice(numbers);
 }
 
 // How many numbers are told, and where each stands: the receiver, its tag, the origin of the rule, its record, its container, user or file, the
@@ -526,11 +506,11 @@ pub const WHY_COUNT_AT: usize = 8;
 pub const WHY_ATOMS_AT: usize = 9;
 
 // What is told of the container with the tag.
-fn put_told(image: &[u8], receiver: usize, tag: u64, told: Told, out: &mut [u64])
-    requires { (check_of image.now ≡ 0) × (why_length ≤ length out.old) }
-    ensures { out.new ≡ overwritten (numbers_by (policy_in image.now) receiver tag told) 0 out.old }
+fn put_told(image: Accepted<'_>, receiver: usize, tag: u64, told: Told, out: &mut [u64])
+    requires { why_length ≤ length out.old }
+    ensures { out.new ≡ overwritten (numbers_by (policy_in image.entry.bytes.now) receiver tag told) 0 out.old }
 {
-    let rule = rule_at(image, told.rule);
+    let rule = rule_at(image.bytes, told.rule);
     let mixtures = rule.mixtures;
     let count = rule.count;
     let atoms = lacked(tag, &mixtures[0..count]);
@@ -556,30 +536,29 @@ fn put_told(image: &[u8], receiver: usize, tag: u64, told: Told, out: &mut [u64]
     put(&numbers, out);
 }
 
-// Why the last record of the trace is answered by an alert or blocked, the trace run on the session that the image starts: 0, with the 17
+// Why the last record of the trace is answered by an alert or blocked, the trace run on the session that the image starts: the 17
 // numbers at the front of the output, the records of a run rule's chain at the end of the steps, and what its search left in the links. Else
 // the refusal, and all is as it was.
-pub fn why(image: &[u8], trace: &[u8], links: &mut [u64], steps: &mut [u64], out: &mut [u64]) -> u32
-    ensures { (result ≡ why_refusal image.now trace.now links.old steps.old out.old)
+pub fn why(
+    image: &[u8],
+    trace: &[u8],
+    links: &mut [u64],
+    steps: &mut [u64],
+    out: &mut [u64],
+) -> Result<(), Refusal>
+    ensures { (outcome_number result ≡ why_refusal image.now trace.now links.old steps.old out.old)
         × (out.new ≡ why_effect image.now trace.now links.old steps.old out.old)
         × (steps.new ≡ why_steps image.now trace.now links.old steps.old out.old)
         × (links.new ≡ why_links image.now trace.now links.old steps.old out.old) }
 {
-    if !witness::lent_good(trace, links, steps) {
-        return answers::LENT_LENGTH;
+    if !witness::lent_good(trace, links, steps) || out.len() < WHY_LENGTH {
+        return Err(Refusal::LentLength);
     }
-    if out.len() < WHY_LENGTH {
-        return answers::LENT_LENGTH;
-    }
-    let refusal = image::check(image);
-    if refusal != 0 {
-        return refusal;
-    }
-    let judged = judgement_of(image, trace);
-    if !judged.forbidden {
-        return answers::EXPLAIN_TRACE;
-    }
+    let image = image::accept(image)?;
+    let Some(judged) = judgement_of(image, trace) else {
+        return Err(Refusal::ExplainTrace);
+    };
     let told = tell(image, trace, links, steps, judged.tag, judged.mark);
     put_told(image, judged.receiver, judged.tag, told, out);
-    0
+    Ok(())
 }

@@ -7,20 +7,23 @@ use native.Mathlib.Omega.{arith}
 use lib.Dec.{eqb}
 use lib.ListN.{length}
 use Rattle.lists.proofs.Bools.{and_0, and_1}
-use Rattle.answers.specs.Refusals.{lent_length, composition_input, composition_limit}
-use Rattle.fields.specs.Bytes.{Bytes}
+use Rattle.answers.specs.Refusals.{lent_length, composition_input}
+use Rattle.fields.specs.Bytes.{bytes_of}
 use Rattle.fields.specs.Writing.{overwritten}
 use Rattle.image.specs.Limits.{output_bound, user_size}
 use Rattle.image.specs.Image.{part, containers_in, policy_in, check_of}
-use Rattle.image.specs.Normal.{policy_of, encode}
+use Rattle.image.specs.Policy.{Policy}
+use Rattle.image.specs.Normal.{policy_of, encode, framed, header}
 use Rattle.image.proofs.RecordsByPlace.{users_count}
 use Rattle.normaliser.specs.Normaliser.{written_unless}
 use Rattle.normaliser.proofs.WrittenAnswers.{refused_effect}
-use Rattle.composition.specs.declared.Composition.{Composition}
+use Rattle.std.proofs.Common.{Option, Some, None}
+use Rattle.std.specs.Option.{ok_or}
+use Rattle.answers.specs.declared.Refusal.TheVariants as V
 use Rattle.composition.specs.Composed.{consent_good, consenting}
-use Rattle.composition.specs.Images.{same_containers, same_shape, composed, composed_image, input_good, limit_good, answer_unless, compose_answer, compose_effect}
+use Rattle.composition.specs.Images.{same_containers, same_shape, composed, composed_image, input_good, limit_good, Composition, composition_of, answer_unless, compose_answer, compose_effect}
 use Rattle.composition.specs.Tables.{Paired, pair_owned, PairWritten}
-use Rattle.composition.proofs.ImageLaws.{compose_refusal, refusal_short, refusal_first, refusal_second, refusal_input, refusal_limit, refusal_none, both_long}
+use Rattle.composition.proofs.ImageLaws.{compose_refusal, refusal_short, refusal_first, refusal_second, refusal_input, refusal_limit, refusal_none}
 
 -- ---- the shape of two images
 
@@ -53,7 +56,7 @@ module _ (a b : List ℕ) where
 
 -- ---- the answer
 
-refused_as : (n : ℕ) (s : List ℕ) → (n ≡ 0 → ⊥) → answer_unless n s ≡ record { refusal = n; length = 0 }
+pub refused_as : (n : ℕ) (s : List ℕ) → (n ≡ 0 → ⊥) → answer_unless n s ≡ record { refusal = n; length = 0 }
 unfolding answer_unless
 refused_as zero s d = absurd (d refl)
 refused_as (suc n) s d = refl
@@ -88,49 +91,38 @@ module _ (a b consent out : List ℕ) where
             × (out ≡ compose_effect a b consent out)
         case_input h = refused (refusal_input a b consent out long first second h) (λ z. omega arith)
 
-        module _ (input : input_good a b consent ≡ true) (ba : Bytes a) (bb : Bytes b) {c n : ℕ} {after : List ℕ} (e : c ≡ consenting consent) (w : PairWritten (pair_owned c a b) out after n) where
+        module _ (input : input_good a b consent ≡ true) {c : ℕ} {after : List ℕ} {r : Option ℕ} (e : c ≡ consenting consent) (w : PairWritten (pair_owned c a b) out after r) where
           same_owned : pair_owned c a b ≡ composed a b consent
           unfolding pair_owned composed
           same_owned = ap (λ (x : ℕ). pair_owned x a b) e
 
-          answer_is : n ≡ cond (limit_good (composed a b consent)) (length (encode (policy_of (composed a b consent)))) 0
+          answer_is : r ≡ cond (limit_good (composed a b consent)) (Some (length (encode (policy_of (composed a b consent))))) None
           answer_is = rw same_owned at w.answer
 
           effect_is : after ≡ cond (limit_good (composed a b consent)) (overwritten (encode (policy_of (composed a b consent))) 0 out) out
           effect_is = rw same_owned at w.effect
 
-          shape : same_shape (policy_in a) (policy_in b) ≡ true
-          shape = unfold input_good in (and_0 (same_shape (policy_in a) (policy_in b)) (consent_good consent) input)
-
-          image_long : limit_good (composed a b consent) ≡ true → 0 < length (encode (policy_of (composed a b consent)))
-          unfolding composed
-          image_long h = omega (arith, both_long (consenting consent) a b ba bb first second shape h)
-
-          -- 21
-          pub case_limit : n ≡ 0 → (◌≡◌ {A = Composition} (record { refusal = composition_limit; length = 0 }) (compose_answer a b consent out)) × (after ≡ compose_effect a b consent out)
-          case_limit z = by (limit_good (composed a b consent)) refl
-            where
-              by : (x : Bool) → limit_good (composed a b consent) ≡ x
-                  → (◌≡◌ {A = Composition} (record { refusal = composition_limit; length = 0 }) (compose_answer a b consent out))
-                  × (after ≡ compose_effect a b consent out)
-              by true h = let l : n ≡ length (encode (policy_of (composed a b consent))) = rw h at answer_is in absurd (omega (arith, image_long h))
-              by false h =
-                  let g = refused (refusal_limit a b consent out long first second input h) (λ y. omega arith) in
-                  let o : after ≡ out = rw h at effect_is in
-                  (g.0, o ∙ g.1)
-
-          -- the image is written
-          pub case_written : (n ≡ 0 → ⊥) → (◌≡◌ {A = Composition} (record { refusal = 0; length = n }) (compose_answer a b consent out)) × (after ≡ compose_effect a b consent out)
+          -- the image is written, or 21
+          pub case_written : (composition_of (ok_or r V.CompositionLimit) ≡ compose_answer a b consent out) × (after ≡ compose_effect a b consent out)
           unfolding compose_answer compose_effect answer_unless written_unless composed_image
-          case_written d = by (limit_good (composed a b consent)) refl
+          case_written = by (limit_good (composed a b consent)) refl
             where
               by : (x : Bool) → limit_good (composed a b consent) ≡ x
-                  → (◌≡◌ {A = Composition} (record { refusal = 0; length = n }) (compose_answer a b consent out)) × (after ≡ compose_effect a b consent out)
+                  → (composition_of (ok_or r V.CompositionLimit) ≡ compose_answer a b consent out) × (after ≡ compose_effect a b consent out)
               by true h =
                   let f : compose_refusal a b consent out ≡ 0 = refusal_none a b consent out long first second input h in
-                  let l : n ≡ length (encode (policy_of (composed a b consent))) = rw h at answer_is in
+                  let l : r ≡ Some (length (encode (policy_of (composed a b consent)))) = rw h at answer_is in
                   let o : after ≡ overwritten (encode (policy_of (composed a b consent))) 0 out = rw h at effect_is in (
-                    ap (λ (k : ℕ). record { refusal = 0; length = k }) l ∙ sym (ap (λ (k : ℕ). answer_unless k (encode (policy_of (composed a b consent)))) f),
+                    ap (λ (x : Option ℕ). composition_of (ok_or x V.CompositionLimit)) l ∙ sym (ap (λ (k : ℕ). answer_unless k (encode (policy_of (composed a b consent)))) f),
                     o ∙ sym (ap (λ (k : ℕ). written_unless k (encode (policy_of (composed a b consent))) out) f),
                   )
-              by false h = let z : n ≡ 0 = rw h at answer_is in absurd (d z)
+              by false h =
+                  let g = refused (refusal_limit a b consent out long first second input h) (λ y. omega arith) in
+                  let l : r ≡ None = rw h at answer_is in
+                  let o : after ≡ out = rw h at effect_is in
+                  (ap (λ (x : Option ℕ). composition_of (ok_or x V.CompositionLimit)) l ∙ g.0, o ∙ g.1)
+
+-- an image is not empty
+pub image_long : (p : Policy) → 0 < length (encode p)
+unfolding encode framed header bytes_of
+image_long p = omega arith

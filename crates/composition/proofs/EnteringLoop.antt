@@ -1,7 +1,7 @@
 -- The mixtures of two rules that enter, one behind the other, and the rule that they make.
 use Prim.Native.Nat.{ℕ, suc, ◌+◌, ◌-◌, ◌≤◌, ◌<◌}
 use mathlib.Core.Path.{◌≡◌, refl, sym, ap, ap₂, ◌∙◌}
-use mathlib.Core.Bool.{Bool, true, false, not, cond}
+use mathlib.Core.Bool.{Bool, true, false, cond}
 use mathlib.Core.List.{List, [], ◌∷◌, ◌++◌, append_assoc, append-nil}
 use native.Mathlib.Omega.{arith}
 use native.Mathlib.Numerals.{add-one}
@@ -9,16 +9,17 @@ use lib.Bits.{bit_and}
 use lib.Dec.{leb}
 use lib.ListN.{length, get_or, take, drop, set, length-append, length-take, length-set, drop_of_length-le}
 use lib.Seq.{drop-cons, take-suc-set, length-take-le}
-use borrow.Author.Tests.{leb-true, le-leb, not-true, not-false}
+use borrow.Author.Tests.{leb-true, le-leb}
 use Rattle.lists.proofs.Bools.{or_1, or_none, clash}
 use Rattle.lists.proofs.Same.{same_eq}
 use Rattle.lists.specs.Lists.{same_list}
 use Rattle.rules.specs.Sets.{holds}
 use Rattle.rules.specs.Rules.{covers, normal}
-use Rattle.rules.specs.Answers.{mixture_limit, bounded_of}
+use Rattle.rules.specs.Answers.{mixture_limit, bounded_if_fits}
+use Rattle.std.specs.Prelude.{Option, Some, None}
 use Rattle.rules.specs.declared.Bounded.{Bounded}
 use Rattle.rules.proofs.SetLaws.{holds_is, holds_not}
-use Rattle.rules.proofs.BoundedLaws.{bounded_test}
+use Rattle.rules.proofs.BoundedLaws.{bounded_some, bounded_none}
 use Rattle.rule_words.specs.Words.{rule_width, rule_of, words_of, kept_well}
 use Rattle.rule_words.proofs.WordLaws.{bounded_words_lem, words_nine}
 use Rattle.rule_words.proofs.KeptWords.{kept_words, kept_normal, kept_short}
@@ -122,9 +123,9 @@ module _ (c : ℕ) (r s : List ℕ) {list one two : List ℕ} {n m : ℕ} (p : E
   pub both_few : length (take (m - 0) two) ≤ length r + length s
   both_few = omega (arith, length-take (m - 0) two, second_few)
 
-  pub made_of_both : normal r ≡ r → normal s ≡ s → {b : Bounded} → b ≡ bounded_of (normal (take (m - 0) two)) → b ≡ bounded_of (composed_rule c r s)
+  pub made_of_both : normal r ≡ r → normal s ≡ s → {o : Option Bounded} → o ≡ bounded_if_fits (normal (take (m - 0) two)) → o ≡ bounded_if_fits (composed_rule c r s)
   unfolding composed_rule
-  made_of_both h k e = e ∙ ap (λ (x : List ℕ). bounded_of (normal x)) (both_listed ∙ ap₂ (λ (x y : List ℕ). entering c s x ++ entering c r y) (sym h) (sym k))
+  made_of_both h k e = e ∙ ap (λ (x : List ℕ). bounded_if_fits (normal x)) (both_listed ∙ ap₂ (λ (x y : List ℕ). entering c s x ++ entering c r y) (sym h) (sym k))
 
 -- ---- words
 
@@ -140,16 +141,14 @@ module _ (c : ℕ) (ws other : List ℕ) (long : length ws ≡ rule_width) (kept
         words = λ _. kept_words ws long kept ∙ ap words_of (sym x);
       }
 
-module _ (c : ℕ) (ws other : List ℕ) {b : Bounded} (e : b ≡ bounded_of (composed_rule c (rule_of ws) (rule_of other))) where
-  fits_told : b.fits ≡ leb (length (composed_rule c (rule_of ws) (rule_of other))) mixture_limit
-  fits_told = ap (λ (x : Bounded). x.fits) e ∙ bounded_test (composed_rule c (rule_of ws) (rule_of other))
+module _ (c : ℕ) (ws other : List ℕ) {o : Option Bounded} (e : o ≡ bounded_if_fits (composed_rule c (rule_of ws) (rule_of other))) where
+  pub words_over : length ws ≡ rule_width → o ≡ None → WordsComposed c ws other ws false
+  words_over l h = record { told = sym (bounded_none (composed_rule c (rule_of ws) (rule_of other)) e h); long = l; words = λ t. clash t refl }
 
-  pub words_over : length ws ≡ rule_width → not b.fits ≡ true → WordsComposed c ws other ws false
-  words_over l h = record { told = sym (not-true b.fits h) ∙ fits_told; long = l; words = λ t. clash t refl }
-
-  pub words_put : not b.fits ≡ false → {after : List ℕ} → after ≡ b.count ∷ b.mixtures → WordsComposed c ws other after true
-  words_put h w =
-      let f : true ≡ leb (length (composed_rule c (rule_of ws) (rule_of other))) mixture_limit = sym (not-false b.fits h) ∙ fits_told in
+  pub words_put : {b : Bounded} → o ≡ Some b → {after : List ℕ} → after ≡ b.count ∷ b.mixtures → WordsComposed c ws other after true
+  words_put {b} h w =
+      let m = bounded_some (composed_rule c (rule_of ws) (rule_of other)) e h in
+      let f : true ≡ leb (length (composed_rule c (rule_of ws) (rule_of other))) mixture_limit = sym m.0 in
       let l : length (composed_rule c (rule_of ws) (rule_of other)) ≤ mixture_limit = leb-true (length (composed_rule c (rule_of ws) (rule_of other))) mixture_limit (sym f) in
-      let x = w ∙ bounded_words_lem (composed_rule c (rule_of ws) (rule_of other)) b e l in
+      let x = w ∙ bounded_words_lem (composed_rule c (rule_of ws) (rule_of other)) b m.1 in
       record { told = f; long = ap length x ∙ words_nine (composed_rule c (rule_of ws) (rule_of other)) l; words = λ _. x }

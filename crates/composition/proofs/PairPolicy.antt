@@ -1,7 +1,7 @@
 -- The policy that the tables hand to the writer owns what the two images own together.
 use Prim.Native.Nat.{ℕ, zero, suc, ◌+◌, ◌-◌, ◌*◌, ◌/◌, ◌^◌, ◌≤◌, ◌<◌}
 use mathlib.Core.Path.{◌≡◌, refl, sym, ap, ap₂, ◌∙◌}
-use mathlib.Core.Bool.{Bool, true, false, ◌&&◌}
+use mathlib.Core.Bool.{Bool, true, false, cond, ◌&&◌}
 use mathlib.Core.List.{List, [], ◌∷◌, ◌++◌, map, append_assoc}
 use mathlib.Core.Logic.{⊎_elim}
 use native.Mathlib.Omega.{arith}
@@ -18,14 +18,15 @@ use Rattle.lists.proofs.Every.{every_0, every_1, every_nil, every_cons, every_im
 use Rattle.lists.proofs.Same.{same_eq}
 use Rattle.fields.proofs.RowWriting.{front_written}
 use Rattle.fields.specs.Bytes.{number_in, bytes_of, field}
-use Rattle.fields.specs.Writing.{Wrote}
+use Rattle.fields.specs.Writing.{overwritten, Wrote}
+use Rattle.std.proofs.Common.{Some, None}
 use Rattle.fields.proofs.ByteLaws.{bytes_length, number_bytes, section_back}
 use Rattle.rules.specs.Rules.{normal}
 use Rattle.rules.specs.Answers.{data_width, mixture_limit}
 use Rattle.image.specs.Limits.{container_size, user_size, rule_size, size8, size16, no_atom, unrestricted_number}
 use Rattle.image.specs.Policy.{Container, Policy, rule_at, owner_at, named, container_good}
 use Rattle.image.specs.Image.{part, container_in, containers_in, users_in, policy_in}
-use Rattle.image.specs.Normal.{Use, normal_at, use_at, owned_place, owned, place_uses, uses, free_use, policy_of, normal_policy, normal_image, container_bytes}
+use Rattle.image.specs.Normal.{Use, normal_at, use_at, owned_place, owned, place_uses, uses, free_use, Owned, policy_of, encode, normal_policy, normal_image, container_bytes}
 use Rattle.image.proofs.AcceptedImage.{accepted_containers, few_containers_lem, few_users_lem}
 use Rattle.image.proofs.Encode.{container_wide}
 use Rattle.image.proofs.Numbering.{use_in, mixtures_in, owner_in}
@@ -41,6 +42,28 @@ use Rattle.composition.proofs.UseLaws.{Alike, alike_uses, Matched, uses_append, 
 use Rattle.composition.proofs.ImageLaws.{matched}
 use Rattle.composition.proofs.UseNumbers.{use_count_lem, pair_count}
 use Rattle.composition.proofs.RecordLoops.{own_count, own_rows, user_rows, users_size}
+
+-- ---- what the writer answers, and what is told of it
+
+-- the length of the image, which is written; 0 if a rule does not fit or there are too many, and nothing is
+pub record PairLent (m : Owned) (before after : List ℕ) (n : ℕ) : Type 0 where
+  pub answer : n ≡ cond (limit_good m) (length (encode (policy_of m))) 0
+  pub effect : after ≡ cond (limit_good m) (overwritten (encode (policy_of m)) 0 before) before
+
+module _ (m : Owned) {before after : List ℕ} {n : ℕ} (w : PairLent m before after n) where
+  pub lent_none : 0 < length (encode (policy_of m)) → n ≡ 0 → PairWritten m before after None
+  lent_none long z = record { answer = by (limit_good m) refl; effect = w.effect }
+    where
+      by : (x : Bool) → limit_good m ≡ x → None ≡ cond (limit_good m) (Some (length (encode (policy_of m)))) None
+      by true h = let l : n ≡ length (encode (policy_of m)) = rw h at w.answer in absurd (omega (arith, long))
+      by false h = rw h
+
+  pub lent_some : (n ≡ 0 → ⊥) → PairWritten m before after (Some n)
+  lent_some d = record { answer = by (limit_good m) refl; effect = w.effect }
+    where
+      by : (x : Bool) → limit_good m ≡ x → Some n ≡ cond (limit_good m) (Some (length (encode (policy_of m)))) None
+      by true h = let l : n ≡ length (encode (policy_of m)) = rw h at w.answer in rw h (ap Some l)
+      by false h = let z : n ≡ 0 = rw h at w.answer in absurd (d z)
 
 -- ---- numbers from k on
 
@@ -270,7 +293,7 @@ module _ (c : ℕ) (a b : List ℕ) (h : Paired a b) where
   short_told = ap (every short_use) (owned_uses c (owned (policy_in a)) (owned (policy_in b)) match)
 
   -- a rule does not fit
-  pub pair_over : {forms : List ℕ} {fit : Bool} → UsesPut rows forms fit → fit ≡ false → (out : List ℕ) → PairWritten (pair_owned c a b) out out 0
+  pub pair_over : {forms : List ℕ} {fit : Bool} → UsesPut rows forms fit → fit ≡ false → (out : List ℕ) → PairWritten (pair_owned c a b) out out None
   unfolding limit_good
   pair_over w e out =
       let s : uses_short (pair_owned c a b) ≡ false = short_told ∙ sym w.told ∙ e in
@@ -319,7 +342,7 @@ module _ (c : ℕ) (a b : List ℕ) (h : Paired a b) where
     unfolding normal_policy
     normal_is = ap policy_of pair_owned_lem
 
-    answered : {before after : List ℕ} {r : ℕ} → Answered (policy_at places_bytes users_bytes (joined (map form_row rows))) before after r → PairWritten (pair_owned c a b) before after r
+    answered : {before after : List ℕ} {r : ℕ} → Answered (policy_at places_bytes users_bytes (joined (map form_row rows))) before after r → PairLent (pair_owned c a b) before after r
     unfolding limit_good rules_few writer_answer writer_effect rules_needed normal_image
     answered w =
         let s : uses_short (pair_owned c a b) ≡ true = short_told ∙ short in
@@ -344,5 +367,5 @@ module _ (c : ℕ) (a b : List ℕ) (h : Paired a b) where
         pub lent_written : {before after : List ℕ} {r : ℕ}
             → Answered (policy_at (take (i - 0) p) (take (j - 0) q) (take ((2 * n + u) * form_width - 0) (put_mid 0 ((2 * n + u) * form_width - 0) zeros x))) before
             after r
-            → PairWritten (pair_owned c a b) before after r
+            → PairLent (pair_owned c a b) before after r
         lent_written w = answered (rw (front_written wp, front_written wq, filled) at w)

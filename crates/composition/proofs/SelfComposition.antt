@@ -1,17 +1,16 @@
 -- The same bytes by the union of their differences, and an image with itself by the normaliser.
 use Prim.Native.Nat.{ℕ, zero, suc, ◌+◌, ◌≤◌, ◌<◌}
 use mathlib.Core.Path.{◌≡◌, refl, sym, ap, ap₂, ◌∙◌}
-use mathlib.Core.Bool.{Bool, true, false, cond, ◌&&◌}
+use mathlib.Core.Bool.{Bool, true, false, ◌&&◌}
 use mathlib.Core.List.{List, [], ◌∷◌}
 use mathlib.Core.Logic.{◌⊎◌, inl, inr, ◌≢◌}
 use native.Mathlib.Decide.{dec_lt}
 use native.Mathlib.Omega.{arith}
 use lib.Bits.{bit_or, bit_xor, xor_add_and, xor_self, and_le_l, and_le_r}
-use lib.Dec.{eqb, ltb}
+use lib.Dec.{eqb}
 use lib.ListN.{length, get_or, drop}
-use borrow.Author.Tests.{eqb-true, eq-eqb, lt-ltb, le-ltb}
+use borrow.Author.Tests.{eqb-true, eq-eqb}
 use Rattle.lists.specs.Lists.{same_list}
-use Rattle.lists.specs.Conditions.{first_failed}
 use Rattle.lists.proofs.Bools.{and_0, and_1, same_test}
 use Rattle.lists.proofs.Conditions.{zero_or_not}
 use Rattle.lists.proofs.Same.{same_eq}
@@ -19,15 +18,18 @@ use Rattle.fields.specs.Bytes.{Bytes}
 use Rattle.fields.specs.Writing.{overwritten}
 use Rattle.rule_words.specs.Words.{all_zero}
 use Rattle.rule_words.proofs.ZeroLaws.{zero_next, zero_ended}
-use Rattle.image.specs.Limits.{header_size, output_bound}
+use Rattle.image.specs.Limits.{output_bound}
 use Rattle.image.specs.Image.{policy_in, check_of}
 use Rattle.image.specs.Normal.{normal_image}
-use Rattle.normaliser.specs.Normaliser.{normal_conditions, length_unless, written_unless, normal_answer, normal_effect}
+use Rattle.normaliser.specs.Normaliser.{length_unless, written_unless, normal_answer, normal_effect, normal_refusal, written_number}
 use Rattle.normaliser.proofs.NormalCases.{refusal_short, refusal_image}
-use Rattle.composition.specs.declared.Composition.{Composition}
+use Rattle.std.proofs.Common.{Result, Ok, Err}
+use Rattle.answers.specs.declared.Refusal.{Refusal}
+use Rattle.answers.specs.Outcomes.{refusal_number, outcome_number}
+use Rattle.answers.proofs.Outcomes.{refusal_number_positive}
 use Rattle.composition.specs.Composed.{consent_good}
-use Rattle.composition.specs.Images.{composed_image, answer_unless, compose_answer, compose_effect}
-use Rattle.composition.specs.Tables.{repeat_answer}
+use Rattle.composition.specs.Images.{composed_image, composition_of, answer_unless, compose_answer, compose_effect}
+use Rattle.composition.proofs.ComposeCases.{refused_as}
 use Rattle.composition.proofs.ImageLaws as images
 
 -- ---- differences
@@ -87,71 +89,53 @@ uniting_end a b all i h l = zero_ended (differences a b) all i h.rest (omega (ar
 
 -- ---- the normaliser's answer
 
-pub repeat_refused : (a out : List ℕ) {n : ℕ} → n ≡ normal_answer a out → n < header_size → ◌≡◌ {A = Composition} (record { refusal = n; length = 0 }) (repeat_answer a out)
-unfolding repeat_answer
-repeat_refused a out {n} e l = ap (λ (k : ℕ). record { refusal = k; length = 0 }) e ∙ sym (rw (lt-ltb (normal_answer a out) header_size (omega (arith, e))))
-
-pub repeat_written : (a out : List ℕ) {n : ℕ} → n ≡ normal_answer a out → header_size ≤ n → ◌≡◌ {A = Composition} (record { refusal = 0; length = n }) (repeat_answer a out)
-unfolding repeat_answer
-repeat_written a out {n} e l = ap (λ (k : ℕ). record { refusal = 0; length = k }) e ∙ sym (rw (le-ltb (normal_answer a out) header_size (omega (arith, e))))
-
 module _ (a consent out : List ℕ) (bytes : Bytes a) (good : consent_good consent ≡ true) where
-  abbrev normal_refusal : ℕ
-  normal_refusal = first_failed (normal_conditions a out)
-
   -- an image with itself is refused as the normaliser refuses it
-  same_refusal : images.compose_refusal a a consent out ≡ normal_refusal
+  same_refusal : images.compose_refusal a a consent out ≡ normal_refusal a out
   same_refusal = at (dec_lt (length out) output_bound)
     where
-      check : output_bound ≤ length out → (check_of a ≡ 0) ⊎ (check_of a ≢ 0) → images.compose_refusal a a consent out ≡ normal_refusal
+      check : output_bound ≤ length out → (check_of a ≡ 0) ⊎ (check_of a ≢ 0) → images.compose_refusal a a consent out ≡ normal_refusal a out
       check l (inl e) = images.refusal_none a a consent out l e e (images.self_input a consent bytes e good) (images.self_limit a consent bytes e) ∙ sym (refusal_image a out l ∙ e)
       check l (inr d) = images.refusal_first a a consent out l d ∙ sym (refusal_image a out l)
 
-      at : Dec (length out < output_bound) → images.compose_refusal a a consent out ≡ normal_refusal
+      at : Dec (length out < output_bound) → images.compose_refusal a a consent out ≡ normal_refusal a out
       at (yes l) = images.refusal_short a a consent out l ∙ sym (refusal_short a out l)
       at (no l) = check (omega arith) (zero_or_not (check_of a))
 
-  accepted : normal_refusal ≡ 0 → check_of a ≡ 0
+  accepted : normal_refusal a out ≡ 0 → check_of a ≡ 0
   accepted z = at (dec_lt (length out) output_bound)
     where
       at : Dec (length out < output_bound) → check_of a ≡ 0
       at (yes l) = absurd (omega (arith, refusal_short a out l))
       at (no l) = sym (refusal_image a out (omega arith)) ∙ z
 
-  small : normal_refusal < header_size
-  small = at (dec_lt (length out) output_bound)
-    where
-      at : Dec (length out < output_bound) → normal_refusal < header_size
-      at (yes l) = omega (arith, refusal_short a out l)
-      at (no l) = omega (arith, refusal_image a out (omega arith), images.check_small a)
-
-  image_same : normal_refusal ≡ 0 → composed_image a a consent ≡ normal_image (policy_in a)
+  image_same : normal_refusal a out ≡ 0 → composed_image a a consent ≡ normal_image (policy_in a)
   image_same z = images.self_image a consent bytes (accepted z)
 
-  image_long : normal_refusal ≡ 0 → header_size ≤ length (normal_image (policy_in a))
-  image_long z = images.normal_long a consent bytes (accepted z)
+  answer_told : (r : Result ℕ Refusal) → written_number r ≡ normal_answer a out → outcome_number r ≡ normal_refusal a out
+      → composition_of r ≡ answer_unless (normal_refusal a out) (composed_image a a consent)
+  unfolding answer_unless normal_answer length_unless
+  answer_told (Ok n) e f =
+      let l : n ≡ length (normal_image (policy_in a)) = e ∙ ap (λ (k : ℕ). length_unless k (normal_image (policy_in a))) (sym f) in
+      ap (λ (k : ℕ). record { refusal = 0; length = k }) (l ∙ ap length (sym (image_same (sym f))))
+      ∙ ap (λ (k : ℕ). answer_unless k (composed_image a a consent)) f
+  answer_told (Err r) e f =
+      sym (refused_as (refusal_number r) (composed_image a a consent) (λ z. omega (arith, refusal_number_positive r)))
+      ∙ ap (λ (k : ℕ). answer_unless k (composed_image a a consent)) f
 
-  answer_same : (n : ℕ) → normal_refusal ≡ n
-      → answer_unless n (composed_image a a consent)
-      ≡ cond (ltb (length_unless n (normal_image (policy_in a))) header_size) (record { refusal = length_unless n (normal_image (policy_in a)); length = 0 })
-      (record { refusal = 0; length = length_unless n (normal_image (policy_in a)) })
-  unfolding answer_unless length_unless
-  answer_same zero z =
-      let i : composed_image a a consent ≡ normal_image (policy_in a) = image_same z in
-      sym (rw (le-ltb (length (normal_image (policy_in a))) header_size (image_long z)) (ap (λ (s : List ℕ). record { refusal = 0; length = length s }) (sym i)))
-  answer_same (suc n) z = sym (rw (lt-ltb (suc n) header_size (omega (arith, small))))
-
-  effect_same : (n : ℕ) → normal_refusal ≡ n → written_unless n (composed_image a a consent) out ≡ written_unless n (normal_image (policy_in a)) out
+  effect_same : (n : ℕ) → normal_refusal a out ≡ n → written_unless n (composed_image a a consent) out ≡ written_unless n (normal_image (policy_in a)) out
   unfolding written_unless
   effect_same zero z = ap (λ (s : List ℕ). overwritten s 0 out) (image_same z)
   effect_same (suc n) z = refl
 
-  pub repeat_is : (b : List ℕ) → a ≡ b → (repeat_answer a out ≡ compose_answer a b consent out) × (normal_effect a out ≡ compose_effect a b consent out)
-  unfolding repeat_answer normal_answer normal_effect compose_answer compose_effect
-  repeat_is b e = (
-    sym (answer_same normal_refusal refl) ∙ ap (λ (n : ℕ). answer_unless n (composed_image a a consent)) (sym same_refusal)
+  pub repeat_is : (b : List ℕ) → a ≡ b → (r : Result ℕ Refusal) {after : List ℕ}
+      → (written_number r ≡ normal_answer a out) × (after ≡ normal_effect a out) × (outcome_number r ≡ normal_refusal a out)
+      → (composition_of r ≡ compose_answer a b consent out) × (after ≡ compose_effect a b consent out)
+  unfolding normal_effect compose_answer compose_effect
+  repeat_is b e r h = (
+    answer_told r h.0 h.2 ∙ ap (λ (n : ℕ). answer_unless n (composed_image a a consent)) (sym same_refusal)
         ∙ ap (λ (x : List ℕ). answer_unless (images.compose_refusal a x consent out) (composed_image a x consent)) e,
-    sym (effect_same normal_refusal refl) ∙ ap (λ (n : ℕ). written_unless n (composed_image a a consent) out) (sym same_refusal)
+    h.1 ∙ sym (effect_same (normal_refusal a out) refl) ∙ ap (λ (n : ℕ). written_unless n (composed_image a a consent) out) (sym same_refusal)
         ∙ ap (λ (x : List ℕ). written_unless (images.compose_refusal a x consent out) (composed_image a x consent) out) e,
   )
 

@@ -1,15 +1,16 @@
 -- Two images composed: what they are refused for, the answer, and the output afterwards (change request No. 11).
-use Rattle.std.specs.Prelude.{ℕ, zero, suc, Bool, true, false, ◌&&◌, List, [], ◌∷◌, ◌++◌, eqb, leb, length}
+use Rattle.std.specs.Prelude.{ℕ, zero, suc, Bool, true, false, ◌&&◌, List, [], ◌∷◌, ◌++◌, Result, Ok, Err, eqb, leb, length}
 use Rattle.lists.specs.Lists.{every}
 use Rattle.lists.specs.Conditions.{Condition, ◌or_refuse◌, first_failed}
 use Rattle.answers.specs.Refusals.{lent_length, composition_input, composition_limit}
+use Rattle.answers.specs.declared.Refusal.{Refusal}
+use Rattle.answers.specs.Outcomes.{refusal_number}
 use Rattle.rules.specs.Answers.{mixture_limit}
 use Rattle.image.specs.Limits.{output_bound, rule_limit}
 use Rattle.image.specs.Policy.{Container, Policy}
 use Rattle.image.specs.Image.{policy_in, image_conditions}
 use Rattle.image.specs.Normal.{Use, Owned, owned, uses, policy_of, encode}
 use Rattle.normaliser.specs.Normaliser.{written_unless}
-use Rattle.composition.specs.declared.Composition.{Composition}
 use Rattle.composition.specs.Composed.{consent_good, consenting, composed_owned}
 
 -- ---- the shapes of two policies: "containers differ in number, kind or atom, users differ in number"
@@ -67,7 +68,16 @@ compose_conditions a b consent out =
 
 -- ---- the answer, and the output afterwards
 
--- the refusal, 0 if there is none, and the length of the image; apart, for a length of 20 there is
+-- the refusal, 0 if there is none, and the length of the image that was written; apart, for a length of 20 there is
+pub record Composition : Type 0 where
+  pub refusal : ℕ
+  pub length : ℕ
+
+-- the same as the function answers it
+abbrev pub composition_of : Result ℕ Refusal → Composition
+composition_of (Ok n) = record { refusal = 0; length = n }
+composition_of (Err r) = record { refusal = refusal_number r; length = 0 }
+
 unfoldable pub answer_unless : ℕ → List ℕ → Composition
 answer_unless zero image = record { refusal = 0; length = length image }
 answer_unless (suc n) image = record { refusal = suc n; length = 0 }

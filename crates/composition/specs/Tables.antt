@@ -1,17 +1,14 @@
 -- What the code keeps on the way: mixtures that enter, rows of composed uses, and records with rule numbers of their own. These are the
 -- contracts of this crate's private functions; no public contract cites this file.
-use Rattle.std.specs.Prelude.{ℕ, suc, ◌+◌, ◌≡◌, Bool, true, cond, List, [], ◌∷◌, ◌++◌, map, ltb, leb, length, take}
+use Rattle.std.specs.Prelude.{ℕ, suc, ◌+◌, ◌≡◌, Bool, true, cond, Option, Some, None, List, [], ◌∷◌, ◌++◌, map, leb, length, take}
 use Rattle.lists.specs.Lists.{joined, every}
 use Rattle.fields.specs.Writing.{overwritten}
 use Rattle.rules.specs.Answers.{mixture_limit}
 use Rattle.rule_words.specs.Words.{rule_width, rule_of, words_of}
-use Rattle.image.specs.Limits.{header_size}
 use Rattle.image.specs.Policy.{Container, Policy}
 use Rattle.image.specs.Image.{policy_in, check_of}
 use Rattle.image.specs.Normal.{Use, Owned, owned, uses, policy_of, encode}
-use Rattle.normaliser.specs.Normaliser.{normal_answer}
 use Rattle.normaliser.specs.Writer.{form_row, container_uses}
-use Rattle.composition.specs.declared.Composition.{Composition}
 use Rattle.composition.specs.Composed.{composed_rule, composed_uses, composed_owned}
 use Rattle.composition.specs.Images.{same_shape, short_use, limit_good}
 
@@ -76,14 +73,7 @@ own_numbers k (c ∷ cs) = record { kind = c.kind; atom = c.atom; permit = k; ru
 unfoldable pub pair_owned : ℕ → List ℕ → List ℕ → Owned
 pair_owned c a b = composed_owned c (owned (policy_in a)) (owned (policy_in b))
 
--- the length of the image, which is written; 0 if a rule does not fit or there are too many, and nothing is
-pub record PairWritten (m : Owned) (before after : List ℕ) (n : ℕ) : Type 0 where
-  pub answer : n ≡ cond (limit_good m) (length (encode (policy_of m))) 0
+-- the length of the image, which is written; none if a rule does not fit or there are too many, and nothing is
+pub record PairWritten (m : Owned) (before after : List ℕ) (r : Option ℕ) : Type 0 where
+  pub answer : r ≡ cond (limit_good m) (Some (length (encode (policy_of m)))) None
   pub effect : after ≡ cond (limit_good m) (overwritten (encode (policy_of m)) 0 before) before
-
--- ---- an image with itself
-
--- the normaliser's answer, a refusal being below every length
-unfoldable pub repeat_answer : List ℕ → List ℕ → Composition
-repeat_answer a out =
-    cond (ltb (normal_answer a out) header_size) (record { refusal = normal_answer a out; length = 0 }) (record { refusal = 0; length = normal_answer a out })

@@ -7,18 +7,19 @@ ghost use Rattle.lists.specs.Lists.{same_list, joined};
 ghost use Rattle.fields.specs.Bytes.{bytes_of};
 ghost use Rattle.fields.specs.Writing.{Wrote};
 ghost use Rattle.rules.specs.Rules.{normal};
-ghost use Rattle.rules.specs.Answers.{mixture_limit, bounded_of};
+ghost use Rattle.rules.specs.Answers.{mixture_limit, bounded_if_fits};
 ghost use Rattle.rule_words.specs.Words.{rule_width, kept_well};
 ghost use Rattle.image.specs.Limits.{user_size, container_limit, container_size, user_limit, rule_size, output_bound};
 ghost use Rattle.image.specs.Policy.{owner_at, named};
-ghost use Rattle.image.specs.Image.{policy_in, containers_in, owners_in, check_of};
+ghost use Rattle.image.specs.Image.{policy_in, containers_in, owners_in};
 ghost use Rattle.image.specs.Normal.{use_at, container_bytes};
-ghost use Rattle.normaliser.specs.Normaliser.{normal_effect};
 ghost use Rattle.normaliser.specs.Writer.{form_width, form_row};
 ghost use Rattle.composition.specs.Composed.{consent_good, consenting, enters, entering, composed_rule, composed_owner, composed_use};
-ghost use Rattle.composition.specs.Images.{same_containers, same_shape, input_good, compose_answer, compose_effect};
-ghost use Rattle.composition.specs.Tables.{entering_limit, Entered, WordsComposed, used_numbers, UsePut, Paired, pair_uses, use_count, UsesPut, own_numbers, pair_owned, PairWritten, repeat_answer};
+ghost use Rattle.composition.specs.Images.{same_containers, same_shape, input_good, composition_of, compose_answer, compose_effect};
+ghost use Rattle.composition.specs.Tables.{entering_limit, Entered, WordsComposed, used_numbers, UsePut, Paired, pair_uses, use_count, UsesPut, own_numbers, pair_owned, PairWritten};
 
+use answers::Refusal;
+use image::Accepted;
 use rules::Bounded;
 
 // The most mixtures of two rules.
@@ -31,13 +32,6 @@ const CONTAINER_BYTES: usize = image::CONTAINER_LIMIT * image::CONTAINER_SIZE;
 
 const USER_BYTES: usize = image::USER_LIMIT * image::USER_SIZE;
 
-// What is answered: the refusal, 0 if there is none, and the length of the image that was written. Apart, for a length of 20 there is.
-#[derive(Clone, Copy)]
-pub struct Composition {
-    pub refusal: u32,
-    pub length: usize,
-}
-
 // ---- consent
 
 // 32 bytes, each 0 or 1.
@@ -47,15 +41,7 @@ fn consent_good(consent: &[u8]) -> bool
     if consent.len() != image::DATA_WIDTH {
         return false;
     }
-    let mut k: usize = 0;
-    while k < consent.len() {
-        let b = consent[k];
-        k += 1;
-        if 1 < b {
-            return false;
-        }
-    }
-    true
+    consent.iter().all(|&b| b <= 1)
 }
 
 // The atoms that consent, each with its twin.
@@ -64,10 +50,8 @@ fn consent_set(consent: &[u8]) -> u64
     ensures { result ≡ consenting consent.now }
 {
     let mut atoms: u64 = 0;
-    let mut k = consent.len();
-    while 0 < k {
-        k -= 1;
-        atoms = consent[k] as u64 + 2 * atoms;
+    for &b in consent.iter().rev() {
+        atoms = b as u64 + 2 * atoms;
     }
     atoms | rules::running_atoms(atoms)
 }
@@ -91,10 +75,7 @@ fn list_entering(list: &mut [u64], n: usize, rule: &[u64], other: &[u64], consen
     ensures { Entered (entering consent other.now rule.now) list.old list.new n result }
 {
     let mut at = n;
-    let mut i: usize = 0;
-    while i < rule.len() {
-        let m = rule[i];
-        i += 1;
+    for &m in rule {
         if enters(m, other, consent) {
             list[at] = m;
             at += 1;
@@ -104,10 +85,11 @@ fn list_entering(list: &mut [u64], n: usize, rule: &[u64], other: &[u64], consen
 }
 
 // The rule composed of two in normal form, by way of the list of what enters.
-fn composed(r: &[u64], s: &[u64], consent: u64) -> Bounded
+fn composed(r: &[u64], s: &[u64], consent: u64) -> Option<Bounded>
     requires { (length r.now ≤ mixture_limit) × (length s.now ≤ mixture_limit) × (normal r.now ≡ r.now) × (normal s.now ≡ s.now) }
-    ensures { result ≡ bounded_of (composed_rule consent r.now s.now) }
+    ensures { result ≡ bounded_if_fits (composed_rule consent r.now s.now) }
 {
+    // Kept: a rule of the project: no heap, so the array has room for the most that there can be.
     let mut list = [0u64; ENTERING_LIMIT];
     let n = list_entering(&mut list, 0, r, s, consent);
     let m = list_entering(&mut list, n, s, r, consent);
@@ -122,14 +104,13 @@ fn compose_words(words: &mut [u64], other: &[u64], consent: u64) -> bool
     if rules::same(words, other) {
         return true;
     }
-    let rule = composed(
+    let Some(rule) = composed(
         rule_words::rule_of(words),
         rule_words::rule_of(other),
         consent,
-    );
-    if !rule.fits {
+    ) else {
         return false;
-    }
+    };
     rule_words::put_rule(words, rule);
     true
 }
@@ -158,34 +139,30 @@ fn common_owner(a: u64, b: u64) -> u64
 }
 
 // The row of the rule with the number n.
-fn put_use(row: &mut [u64], image: &[u8], n: usize)
-    requires { (length row.old ≡ form_width) × (check_of image.now ≡ 0) × (named (length (policy_in image.now).rules) n ≡ true) }
-    ensures { row.new ≡ form_row (use_at (policy_in image.now) n) }
+fn put_use(row: &mut [u64], policy: Accepted, n: usize)
+    requires { (length row.old ≡ form_width) × (named (length (policy_in policy.bytes.now).rules) n ≡ true) }
+    ensures { row.new ≡ form_row (use_at (policy_in policy.entry.bytes.now) n) }
 {
-    let rules = image::section(image, 2);
-    image::put_rule_at(
-        &mut row[0..normaliser::OWNER_WORD],
-        rules,
-        image::section(image, 3),
-        n,
-    );
-    row[normaliser::OWNER_WORD] = owner_at(rules, n);
+    let rules = policy.rules();
+    image::put_rule_at(&mut row[0..normaliser::OWNER_WORD], rules, n);
+    row[normaliser::OWNER_WORD] = owner_at(rules.records, n);
 }
 
 // The row of the rule with the number i of the first image composed with the rule with the number j of the second, if it fits.
 fn put_composed(
     row: &mut [u64],
-    first: &[u8],
+    first: Accepted,
     i: usize,
-    second: &[u8],
+    second: Accepted,
     j: usize,
     consent: u64,
 ) -> bool
-    requires { (length row.old ≡ form_width) × (check_of first.now ≡ 0) × (check_of second.now ≡ 0)
-        × (named (length (policy_in first.now).rules) i ≡ true) × (named (length (policy_in second.now).rules) j ≡ true) }
-    ensures { UsePut (composed_use consent (use_at (policy_in first.now) i) (use_at (policy_in second.now) j)) row.new result }
+    requires { (length row.old ≡ form_width)
+        × (named (length (policy_in first.bytes.now).rules) i ≡ true) × (named (length (policy_in second.bytes.now).rules) j ≡ true) }
+    ensures { UsePut (composed_use consent (use_at (policy_in first.entry.bytes.now) i) (use_at (policy_in second.entry.bytes.now) j)) row.new result }
 {
     put_use(row, first, i);
+    // Kept: a rule of the project: no heap, so the array has room for the most that there can be.
     let mut other = [0u64; normaliser::FORM_WIDTH];
     put_use(&mut other, second, j);
     row[normaliser::OWNER_WORD] = common_owner(
@@ -202,11 +179,11 @@ fn put_composed(
 // ---- all uses
 
 // The rule number of use k: permit then run of each container, then the users.
-fn number_at(image: &[u8], k: usize) -> usize
-    requires { (check_of image.now ≡ 0) × (k < use_count image.now) }
-    ensures { result ≡ get_or (used_numbers (policy_in image.now)) k 0 }
+fn number_at(policy: Accepted, k: usize) -> usize
+    requires { k < use_count policy.bytes.now }
+    ensures { result ≡ get_or (used_numbers (policy_in policy.entry.bytes.now)) k 0 }
 {
-    let containers = image::section(image, 0);
+    let containers = policy.containers();
     let n = 2 * (containers.len() / image::CONTAINER_SIZE);
     if k < n {
         let at = k / 2 * image::CONTAINER_SIZE;
@@ -215,17 +192,16 @@ fn number_at(image: &[u8], k: usize) -> usize
         }
         return fields::read16(containers, at + image::CONTAINER_RUN_AT);
     }
-    fields::read16(image::section(image, 1), (k - n) * image::USER_SIZE)
+    fields::read16(policy.users(), (k - n) * image::USER_SIZE)
 }
 
 // The rows of all uses, if each fits.
-fn put_uses(forms: &mut [u64], first: &[u8], second: &[u8], consent: u64) -> bool
-    requires { (length forms.old ≡ use_count first.now * form_width) × Paired first.now second.now }
-    ensures { UsesPut (pair_uses consent first.now second.now) forms.new result }
+fn put_uses(forms: &mut [u64], first: Accepted, second: Accepted, consent: u64) -> bool
+    requires { (length forms.old ≡ use_count first.bytes.now * form_width) × Paired first.bytes.now second.bytes.now }
+    ensures { UsesPut (pair_uses consent first.entry.bytes.now second.entry.bytes.now) forms.new result }
 {
     let count = forms.len() / normaliser::FORM_WIDTH;
-    let mut k: usize = 0;
-    while k < count {
+    for k in 0..count {
         let at = k * normaliser::FORM_WIDTH;
         let i = number_at(first, k);
         let j = number_at(second, k);
@@ -239,7 +215,6 @@ fn put_uses(forms: &mut [u64], first: &[u8], second: &[u8], consent: u64) -> boo
         ) {
             return false;
         }
-        k += 1;
     }
     true
 }
@@ -253,13 +228,11 @@ fn put_places(out: &mut [u8], containers: &[u8]) -> usize
 {
     let n = containers.len() / image::CONTAINER_SIZE;
     let mut at: usize = 0;
-    let mut i: usize = 0;
-    while i < n {
+    for i in 0..n {
         let from = i * image::CONTAINER_SIZE;
         let kind = fields::read8(containers, from + image::CONTAINER_KIND_AT);
         let atom = fields::read8(containers, from + image::CONTAINER_ATOM_AT);
         at = normaliser::put_container_record(out, at, kind, atom, 2 * i, 2 * i + 1);
-        i += 1;
     }
     at
 }
@@ -270,32 +243,34 @@ fn put_users(out: &mut [u8], from: usize, n: usize) -> usize
     ensures { Wrote (joined (map (bytes_of user_size) (count_from from n))) out.old out.new 0 result }
 {
     let mut at: usize = 0;
-    let mut i: usize = 0;
-    while i < n {
+    for i in 0..n {
         at = fields::put16(out, at, from + i);
-        i += 1;
     }
     at
 }
 
-// Writes the normal image of two images composed: its length, or 0 if a rule does not fit or there are too many.
-fn write_pair(first: &[u8], second: &[u8], consent: u64, out: &mut [u8]) -> usize
-    requires { Paired first.now second.now × (output_bound ≤ length out.old) }
-    ensures { PairWritten (pair_owned consent first.now second.now) out.old out.new result }
+// Writes the normal image of two images composed and gives its length, if each rule fits and there are not too many.
+fn write_pair(first: Accepted, second: Accepted, consent: u64, out: &mut [u8]) -> Option<usize>
+    requires { Paired first.bytes.now second.bytes.now × (output_bound ≤ length out.old) }
+    ensures { PairWritten (pair_owned consent first.entry.bytes.now second.entry.bytes.now) out.old out.new result }
 {
-    let containers = image::section(first, 0);
+    let containers = first.containers();
     let n = containers.len() / image::CONTAINER_SIZE;
-    let u = image::section(first, 1).len() / image::USER_SIZE;
+    let u = first.users().len() / image::USER_SIZE;
+    // Kept: a rule of the project: no heap, so the array has room for the most that there can be.
     let mut forms = [0u64; USE_WORDS];
     let w = (2 * n + u) * normaliser::FORM_WIDTH;
     if !put_uses(&mut forms[0..w], first, second, consent) {
-        return 0;
+        return None;
     }
+    // Kept: a rule of the project: no heap, so the array has room for the most that there can be.
     let mut places = [0u8; CONTAINER_BYTES];
     let a = put_places(&mut places, containers);
+    // Kept: a rule of the project: no heap, so the array has room for the most that there can be.
     let mut users = [0u8; USER_BYTES];
     let b = put_users(&mut users, 2 * n, u);
-    normaliser::write_policy(&places[0..a], &users[0..b], &forms[0..w], out)
+    let length = normaliser::write_policy(&places[0..a], &users[0..b], &forms[0..w], out);
+    if length == 0 { None } else { Some(length) }
 }
 
 // ---- two images
@@ -308,10 +283,8 @@ fn same_containers(a: &[u8], b: &[u8]) -> bool
     if b.len() / image::CONTAINER_SIZE != n {
         return false;
     }
-    let mut i: usize = 0;
-    while i < n {
+    for i in 0..n {
         let at = i * image::CONTAINER_SIZE;
-        i += 1;
         if fields::read8(a, at + image::CONTAINER_KIND_AT)
             != fields::read8(b, at + image::CONTAINER_KIND_AT)
         {
@@ -327,21 +300,18 @@ fn same_containers(a: &[u8], b: &[u8]) -> bool
 }
 
 // The images have one shape: the same containers, and as many users.
-fn same_shape(first: &[u8], second: &[u8]) -> bool
-    requires { (check_of first.now ≡ 0) × (check_of second.now ≡ 0) }
-    ensures { result ≡ same_shape (policy_in first.now) (policy_in second.now) }
+fn same_shape(first: Accepted, second: Accepted) -> bool
+    ensures { result ≡ same_shape (policy_in first.entry.bytes.now) (policy_in second.entry.bytes.now) }
 {
-    if !same_containers(image::section(first, 0), image::section(second, 0)) {
+    if !same_containers(first.containers(), second.containers()) {
         return false;
     }
-    image::section(first, 1).len() / image::USER_SIZE
-        == image::section(second, 1).len() / image::USER_SIZE
+    first.users().len() / image::USER_SIZE == second.users().len() / image::USER_SIZE
 }
 
 // The images can be composed: one shape, and a consent.
-fn input_good(first: &[u8], second: &[u8], consent: &[u8]) -> bool
-    requires { (check_of first.now ≡ 0) × (check_of second.now ≡ 0) }
-    ensures { result ≡ input_good first.now second.now consent.now }
+fn input_good(first: Accepted, second: Accepted, consent: &[u8]) -> bool
+    ensures { result ≡ input_good first.entry.bytes.now second.entry.bytes.now consent.now }
 {
     if !same_shape(first, second) {
         return false;
@@ -357,10 +327,8 @@ fn same_bytes(a: &[u8], b: &[u8]) -> bool
         return false;
     }
     let mut all: u8 = 0;
-    let mut i: usize = 0;
-    while i < a.len() {
-        all = all | (a[i] ^ b[i]);
-        i += 1;
+    for (i, &x) in a.iter().enumerate() {
+        all |= x ^ b[i];
     }
     all == 0
 }
@@ -375,63 +343,27 @@ fn is_repeated(first: &[u8], second: &[u8], consent: &[u8]) -> bool
     same_bytes(first, second)
 }
 
-// An image with itself: its normal image.
-fn repeat(image: &[u8], out: &mut [u8]) -> Composition
-    ensures { (result ≡ repeat_answer image.now out.old) × (out.new ≡ normal_effect image.now out.old) }
-{
-    let n = normaliser::normalise(image, out);
-    if n < image::HEADER_SIZE as u32 {
-        return Composition {
-            refusal: n,
-            length: 0,
-        };
-    }
-    Composition {
-        refusal: 0,
-        length: n as usize,
-    }
-}
-
-// Writes two images composed as a normal image: 9, then what the first image is refused for, then the second, then 20 and 21.
-pub fn compose(first: &[u8], second: &[u8], consent: &[u8], out: &mut [u8]) -> Composition
-    ensures { (result ≡ compose_answer first.now second.now consent.now out.old)
+// Writes two images composed as a normal image and gives its length: an image with itself as its normal image; else 9, then what the first
+// image is refused for, then the second, then 20 and 21.
+pub fn compose(
+    first: &[u8],
+    second: &[u8],
+    consent: &[u8],
+    out: &mut [u8],
+) -> Result<usize, Refusal>
+    ensures { (composition_of result ≡ compose_answer first.now second.now consent.now out.old)
         × (out.new ≡ compose_effect first.now second.now consent.now out.old) }
 {
     if is_repeated(first, second, consent) {
-        return repeat(first, out);
+        return normaliser::normalise(first, out);
     }
     if out.len() < image::OUTPUT_BOUND {
-        return Composition {
-            refusal: answers::LENT_LENGTH,
-            length: 0,
-        };
+        return Err(Refusal::LentLength);
     }
-    let a = image::check(first);
-    if a != 0 {
-        return Composition {
-            refusal: a,
-            length: 0,
-        };
-    }
-    let b = image::check(second);
-    if b != 0 {
-        return Composition {
-            refusal: b,
-            length: 0,
-        };
-    }
+    let first = image::accept(first)?;
+    let second = image::accept(second)?;
     if !input_good(first, second, consent) {
-        return Composition {
-            refusal: answers::COMPOSITION_INPUT,
-            length: 0,
-        };
+        return Err(Refusal::CompositionInput);
     }
-    let length = write_pair(first, second, consent_set(consent), out);
-    if length == 0 {
-        return Composition {
-            refusal: answers::COMPOSITION_LIMIT,
-            length: 0,
-        };
-    }
-    Composition { refusal: 0, length }
+    write_pair(first, second, consent_set(consent), out).ok_or(Refusal::CompositionLimit)
 }

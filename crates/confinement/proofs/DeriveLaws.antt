@@ -2,11 +2,11 @@
 use Prim.Native.Nat.{ℕ, zero, suc, ◌+◌, ◌-◌, ◌*◌, ◌≤◌, ◌<◌}
 use native.Mathlib.Omega.{arith}
 use mathlib.Core.Path.{◌≡◌, refl, sym, ap, ap₂, ◌∙◌, subst}
-use mathlib.Core.Bool.{Bool, true, false, not}
+use mathlib.Core.Bool.{Bool, true, false}
 use mathlib.Core.List.{List, [], ◌∷◌, ◌++◌, map, map-append}
 use lib.Dec.{leb}
 use lib.ListN.{length, take, replicate}
-use borrow.Author.Tests.{le-leb, lt-leb, leb-true, not-false}
+use borrow.Author.Tests.{le-leb, lt-leb, leb-true}
 use Rattle.lists.specs.Lists.{every, joined}
 use Rattle.lists.specs.Conditions.{first_failed, ◌or_refuse◌}
 use Rattle.lists.proofs.Bools.{and_in, and_0, and_1, clash, refuted}
@@ -29,10 +29,14 @@ use Rattle.normaliser.proofs.WriterLaws.{producer_tabled, producer_wrote, normal
 use Rattle.normaliser.proofs.WrittenAnswers.{refused_answer, refused_effect, wrote_answer}
 use Rattle.profiles.specs.Profiles.{Profile}
 use Rattle.profiles.specs.Texts.{text_good}
-use Rattle.profiles.specs.LineWords.{text_words, Judged}
-use Rattle.profiles.specs.declared.ScannedText.{ScannedText}
+use Rattle.profiles.specs.LineWords.{text_words, scanned, Judged}
+use Rattle.std.proofs.Common.{Some, Result, Ok, Err}
+use Rattle.answers.specs.declared.Refusal.{Refusal}
+use Rattle.answers.specs.declared.Refusal.TheVariants as V
+use Rattle.answers.specs.Outcomes.{outcome_number}
+use Rattle.normaliser.specs.Normaliser.{written_number}
 use Rattle.confinement.specs.Confinement.{paths_of, rules_of, files_from, initial_process, profile_policy}
-use Rattle.confinement.specs.Images.{profiles_in, limits_good, profile_conditions, profile_image, profile_answer, profile_effect}
+use Rattle.confinement.specs.Images.{profiles_in, limits_good, profile_conditions, profile_image, profile_answer, profile_effect, profile_refusal}
 use Rattle.confinement.specs.Tables.{PathTable, ProgramTable, mixtures, rule_from, plain_row, forms_from, short_rule, FormsPut, table_policy, Tabulated, PolicyWritten}
 use Rattle.confinement.proofs.PolicyLaws.{profile_none, profile_sound}
 use Rattle.confinement.proofs.PathRuleRows.{file_rows, files_size}
@@ -53,9 +57,9 @@ module _ (own modes : List ℕ) (n m : ℕ) where
   rule_of = rule_from (take m own) modes (mixtures own modes n m)
 
   -- a rule does not fit
-  pub over_limit : {forms : List ℕ} {b : Bool} → FormsPut rule_of (2 * n) forms b → b ≡ false → (out : List ℕ) → PolicyWritten (table_policy own modes n m) out out profile_limit
+  pub over_limit : {forms : List ℕ} {b : Bool} → FormsPut rule_of (2 * n) forms b → b ≡ false → (out : List ℕ) → PolicyWritten (table_policy own modes n m) out out (Err V.ProfileLimit)
   unfolding table_policy
-  over_limit h e out = record { over = λ o. (refl, refl); fits = λ t. clash t (sym h.told ∙ e) }
+  over_limit h e out = record { over = λ o. (refl, refl); fits = λ t. clash t (sym h.told ∙ e); short = tt }
 
 forms_rows : (f : ℕ → List ℕ) (j n : ℕ) → map plain_row (forms_from f j n) ≡ map form_row (map normal_use (map unowned (forms_from f j n)))
 unfolding forms_from normal_use unowned
@@ -115,16 +119,17 @@ module _ (ps : List Profile) (own modes : List ℕ) (n m : ℕ) (t : Tabulated p
             → Wrote (normal_image (profile_policy ps)) first last 0 r
         tables_wrote w = producer_wrote (profile_policy ps) sound (profile_none ps) (rw (containers_are, users_are, words_are) at w)
 
-        pub tables_small : {first last : List ℕ} {r : ℕ} → Answered (policy_at (take (end - 0) after) users (take (2 * n * form_width - 0) forms)) first last r → r ≤ output_bound
+        tables_small : {first last : List ℕ} {r : ℕ} → Answered (policy_at (take (end - 0) after) users (take (2 * n * form_width - 0) forms)) first last r → r ≤ output_bound
         tables_small w = omega (arith, (tables_wrote w).ends, normal_short (profile_policy ps) sound)
 
         pub tables_written : {first last : List ℕ} {r : ℕ} → Answered (policy_at (take (end - 0) after) users (take (2 * n * form_width - 0) forms)) first last r
-            → PolicyWritten (table_policy own modes n m) first last r
+            → PolicyWritten (table_policy own modes n m) first last (Ok r)
         unfolding table_policy
         tables_written {first} {last} {r} w =
             record {
               over = λ o. clash (sym h.told ∙ fit) o;
-              fits = λ y. subst (λ (x : Policy). Wrote (normal_image x) first last 0 r) (sym (tables_policy ps own modes n m t)) (tables_wrote w);
+              fits = λ y. (refl, subst (λ (x : Policy). Wrote (normal_image x) first last 0 r) (sym (tables_policy ps own modes n m t)) (tables_wrote w));
+              short = tables_small w;
             }
 
 -- ---- the answer
@@ -133,21 +138,26 @@ module _ (text out : List ℕ) where
   abbrev refusal : ℕ
   refusal = first_failed (profile_conditions text out)
 
-  refused : {r : ℕ} → refusal ≡ r → (r ≡ 0 → ⊥) → (r ≡ profile_answer text out) × (out ≡ profile_effect text out)
+  -- what `derive` ensures of the number that it answers, of the output, and of the refusal
+  abbrev pub Derived : ℕ → List ℕ → ℕ → Type 0
+  Derived r after f = (r ≡ profile_answer text out) × (after ≡ profile_effect text out) × (f ≡ profile_refusal text out)
+
+  refused : {r : ℕ} → refusal ≡ r → (r ≡ 0 → ⊥) → Derived r out r
   unfolding profile_answer profile_effect
   refused {r} e d = (
     sym (refused_answer refusal (profile_image text) out (λ z. d (sym e ∙ z)) ∙ e),
     sym (refused_effect refusal (profile_image text) out (λ z. d (sym e ∙ z))),
+    sym e,
   )
 
   -- 9
-  pub derive_short : length out < output_bound → (lent_length ≡ profile_answer text out) × (out ≡ profile_effect text out)
+  pub derive_short : length out < output_bound → Derived lent_length out lent_length
   unfolding profile_conditions
   derive_short h = refused (failed (leb output_bound (length out) or_refuse lent_length) _ (lt-leb output_bound (length out) h)) (λ z. omega arith)
 
   module _ (long : output_bound ≤ length out) where
     -- 16
-    pub derive_broken : text_good text ≡ false → (profile_text ≡ profile_answer text out) × (out ≡ profile_effect text out)
+    pub derive_broken : text_good text ≡ false → Derived profile_text out profile_text
     unfolding profile_conditions
     derive_broken g =
         refused
@@ -171,7 +181,7 @@ module _ (text out : List ℕ) where
           ∙ none_left
 
       -- 17: over 32 paths
-      pub derive_many : data_width < length (paths_of (profiles_in text)) → (profile_limit ≡ profile_answer text out) × (out ≡ profile_effect text out)
+      pub derive_many : data_width < length (paths_of (profiles_in text)) → Derived profile_limit out profile_limit
       derive_many h = refused (refusal_limits over) (λ z. omega arith)
         where
           over : limits_good (profiles_in text) ≡ false
@@ -185,9 +195,14 @@ module _ (text out : List ℕ) where
                     (and_0 (leb (length (paths_of (profiles_in text))) data_width) (every short_rule (rules_of (profiles_in text))) y),
               ))
 
+      image_told : refusal ≡ 0 → {after : List ℕ} {n : ℕ} → Wrote (normal_image (profile_policy (profiles_in text))) out after 0 n
+          → (n ≡ profile_answer text out) × (after ≡ profile_effect text out)
+      unfolding profile_answer profile_effect profile_image
+      image_told z w = wrote_answer z w
+
       -- the tables' policy: 17, or the image
-      pub derive_done : (own modes : List ℕ) (n m : ℕ) → Tabulated (profiles_in text) own modes n m → {after : List ℕ} {r : ℕ} → PolicyWritten (table_policy own modes n m) out after r
-          → (r ≡ profile_answer text out) × (after ≡ profile_effect text out)
+      pub derive_done : (own modes : List ℕ) (n m : ℕ) → Tabulated (profiles_in text) own modes n m → {after : List ℕ} {r : Result ℕ Refusal} → PolicyWritten (table_policy own modes n m) out after r
+          → Derived (written_number r) after (outcome_number r)
       derive_done own modes n m t {after} {r} w = by (every short_rule (rules_of (profiles_in text))) refl
         where
           same_rules : every short_rule (table_policy own modes n m).rules ≡ every short_rule (rules_of (profiles_in text))
@@ -196,17 +211,18 @@ module _ (text out : List ℕ) where
           few : leb (length (paths_of (profiles_in text))) data_width ≡ true
           few = le-leb (length (paths_of (profiles_in text))) data_width (omega (arith, t.paths, t.few))
 
-          by : (b : Bool) → every short_rule (rules_of (profiles_in text)) ≡ b → (r ≡ profile_answer text out) × (after ≡ profile_effect text out)
+          by : (b : Bool) → every short_rule (rules_of (profiles_in text)) ≡ b → Derived (written_number r) after (outcome_number r)
           by true e =
-              unfold profile_answer profile_effect profile_image in
-              wrote_answer (refusal_none (unfold limits_good in and_in few e))
-              (subst (λ (x : Policy). Wrote (normal_image x) out after 0 r) (tables_policy (profiles_in text) own modes n m t) (w.fits (same_rules ∙ e)))
+              let none : refusal ≡ 0 = refusal_none (unfold limits_good in and_in few e) in
+              let fits = w.fits (same_rules ∙ e) in
+              let said = image_told none (subst (λ (x : Policy). Wrote (normal_image x) out after 0 (written_number r)) (tables_policy (profiles_in text) own modes n m t) fits.1) in
+              (said.0, said.1, fits.0 ∙ sym none)
           by false e =
               let o = w.over (same_rules ∙ e) in
               let l : limits_good (profiles_in text) ≡ false =
               unfold limits_good in refuted (limits_good (profiles_in text)) (λ y. clash (and_1 (leb (length (paths_of (profiles_in text))) data_width) y) e) in
               let g = refused (refusal_limits l) (λ z. omega arith) in
-              (o.0 ∙ g.0, o.1 ∙ g.1)
+              (ap written_number o.0 ∙ g.0, o.1 ∙ g.1, ap outcome_number o.0 ∙ g.2)
 
 pub tabulated : {t : List ℕ} {ps : List Profile} {starts sizes own modes : List ℕ} {n m : ℕ} → PathTable t (paths_of ps) starts sizes n → ProgramTable (paths_of ps) ps own modes m
     → Tabulated ps own modes n m
@@ -214,5 +230,5 @@ tabulated p q = record { paths = p.count; few = p.few; programs = q }
 
 -- ---- the numbers of the lines, as they are lent
 
-pub words_lent : (t words : List ℕ) (b : Bool) (s : ScannedText) → Judged t words b s → not s.good ≡ false → take (s.count - 0) words ≡ text_words t
-words_lent t words b s g h = let z : s.count - 0 ≡ s.count = omega arith in ap (λ (k : ℕ). take k words) z ∙ g.listed (not-false s.good h)
+pub words_lent : (t words : List ℕ) (b : Bool) (n : ℕ) → Judged t words b (scanned (Some n)) → take (n - 0) words ≡ text_words t
+words_lent t words b n g = let z : n - 0 ≡ n = omega arith in ap (λ (k : ℕ). take k words) z ∙ g.listed refl

@@ -6,6 +6,7 @@ use mathlib.Core.Path.{◌≡◌, refl, sym, ap, ◌∙◌, subst}
 use mathlib.Core.Bool.{true}
 use mathlib.Core.List.{List, [], ◌∷◌, ◌++◌, map, append_assoc, append-nil}
 use mathlib.Core.Option.{Option, none, some}
+use Rattle.std.proofs.Common.{Some}
 use lib.Dec.{leb}
 use lib.ListN.{length, drop, length-append}
 use borrow.Author.Tests.{leb-true}
@@ -52,9 +53,9 @@ front t at l ls w = by (dec_lt at (length t))
     by : Dec (at < length t) → Front t at l ls
     by (no n) = absurd (omega (arith, ap length (sym (walk_end t at (omega arith)) ∙ w.left)))
     by (yes i) =
-        let x : LineHere t at (line_at t at) = walk_line t at w.walk i (line_at t at) refl in
-        let e : x.line ∷ lines_in (drop (line_at t at).next t) ≡ l ∷ ls = sym x.lines ∙ w.left in
-        let n : (line_at t at).next ≡ at + length (line_text l) = x.next ∙ ap (λ (y : Line). at + length (line_text y)) (cons_head e) in
+        let x : LineHere t at = walk_line t at w.walk i in
+        let e : x.line ∷ lines_in (drop (at + length (line_text x.line)) t) ≡ l ∷ ls = sym x.lines ∙ w.left in
+        let n : at + length (line_text x.line) ≡ at + length (line_text l) = ap (λ (y : Line). at + length (line_text y)) (cons_head e) in
         record {
           reads = x.reads ∙ ap some (cons_head e);
           inside = i;
@@ -217,7 +218,7 @@ module _ (t : List ℕ) (short : length t ≤ text_limit) where
   tells_profile : (at : ℕ) (p : List ℕ) (ls : List Line) → Front t at (opens p) ls → Tells t (named_path (line_word (line_scan at (opens p)))) p 0
   unfolding line_scan
   tells_profile at p ls f =
-      let q : line_scan at (opens p) ≡ line_at t at = sym (scanned t at (opens p) f.reads) in
+      let q : Some (line_scan at (opens p)) ≡ line_at t at = sym (scanned t at (opens p) f.reads) in
       let x = profile_at t at (omega (arith, f.inside)) (line_scan at (opens p)) q refl in
       let o : opens x.path ≡ opens p = some_inj (sym x.reads ∙ f.reads) in
       tells t (line_scan at (opens p)) (small_line t at f.inside short (line_scan at (opens p)) q) p (x.text ∙ opens_same o) (omega (arith, x.room, x.ahead))
@@ -225,7 +226,7 @@ module _ (t : List ℕ) (short : length t ≤ text_limit) where
   tells_entry : (at : ℕ) (e : PathEntry) (ls : List Line) → Front t at (enters e) ls → Tells t (named_path (line_word (line_scan at (enters e)))) e.path (mode_bits e.modes)
   unfolding line_scan
   tells_entry at e ls f =
-      let q : line_scan at (enters e) ≡ line_at t at = sym (scanned t at (enters e) f.reads) in
+      let q : Some (line_scan at (enters e)) ≡ line_at t at = sym (scanned t at (enters e) f.reads) in
       let x = entry_at t at (omega (arith, f.inside)) (line_scan at (enters e)) q refl in
       let o : enters x.entry ≡ enters e = some_inj (sym x.reads ∙ f.reads) in
       tells t (line_scan at (enters e)) (small_line t at f.inside short (line_scan at (enters e)) q) e.path (x.text ∙ ap (λ (y : PathEntry). y.path) (enters_same o))

@@ -2,15 +2,17 @@
 use Prim.Native.Nat.{ℕ, ◌-◌, ◌/◌, ◌%◌, ◌^◌, ◌≤◌}
 use native.Mathlib.Omega.{arith}
 use mathlib.Core.Path.{◌≡◌, refl, sym, ap, ◌∙◌, subst}
-use mathlib.Core.Bool.{Bool, true, false, not, cond}
+use mathlib.Core.Bool.{Bool, true, false}
 use mathlib.Core.List.{List, [], ◌∷◌, ◌++◌}
 use lib.Dec.{leb}
-use lib.ListN.{length, take, set, replicate, length-set, length-take}
+use lib.ListN.{length, take, set, length-set, length-take}
 use lib.Seq.{take-suc-set}
-use borrow.Author.Tests.{leb-true, not-true, not-false, eq-eqb, ne_eqb}
+use borrow.Author.Tests.{leb-true, eq-eqb, ne_eqb}
 use borrow.Rule.Slice.PartMut.{put_mid}
 use Rattle.rules.specs.Rules.{normal, unrestricted}
-use Rattle.rules.specs.Answers.{data_width, tag_width, mixture_limit, padded, bounded_of}
+use Rattle.rules.specs.Answers.{data_width, tag_width, mixture_limit, bounded_if_fits}
+use Rattle.std.specs.Prelude.{Option, Some, None}
+use Rattle.rules.proofs.BoundedLaws.{bounded_some, bounded_none}
 use Rattle.rules.specs.declared.Bounded.{Bounded}
 use Rattle.rule_words.specs.Words.{rule_width, words_of}
 use Rattle.rule_words.proofs.WordLaws.{words_nine, bounded_words_lem}
@@ -73,27 +75,18 @@ module _ {l words : List ℕ} {r : ℕ} (h : Listed l words r) where
 
 -- ---- normal forms
 
-module _ (r : List ℕ) (b : Bounded) (e : b ≡ bounded_of (normal r)) where
-  fits_told : b.fits ≡ leb (length (normal r)) mixture_limit
-  unfolding bounded_of
-  fits_told = ap (λ (x : Bounded). x.fits) e ∙ by (leb (length (normal r)) mixture_limit)
-    where
-      by : (t : Bool)
-          → (cond {A = Bounded} t (record { fits = true; count = length (normal r); mixtures = padded (normal r) })
-          (record { fits = false; count = 0; mixtures = replicate mixture_limit 0 })).fits ≡ t
-      by true = refl
-      by false = refl
+module _ (r : List ℕ) {o : Option Bounded} (e : o ≡ bounded_if_fits (normal r)) where
+  pub form_over : (before : List ℕ) → o ≡ None → FormPut r before before false
+  form_over before h = record { told = sym (bounded_none (normal r) e h); words = refl }
 
-  pub form_over : (before : List ℕ) → not b.fits ≡ true → FormPut r before before false
-  form_over before h = record { told = sym (not-true b.fits h) ∙ fits_told; words = refl }
-
-  pub form_put : (before : List ℕ) {ws : List ℕ} → length before ≡ form_width → not b.fits ≡ false → ws ≡ b.count ∷ b.mixtures
+  pub form_put : (before : List ℕ) {ws : List ℕ} → length before ≡ form_width → {b : Bounded} → o ≡ Some b → ws ≡ b.count ∷ b.mixtures
       → FormPut r before (set (put_mid 0 (rule_width - 0) before ws) rule_width no_owner) true
   unfolding form_row unowned
-  form_put before {ws} l h w =
-      let f : true ≡ leb (length (normal r)) mixture_limit = sym (not-false b.fits h) ∙ fits_told in
+  form_put before {ws} l {b} h w =
+      let m = bounded_some (normal r) e h in
+      let f : true ≡ leb (length (normal r)) mixture_limit = sym m.0 in
       let n : length (normal r) ≤ mixture_limit = leb-true (length (normal r)) mixture_limit (sym f) in
-      let x : ws ≡ words_of (normal r) = w ∙ bounded_words_lem (normal r) b e n in
+      let x : ws ≡ words_of (normal r) = w ∙ bounded_words_lem (normal r) b m.1 in
       record { told = f; words = row_put before ws no_owner l (ap length x ∙ words_nine (normal r) n) ∙ ap (λ (y : List ℕ). y ++ (no_owner ∷ [])) x }
 
 -- ---- a list that is handed on

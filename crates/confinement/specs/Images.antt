@@ -38,6 +38,10 @@ profile_conditions t out =
 unfoldable pub profile_image : List ℕ → List ℕ
 profile_image t = normal_image (profile_policy (profiles_in t))
 
+-- the refusal, 0 if there is none
+abbrev pub profile_refusal : List ℕ → List ℕ → ℕ
+profile_refusal t out = first_failed (profile_conditions t out)
+
 -- the refusal, or the length of the image
 unfoldable pub profile_answer : List ℕ → List ℕ → ℕ
 profile_answer t out = length_unless (first_failed (profile_conditions t out)) (profile_image t)

@@ -1,10 +1,14 @@
 -- What the code keeps of a text that is good: paths by their places, and the modes of each program on each path as bits. The
 -- rules of a path are worked out from these numbers.
 use Rattle.std.specs.Prelude.{ℕ, zero, suc, ◌+◌, ◌*◌, ◌/◌, ◌%◌, ◌^◌, ◌≤◌, ◌<◌, ◌≡◌, Bool, true, false, not, cond, List, [], ◌∷◌, ◌++◌, map, eqb, leb, length, get_or, take, drop, replicate}
+use Rattle.std.specs.Prelude.{Result, Err, IfOk}
 use Rattle.std.specs.Int.Bits.{bit_and, bit_or}
-use Rattle.answers.specs.Refusals.{profile_limit}
+use Rattle.answers.specs.declared.Refusal.{Refusal}
+use Rattle.answers.specs.declared.Refusal.TheVariants as V
+use Rattle.answers.specs.Outcomes.{outcome_number}
+use Rattle.normaliser.specs.Normaliser.{written_number}
 use Rattle.fields.specs.Writing.{Wrote}
-use Rattle.image.specs.Limits.{unrestricted_number, no_owner}
+use Rattle.image.specs.Limits.{unrestricted_number, no_owner, output_bound}
 use Rattle.image.specs.Policy.{Policy, unrestricted_rule}
 use Rattle.image.specs.Normal.{normal_image}
 use Rattle.rules.specs.Rules.{normal}
@@ -205,6 +209,7 @@ pub record TabulatedOfSome (own modes : List ℕ) (n m : ℕ) : Type 0 where
   pub tables : Tabulated profiles own modes n m
 
 -- 17 if a rule does not fit, else the length of the image, which is written
-pub record PolicyWritten (p : Policy) (before after : List ℕ) (r : ℕ) : Type 0 where
-  pub over : every short_rule p.rules ≡ false → (r ≡ profile_limit) × (after ≡ before)
-  pub fits : every short_rule p.rules ≡ true → Wrote (normal_image p) before after 0 r
+pub record PolicyWritten (p : Policy) (before after : List ℕ) (r : Result ℕ Refusal) : Type 0 where
+  pub over : every short_rule p.rules ≡ false → (r ≡ Err V.ProfileLimit) × (after ≡ before)
+  pub fits : every short_rule p.rules ≡ true → (outcome_number r ≡ 0) × Wrote (normal_image p) before after 0 (written_number r)
+  pub short : IfOk r (λ n. n ≤ output_bound)

@@ -1,17 +1,21 @@
 // The policy that profiles stand for, written as a normal image (change request No. 1).
 #![tactic(auto)]
 
-ghost use Rattle.std.specs.Prelude.{◌≡◌, ℕ, ◌+◌, ◌*◌, ◌^◌, ◌≤◌, ◌<◌, length, get_or, take, replicate, cond, [], map};
+ghost use Rattle.std.specs.Prelude.{◌≡◌, ℕ, ◌+◌, ◌*◌, ◌^◌, ◌≤◌, ◌<◌, length, get_or, take, replicate, cond, [], map, IfOk};
 ghost use Rattle.rules.specs.Answers.{data_width, tag_width};
 ghost use Rattle.normaliser.specs.Writer.{form_width};
 ghost use Rattle.confinement.specs.Tables.{cell_count, meets, file_bits, row_mixture, mixtures, column_at, chosen_by, chosen_at, permit_from, inherited_from};
 ghost use Rattle.confinement.specs.Tables.{run_from, Listed, FormPut, rule_from, rule_count, FormsPut, table_policy, TabulatedOfSome, PolicyWritten};
-ghost use Rattle.confinement.specs.Images.{profile_answer, profile_effect};
+ghost use Rattle.answers.specs.Outcomes.{outcome_number};
+ghost use Rattle.normaliser.specs.Normaliser.{written_number};
+ghost use Rattle.confinement.specs.Images.{profile_answer, profile_effect, profile_refusal};
 ghost use Rattle.confinement.specs.Confinement.{files_from};
 ghost use Rattle.fields.specs.Writing.{Wrote};
 ghost use Rattle.lists.specs.Lists.{joined};
 ghost use Rattle.image.specs.Limits.{container_size, output_bound};
 ghost use Rattle.image.specs.Normal.{container_bytes};
+
+use answers::Refusal;
 
 mod scan;
 
@@ -72,10 +76,8 @@ fn run_mixture(own: usize, row: &[u64]) -> u64
     ensures { result ≡ row_mixture own row.now }
 {
     let mut mixture = atom_if(true, PATHS + own);
-    let mut k = 0;
-    while k < row.len() {
-        mixture = mixture | file_atoms(k, row[k]);
-        k += 1;
+    for (k, &bits) in row.iter().enumerate() {
+        mixture |= file_atoms(k, bits);
     }
     mixture
 }
@@ -86,11 +88,9 @@ fn put_mixtures(runs: &mut [u64], own: &[usize], modes: &[u64], n: usize, m: usi
         × (length modes.now ≡ cell_count) × ((j : ℕ) → j < m → get_or own.now j 0 < data_width) }
     ensures { take m runs.new ≡ mixtures own.now modes.now n m }
 {
-    let mut j = 0;
-    while j < m {
+    for j in 0..m {
         let a = j * PATHS;
         runs[j] = run_mixture(own[j], &modes[a..a + n]);
-        j += 1;
     }
 }
 
@@ -102,11 +102,8 @@ fn choose(words: &mut [u64], modes: &[u64], runs: &[u64], k: usize, wanted: u64,
     ensures { Listed (chosen_by wanted more (column_at modes.now k (length runs.now)) runs.now) words.new result }
 {
     let mut count: usize = 0;
-    let mut j = 0;
-    while j < runs.len() {
+    for (j, &run) in runs.iter().enumerate() {
         let bits = modes[j * PATHS + k];
-        let run = runs[j];
-        j += 1;
         if meets(bits, wanted) {
             words[count] = run | more;
             count += 1;
@@ -121,12 +118,8 @@ fn choose_own(words: &mut [u64], own: &[usize], runs: &[u64], k: usize) -> usize
     ensures { Listed (chosen_at k own.now runs.now) words.new result }
 {
     let mut count: usize = 0;
-    let mut j = 0;
-    while j < runs.len() {
-        let number = own[j];
-        let run = runs[j];
-        j += 1;
-        if number == k {
+    for (j, &run) in runs.iter().enumerate() {
+        if own[j] == k {
             words[count] = run;
             count += 1;
         }
@@ -189,10 +182,9 @@ fn put_form(form: &mut [u64], mixtures: &[u64]) -> bool
     requires { (length form.old ≡ form_width) × (length mixtures.now ≤ data_width) }
     ensures { FormPut mixtures.now form.old form.new result }
 {
-    let rule = rules::normal(mixtures);
-    if !rule.fits {
+    let Some(rule) = rules::normal(mixtures) else {
         return false;
-    }
+    };
     rule_words::put_rule(&mut form[0..normaliser::OWNER_WORD], rule);
     form[normaliser::OWNER_WORD] = image::NO_OWNER as u64;
     true
@@ -233,8 +225,7 @@ fn put_rules(
         × (length own.now ≡ length runs.now) × (length runs.now ≤ data_width) × (length modes.now ≡ cell_count) }
     ensures { FormsPut (rule_from own.now modes.now runs.now) count forms.new result }
 {
-    let mut i = 0;
-    while i < count {
+    for i in 0..count {
         let at = i * normaliser::FORM_WIDTH;
         if !put_path_rule(
             &mut forms[at..at + normaliser::FORM_WIDTH],
@@ -246,7 +237,6 @@ fn put_rules(
         ) {
             return false;
         }
-        i += 1;
     }
     true
 }
@@ -259,8 +249,7 @@ fn put_files(out: &mut [u8], n: usize) -> usize
     ensures { Wrote (joined (map container_bytes (files_from 0 (replicate n [])))) out.old out.new 0 result }
 {
     let mut at = 0;
-    let mut k = 0;
-    while k < n {
+    for k in 0..n {
         at = normaliser::put_container_record(
             out,
             at,
@@ -269,19 +258,27 @@ fn put_files(out: &mut [u8], n: usize) -> usize
             2 * k,
             2 * k + 1,
         );
-        k += 1;
     }
     at
 }
 
-// Writes the policy of the tables as a normal image and gives its length, or 17 where a rule does not fit.
-fn write_tables(own: &[usize], modes: &[u64], n: usize, m: usize, out: &mut [u8]) -> u32
+// Writes the policy of the tables as a normal image and gives its length, or refuses by 17 where a rule does not fit.
+#[inline(never)]
+fn write_tables(
+    own: &[usize],
+    modes: &[u64],
+    n: usize,
+    m: usize,
+    out: &mut [u8],
+) -> Result<usize, Refusal>
     requires { TabulatedOfSome own.now modes.now n m × (output_bound ≤ length out.old) }
     ensures { PolicyWritten (table_policy own.now modes.now n m) out.old out.new result }
 {
+    // Kept: a rule of the project: no heap, so the array has room for the most that there can be.
     let mut runs = [0u64; PATHS];
     put_mixtures(&mut runs, own, modes, n, m);
     let mut words = [0u64; PATHS];
+    // Kept: a rule of the project: no heap, so the array has room for the most that there can be.
     let mut forms = [0u64; FORM_WORDS];
     let count = 2 * n;
     if !put_rules(
@@ -292,8 +289,9 @@ fn write_tables(own: &[usize], modes: &[u64], n: usize, m: usize, out: &mut [u8]
         &runs[0..m],
         count,
     ) {
-        return answers::PROFILE_LIMIT;
+        return Err(Refusal::ProfileLimit);
     }
+    // Kept: a rule of the project: no heap, so the array has room for the most that there can be.
     let mut containers = [0u8; CONTAINER_BYTES];
     let process = put_files(&mut containers, n);
     let end = normaliser::put_container_record(
@@ -307,26 +305,26 @@ fn write_tables(own: &[usize], modes: &[u64], n: usize, m: usize, out: &mut [u8]
     let mut users = [0u8; image::USER_SIZE];
     fields::put16(&mut users, 0, image::UNRESTRICTED_NUMBER);
     let w = count * normaliser::FORM_WIDTH;
-    normaliser::write_policy(&containers[0..end], &users, &forms[0..w], out) as u32
+    Ok(normaliser::write_policy(&containers[0..end], &users, &forms[0..w], out))
 }
 
 // Writes the policy that a text of profiles stands for as a normal image and gives its length, or the refusal: 9, then 16, then 17.
-pub fn derive(text: &[u8], out: &mut [u8]) -> u32
-    ensures { (result ≡ profile_answer text.now out.old) × (out.new ≡ profile_effect text.now out.old) }
+pub fn derive(text: &[u8], out: &mut [u8]) -> Result<usize, Refusal>
+    ensures { (written_number result ≡ profile_answer text.now out.old) × (out.new ≡ profile_effect text.now out.old)
+        × IfOk result (λ n. n ≤ output_bound) × (outcome_number result ≡ profile_refusal text.now out.old) }
 {
     if out.len() < image::OUTPUT_BOUND {
-        return answers::LENT_LENGTH;
+        return Err(Refusal::LentLength);
     }
+    // Kept: a rule of the project: no heap, so the array has room for the most that there can be.
     let mut words = [0u32; profiles::WORD_LIMIT];
-    let scanned = profiles::scan_text(text, &mut words);
-    if !scanned.good {
-        return answers::PROFILE_TEXT;
-    }
+    let Some(lines) = profiles::scan_text(text, &mut words) else {
+        return Err(Refusal::ProfileText);
+    };
     let mut starts = [0usize; PATHS];
     let mut sizes = [0usize; PATHS];
     let mut own = [0usize; PATHS];
     let mut modes = [0u64; CELLS];
-    let lines = scanned.count;
     let counts = scan::fill_tables(
         text,
         &words[0..lines],
@@ -337,7 +335,7 @@ pub fn derive(text: &[u8], out: &mut [u8]) -> u32
     );
     let n = counts.paths;
     if PATHS < n {
-        return answers::PROFILE_LIMIT;
+        return Err(Refusal::ProfileLimit);
     }
     write_tables(&own, &modes, n, counts.programs, out)
 }

@@ -19,12 +19,8 @@ fn same_bytes(text: &[u8], a: usize, b: usize, size: usize) -> bool
     ensures { result ≡ same_list (path_at text.now a size) (path_at text.now b size) }
 {
     let mut same = true;
-    let mut i = 0;
-    while i < size {
-        let x = text[a + i];
-        let y = text[b + i];
-        i += 1;
-        if x != y {
+    for i in 0..size {
+        if text[a + i] != text[b + i] {
             same = false;
         }
     }
@@ -54,12 +50,10 @@ fn find(
     requires { PathSpans text.now starts.now sizes.now n × (start + size ≤ length text.now) }
     ensures { result ≡ position (path_at text.now start size) (table_paths text.now starts.now sizes.now n) }
 {
-    let mut j = 0;
-    while j < n {
+    for j in 0..n {
         if same_path(text, start, size, starts[j], sizes[j]) {
             return j;
         }
-        j += 1;
     }
     n
 }
@@ -149,10 +143,7 @@ fn place(
     let number = number_of(text, starts, sizes, n, hint, start, size);
     hints[h] = number;
     if number < n {
-        return Number {
-            number: number,
-            count: n,
-        };
+        return Number { number, count: n };
     }
     if n == PATHS {
         return Number {
@@ -225,10 +216,8 @@ fn fill_hinted(
 {
     let mut n = 0;
     let mut m = 0;
-    let mut i = 0;
-    while i < words.len() {
-        let line = profiles::named_path(words[i]);
-        i += 1;
+    for &word in words {
+        let line = profiles::named_path(word);
         let placed = place(text, starts, sizes, hints, n, line.start, line.size);
         n = placed.count;
         m = add_line(own, modes, m, placed.number, line.modes);

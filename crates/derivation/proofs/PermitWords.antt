@@ -18,7 +18,9 @@ use Rattle.lists.proofs.Places.{map_at}
 use Rattle.lists.proofs.Every.{every_map}
 use Rattle.fields.specs.Writing.{overwritten}
 use Rattle.fields.proofs.RowWriting.{RowsWritten, rows_start, rows_room, rows_next, rows_end, part_wrote, wrote_whole}
-use Rattle.rules.specs.Answers.{mixture_limit, padded, bounded_of}
+use Rattle.std.specs.Prelude.{Option, Some, None}
+use Rattle.rules.proofs.BoundedLaws.{bounded_some, bounded_there}
+use Rattle.rules.specs.Answers.{mixture_limit, padded, bounded_if_fits}
 use Rattle.rules.specs.declared.Bounded.{Bounded}
 use Rattle.rules.specs.Rules.{normal}
 use Rattle.rules.proofs.RuleLaws.{normal_length}
@@ -169,9 +171,15 @@ module _ (ws : List ℕ) (l : length (rule_of ws) ≤ mixture_limit) (e : ws ≡
   pub settle_kept : kept_well ws ≡ true → ws ≡ words_of (normal (rule_of ws))
   settle_kept h = e ∙ ap words_of (sym (kept_normal ws h))
 
-  pub settle_made : (r : List ℕ) (m : Bounded) (out : List ℕ) → r ≡ rule_of ws → m ≡ bounded_of (normal r) → out ≡ m.count ∷ m.mixtures → out ≡ words_of (normal (rule_of ws))
-  settle_made r m out f g h =
-      h ∙ bounded_words_lem (normal (rule_of ws)) m (g ∙ ap (λ (x : List ℕ). bounded_of (normal x)) f) (omega (arith, l, normal_length (rule_of ws)))
+  module _ {r : List ℕ} (f : r ≡ rule_of ws) {o : Option Bounded} (g : o ≡ bounded_if_fits (normal r)) where
+    settle_rule : o ≡ bounded_if_fits (normal (rule_of ws))
+    settle_rule = g ∙ ap (λ (x : List ℕ). bounded_if_fits (normal x)) f
+
+    pub settle_made : {m : Bounded} → o ≡ Some m → {out : List ℕ} → out ≡ m.count ∷ m.mixtures → out ≡ words_of (normal (rule_of ws))
+    settle_made {m} e h = h ∙ bounded_words_lem (normal (rule_of ws)) m (bounded_some (normal (rule_of ws)) settle_rule e).1
+
+    pub settle_there : o ≡ None → ⊥
+    settle_there e = bounded_there (normal (rule_of ws)) (omega (arith, l, normal_length (rule_of ws))) settle_rule e
 
 -- ---- the objects, one after the other
 

@@ -5,7 +5,7 @@ use mathlib.Core.Path.{◌≡◌, refl, sym, ap, ◌∙◌}
 use mathlib.Core.Bool.{true, false}
 use mathlib.Core.List.{List, [], ◌∷◌, ◌++◌}
 use lib.Dec.{leb}
-use lib.ListN.{length, take, drop}
+use lib.ListN.{length, take}
 use borrow.Author.Tests.{eq-eqb, ne_eqb, le-leb, leb-true}
 use Rattle.lists.proofs.Bools.{and_in, refuted}
 use Rattle.fields.specs.Writing.{overwritten, Wrote}
@@ -16,13 +16,11 @@ use Rattle.answers.specs.Answers.{is_quiet}
 use Rattle.answers.specs.Tallies.{count_of}
 use Rattle.session.specs.Limits.{session_length}
 use Rattle.session.specs.Session.{session_length_good}
-use Rattle.records.specs.Records.{record_length}
 use Rattle.records.specs.Traces.{trace_records}
-use Rattle.records.proofs.TraceRecords.{next_record, no_record, record_length_lem}
+use Rattle.records.proofs.TraceRecords.{FirstChunk, chunk_length, next_chunk, no_chunk}
 use Rattle.monitor.specs.Steps.{step_answer, step_effect}
 use Rattle.monitor.specs.Runs.{step_on, run_answers, run_effect}
-use Rattle.events.specs.declared.Gathered.{Gathered}
-use Rattle.events.specs.Events.{is_event, event_length, event_of, events_from, room_behind, taken_in, gather_good, gathered, gather_session, gather_events}
+use Rattle.events.specs.Events.{Gathered, is_event, event_length, event_of, events_from, room_behind, taken_in, gather_good, gathered, gather_session, gather_events}
 use Rattle.events.proofs.EventLaws.{taken_none}
 
 -- ---- a list of records, with room for so many events, the first at this place
@@ -70,20 +68,19 @@ event_length_lem : (place : ℕ) (a : Answer) (e e₁ : List ℕ) (at : ℕ) →
 unfolding event_of
 event_length_lem place a e e₁ at h w = wrote_length h w
 
--- ---- the loop: taken records are judged, written events stand at the front of e, at is the place of the next record, s the session now
+-- ---- the loop: taken records are judged, written events stand at the front of e, rest is what is left of the trace, s the session now
 
 -- what a call answers and leaves
 abbrev pub Whole : List ℕ → List ℕ → List ℕ → Gathered → List ℕ → List ℕ → Type 0
 Whole s₀ t e₀ r s e = (r ≡ gathered s₀ t e₀) × (s ≡ gather_session s₀ t e₀) × (e ≡ gather_events s₀ t e₀)
 
-pub record Gathering (s₀ t e₀ s e : List ℕ) (room taken written at : ℕ) : Type 0 where
+pub record Gathering (s₀ t e₀ s e rest : List ℕ) (room taken written : ℕ) : Type 0 where
   pub long : length s ≡ length s₀
   pub wide : length e ≡ length e₀
   pub fits : room * event_length ≤ length e
-  pub within : at ≤ length t
-  pub fewer : taken ≤ at
+  pub fewer : taken + length rest ≤ length t
   pub free : written < room
-  pub rest : (n w : ℕ) (s' ev : List ℕ) → ComesTo s (trace_records (drop at t)) (room - written) taken n w s' ev
+  pub whole : (n w : ℕ) (s' ev : List ℕ) → ComesTo s (trace_records rest) (room - written) taken n w s' ev
       → (e' : List ℕ) (k : ℕ) → Wrote ev e e' (written * event_length) k
       → (r : Gathered) → r ≡ record { refusal = 0; taken = taken + n; written = written + w } → Whole s₀ t e₀ r s' e'
 
@@ -99,87 +96,84 @@ module _ (s t e : List ℕ) (l : length s ≡ session_length) (m : event_length 
   begun n w s' ev c e' k p r re =
       rw (good, c.taken) (re ∙ ap (λ (i : ℕ). record { refusal = 0; taken = n; written = i }) (sym c.count), sym c.leaves, p.buffer ∙ ap (λ (x : List ℕ). overwritten x 0 e) (sym c.events))
 
-  pub gather_start : (room : ℕ) → room ≡ length e / event_length → Gathering s t e s e room 0 0 0
-  gather_start room re =
-      record {
+  pub gather_start : (rest : List ℕ) → rest ≡ t → (room : ℕ) → room ≡ length e / event_length → Gathering s t e s e rest room 0 0
+  gather_start rest left room re =
+      rw left (record {
         long = refl;
         wide = refl;
         fits = omega (arith, re);
-        within = omega arith;
         fewer = omega arith;
         free = omega (arith, re, m);
-        rest = λ n w s' ev c e' k p r q.
+        whole = λ n w s' ev c e' k p r q.
             let z : room - 0 ≡ length e / event_length = omega (arith, re) in
             let x : 0 + n ≡ n = omega arith in
             let y : 0 + w ≡ w = omega arith in
             begun n w s' ev (rw z at c) e' k p r (rw (x, y) at q);
-      }
+      })
 
-module _ (s₀ t e₀ s e : List ℕ) (room taken written at : ℕ) (h : Gathering s₀ t e₀ s e room taken written at) where
+module _ (s₀ t e₀ s e rest : List ℕ) (room taken written : ℕ) (h : Gathering s₀ t e₀ s e rest room taken written) where
   -- no record is left
-  pub gather_end : length t ≤ at → (r : Gathered) → r ≡ record { refusal = 0; taken = taken; written = written } → Whole s₀ t e₀ r s e
+  pub gather_end : length rest ≡ 0 → (r : Gathered) → r ≡ record { refusal = 0; taken = taken; written = written } → Whole s₀ t e₀ r s e
   gather_end l r re =
       let x : taken + 0 ≡ taken = omega arith in
       let y : written + 0 ≡ written = omega arith in
-      h.rest 0 0 s [] (rw (no_record t at l) (comes_none s (room - written) taken)) e (written * event_length) (wrote_none (written * event_length) e) r (rw (x, y) re)
+      h.whole 0 0 s [] (rw (no_chunk rest l) (comes_none s (room - written) taken)) e (written * event_length) (wrote_none (written * event_length) e) r (rw (x, y) re)
 
-  module _ (x s' : List ℕ) (a : Answer) (l : at < length t) (xe : x ≡ take record_length (drop at t)) (se : s' ≡ step_effect s x) (ae : a ≡ step_answer s x)
+  module _ (x left s' : List ℕ) (a : Answer) (g : FirstChunk rest x left) (se : s' ≡ step_effect s x) (ae : a ≡ step_answer s x)
       (sl : length s' ≡ length s) where
-    next : trace_records (drop at t) ≡ x ∷ trace_records (drop (at + length x) t)
-    next = rw xe (next_record t at l)
+    next : trace_records rest ≡ x ∷ trace_records left
+    next = next_chunk g
 
     -- a quiet record
-    pub gather_quiet : is_quiet a ≡ true → Gathering s₀ t e₀ s' e room (taken + 1) written (at + length x)
+    pub gather_quiet : is_quiet a ≡ true → Gathering s₀ t e₀ s' e left room (taken + 1) written
     gather_quiet q =
         record {
           long = sl ∙ h.long;
           wide = h.wide;
           fits = h.fits;
-          within = (record_length_lem t x at l xe).1;
-          fewer = omega (arith, h.fewer, (record_length_lem t x at l xe).0);
+          fewer = omega (arith, h.fewer, chunk_length g);
           free = h.free;
-          rest = λ n w s'' ev c e' k p r re.
+          whole = λ n w s'' ev c e' k p r re.
               let z : taken + 1 ≡ suc taken = omega arith in
               let f : taken + suc n ≡ taken + 1 + n = omega arith in
-              h.rest (suc n) w s'' ev
-              (rw next (comes_quiet s x (trace_records (drop (at + length x) t)) (room - written) taken n w s'' ev (rw ae at q) (omega (arith, h.free)) (rw (se, z) at c)))
+              h.whole (suc n) w s'' ev
+              (rw next (comes_quiet s x (trace_records left) (room - written) taken n w s'' ev (rw ae at q) (omega (arith, h.free)) (rw (se, z) at c)))
               e' k p r (rw f re);
         }
 
     -- an event, behind which there is room or not
     module _ (q : is_quiet a ≡ false) (e₁ : List ℕ) (we : Wrote (event_of taken a) e e₁ (written * event_length) (written * event_length + event_length)) where
-      behind : (n w : ℕ) (s'' ev : List ℕ) → ComesTo s' (trace_records (drop (at + length x) t)) (room - (written + 1)) (taken + 1) n w s'' ev
+      behind : (n w : ℕ) (s'' ev : List ℕ) → ComesTo s' (trace_records left) (room - (written + 1)) (taken + 1) n w s'' ev
           → (e' : List ℕ) (k : ℕ) → Wrote ev e₁ e' ((written + 1) * event_length) k
           → (r : Gathered) → r ≡ record { refusal = 0; taken = taken + 1 + n; written = written + 1 + w } → Whole s₀ t e₀ r s'' e'
       behind n w s'' ev c e' k p r re =
           let z : taken + 1 ≡ suc taken = omega arith in
           let f : taken + suc n ≡ taken + 1 + n = omega arith in
-          let g : written + suc w ≡ written + 1 + w = omega arith in
+          let i : written + suc w ≡ written + 1 + w = omega arith in
           let m : room - (written + 1) ≡ room - written - 1 = omega arith in
           let j : (written + 1) * event_length ≡ written * event_length + event_length = omega arith in
-          h.rest (suc n) (suc w) s'' (event_of taken a ++ ev)
-          (rw (next, ae) (comes_event s x (trace_records (drop (at + length x) t)) (room - written) taken n w s'' ev (rw ae at q) (omega (arith, h.free)) (rw (se, z, m) at c)))
-          e' k (wrote_join (omega (arith, h.free, h.fits)) we (rw j at p)) r (rw (f, g) re)
+          h.whole (suc n) (suc w) s'' (event_of taken a ++ ev)
+          (rw (next, ae) (comes_event s x (trace_records left) (room - written) taken n w s'' ev (rw ae at q) (omega (arith, h.free)) (rw (se, z, m) at c)))
+          e' k (wrote_join (omega (arith, h.free, h.fits)) we (rw j at p)) r (rw (f, i) re)
 
       pub gather_full : written + 1 ≡ room → (r : Gathered) → r ≡ record { refusal = 0; taken = taken + 1; written = written + 1 } → Whole s₀ t e₀ r s' e₁
       gather_full le r re =
           let z : room - (written + 1) ≡ 0 = omega (arith, le) in
           let f : taken + 1 + 0 ≡ taken + 1 = omega arith in
-          let g : written + 1 + 0 ≡ written + 1 = omega arith in
-          behind 0 0 s' [] (rw z (comes_full s' (trace_records (drop (at + length x) t)) (taken + 1))) e₁ ((written + 1) * event_length)
-          (wrote_none ((written + 1) * event_length) e₁) r (rw (f, g) re)
+          let i : written + 1 + 0 ≡ written + 1 = omega arith in
+          behind 0 0 s' [] (rw z (comes_full s' (trace_records left) (taken + 1))) e₁ ((written + 1) * event_length)
+          (wrote_none ((written + 1) * event_length) e₁) r (rw (f, i) re)
 
-      pub gather_event : (written + 1 ≡ room → ⊥) → Gathering s₀ t e₀ s' e₁ room (taken + 1) (written + 1) (at + length x)
+      pub gather_event : (written + 1 ≡ room → ⊥) → Gathering s₀ t e₀ s' e₁ left room (taken + 1) (written + 1)
       gather_event le =
           let w : length e₁ ≡ length e = event_length_lem taken a e e₁ (written * event_length) (omega (arith, h.free, h.fits)) we in
           record {
             long = sl ∙ h.long;
             wide = w ∙ h.wide;
             fits = omega (arith, w, h.fits);
-            within = (record_length_lem t x at l xe).1;
-            fewer = omega (arith, h.fewer, (record_length_lem t x at l xe).0);
+            fewer = omega (arith, h.fewer, chunk_length g);
             free = omega (arith, h.free, le);
-            rest = behind;
+            whole = behind;
           }
 
 -- ---- 9

@@ -22,8 +22,7 @@ use Rattle.monitor.specs.Runs.{step_on, run_answers, run_effect}
 use Rattle.monitor.proofs.RunHistories.{answers_take}
 use Rattle.monitor.proofs.StopLaws.{answers_split, effect_split}
 use Rattle.monitor.proofs.TraceCuts.{answers_length}
-use Rattle.events.specs.declared.Gathered.{Gathered}
-use Rattle.events.specs.Events.{is_event, event_length, event_of, events_from, taken_in, gather_good, gathered, gather_session, gather_events}
+use Rattle.events.specs.Events.{Gathered, is_event, event_length, event_of, events_from, taken_in, gather_good, gathered, gather_session, gather_events}
 use Rattle.events.proofs.EventLaws as laws
 use Rattle.events.proofs.EventLaws.{taken_all, taken_most, taken_some, events_append}
 use Rattle.events.proofs.GatherLoop.{gather_9}

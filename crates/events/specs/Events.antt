@@ -1,14 +1,16 @@
 -- The records of a trace that are not answered quiet, gathered as events with their places, until there is no room for one more.
-use Rattle.std.specs.Prelude.{ℕ, suc, ◌-◌, ◌/◌, Bool, not, cond, ◌&&◌, List, [], ◌∷◌, ◌++◌, eqb, leb, length, take}
+use Rattle.std.specs.Prelude.{ℕ, suc, ◌-◌, ◌/◌, Result, Ok, Err, Bool, not, cond, ◌&&◌, List, [], ◌∷◌, ◌++◌, eqb, leb, length, take}
 use Rattle.fields.specs.Writing.{overwritten}
 use Rattle.answers.specs.Refusals.{lent_length}
 use Rattle.answers.specs.declared.Answer.{Answer}
+use Rattle.answers.specs.declared.Refusal.{Refusal}
+use Rattle.answers.specs.Outcomes.{refusal_number}
 use Rattle.answers.specs.Answers.{is_quiet, receiver_of, tag_of, position_of, answer_number}
 use Rattle.answers.specs.Tallies.{count_of}
 use Rattle.session.specs.Session.{session_length_good}
 use Rattle.records.specs.Traces.{trace_records}
 use Rattle.monitor.specs.Runs.{run_answers, run_effect}
-use Rattle.events.specs.declared.Gathered.{Gathered}
+use Rattle.events.specs.declared.Gathered as code
 
 -- ---- an event
 
@@ -47,6 +49,16 @@ unfoldable pub gather_good : List ℕ → List ℕ → Bool
 gather_good s e = session_length_good s && leb event_length (length e)
 
 -- the refusal, 0 if there is none, how many records are taken, and how many events are written
+pub record Gathered : Type 0 where
+  pub refusal : ℕ
+  pub taken : ℕ
+  pub written : ℕ
+
+-- the same of a call's outcome
+abbrev pub gathered_of : Result code.Gathered Refusal → Gathered
+gathered_of (Ok g) = record { refusal = 0; taken = g.taken; written = g.written }
+gathered_of (Err r) = record { refusal = refusal_number r; taken = 0; written = 0 }
+
 unfoldable pub gathered : List ℕ → List ℕ → List ℕ → Gathered
 gathered s t e =
     cond (gather_good s e)

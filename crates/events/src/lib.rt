@@ -3,9 +3,10 @@
 
 ghost use Rattle.std.specs.Prelude.{◌≡◌, ◌+◌, ◌≤◌, length};
 ghost use Rattle.fields.specs.Writing.{Wrote};
-ghost use Rattle.events.specs.Events.{event_length, event_of, gathered, gather_session, gather_events};
+ghost use Rattle.events.specs.Events.{event_length, event_of, gathered_of, gathered, gather_session, gather_events};
 
-use answers::Answer;
+use answers::{Answer, Refusal};
+use records::RECORD_LENGTH;
 use session::SESSION_LENGTH;
 
 // The numbers of an event, and where each stands behind its place.
@@ -19,10 +20,9 @@ const EVENT_TAG_AT: usize = 3;
 
 const EVENT_POSITION_AT: usize = 4;
 
-// What is gathered: the refusal, 0 if there is none, how many records are taken, and how many events are written.
+// What is gathered: how many records are taken, and how many events are written.
 #[derive(Clone, Copy)]
 pub struct Gathered {
-    pub refusal: u32,
     pub taken: usize,
     pub written: usize,
 }
@@ -42,50 +42,35 @@ fn put_event(events: &mut [u64], at: usize, place: usize, answer: Answer)
 
 // The records of the trace on the session, which must have 5,536 numbers, with an event for each that is not answered quiet, up to the first
 // record for which there is no room for one more event. Any bytes and any numbers end in an answer.
-pub fn gather_events(session: &mut [u64], trace: &[u8], events: &mut [u64]) -> Gathered
-    ensures { (result ≡ gathered session.old trace.now events.old)
+pub fn gather_events(
+    session: &mut [u64],
+    trace: &[u8],
+    events: &mut [u64],
+) -> Result<Gathered, Refusal>
+    ensures { (gathered_of result ≡ gathered session.old trace.now events.old)
         × (session.new ≡ gather_session session.old trace.now events.old)
         × (events.new ≡ gather_events session.old trace.now events.old) }
 {
     if session.len() != SESSION_LENGTH {
-        return Gathered {
-            refusal: answers::LENT_LENGTH,
-            taken: 0,
-            written: 0,
-        };
+        return Err(Refusal::LentLength);
     }
     if events.len() < EVENT_LENGTH {
-        return Gathered {
-            refusal: answers::LENT_LENGTH,
-            taken: 0,
-            written: 0,
-        };
+        return Err(Refusal::LentLength);
     }
     let room = events.len() / EVENT_LENGTH;
     let mut taken: usize = 0;
     let mut written: usize = 0;
-    let mut at: usize = 0;
-    while at < trace.len() {
-        let bytes = records::record_at(trace, at);
+    for bytes in trace.chunks(RECORD_LENGTH) {
         let answer = monitor::step(session, bytes);
         let place = taken;
         taken += 1;
-        at += bytes.len();
         if !answers::is_quiet(answer) {
             put_event(events, written * EVENT_LENGTH, place, answer);
             written += 1;
             if written == room {
-                return Gathered {
-                    refusal: 0,
-                    taken: taken,
-                    written: written,
-                };
+                return Ok(Gathered { taken, written });
             }
         }
     }
-    Gathered {
-        refusal: 0,
-        taken: taken,
-        written: written,
-    }
+    Ok(Gathered { taken, written })
 }

@@ -8,7 +8,8 @@ use lib.ListN.{length}
 use Rattle.rules.specs.Sets.{holds, data_of}
 use Rattle.rules.specs.Rules.{covers, distinct, held_in, unheld_in, insert, sort, normal, intersections, meet}
 use Rattle.lists.specs.Lists.{elem, joined}
-use Rattle.rules.specs.Answers.{data_width, bounded_of}
+use Rattle.std.specs.Prelude.{None}
+use Rattle.rules.specs.Answers.{data_width, bounded_if_fits}
 use Rattle.fields.specs.Bytes.{bytes_of}
 use Rattle.image.specs.Image.{offset, section_length}
 use Rattle.image.specs.Normal.{container_bytes, span_bytes, spans_of, pair, header, framed, encode}
@@ -46,7 +47,7 @@ pub record Starred : Type 0 where
   pub meet_of_eight : meet (62 ∷ 61 ∷ 59 ∷ 55 ∷ []) (47 ∷ 31 ∷ []) ≡ 23 ∷ 27 ∷ 29 ∷ 30 ∷ 39 ∷ 43 ∷ 45 ∷ 46 ∷ []
   -- "Meet of 62, 61, 59 with 55, 47, 31 has nine: 15."
   pub meet_of_nine : length (meet (62 ∷ 61 ∷ 59 ∷ []) (55 ∷ 47 ∷ 31 ∷ [])) ≡ 9
-  pub nine_do_not_fit : (bounded_of (meet (62 ∷ 61 ∷ 59 ∷ []) (55 ∷ 47 ∷ 31 ∷ []))).fits ≡ false
+  pub nine_do_not_fit : bounded_if_fits (meet (62 ∷ 61 ∷ 59 ∷ []) (55 ∷ 47 ∷ 31 ∷ [])) ≡ None
   -- "Exec of a file holding 1 and 34: p holds 33", "for a p that held nothing" (change request No. 2)
   pub exec_tag : (p o : Row) (v : List ℕ) (u : ℕ) → p.tag ≡ 0 → o.tag ≡ 2 ^ 1 + 2 ^ 34 → (exec_row p o v u).tag ≡ 2 ^ 33
   -- and for a p that held data atom 3 and running atom 35: it holds 3 and 33
@@ -86,7 +87,7 @@ unfolding encode framed header pair container_bytes span_bytes spans_of bytes_of
 bytes = image_is
 
 pub starred : Starred
-unfolding covers holds normal sort insert unheld_in held_in distinct elem meet intersections bounded_of data_of
+unfolding covers holds normal sort insert unheld_in held_in distinct elem meet intersections bounded_if_fits data_of
 starred =
     record {
       two_mixtures = refl;

@@ -23,7 +23,8 @@ use Rattle.explanations.specs.Lines.{explained_total_line}
 use Rattle.files.specs.Calls.{Handed, handed_none, handed_then, handed_as}
 use Rattle.explain.specs.Texts.{explanation_text, is_forbidden, up_to, records_text, answers_to, trace_text}
 use Rattle.explain.specs.Runs.{record_limit, trace_size, Asked, RecordsShown}
-use Rattle.explain.proofs.HandLaws.{front_again, take_more}
+use Rattle.listing.proofs.Pieces.{front_again}
+use Rattle.explain.proofs.HandLaws.{take_more}
 
 -- ---- one record
 

@@ -3,11 +3,12 @@ use Prim.Native.Nat.{ℕ, ◌+◌, ◌*◌, ◌-◌, ◌≤◌, ◌<◌}
 use native.Mathlib.Omega.{arith}
 use mathlib.Core.Path.{◌≡◌, sym, ap, ◌∙◌}
 use mathlib.Core.List.{List, ◌++◌}
-use lib.ListN.{length, take, drop, length-take, length-drop, take-append-drop}
-use lib.Seq.{take_all, take-add, take-append_seam}
+use lib.ListN.{length, take, drop, length-take, length-drop}
+use lib.Seq.{take_all, take-add}
 use Rattle.fields.specs.Writing.{Wrote}
 use Rattle.listing.specs.Lines.{leading}
 use Rattle.listing.specs.Buffer.{field_limit}
+use Rattle.listing.proofs.Pieces.{front_again}
 use Rattle.explanations.specs.Lines.{step_fields}
 use Rattle.explanations.specs.Buffer.{part_limit}
 use Rattle.explanations.proofs.ExplanationLines.{no_steps, leading_steps, wrote_front}
@@ -15,19 +16,14 @@ use Rattle.files.specs.Calls.{Handed, handed_none, handed_then, handed_as}
 
 -- ---- parts of a list
 
--- as many as there are of the first k
-pub front_again : (k : ℕ) (x : List ℕ) → take (length (take k x)) x ≡ take k x
-front_again k x =
-    ap (λ (l : List ℕ). take (length (take k x)) l) (sym (take-append-drop k x)) ∙ take-append_seam (take k x) (drop k x)
-
 -- the list up to a place, and the next k of it
 pub take_more : (at k : ℕ) (x : List ℕ) → take (at + length (take k (drop at x))) x ≡ take at x ++ take k (drop at x)
 take_more at k x =
     take-add at (length (take k (drop at x))) x ∙ ap (λ (l : List ℕ). take at x ++ l) (front_again k (drop at x))
 
 -- all behind a place
-pub all_behind : (at : ℕ) (x : List ℕ) → take (length x - at) (drop at x) ≡ drop at x
-all_behind at x = take_all (length x - at) (drop at x) (omega (arith, length-drop at x))
+pub all_behind : (n at : ℕ) (x : List ℕ) → length x ≡ n → take (n - at) (drop at x) ≡ drop at x
+all_behind n at x l = take_all (n - at) (drop at x) (omega (arith, length-drop at x))
 
 -- ---- the loop over the parts
 

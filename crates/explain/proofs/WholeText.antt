@@ -6,7 +6,11 @@ use mathlib.Core.Logic.{inl, inr}
 use mathlib.Core.List.{List, []}
 use lib.ListN.{length}
 use borrow.Author.Tests.{eq-eqb, ne_eqb}
+use Rattle.std.specs.Prelude.{Result, Ok, Err}
 use Rattle.fields.specs.Ascii.{ascii}
+use Rattle.answers.specs.declared.Refusal.{Refusal}
+use Rattle.answers.specs.Outcomes.{refusal_number, outcome_number}
+use Rattle.answers.proofs.Outcomes.{accepted, refused_by, not_accepted}
 use Rattle.image.specs.Limits.{image_limit}
 use Rattle.image.specs.Image.{check_of, policy_in}
 use Rattle.session.specs.Limits.{session_length}
@@ -33,37 +37,39 @@ trace_shown i trace a b n k f l h =
       handed = h;
     }
 
-module _ {name : List ℕ} {room : ℕ} (policy lent : List ℕ) (refusal : ℕ) (n : name ≡ ascii "policy.bin") (k : room ≡ image_limit + 1) (f : FileLoaded name policy room)
-    (l : length lent ≡ session_length) (r : refusal ≡ start_answer policy lent) where
-  pub checked : refusal ≡ check_of policy
+module _ {name : List ℕ} {room : ℕ} (policy lent : List ℕ) (n : name ≡ ascii "policy.bin") (k : room ≡ image_limit + 1) (f : FileLoaded name policy room)
+    (l : length lent ≡ session_length) (start : Result (Unit {0}) Refusal) (r : outcome_number start ≡ start_answer policy lent) where
+  checked : outcome_number start ≡ check_of policy
   checked = r ∙ length_passed policy lent ((length_good lent).1 l)
 
   read_policy : FileLoaded (ascii "policy.bin") policy (image_limit + 1)
   read_policy = subst (λ (x : List ℕ). FileLoaded x policy (image_limit + 1)) n (subst (λ (x : ℕ). FileLoaded name policy x) k f)
 
-  pub started : (s : List ℕ) → refusal ≡ 0 → s ≡ start_effect policy lent → (check_of policy ≡ 0) × (s ≡ start_of (policy_in policy))
-  started s z e = (sym checked ∙ z, e ∙ started_effect policy lent (sym checked ∙ z) l)
+  pub started : (u : Unit {0}) → start ≡ Ok u → (s : List ℕ) → s ≡ start_effect policy lent → (check_of policy ≡ 0) × (s ≡ start_of (policy_in policy))
+  started u w s e = (accepted checked w, e ∙ started_effect policy lent (accepted checked w) l)
 
-  pub shown_refused : (a b : ℕ) → (refusal ≡ 0 → ⊥) → Handed (policy_line refusal) a b → ExplanationsShown a b
+  pub shown_refused : (refusal : Refusal) → start ≡ Err refusal → (a b : ℕ) → Handed (policy_line (refusal_number refusal)) a b → ExplanationsShown a b
   unfolding explanations_of
-  shown_refused a b d h =
+  shown_refused refusal w a b h =
+      let d : check_of policy ≡ 0 → ⊥ = not_accepted checked w in
       record {
         policy = policy;
         trace = [];
         policy_file = read_policy;
-        trace_file = λ e. absurd (d (checked ∙ e));
-        few = λ e. absurd (d (checked ∙ e));
-        handed = handed_as (ap policy_line checked ∙ sym (rw (ne_eqb (check_of policy) 0 (λ e. d (checked ∙ e))))) h;
+        trace_file = λ e. absurd (d e);
+        few = λ e. absurd (d e);
+        handed = handed_as (ap policy_line (sym (refused_by checked w)) ∙ sym (rw (ne_eqb (check_of policy) 0 d))) h;
       }
 
-  pub shown_explained : (a b : ℕ) → refusal ≡ 0 → TraceExplained policy a b → ExplanationsShown a b
+  pub shown_explained : (u : Unit {0}) → start ≡ Ok u → (a b : ℕ) → TraceExplained policy a b → ExplanationsShown a b
   unfolding explanations_of
-  shown_explained a b z h =
+  shown_explained u w a b h =
+      let good : check_of policy ≡ 0 = accepted checked w in
       record {
         policy = policy;
         trace = h.trace;
         policy_file = read_policy;
         trace_file = λ _. h.file;
         few = λ _. h.few;
-        handed = handed_as (sym (rw (eq-eqb (check_of policy) 0 (sym checked ∙ z)))) h.handed;
+        handed = handed_as (sym (rw (eq-eqb (check_of policy) 0 good))) h.handed;
       }

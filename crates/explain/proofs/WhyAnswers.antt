@@ -8,7 +8,12 @@ use lib.ListN.{length, take, drop, get_or, length-map}
 use lib.Seq.{take_at}
 use borrow.Author.Tests.{eq-eqb, le-leb}
 use Rattle.lists.proofs.Bools.{and_in}
+use Rattle.std.specs.Prelude.{Result, Ok, Err, is_ok}
 use Rattle.fields.specs.Ascii.{ascii}
+use Rattle.answers.specs.declared.Refusal.{Refusal}
+use Rattle.answers.specs.Outcomes.{refusal_number}
+use Rattle.answers.proofs.Outcomes.{refusal_number_positive}
+use Rattle.witness.specs.declared.Found.{Found}
 use Rattle.fields.specs.Bytes.{Bytes}
 use Rattle.fields.specs.Writing.{overwritten}
 use Rattle.fields.proofs.SectionRecords.{cut_count}
@@ -26,10 +31,9 @@ use Rattle.witness.proofs.ExplainFacts.{end_back}
 use Rattle.certificate.proofs.WhyCases as whys
 use Rattle.certificate.proofs.LastAnswer.{answered_low}
 use Rattle.certificate.proofs.Theorems.{why_certifies}
-use Rattle.witness.specs.declared.Explained.{Explained}
 use Rattle.witness.specs.Links.{node_of}
 use Rattle.witness.specs.Told.{chain_file, chain_records, found_in, at_end}
-use Rattle.witness.specs.Explains.{atom_witness, atom_numbers, atom_found, atom_steps, lent_good, explain_refusal, explain_answer, explain_steps}
+use Rattle.witness.specs.Explains.{atom_witness, atom_numbers, atom_found, atom_steps, lent_good, explain_refusal, Explained, explain_answer, explain_steps, explained as outcome}
 use Rattle.certificate.specs.Whys.{answered, reason_in, reason_numbers, why_numbers, room_good, why_length, why_refusal, why_effect, why_steps}
 use Rattle.certificate.specs.Whys.{why_receiver_at, why_kind_at, why_record_at, why_holder_at, why_rule_at, why_owner_at, why_chain_at, why_count_at, why_atoms_at}
 use Rattle.explanations.specs.Lines.{found_line, rule_fields, way_fields}
@@ -61,6 +65,14 @@ module _ (i t links steps : List ℕ) (c k : ℕ) (a : check_of i ≡ 0) (f : le
     (x : c < container_limit) (y : k < tag_width) where
   not_refused : explain_refusal i t c k links steps ≡ 0
   not_refused = (explains.none_refused i t c k links steps).1 (lent_good_lem t links steps f l m, a, both_there c k x y)
+
+  -- so a chain is given
+  pub given_found : (o : Result Found Refusal) → outcome o ≡ explain_answer i t c k links steps → is_ok o ≡ true
+  unfolding explain_answer
+  given_found (Ok r) e = refl
+  given_found (Err r) e =
+      let none : refusal_number r ≡ 0 = ap (λ (z : Explained). z.refusal) e ∙ rw (eq-eqb (explain_refusal i t c k links steps) 0 not_refused) refl in
+      absurd (omega (arith, refusal_number_positive r))
 
   pub way_file : (r : Explained) → r ≡ explain_answer i t c k links steps → r.file ≡ chain_file (atom_witness i t c k)
   unfolding explain_answer atom_found found_in

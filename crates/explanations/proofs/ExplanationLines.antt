@@ -3,13 +3,14 @@ use Prim.Native.Nat.{ℕ, ◌+◌, ◌-◌, ◌*◌, ◌≤◌, ◌<◌}
 use native.Mathlib.Omega.{arith}
 use native.Mathlib.Nat.{add-sub_cancel_left}
 use native.Mathlib.Numerals.{add-one}
-use mathlib.Core.Path.{◌≡◌, refl, sym, ap, ◌∙◌}
-use mathlib.Core.Bool.{Bool, true, false, cond}
+use mathlib.Core.Path.{◌≡◌, refl, sym, ap, ap₂, ◌∙◌}
+use mathlib.Core.Bool.{Bool, true, false, cond, ◌||◌}
 use mathlib.Core.List.{List, [], ◌∷◌, ◌++◌, append_assoc}
 use lib.Dec.{eqb}
-use lib.ListN.{length, take, drop, get_or, length-append, length-drop, drop_of_length-le}
-use lib.Seq.{take_all, take-suc, take_at, drop-cons}
-use borrow.Author.Tests.{eq-eqb, ne_eqb}
+use lib.ListN.{length, take, drop, get_or, length-append, length-drop}
+use lib.Seq.{take_all, take-suc, take_at}
+use borrow.Author.Tests.{eqb-true, eqb-false, eq-eqb, ne_eqb}
+use Rattle.std.specs.List.{list_any}
 use Rattle.lists.specs.Lists.{elem}
 use Rattle.fields.specs.Ascii.{ascii}
 use Rattle.fields.specs.Writing.{Wrote}
@@ -230,15 +231,15 @@ wrote_front {text} {before} {after} {end} h =
 
 -- ---- a number among others
 
-pub among_here : (n : ℕ) (x : List ℕ) (i : ℕ) → i < length x → elem n (drop i x) ≡ elem n x → get_or x i 0 ≡ n → true ≡ elem n x
-unfolding elem
-among_here n x i l h e = rw (drop-cons x i 0 l, e, eq-eqb n n refl) at h
+eqb_swapped : (a b : ℕ) → eqb a b ≡ eqb b a
+eqb_swapped a b = by (eqb b a) refl
+  where
+    by : (r : Bool) → eqb b a ≡ r → eqb a b ≡ r
+    by true e = eq-eqb a b (sym (eqb-true b a e))
+    by false e = ne_eqb a b (λ z. eqb-false b a e (sym z))
 
-pub among_next : (n : ℕ) (x : List ℕ) (i : ℕ) → i < length x → elem n (drop i x) ≡ elem n x → (get_or x i 0 ≡ n → ⊥) → elem n (drop (i + 1) x) ≡ elem n x
+-- the number is one of the list, as the test of each says
+pub any_elem : (n : ℕ) (x : List ℕ) → list_any (λ y. eqb y n) x ≡ elem n x
 unfolding elem
-among_next n x i l h d =
-    ap (λ (k : ℕ). elem n (drop k x)) (add-one i) ∙ (rw (drop-cons x i 0 l, ne_eqb n (get_or x i 0) (λ e. d (sym e))) at h)
-
-pub among_end : (n : ℕ) (x : List ℕ) (i : ℕ) → length x ≤ i → elem n (drop i x) ≡ elem n x → false ≡ elem n x
-unfolding elem
-among_end n x i l h = rw (drop_of_length-le x {i = i} l) at h
+any_elem n [] = refl
+any_elem n (y ∷ x) = ap₂ (λ (p q : Bool). p || q) (eqb_swapped y n) (any_elem n x)

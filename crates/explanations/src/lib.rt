@@ -22,6 +22,7 @@ const PART_LIMIT: usize = 2048;
 
 // The origins of a rule: the container's own permit rule, the rule of the user who made the file, that of an exec's user. Any other is a
 // run rule.
+// Kept: the C interface: the origin comes in as one of the numbers that `certificate::why` gives.
 const OWN_ORIGIN: u64 = 0;
 
 const MADE_ORIGIN: u64 = 1;
@@ -77,6 +78,7 @@ fn put_pair(out: &mut [u8], at: usize, m: u64, n: u64) -> usize
 }
 
 // The line of a rule up to the steps of its chain.
+// Kept: no plainer: a writer with the buffer and the place inside would need the same bound in each clause, since it says how much room is left.
 pub fn put_rule(
     out: &mut [u8],
     at: usize,
@@ -133,10 +135,8 @@ pub fn put_steps(out: &mut [u8], at: usize, numbers: &[u64]) -> usize
     ensures { Wrote (leading (step_fields numbers.now)) out.old out.new at result }
 {
     let mut next = at;
-    let mut i: usize = 0;
-    while i < numbers.len() {
-        next = put_step(out, next, numbers[i]);
-        i += 1;
+    for &n in numbers {
+        next = put_step(out, next, n);
     }
     next
 }
@@ -145,14 +145,7 @@ pub fn put_steps(out: &mut [u8], at: usize, numbers: &[u64]) -> usize
 pub fn is_among(numbers: &[u64], n: u64) -> bool
     ensures { result ≡ elem n numbers.now }
 {
-    let mut i: usize = 0;
-    while i < numbers.len() {
-        if numbers[i] == n {
-            return true;
-        }
-        i += 1;
-    }
-    false
+    numbers.contains(&n)
 }
 
 // The last line.

@@ -1,5 +1,5 @@
 -- Fields: read byte by byte, in a record, one behind the other.
-use Prim.Native.Nat.{ℕ, zero, suc, ◌+◌, ◌-◌, ◌*◌, ◌^◌, ◌≤◌, ◌<◌}
+use Prim.Native.Nat.{ℕ, zero, suc, ◌+◌, ◌*◌, ◌^◌, ◌≤◌, ◌<◌}
 use mathlib.Core.Path.{◌≡◌, refl, sym, ap, ◌∙◌}
 use mathlib.Core.List.{List, [], ◌∷◌, ◌++◌}
 use native.Mathlib.Omega.{arith}
@@ -46,3 +46,26 @@ unfolding field
 field_split s at a b h =
     let l : length (take a (drop at s)) ≡ a = length-take-le a (drop at s) (omega (arith, length-drop at s)) in
     sym (ap number_in (take-add a b (drop at s)) ∙ number_append (take a (drop at s)) (take b (drop a (drop at s))) ∙ rw (l, drop-drop))
+
+-- ---- the bytes of wider fields
+
+pub field_four : (s : List ℕ) (at : ℕ) → at + 4 ≤ length s
+    → get_or s at 0 + 256 * get_or s (at + 1) 0 + 65536 * get_or s (at + 2) 0 + 16777216 * get_or s (at + 3) 0 ≡ field s at 4
+field_four s at h =
+    let high : get_or s (at + 2) 0 + 256 * get_or s (at + 3) 0 ≡ field s (at + 2) 2 = rw (← add-three at) (field_two s (at + 2) (omega arith)) in
+    omega (arith, field_split s at 2 2 (omega arith), field_two s at (omega arith), high)
+  where
+    add-three : (n : ℕ) → n + 2 + 1 ≡ n + 3
+    add-three n = omega arith
+
+pub field_eight : (s : List ℕ) (at : ℕ) → at + 8 ≤ length s
+    → get_or s at 0 + 256 * get_or s (at + 1) 0 + 65536 * get_or s (at + 2) 0 + 16777216 * get_or s (at + 3) 0
+    + 4294967296 * get_or s (at + 4) 0 + 1099511627776 * get_or s (at + 5) 0 + 281474976710656 * get_or s (at + 6) 0
+    + 72057594037927936 * get_or s (at + 7) 0 ≡ field s at 8
+field_eight s at h =
+    let high : get_or s (at + 4) 0 + 256 * get_or s (at + 5) 0 + 65536 * get_or s (at + 6) 0 + 16777216 * get_or s (at + 7) 0 ≡ field s (at + 4) 4 =
+    rw (← behind at 1, ← behind at 2, ← behind at 3) (field_four s (at + 4) (omega arith)) in
+    omega (arith, field_split s at 4 4 (omega arith), field_four s at (omega arith), high)
+  where
+    behind : (n k : ℕ) → n + 4 + k ≡ n + (4 + k)
+    behind n k = omega arith

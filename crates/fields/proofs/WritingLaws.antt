@@ -1,14 +1,15 @@
--- Bytes written into a buffer: no byte, one, a copy, one part behind the other, a number by its halves.
-use Prim.Native.Nat.{ℕ, suc, ◌+◌, ◌/◌, ◌^◌, ◌≤◌, ◌<◌}
+-- Bytes written into a buffer: no byte, one, a copy, one part behind the other, a number by its width.
+use Prim.Native.Nat.{ℕ, suc, ◌+◌, ◌≤◌, ◌<◌}
 use native.Mathlib.Nat.{add_assoc}
 use native.Mathlib.Omega.{arith}
 use mathlib.Core.Path.{◌≡◌, refl, sym, ap, ap₂, ◌∙◌, subst}
 use mathlib.Core.List.{List, [], ◌∷◌, ◌++◌, append_assoc}
 use lib.ListN.{length, take, drop, set, length-append, length-drop}
 use lib.Seq.{length-take-le, take_at, drop-append-add, drop-drop, take-set-le, drop-set-lt, drop-cons, get_or-set_same, lt-length-set, paste, paste-zero, take_all, sets-eq}
+use borrow.Rule.Slice.PartMut.{put_mid}
 use Rattle.fields.specs.Bytes.{bytes_of}
 use Rattle.fields.specs.Writing.{overwritten, Wrote}
-use Rattle.fields.proofs.ByteLaws.{bytes_length, bytes_split}
+use Rattle.fields.proofs.ByteLaws.{bytes_length}
 
 -- ---- the buffer with bytes at a place
 
@@ -75,6 +76,17 @@ wrote_paste x b a at i e p =
       ends = refl;
     }
 
+-- a copy over a part that was lent of the buffer
+pub wrote_part : (x b : List ℕ) (at k n : ℕ) → k ≡ length x → n ≡ at + length x → Wrote x b (put_mid at k b x) at n
+unfolding overwritten
+wrote_part x b at k n e f =
+    record {
+      buffer =
+          ap (λ (t : List ℕ). take at b ++ (x ++ t)) (ap (λ (n : ℕ). drop n (drop at b)) e ∙ drop-drop (length x) at b)
+          ∙ sym (append_assoc (take at b) x (drop (at + length x) b));
+      ends = f;
+    }
+
 -- two parts, one behind the other
 pub wrote_join : {x y b m a : List ℕ} {at n k : ℕ} → at ≤ length b → Wrote x b m at n → Wrote y m a n k → Wrote (x ++ y) b a at k
 wrote_join {x} {y} {b} {m} {a} {at} {n} {k} h p q =
@@ -95,8 +107,3 @@ wrote_length {x} {b} {a} {at} {n} h p = ap length p.buffer ∙ overwritten_lengt
 -- the place behind a number of w bytes
 pub wrote_ends : (w v : ℕ) {b a : List ℕ} {at n : ℕ} → Wrote (bytes_of w v) b a at n → n ≡ at + w
 wrote_ends w v {b} {a} {at} {n} p = p.ends ∙ ap (λ (k : ℕ). at + k) (bytes_length w v)
-
--- a number by its halves, the low one first
-pub wrote_halves : (w v : ℕ) {b m a : List ℕ} {at n k : ℕ} → at ≤ length b → Wrote (bytes_of w v) b m at n → Wrote (bytes_of w (v / 256 ^ w)) m a n k
-    → Wrote (bytes_of (w + w) v) b a at k
-wrote_halves w v h p q = wrote_as (sym (bytes_split w w v)) (wrote_join h p q)

@@ -16,30 +16,48 @@ pub fn read16(s: &[u8], at: usize) -> usize
     requires { at + 2 ≤ length s.now }
     ensures { (result ≡ field s.now at 2) × (result < 2 ^ 16) }
 {
-    (s[at] as usize) + 256 * (s[at + 1] as usize)
+    u16::from_le_bytes([s[at], s[at + 1]]) as usize
 }
 
 pub fn read32(s: &[u8], at: usize) -> usize
     requires { at + 4 ≤ length s.now }
     ensures { (result ≡ field s.now at 4) × (result < 2 ^ 32) }
 {
-    read16(s, at) + 65536 * read16(s, at + 2)
+    u32::from_le_bytes([s[at], s[at + 1], s[at + 2], s[at + 3]]) as usize
 }
 
 pub fn read64(s: &[u8], at: usize) -> u64
     requires { at + 8 ≤ length s.now }
     ensures { result ≡ field s.now at 8 }
 {
-    (read32(s, at) + 4294967296 * read32(s, at + 4)) as u64
+    u64::from_le_bytes([
+        s[at],
+        s[at + 1],
+        s[at + 2],
+        s[at + 3],
+        s[at + 4],
+        s[at + 5],
+        s[at + 6],
+        s[at + 7],
+    ])
 }
 
-// The lowest byte of a number at a place of a lent buffer, and the place behind it.
+// The lowest bytes of a number at a place of a lent buffer, and the place behind them.
+fn put<const WIDTH: usize>(out: &mut [u8], at: usize, v: u64) -> usize
+    requires { (WIDTH ≤ 8) × (at + WIDTH ≤ length out.old) }
+    ensures { Wrote (bytes_of WIDTH v) out.old out.new at result }
+{
+    let next = at + WIDTH;
+    out[at..next].copy_from_slice(&v.to_le_bytes()[..WIDTH]);
+    next
+}
+
+// The lowest byte.
 pub fn put8(out: &mut [u8], at: usize, v: usize) -> usize
     requires { at + 1 ≤ length out.old }
     ensures { Wrote (bytes_of 1 v) out.old out.new at result }
 {
-    out[at] = (v % 256) as u8;
-    at + 1
+    put::<1>(out, at, v as u64)
 }
 
 // The two lowest bytes.
@@ -47,8 +65,7 @@ pub fn put16(out: &mut [u8], at: usize, v: usize) -> usize
     requires { at + 2 ≤ length out.old }
     ensures { Wrote (bytes_of 2 v) out.old out.new at result }
 {
-    let next = put8(out, at, v);
-    put8(out, next, v / 256)
+    put::<2>(out, at, v as u64)
 }
 
 // The four lowest bytes.
@@ -56,8 +73,7 @@ pub fn put32(out: &mut [u8], at: usize, v: usize) -> usize
     requires { at + 4 ≤ length out.old }
     ensures { Wrote (bytes_of 4 v) out.old out.new at result }
 {
-    let next = put16(out, at, v);
-    put16(out, next, v / 65536)
+    put::<4>(out, at, v as u64)
 }
 
 // The eight bytes of a number of 64 bits.
@@ -65,6 +81,5 @@ pub fn put64(out: &mut [u8], at: usize, v: u64) -> usize
     requires { at + 8 ≤ length out.old }
     ensures { Wrote (bytes_of 8 v) out.old out.new at result }
 {
-    let next = put32(out, at, v as usize);
-    put32(out, next, (v / 4294967296) as usize)
+    put::<8>(out, at, v)
 }

@@ -1,58 +1,61 @@
 -- A part of a trace counted record by record: what is counted, and what is left of the part, is the whole of it. Numbers changed one
 -- after the other.
-use Rattle.std.proofs.Common.{◌≡◌, ℕ, ◌+◌, ◌<◌, ◌≤◌, Bool, true, false, cond, List, length, get_or, take, drop, set, sym, refl, ap, ◌∙◌, subst, arith, length-set, get_or-set_other, get_or-set_same}
+use Rattle.std.proofs.Common.{◌≡◌, ℕ, ◌+◌, ◌<◌, ◌≤◌, min, Bool, true, false, cond, List, ◌∷◌, ◌++◌, [], length, get_or, take, drop, set, sym, refl, ap, ap₂, ◌∙◌, subst, arith, zero-add}
+use Rattle.std.proofs.Common.{length-set, get_or-set_other, get_or-set_same}
 use native.Mathlib.Decide.{ℕ_discrete}
 use lib.Seq.{set-get_or}
 use Rattle.answers.specs.declared.Answer.{Answer}
 use Rattle.records.specs.Records.{record_length}
 use Rattle.records.specs.Traces.{trace_records}
-use Rattle.records.proofs.TraceRecords.{next_record, no_record, record_length_lem}
+use Rattle.records.proofs.TraceRecords.{next_record, no_record}
 use Rattle.monitor.specs.Steps.{step_answer, step_effect}
 use Rattle.monitor.specs.Runs.{step_on, run_answers, run_effect}
 use Rattle.monitor.specs.PartSessions.{part_session}
+use Rattle.listing.proofs.Pieces.{piece_front, piece_behind}
 use Rattle.figures.specs.Figures.{count_limit, test_at}
 use Rattle.figures.specs.Counters.{Counters, values_below, one_more, one_added, counted, counted_all, part_counters}
 use Rattle.figures.proofs.CounterLaws.{values_list}
 
 -- ---- the loop over the records of a part
 
--- of the part, the records before `at` are counted
-pub record Counting (part : List ℕ) (k₀ : Counters) (s₀ s : List ℕ) (k : Counters) (at : ℕ) : Type 0 where
-  pub within : at ≤ length part
+-- the next piece of a trace is its next record, and the pieces behind it are the others
+pieces_next : (r x q : List ℕ) → r ≡ x ++ q → length x ≡ min record_length (length r) → 0 < length r → trace_records r ≡ x ∷ trace_records q
+pieces_next r x q e l h =
+    next_record r 0 h
+    ∙ ap₂ (λ (y z : List ℕ). y ∷ trace_records z) (piece_front record_length r x q e l)
+    (ap (λ (n : ℕ). drop n r) (zero-add (length (take record_length r))) ∙ piece_behind record_length r x q e l)
+
+-- of the part, the records before `rest` are counted
+pub record Counting (part : List ℕ) (k₀ : Counters) (s₀ s : List ℕ) (k : Counters) (rest : List ℕ) : Type 0 where
   pub session : length s ≡ length s₀
   pub alerted : length k.alerted ≡ length k₀.alerted
-  pub counts : counted_all k (run_answers s (trace_records (drop at part))) ≡ part_counters k₀ s₀ part
-  pub leaves : run_effect s (trace_records (drop at part)) ≡ part_session s₀ part
+  pub counts : counted_all k (run_answers s (trace_records rest)) ≡ part_counters k₀ s₀ part
+  pub leaves : run_effect s (trace_records rest) ≡ part_session s₀ part
 
-pub counting_start : (part : List ℕ) (k : Counters) (s : List ℕ) → Counting part k s s k 0
+pub counting_start : (part : List ℕ) (k : Counters) (s rest : List ℕ) → rest ≡ part → Counting part k s s k rest
 unfolding part_counters part_session
-counting_start part k s = record { within = omega arith; session = refl; alerted = refl; counts = refl; leaves = refl }
+counting_start part k s rest e = record { session = refl; alerted = refl; counts = rw e; leaves = rw e }
 
-module _ (part : List ℕ) (k₀ : Counters) (s₀ s : List ℕ) (k : Counters) (at : ℕ) (h : Counting part k₀ s₀ s k at) (l : at < length part)
-    (x s' : List ℕ) (a : Answer) (k' : Counters) (xe : x ≡ take record_length (drop at part)) (ae : a ≡ step_answer s x) (se : s' ≡ step_effect s x)
+module _ (part : List ℕ) (k₀ : Counters) (s₀ s : List ℕ) (k : Counters) (rest : List ℕ) (h : Counting part k₀ s₀ s k rest) (l : 0 < length rest)
+    (x q s' : List ℕ) (a : Answer) (k' : Counters) (re : rest ≡ x ++ q) (xe : length x ≡ min record_length (length rest)) (ae : a ≡ step_answer s x) (se : s' ≡ step_effect s x)
     (ke : k' ≡ counted k a) where
-  next_counts : counted_all k' (run_answers s' (trace_records (drop (at + length x) part))) ≡ part_counters k₀ s₀ part
+  next_counts : counted_all k' (run_answers s' (trace_records q)) ≡ part_counters k₀ s₀ part
   unfolding counted_all run_answers step_on
-  next_counts = rw (ke, ae, se, xe) (rw (next_record part at l) at h.counts)
+  next_counts = rw (ke, ae, se) (rw (pieces_next rest x q re xe l) at h.counts)
 
-  next_leaves : run_effect s' (trace_records (drop (at + length x) part)) ≡ part_session s₀ part
+  next_leaves : run_effect s' (trace_records q) ≡ part_session s₀ part
   unfolding run_effect step_on
-  next_leaves = rw (se, xe) (rw (next_record part at l) at h.leaves)
+  next_leaves = rw se (rw (pieces_next rest x q re xe l) at h.leaves)
 
-  pub counting_next : length s' ≡ length s → length k'.alerted ≡ length k.alerted → Counting part k₀ s₀ s' k' (at + length x)
-  counting_next e p =
-      record {
-        within = (record_length_lem part x at l xe).1;
-        session = e ∙ h.session;
-        alerted = p ∙ h.alerted;
-        counts = next_counts;
-        leaves = next_leaves;
-      }
+  pub counting_next : length s' ≡ length s → length k'.alerted ≡ length k.alerted → Counting part k₀ s₀ s' k' q
+  counting_next e p = record { session = e ∙ h.session; alerted = p ∙ h.alerted; counts = next_counts; leaves = next_leaves }
 
-pub counting_end : (part : List ℕ) (k₀ : Counters) (s₀ s : List ℕ) (k : Counters) (at : ℕ) → Counting part k₀ s₀ s k at → length part ≤ at
+pub counting_end : (part : List ℕ) (k₀ : Counters) (s₀ s : List ℕ) (k : Counters) (rest : List ℕ) → Counting part k₀ s₀ s k rest → length rest ≡ 0
     → (k ≡ part_counters k₀ s₀ part) × (s ≡ part_session s₀ part)
 unfolding counted_all run_answers run_effect
-counting_end part k₀ s₀ s k at h l = (rw (no_record part at l) at h.counts, rw (no_record part at l) at h.leaves)
+counting_end part k₀ s₀ s k rest h l =
+    let none : trace_records rest ≡ [] = no_record rest 0 (omega (arith, l)) in
+    (rw none at h.counts, rw none at h.leaves)
 
 -- ---- the loop over numbers
 

@@ -14,10 +14,10 @@ ghost use Rattle.figures.specs.Lines.{name_of, rate_fields, container_fields, tr
 ghost use Rattle.figures.specs.Counters.{counters, values_below, one_added, counts_with, alerted_with, counted, figures_in, total_with, part_counters};
 ghost use Rattle.figures.specs.Buffer.{counts_text, alerted_text, figures_text, counts_limit, alerted_limit, figures_limit};
 
-use answers::Answer;
+use answers::{Answer, Refusal};
 use image::CONTAINER_LIMIT;
 use listing::{BUFFER_SIZE, NEWLINE};
-use std::num::{wrapping_add_u32, wrapping_add_u64};
+use records::RECORD_LENGTH;
 
 // The records of a trace at most.
 const RECORD_LIMIT: u64 = 1000000;
@@ -59,7 +59,7 @@ fn add_one(numbers: &mut [u32], k: usize)
     ensures { numbers.new ≡ one_added numbers.old k }
 {
     if k < numbers.len() {
-        numbers[k] = wrapping_add_u32(numbers[k], 1);
+        numbers[k] = numbers[k].wrapping_add(1);
     }
 }
 
@@ -77,10 +77,8 @@ fn add_counts(counts: &mut [u32], answer: Answer)
     requires { length counts.old ≡ count_limit }
     ensures { counts.new ≡ counts_with counts.old answer }
 {
-    let mut test: usize = 0;
-    while test < COUNT_LIMIT {
+    for test in 0..COUNT_LIMIT {
         add_count(counts, test, answer);
-        test += 1;
     }
 }
 
@@ -124,12 +122,9 @@ pub fn add_part(
         × (session.new ≡ part_session session.old part.now) }
 {
     let mut records = begun;
-    let mut at: usize = 0;
-    while at < part.len() {
-        let bytes = records::record_at(part, at);
+    for bytes in part.chunks(RECORD_LENGTH) {
         let answer = monitor::step(session, bytes);
         records = add_answer(counts, alerted, records, answer);
-        at += bytes.len();
     }
     records
 }
@@ -146,10 +141,8 @@ fn add_numbers(total: &mut [u32], numbers: &[u32])
     requires { length total.old ≡ length numbers.now }
     ensures { total.new ≡ values_below (λ k. (slice_index total.old k + slice_index numbers.now k) % 2 ^ 32) (length numbers.now) }
 {
-    let mut k: usize = 0;
-    while k < numbers.len() {
-        total[k] = wrapping_add_u32(total[k], numbers[k]);
-        k += 1;
+    for (k, &n) in numbers.iter().enumerate() {
+        total[k] = total[k].wrapping_add(n);
     }
 }
 
@@ -170,7 +163,7 @@ pub fn add_total(
     }
     add_numbers(totals, counts);
     add_numbers(sums, alerted);
-    wrapping_add_u64(total, records)
+    total.wrapping_add(records)
 }
 
 // ---- the lines
@@ -198,10 +191,8 @@ fn put_counts(out: &mut [u8], at: usize, counts: &[u32; COUNT_LIMIT]) -> usize
     ensures { Wrote (counts_text counts.now) out.old out.new at result }
 {
     let mut next = at;
-    let mut k: usize = 0;
-    while k < COUNT_LIMIT {
-        next = put_count(out, next, counts[k]);
-        k += 1;
+    for &n in counts {
+        next = put_count(out, next, n);
     }
     next
 }
@@ -238,10 +229,8 @@ fn put_alerted(out: &mut [u8], at: usize, alerted: &[u32; CONTAINER_LIMIT]) -> u
     ensures { Wrote (alerted_text alerted.now) out.old out.new at result }
 {
     let mut next = at;
-    let mut c: usize = 0;
-    while c < CONTAINER_LIMIT {
-        next = put_container_alerts(out, next, c, alerted[c]);
-        c += 1;
+    for (c, &alerts) in alerted.iter().enumerate() {
+        next = put_container_alerts(out, next, c, alerts);
     }
     next
 }
@@ -268,7 +257,7 @@ fn put_too_long(out: &mut [u8], at: usize) -> usize
     requires { at + figures_limit ≤ length out.old }
     ensures { Wrote (leading (decimal trace_length ∷ []) ++ (newline ∷ [])) out.old out.new at result }
 {
-    let end = listing::put_field(out, at, answers::TRACE_LENGTH as u64);
+    let end = listing::put_field(out, at, Refusal::TraceLength as u64);
     out[end] = NEWLINE;
     end + 1
 }

@@ -2,13 +2,11 @@
 -- what one call did, in one place (`write_some`, `read_some`, `open`; `tell` for standard error), and everything above is proved from the
 -- laws below. The fields are private: a program's proof can neither make one of these up nor take one apart, it can only put them
 -- one behind the other.
-use Rattle.std.specs.Prelude.{◌≡◌, ℕ, ◌+◌, ◌%◌, ◌^◌, ◌<◌, ◌≤◌, Bool, true, false, ◌⊎◌, List, [], ◌++◌, length, take, ℤ}
+use Rattle.std.specs.Prelude.{◌≡◌, ℕ, ◌+◌, ◌%◌, ◌^◌, ◌<◌, ◌≤◌, Option, Some, None, Result, Ok, Err, true, false, ◌⊎◌, List, [], ◌++◌, length, take, ℤ}
 use Rattle.std.proofs.Common.{arith, subst, length-append, length-take}
 use Rattle.std.specs.Fd.{file_raw_fd}
-use Rattle.files.specs.declared.Move.{Move}
-use Rattle.files.specs.declared.Move.TheVariants.{Moved, Again, Failed}
-use Rattle.files.specs.declared.Opened.{Opened}
-use Rattle.files.specs.declared.Opened.TheVariants as opened
+use Rattle.std.specs.declared.fs.File.{File}
+use Rattle.files.specs.declared.Failure.{Failure}
 use Rattle.files.specs.declared.Part.{Part}
 
 -- ---- standard error
@@ -21,10 +19,10 @@ pub record Told : Type 0 where
 pub told_by_system : Told
 told_by_system = record { told = tt }
 
--- all went well and this is so, or not and the failure was told
-pub record DoneOrTold (good : Bool) (Done : Type 0) : Type 0 where
-  pub done : good ≡ true → Done
-  pub told : good ≡ false → Told
+-- all went well and this is so of what is answered, or not and the failure was told
+abbrev pub DoneOrTold : {A : Type 0} → Result A Failure → (A → Type 0) → Type 0
+DoneOrTold (Ok a) Done = Done a
+DoneOrTold (Err e) Done = Told
 
 -- ---- standard output
 
@@ -103,31 +101,29 @@ FileIs name bytes = WholeFile name bytes ⊎ (Absent name × (bytes ≡ []))
 -- ---- what the functions of this crate answer
 
 -- a write of these bytes
-abbrev pub WroteSome : Move → List ℕ → ℕ → ℕ → Type 0
-WroteSome (Moved n) bytes before after = (n ≤ length bytes) × Handed (take n bytes) before after
-WroteSome Again bytes before after = after ≡ before
-WroteSome Failed bytes before after = Told
+abbrev pub WroteSome : Result (Option ℕ) Failure → List ℕ → ℕ → ℕ → Type 0
+WroteSome (Ok (Some n)) bytes before after = (n ≤ length bytes) × Handed (take n bytes) before after
+WroteSome (Ok None) bytes before after = after ≡ before
+WroteSome (Err e) bytes before after = Told
 
 -- a read, which left this in the buffer: none where there was room is the end of the file
-abbrev pub ReadSome : Move → List ℕ → List ℕ → ℕ → ℕ → Type 0
-ReadSome (Moved n) name buffer before after = (n ≤ length buffer) × Taken name (take n buffer) before after × (n ≡ 0 → 0 < length buffer → EndsAt name after)
-ReadSome Again name buffer before after = after ≡ before
-ReadSome Failed name buffer before after = Told
+abbrev pub ReadSome : Result (Option ℕ) Failure → List ℕ → List ℕ → ℕ → ℕ → Type 0
+ReadSome (Ok (Some n)) name buffer before after = (n ≤ length buffer) × Taken name (take n buffer) before after × (n ≡ 0 → 0 < length buffer → EndsAt name after)
+ReadSome (Ok None) name buffer before after = after ≡ before
+ReadSome (Err e) name buffer before after = Told
 
 -- a file asked for by name
-abbrev pub OpenedFile : Opened → List ℕ → Type 0
-OpenedFile (opened.File file) name = OpenedAs name (file_raw_fd file)
-OpenedFile opened.Missing name = Absent name
-OpenedFile opened.Failed name = Told
+abbrev pub OpenedFile : Result (Option File) Failure → List ℕ → Type 0
+OpenedFile (Ok (Some file)) name = OpenedAs name (file_raw_fd file)
+OpenedFile (Ok None) name = Absent name
+OpenedFile (Err e) name = Told
 
 -- a part of a file at the front of the buffer: all of the buffer unless it is the last
 pub record PartRead (name : List ℕ) (r : Part) (buffer : List ℕ) (before after : ℕ) : Type 0 where
   pub within : r.size ≤ length buffer
   pub full : r.last ≡ false → r.size ≡ length buffer
-  pub going : r.last ≡ false → r.good ≡ true
-  pub taken : r.good ≡ true → Taken name (take r.size buffer) before after
-  pub ends : r.good ≡ true → r.last ≡ true → EndsAt name after
-  pub told : r.good ≡ false → Told
+  pub taken : Taken name (take r.size buffer) before after
+  pub ends : r.last ≡ true → EndsAt name after
 
 -- a file in a buffer with this much room: all of it, or so many of its first bytes as there is room for
 abbrev pub FileLoaded : List ℕ → List ℕ → ℕ → Type 0

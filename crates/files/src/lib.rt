@@ -4,7 +4,7 @@
 // that no call is forgotten. The runtime is the system's own and no stand-in, since only of the system is that believed.
 #![tactic(auto)]
 
-ghost use Rattle.std.specs.Prelude.{◌≡◌, ◌≤◌, true, false, length, take};
+ghost use Rattle.std.specs.Prelude.{◌≤◌, ⊤, length, take};
 ghost use Rattle.std.specs.Fd.{file_raw_fd};
 ghost use Rattle.files.specs.Calls.{Told, DoneOrTold, Handed, OpenedAs, WroteSome, ReadSome, OpenedFile, PartRead, FileLoaded};
 
@@ -25,13 +25,9 @@ const PAUSE_MILLIS: u64 = 1;
 // The system's error for bytes that are no text: std opens no file of such a name.
 const NO_TEXT: i32 = 84;
 
-// How a call that moves bytes went: so many were moved, none yet and it is to be tried again, or it failed.
-#[derive(Clone, Copy)]
-pub enum Move {
-    Moved(usize),
-    Again,
-    Failed,
-}
+// What failed outside: it was told on standard error.
+#[derive(Clone, Copy, Debug, PartialEq, Eq)]
+pub struct Failure;
 
 // ---- standard error
 
@@ -82,6 +78,7 @@ fn put_error(error: &Error, text: &mut [u8; TEXT_SIZE]) -> usize
 fn tell_error(rt: &HostRuntime, name: &[u8], error: &Error)
     ensures { Told }
 {
+    // Kept: a rule of the project: no heap, so the array has room for the most that there can be.
     let mut text = [0u8; TEXT_SIZE];
     let size = put_error(error, &mut text);
     tell(rt, name);
@@ -90,77 +87,67 @@ fn tell_error(rt: &HostRuntime, name: &[u8], error: &Error)
     tell(rt, b"\n");
 }
 
-// Whether a call on this file that failed is to be tried again: a signal came, or it would wait, and then other processes run
+// A call on this file that failed is to be tried again where a signal came, or where it would wait, and then other processes run
 // first. Any other failure is told.
-fn passing(rt: &HostRuntime, name: &[u8], error: &Error) -> bool
-    ensures { result ≡ false → Told }
+fn passing(rt: &HostRuntime, name: &[u8], error: &Error) -> Result<(), Failure>
+    ensures { DoneOrTold result (λ _. ⊤) }
 {
     match error.kind() {
-        ErrorKind::Interrupted => true,
+        ErrorKind::Interrupted => Ok(()),
         ErrorKind::WouldBlock => {
             thread::sleep(rt, Duration::from_millis(PAUSE_MILLIS));
-            true
+            Ok(())
         }
         _ => {
             tell_error(rt, name, error);
-            false
+            Err(Failure)
         }
     }
 }
 
 // ---- standard output
 
-// One write of the bytes. A write that takes nothing has failed.
-fn write_some(rt: &HostRuntime, bytes: &[u8], sent: &mut u64) -> Move
+// One write of the bytes: how many were taken, or none yet and it is to be tried again. A write that takes nothing has failed.
+fn write_some(rt: &HostRuntime, bytes: &[u8], sent: &mut u64) -> Result<Option<usize>, Failure>
     ensures { WroteSome result bytes.now sent.old sent.new }
 {
     match rt.stdout().write_some(bytes) {
+        Ok(0) => {
+            tell(rt, b"standard output: nothing was taken\n");
+            Err(Failure)
+        }
         Ok(n) => {
-            if n == 0 {
-                tell(rt, b"standard output: nothing was taken\n");
-                return Move::Failed;
-            }
             *sent = sent.wrapping_add(n as u64);
-            Move::Moved(n)
+            Ok(Some(n))
         }
         Err(error) => {
-            if passing(rt, b"standard output", &error) {
-                return Move::Again;
-            }
-            Move::Failed
+            passing(rt, b"standard output", &error)?;
+            Ok(None)
         }
     }
 }
 
-// All of the bytes on standard output: true, or the failure was told. Nothing says how often a write must be tried again, so the
-// turns are counted down, from more than any run has.
-pub fn write_whole(rt: &HostRuntime, bytes: &[u8], sent: &mut u64) -> bool
-    ensures { DoneOrTold result (Handed bytes.now sent.old sent.new) }
+// All of the bytes on standard output, unless a failure was told. Nothing says how often a write must be tried again, so the turns are
+// counted, to more than any run has.
+pub fn write_whole(rt: &HostRuntime, bytes: &[u8], sent: &mut u64) -> Result<(), Failure>
+    ensures { DoneOrTold result (λ _. Handed bytes.now sent.old sent.new) }
 {
     let mut done: usize = 0;
-    let mut turns = u64::MAX;
-    while turns > 0 {
+    for _ in 0..u64::MAX {
         if done == bytes.len() {
-            return true;
+            return Ok(());
         }
-        turns -= 1;
-        match write_some(rt, &bytes[done..], sent) {
-            Move::Moved(n) => {
-                done += n;
-            }
-            Move::Again => {}
-            Move::Failed => {
-                return false;
-            }
+        if let Some(n) = write_some(rt, &bytes[done..], sent)? {
+            done += n;
         }
     }
     tell_output_spent(rt);
-    false
+    Err(Failure)
 }
 
-// The first bytes of a buffer, all of it where `end` lies behind it: true, or the failure was told.
-pub fn write_front(rt: &HostRuntime, out: &[u8], end: usize, sent: &mut u64) -> bool
-    ensures { DoneOrTold result (Handed (take end out.now) sent.old sent.new) }
+// The first bytes of a buffer, all of it where `end` lies behind it, unless a failure was told.
+pub fn write_front(rt: &HostRuntime, out: &[u8], end: usize, sent: &mut u64) -> Result<(), Failure>
+    ensures { DoneOrTold result (λ _. Handed (take end out.now) sent.old sent.new) }
 {
     if end < out.len() {
         return write_whole(rt, &out[..end], sent);
@@ -170,39 +157,32 @@ pub fn write_front(rt: &HostRuntime, out: &[u8], end: usize, sent: &mut u64) -> 
 
 // ---- files
 
-// A file that was asked for by name.
-#[derive(Drop)]
-pub enum Opened {
-    File(File),
-    Missing,
-    Failed,
-}
-
-// The file opened for reading. Only a missing one is missing: any other failure is told.
-pub fn open(rt: &HostRuntime, name: &[u8]) -> Opened
+// The file of this name opened for reading, none where it is missing: any other failure is told.
+pub fn open(rt: &HostRuntime, name: &[u8]) -> Result<Option<File>, Failure>
     ensures { OpenedFile result name.now }
 {
-    let path = match str::from_utf8(name) {
-        Ok(path) => path,
-        Err(_) => {
-            tell_error(rt, name, &Error::from_raw_os_error(NO_TEXT));
-            return Opened::Failed;
-        }
+    let Ok(path) = str::from_utf8(name) else {
+        tell_error(rt, name, &Error::from_raw_os_error(NO_TEXT));
+        return Err(Failure);
     };
     match fs::open(rt, path) {
-        Ok(file) => Opened::File(file),
+        Ok(file) => Ok(Some(file)),
+        Err(error) if error.kind() == ErrorKind::NotFound => Ok(None),
         Err(error) => {
-            if error.kind() == ErrorKind::NotFound {
-                return Opened::Missing;
-            }
             tell_error(rt, name, &error);
-            Opened::Failed
+            Err(Failure)
         }
     }
 }
 
-// One read into the buffer.
-fn read_some(rt: &HostRuntime, file: &File, name: &[u8], buf: &mut [u8], place: &mut u64) -> Move
+// One read into the buffer: how many bytes were read, or none yet and it is to be tried again.
+fn read_some(
+    rt: &HostRuntime,
+    file: &File,
+    name: &[u8],
+    buf: &mut [u8],
+    place: &mut u64,
+) -> Result<Option<usize>, Failure>
     requires { OpenedAs name.now (file_raw_fd file.now) }
     ensures { ReadSome result name.now buf.new place.old place.new }
 {
@@ -210,92 +190,57 @@ fn read_some(rt: &HostRuntime, file: &File, name: &[u8], buf: &mut [u8], place: 
     match reader.read(buf) {
         Ok(n) => {
             *place = place.wrapping_add(n as u64);
-            Move::Moved(n)
+            Ok(Some(n))
         }
         Err(error) => {
-            if passing(rt, name, &error) {
-                return Move::Again;
-            }
-            Move::Failed
+            passing(rt, name, &error)?;
+            Ok(None)
         }
     }
 }
 
-// What was read: whether all went well, how many bytes stand at the front of the buffer, and whether they are the last.
+// What was read: how many bytes stand at the front of the buffer, and whether they are the last.
 #[derive(Clone, Copy)]
 pub struct Part {
-    pub good: bool,
     pub size: usize,
     pub last: bool,
 }
 
-// Nothing, since a file could not be read.
-fn unread() -> Part
-    ensures { (result.good ≡ false) × (result.size ≡ 0) × (result.last ≡ true) }
-{
-    Part {
-        good: false,
-        size: 0,
-        last: true,
-    }
-}
-
 // The next bytes of a file, until the buffer is full or the file ends. A failure is told under the file's name. The turns are
-// counted down as in a write.
+// counted as in a write.
 pub fn read_part(
     rt: &HostRuntime,
     file: &File,
     name: &[u8],
     buf: &mut [u8],
     place: &mut u64,
-) -> Part
+) -> Result<Part, Failure>
     requires { OpenedAs name.now (file_raw_fd file.now) }
-    ensures { PartRead name.now result buf.new place.old place.new }
+    ensures { DoneOrTold result (λ part. PartRead name.now part buf.new place.old place.new) }
 {
-    let mut done: usize = 0;
-    let mut turns = u64::MAX;
-    while turns > 0 {
-        if done == buf.len() {
-            return Part {
-                good: true,
-                size: done,
-                last: false,
-            };
+    let mut size: usize = 0;
+    for _ in 0..u64::MAX {
+        if size == buf.len() {
+            return Ok(Part { size, last: false });
         }
-        turns -= 1;
-        match read_some(rt, file, name, &mut buf[done..], place) {
-            Move::Moved(n) => {
-                if n == 0 {
-                    return Part {
-                        good: true,
-                        size: done,
-                        last: true,
-                    };
-                }
-                done += n;
-            }
-            Move::Again => {}
-            Move::Failed => {
-                return unread();
-            }
+        match read_some(rt, file, name, &mut buf[size..], place)? {
+            Some(0) => return Ok(Part { size, last: true }),
+            Some(n) => size += n,
+            None => {}
         }
     }
     tell_spent(rt, name);
-    unread()
+    Err(Failure)
 }
 
-// The first bytes of a file, as many as the buffer holds: none where it is missing.
-pub fn load(rt: &HostRuntime, name: &[u8], buf: &mut [u8]) -> Part
-    ensures { (result.size ≤ length buf.new) × DoneOrTold result.good (FileLoaded name.now (take result.size buf.new) (length buf.new)) }
+// The first bytes of a file, as many as the buffer holds, and none where it is missing: how many they are.
+pub fn load(rt: &HostRuntime, name: &[u8], buf: &mut [u8]) -> Result<usize, Failure>
+    ensures { DoneOrTold result (λ size. (size ≤ length buf.new) × FileLoaded name.now (take size buf.new) (length buf.new)) }
 {
     let mut place: u64 = 0;
-    match open(rt, name) {
-        Opened::File(file) => read_part(rt, &file, name, buf, &mut place),
-        Opened::Missing => Part {
-            good: true,
-            size: 0,
-            last: true,
-        },
-        Opened::Failed => unread(),
-    }
+    let Some(file) = open(rt, name)? else {
+        return Ok(0);
+    };
+    let part = read_part(rt, &file, name, buf, &mut place)?;
+    Ok(part.size)
 }

@@ -17,12 +17,13 @@ use Rattle.matrix.proofs.RowBits.{one_bit, has_single, bits_has}
 use Rattle.game.specs.declared.Position.{Position}
 use Rattle.game.specs.declared.Move.{Move}
 use Rattle.game.specs.declared.Move.TheVariants.{Read, Append, Pass}
-use Rattle.game.specs.declared.Outcome.{Outcome}
-use Rattle.game.specs.declared.Outcome.TheVariants.{Malformed, OutOfBounds, Guard, Desk}
+use Rattle.std.proofs.Common.{Option, None, Some, Result, Ok, Err, inl, inr}
+use Rattle.answers.specs.declared.Refusal.{Refusal}
+use Rattle.answers.specs.declared.Refusal.TheVariants as V
 use Rattle.game.specs.declared.OutcomeValues.{OutcomeValues}
 use Rattle.game.specs.Limits.{side_limit, right_count, move_count, round_limit, withdrawal_limit}
 use Rattle.game.specs.Positions.{legal, reached}
-use Rattle.game.specs.Outcomes.{game_good, game_conditions, right_in, opening, move_at, first_winning, outcome_of, without_move, move_values, outcome_values, unless_refused, game_values}
+use Rattle.game.specs.Outcomes.{game_good, game_conditions, right_in, opening, move_at, first_winning, outcome_of, without_move, outcome_values, Answered, unless_refused, game_values}
 use Rattle.game.specs.Search.{Searched, Rows}
 use Rattle.game.proofs.GamePositions.{legal_is}
 use Rattle.game.proofs.RightSets.{good_rows}
@@ -148,17 +149,17 @@ module _ (reads writes : List ℕ) (objects a b rounds withdrawals : ℕ) where
     refused_game h = rw (g, h)
 
     pub played : game_good (length reads) objects a b rounds withdrawals ≡ true
-        → outcome_values (outcome_of (first_winning rounds b withdrawals (opening reads writes a))) ≡ game_values reads writes objects a b rounds withdrawals
+        → outcome_values (Ok (outcome_of (first_winning rounds b withdrawals (opening reads writes a)))) ≡ game_values reads writes objects a b rounds withdrawals
     unfolding game_values unless_refused first_failed game_conditions
     played h = rw (g, h)
 
-by_desk : (k : ℕ) {m : Move} → k < move_count → m ≡ move_at k → move_values m ≡ outcome_values (outcome_of k)
+pub outcome_desk : (k : ℕ) {m : Move} → k < move_count → m ≡ move_at k → Some m ≡ outcome_of k
 unfolding outcome_of
-by_desk k {m} l e = rw (lt-ltb k move_count l) (ap move_values e)
+outcome_desk k {m} l e = rw (lt-ltb k move_count l) (ap (λ (x : Move). Some x) e)
 
-by_guard : (k : ℕ) → move_count ≤ k → without_move 0 ≡ outcome_values (outcome_of k)
+pub outcome_guard : None ≡ outcome_of move_count
 unfolding outcome_of
-by_guard k l = rw (le-ltb k move_count l)
+outcome_guard = refl
 
 -- ---- the same as code makes it
 
@@ -185,37 +186,32 @@ module _ (reads writes : List ℕ) (objects a b rounds withdrawals : ℕ) (g : m
         subst (Searched rounds b) (sym p_is)
         (opening_searched reads writes a b rounds (omega (arith, bounds.source, bounds.few_objects)) (omega (arith, bounds.target, bounds.few_objects)) bounds.apart bounds.some)
 
-    led : (k : ℕ) → k ≡ first_winning rounds b withdrawals p → outcome_values (outcome_of k) ≡ game_values reads writes objects a b rounds withdrawals
-    led k f = ap (λ (j : ℕ). outcome_values (outcome_of j)) (f ∙ ap (first_winning rounds b withdrawals) p_is) ∙ played reads writes objects a b rounds withdrawals g h
-
-    pub play_desk : (k : ℕ) {m : Move} → k ≡ first_winning rounds b withdrawals (record { rights = r; subjects = 0; objects = 1 * 2 ^ a % 4294967296 })
-        → k < move_count → m ≡ move_at k → move_values m ≡ game_values reads writes objects a b rounds withdrawals
-    play_desk k {m} f l i = by_desk k l i ∙ led k f
-
-    pub play_guard : (k : ℕ) → k ≡ first_winning rounds b withdrawals (record { rights = r; subjects = 0; objects = 1 * 2 ^ a % 4294967296 })
-        → move_count ≤ k → without_move 0 ≡ game_values reads writes objects a b rounds withdrawals
-    play_guard k f l = by_guard k l ∙ led k f
+    pub play_outcome : {o : Option Move} → o ≡ outcome_of (first_winning rounds b withdrawals (record { rights = r; subjects = 0; objects = 1 * 2 ^ a % 4294967296 }))
+        → outcome_values (Ok o) ≡ game_values reads writes objects a b rounds withdrawals
+    play_outcome {o} f =
+        ap (λ (x : Option Move). outcome_values (Ok x)) (f ∙ ap (λ (q : Position). outcome_of (first_winning rounds b withdrawals q)) p_is)
+        ∙ played reads writes objects a b rounds withdrawals g h
 
 -- ---- an outcome is known by its values
 
-outcome_in : OutcomeValues → Outcome
+outcome_in : OutcomeValues → Result (Option Move) Refusal
 outcome_in v =
     cond (eqb v.number matrix)
-    Malformed
+    (Err V.Matrix)
     (cond (eqb v.number game_bounds)
-    OutOfBounds
+    (Err V.GameBounds)
     (cond (eqb v.number 0)
-    Guard
-    (Desk (cond (eqb v.code 1) (Read v.subject v.object) (cond (eqb v.code 3) (Append v.subject v.object) Pass)))))
+    (Ok None)
+    (Ok (Some (cond (eqb v.code 1) (Read v.subject v.object) (cond (eqb v.code 3) (Append v.subject v.object) Pass))))))
 
-outcome_back : (o : Outcome) → outcome_in (outcome_values o) ≡ o
+outcome_back : (o : Result (Option Move) Refusal) → Answered o → outcome_in (outcome_values o) ≡ o
 unfolding outcome_in
-outcome_back Malformed = refl
-outcome_back OutOfBounds = refl
-outcome_back Guard = refl
-outcome_back (Desk (Read s o)) = refl
-outcome_back (Desk (Append s o)) = refl
-outcome_back (Desk Pass) = refl
+outcome_back (Err refusal) (inl e) = rw e
+outcome_back (Err refusal) (inr e) = rw e
+outcome_back (Ok None) h = refl
+outcome_back (Ok (Some (Read s o))) h = refl
+outcome_back (Ok (Some (Append s o))) h = refl
+outcome_back (Ok (Some Pass)) h = refl
 
-pub values_apart : (o q : Outcome) → outcome_values o ≡ outcome_values q → o ≡ q
-values_apart o q e = sym (outcome_back o) ∙ ap outcome_in e ∙ outcome_back q
+pub values_apart : (o q : Result (Option Move) Refusal) → Answered o → Answered q → outcome_values o ≡ outcome_values q → o ≡ q
+values_apart o q h k e = sym (outcome_back o h) ∙ ap outcome_in e ∙ outcome_back q k

@@ -12,12 +12,14 @@ use Rattle.answers.specs.Refusals.{matrix, game_bounds}
 use Rattle.matrix.specs.Flows.{has, matrix_good, Composed}
 use Rattle.game.specs.declared.Position.{Position}
 use Rattle.game.specs.declared.Move.TheVariants.{Read}
-use Rattle.game.specs.declared.Outcome.{Outcome}
+use Rattle.std.proofs.Common.{Option, Result}
+use Rattle.game.specs.declared.Move.{Move}
+use Rattle.answers.specs.declared.Refusal.{Refusal}
 use Rattle.game.specs.Limits.{side_limit, read_count, right_count, round_limit, withdrawal_limit}
 use Rattle.game.specs.Positions.{subject_of, object_of, legal, moved, withdrawn, reached}
 use Rattle.game.specs.Games.{desk_wins}
 use Rattle.game.specs.Strategies.{DeskForces, GuardForces, FirstWinning}
-use Rattle.game.specs.Outcomes.{game_good, right_in, opening, first_winning, move_values, without_move, outcome_values, game_values}
+use Rattle.game.specs.Outcomes.{game_good, right_in, opening, first_winning, move_values, without_move, outcome_values, Answered, game_values}
 use Rattle.game.specs.Search.{adds, addition_wins}
 use Rattle.game.proofs.GamePositions as positions
 use Rattle.game.proofs.IdleLaws as idle
@@ -154,5 +156,5 @@ module _ (reads writes : List ℕ) (objects a b rounds withdrawals : ℕ) where
   four_rounds u er ew = (desk_composed, answers.composed_enough reads writes objects a b rounds withdrawals u er ew)
 
 -- an outcome is known by its values: what fixes these fixes the case
-pub values_apart : (o q : Outcome) → outcome_values o ≡ outcome_values q → o ≡ q
+pub values_apart : (o q : Result (Option Move) Refusal) → Answered o → Answered q → outcome_values o ≡ outcome_values q → o ≡ q
 values_apart = outcomes.values_apart

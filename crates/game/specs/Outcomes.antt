@@ -1,8 +1,11 @@
 -- The answer to a game: what it is refused for, who can force the outcome, and the desk's first winning move (change request No. 14).
-use Rattle.std.specs.Prelude.{ℕ, zero, suc, ◌^◌, Bool, not, cond, ◌&&◌, List, [], ◌∷◌, eqb, ltb, leb, length}
+use Rattle.std.specs.Prelude.{ℕ, zero, suc, ◌^◌, Bool, not, cond, ◌&&◌, ◌≡◌, ◌⊎◌, List, [], ◌∷◌, eqb, ltb, leb, length, Option, None, Some, Result, Ok, Err, IfErr}
 use Rattle.lists.specs.Counting.{least_below}
 use Rattle.lists.specs.Conditions.{Condition, ◌or_refuse◌, first_failed}
 use Rattle.answers.specs.Refusals.{matrix, game_bounds}
+use Rattle.answers.specs.declared.Refusal.{Refusal}
+use Rattle.answers.specs.declared.Refusal.TheVariants as V
+use Rattle.answers.specs.Outcomes.{refusal_number}
 use Rattle.matrix.specs.Flows.{matrix_good, count_good}
 use Rattle.matrix.specs.Rows.{bit_at, bits_of}
 use Rattle.game.specs.Limits.{side_limit, read_count, right_count, move_count, round_limit, withdrawal_limit}
@@ -11,8 +14,6 @@ use Rattle.game.specs.Games.{move_wins}
 use Rattle.game.specs.declared.Position.{Position}
 use Rattle.game.specs.declared.Move.{Move}
 use Rattle.game.specs.declared.Move.TheVariants.{Read, Append, Pass}
-use Rattle.game.specs.declared.Outcome.{Outcome}
-use Rattle.game.specs.declared.Outcome.TheVariants.{Malformed, OutOfBounds, Guard, Desk}
 use Rattle.game.specs.declared.OutcomeValues.{OutcomeValues}
 
 -- ---- what a game is refused for
@@ -52,8 +53,8 @@ unfoldable pub first_winning : ℕ → ℕ → ℕ → Position → ℕ
 first_winning rounds b left p = least_below (move_wins rounds b left p) move_count
 
 -- "who can force the outcome and, where the desk can, its first winning move"
-unfoldable pub outcome_of : ℕ → Outcome
-outcome_of first = cond (ltb first move_count) (Desk (move_at first)) Guard
+unfoldable pub outcome_of : ℕ → Option Move
+outcome_of first = cond (ltb first move_count) (Some (move_at first)) None
 
 -- ---- the outcome in numbers: 1 the desk, 0 the guard, or the refusal; then the move, 1 read, 3 append, 0 pass, its subject and its object
 
@@ -67,11 +68,14 @@ move_values (Append subject object) = record { number = 1; code = 3; subject = s
 move_values Pass = without_move 1
 
 -- the numbers of each case of the answer
-abbrev pub outcome_values : Outcome → OutcomeValues
-outcome_values Malformed = without_move matrix
-outcome_values OutOfBounds = without_move game_bounds
-outcome_values Guard = without_move 0
-outcome_values (Desk first) = move_values first
+abbrev pub outcome_values : Result (Option Move) Refusal → OutcomeValues
+outcome_values (Err refusal) = without_move (refusal_number refusal)
+outcome_values (Ok None) = without_move 0
+outcome_values (Ok (Some first)) = move_values first
+
+-- an answer that is an error only by one of the two conditions
+abbrev pub Answered : Result (Option Move) Refusal → Type 0
+Answered answer = IfErr answer (λ refusal. (refusal ≡ V.Matrix) ⊎ (refusal ≡ V.GameBounds))
 
 -- a refusal, or the values
 unfoldable pub unless_refused : ℕ → OutcomeValues → OutcomeValues
@@ -81,4 +85,4 @@ unless_refused (suc n) v = without_move (suc n)
 unfoldable pub game_values : List ℕ → List ℕ → ℕ → ℕ → ℕ → ℕ → ℕ → OutcomeValues
 game_values reads writes objects a b rounds withdrawals =
     unless_refused (first_failed (game_conditions reads writes objects a b rounds withdrawals))
-    (outcome_values (outcome_of (first_winning rounds b withdrawals (opening reads writes a))))
+    (outcome_values (Ok (outcome_of (first_winning rounds b withdrawals (opening reads writes a)))))

@@ -6,9 +6,10 @@ ghost use Rattle.matrix.specs.Rows.{bits_of};
 ghost use Rattle.game.specs.Limits.{side_limit, right_count, move_count};
 ghost use Rattle.game.specs.Positions.{legal, moved, withdrawn};
 ghost use Rattle.game.specs.Games.{desk_wins, guard_loses, move_wins};
-ghost use Rattle.game.specs.Outcomes.{game_good, right_in, move_at, first_winning, without_move, move_values, outcome_values, game_values};
+ghost use Rattle.game.specs.Outcomes.{game_good, right_in, move_at, first_winning, outcome_of, without_move, move_values, outcome_values, Answered, game_values};
 ghost use Rattle.game.specs.Search.{to_first_object, adds, additions, reaches_in, Searched, Rows};
 
+use answers::Refusal;
 use matrix::matrix_good;
 
 // The most subjects and objects, rounds and withdrawals of a game.
@@ -62,15 +63,6 @@ pub enum Move {
     Read { subject: u32, object: u32 },
     Append { subject: u32, object: u32 },
     Pass,
-}
-
-// The answer to a game: refused, as a matrix or as a game, or who can force the outcome, with the desk's first winning move.
-#[derive(Clone, Copy)]
-pub enum Outcome {
-    Malformed,
-    OutOfBounds,
-    Guard,
-    Desk { first: Move },
 }
 
 // An outcome in numbers: 1 the desk, 0 the guard, or the refusal; then the move, 1 read, 3 append, 0 pass, its subject and its object.
@@ -128,15 +120,13 @@ fn moved(p: Position, k: u32) -> Position
 {
     if k < READ_COUNT {
         return Position {
-            rights: p.rights,
             subjects: p.subjects | 1u32 << (k / OBJECT_LIMIT),
-            objects: p.objects,
+            ..p
         };
     }
     Position {
-        rights: p.rights,
-        subjects: p.subjects,
         objects: p.objects | 1u32 << (k % OBJECT_LIMIT),
+        ..p
     }
 }
 
@@ -147,8 +137,7 @@ fn withdrawn(p: Position, k: u32) -> Position
 {
     Position {
         rights: p.rights & !(1u32 << k),
-        subjects: p.subjects,
-        objects: p.objects,
+        ..p
     }
 }
 
@@ -165,14 +154,9 @@ fn desk(rounds: u32, b: u32, left: u32, p: Position) -> bool
     if rounds == 1 {
         return false;
     }
-    let mut k = 0;
-    while k < RIGHT_COUNT {
-        let m = k;
-        k += 1;
-        if (moves >> m) % 2 == 1 {
-            if guard(rounds, b, left, moved(p, m)) {
-                return true;
-            }
+    for k in 0..RIGHT_COUNT {
+        if (moves >> k) % 2 == 1 && guard(rounds, b, left, moved(p, k)) {
+            return true;
         }
     }
     false
@@ -193,14 +177,9 @@ fn guard(rounds: u32, b: u32, left: u32, p: Position) -> bool
     if left == 0 {
         return true;
     }
-    let mut k = 0;
-    while k < RIGHT_COUNT {
-        let right = k;
-        k += 1;
-        if legal(p, right) {
-            if !desk(rounds - 1, b, left - 1, withdrawn(p, right)) {
-                return false;
-            }
+    for k in 0..RIGHT_COUNT {
+        if legal(p, k) && !desk(rounds - 1, b, left - 1, withdrawn(p, k)) {
+            return false;
         }
     }
     true
@@ -225,21 +204,19 @@ fn move_wins(rounds: u32, b: u32, left: u32, p: Position, k: u32, moves: u32, id
     guard(rounds, b, left, q)
 }
 
-// The number of the first move that wins, or that of no move.
-fn first_winning(rounds: u32, b: u32, left: u32, p: Position) -> u32
+// The first move that wins, if one does.
+fn first_winning(rounds: u32, b: u32, left: u32, p: Position) -> Option<Move>
     requires { Searched rounds b p }
-    ensures { result ≡ first_winning rounds b left p }
+    ensures { result ≡ outcome_of (first_winning rounds b left p) }
 {
     let moves = additions(p);
     let idle = guard(rounds, b, left, p);
-    let mut k = 0;
-    while k < MOVE_COUNT {
+    for k in 0..MOVE_COUNT {
         if move_wins(rounds, b, left, p, k, moves, idle) {
-            return k;
+            return Some(move_at(k));
         }
-        k += 1;
     }
-    MOVE_COUNT
+    None
 }
 
 // The rights of a matrix, as one set.
@@ -248,12 +225,10 @@ fn rights_in(reads: &[u32], writes: &[u32]) -> u32
     ensures { result ≡ bits_of (right_in reads.now writes.now) right_count }
 {
     let mut rights = 0u32;
-    let mut s = 0;
-    while s < reads.len() {
+    for (s, &r) in reads.iter().enumerate() {
         let place = OBJECT_LIMIT * (s as u32);
-        let row = reads[s] + FIRST_WRITE * writes[s];
-        rights = rights | row << place;
-        s += 1;
+        let row = r + FIRST_WRITE * writes[s];
+        rights |= row << place;
     }
     rights
 }
@@ -301,8 +276,8 @@ fn game_good(subjects: usize, objects: u32, a: u32, b: u32, rounds: u32, withdra
     withdrawals <= WITHDRAWAL_LIMIT
 }
 
-// Who can force the outcome: the desk, which is to bring object a's information into object b, or the guard. Row s is what subject s
-// reads, or writes, bit k standing for object k.
+// The first winning move of the desk, which is to bring object a's information into object b; none if the guard can prevent it. Row s is
+// what subject s reads, or writes, bit k standing for object k.
 pub fn play(
     reads: &[u32],
     writes: &[u32],
@@ -311,25 +286,21 @@ pub fn play(
     b: u32,
     rounds: u32,
     withdrawals: u32,
-) -> Outcome
-    ensures { outcome_values result ≡ game_values reads.now writes.now objects a b rounds withdrawals }
+) -> Result<Option<Move>, Refusal>
+    ensures { (outcome_values result ≡ game_values reads.now writes.now objects a b rounds withdrawals) × Answered result }
 {
     if !matrix_good(reads, writes, objects) {
-        return Outcome::Malformed;
+        return Err(Refusal::Matrix);
     }
     if !game_good(reads.len(), objects, a, b, rounds, withdrawals) {
-        return Outcome::OutOfBounds;
+        return Err(Refusal::GameBounds);
     }
     let p = Position {
         rights: rights_in(reads, writes),
         subjects: 0,
         objects: 1u32 << a,
     };
-    let k = first_winning(rounds, b, withdrawals, p);
-    if k < MOVE_COUNT {
-        return Outcome::Desk { first: move_at(k) };
-    }
-    Outcome::Guard
+    Ok(first_winning(rounds, b, withdrawals, p))
 }
 
 // The values of an outcome that names no move.
@@ -366,13 +337,12 @@ fn move_values(first: Move) -> OutcomeValues
 }
 
 // The numbers of each case of the answer.
-pub fn outcome_values(outcome: Outcome) -> OutcomeValues
+pub fn outcome_values(outcome: Result<Option<Move>, Refusal>) -> OutcomeValues
     ensures { result ≡ outcome_values outcome }
 {
     match outcome {
-        Outcome::Malformed => without_move(answers::MATRIX),
-        Outcome::OutOfBounds => without_move(answers::GAME_BOUNDS),
-        Outcome::Guard => without_move(GUARD),
-        Outcome::Desk { first } => move_values(first),
+        Ok(Some(first)) => move_values(first),
+        Ok(None) => without_move(GUARD),
+        Err(refusal) => without_move(refusal.number()),
     }
 }

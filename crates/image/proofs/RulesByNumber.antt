@@ -1,5 +1,5 @@
 -- A rule of the image, read mixture by mixture.
-use Prim.Native.Nat.{ℕ, ◌+◌, ◌-◌, ◌/◌, ◌≤◌, ◌<◌}
+use Prim.Native.Nat.{ℕ, ◌+◌, ◌/◌, ◌≤◌, ◌<◌}
 use mathlib.Core.Path.{◌≡◌, refl, sym, ap, ap₂, ◌∙◌}
 use mathlib.Core.List.{List, [], ◌∷◌}
 use native.Mathlib.Omega.{arith}
@@ -42,13 +42,9 @@ unrestricted_at : (rules : List (List ℕ)) (n : ℕ) → n ≡ unrestricted_num
 unfolding normal_at rule_at
 unrestricted_at rules n e = rw (e, normal_unrestricted) (unfold unrestricted_rule in refl)
 
-unrestricted_one : length (unrestricted tag_width) ≤ mixture_limit
-unfolding unrestricted
-unrestricted_one = omega arith
-
 pub unrestricted_words : (rules : List (List ℕ)) (n : ℕ) (b : Bounded) (out : List ℕ)
     → n ≡ unrestricted_number → b ≡ bounded_of (unrestricted tag_width) → out ≡ b.count ∷ b.mixtures → out ≡ words_of (normal_at rules n)
-unrestricted_words rules n b out e f h = h ∙ bounded_words_lem (unrestricted tag_width) b f unrestricted_one ∙ ap words_of (sym (unrestricted_at rules n e))
+unrestricted_words rules n b out e f h = h ∙ bounded_words_lem (unrestricted tag_width) b f ∙ ap words_of (sym (unrestricted_at rules n e))
 
 pub named_own : (k n : ℕ) → named k n ≡ true → (n ≡ unrestricted_number → ⊥) → n < k
 unfolding named

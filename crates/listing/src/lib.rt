@@ -31,12 +31,9 @@ pub fn put_text(out: &mut [u8], at: usize, text: &[u8]) -> usize
     requires { at + length text.now ≤ length out.old }
     ensures { Wrote text.now out.old out.new at result }
 {
-    let mut i: usize = 0;
-    while i < text.len() {
-        out[at + i] = text[i];
-        i += 1;
-    }
-    at + text.len()
+    let next = at + text.len();
+    out[at..next].copy_from_slice(text);
+    next
 }
 
 // How many digits a number has in decimal.
@@ -45,6 +42,7 @@ fn decimal_places(n: u64) -> usize
 {
     let mut k: usize = 1;
     let mut rest = n;
+    // Kept: no plainer, since it goes over what is left of a number, and over no range and no slice.
     while rest >= 10 {
         rest /= 10;
         k += 1;
@@ -59,9 +57,7 @@ pub fn put_long(out: &mut [u8], at: usize, n: u64) -> usize
 {
     let k = decimal_places(n);
     let mut rest = n;
-    let mut i = k;
-    while i > 0 {
-        i -= 1;
+    for i in (0..k).rev() {
         out[at + i] = ZERO + (rest % 10) as u8;
         rest /= 10;
     }
@@ -242,10 +238,7 @@ struct Word {
 fn word_of(letters: u64, length: usize) -> Word
     ensures { result ≡ word_of letters length }
 {
-    Word {
-        letters: letters,
-        length: length,
-    }
+    Word { letters, length }
 }
 
 // An operation's word.
@@ -353,6 +346,7 @@ fn put_answer(out: &mut [u8], at: usize, answer: Answer) -> usize
 }
 
 // The first line, which names the fields.
+// Kept: no plainer: a writer with the buffer and the place inside would need the same bound in each clause, since it says how much room is left.
 pub fn put_heading(out: &mut [u8], at: usize) -> usize
     requires { at + line_limit ≤ length out.old }
     ensures { Wrote heading out.old out.new at result }

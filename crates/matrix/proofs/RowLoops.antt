@@ -17,14 +17,13 @@ use Rattle.lists.specs.Lists.{every}
 use Rattle.lists.proofs.Bools.{and_0, and_1, or_none, or_assoc, refuted}
 use Rattle.rules.proofs.SetLaws.{atom_or, atoms_holds, holds_le}
 use Rattle.matrix.specs.Flows.{has, subject_carries, granted, rows_within}
-use Rattle.matrix.specs.Rows.{bit_at, bits_of, rows_of, spelling, joined_through, Passed}
+use Rattle.matrix.specs.Rows.{bit_at, bits_of, rows_of, spelling, joined_through}
 use Rattle.matrix.specs.Limits.{object_limit}
 use Rattle.matrix.proofs.RowBits.{has_is, has_not, has_or, one_bit, has_single, bits_has, bits_above, bits_is, bits_same}
 
 -- ---- a row of the granted flows: the subjects before s are done
 
 pub record Granting (reads writes : List ℕ) (a row s : ℕ) : Type 0 where
-  pub place : s ≤ length reads
   pub even : length writes ≡ length reads
   pub bits : (b : ℕ) → (has row b || subject_carries (drop s reads) (drop s writes) a b) ≡ granted reads writes a b
 
@@ -32,7 +31,6 @@ pub granting_start : (reads writes : List ℕ) (a : ℕ) → length writes ≡ l
 unfolding granted
 granting_start reads writes a e h =
     record {
-      place = omega arith;
       even = e;
       bits = λ b. ap (λ (x : Bool). x || subject_carries reads writes a b) (ap (λ (x : ℕ). has x b) (one_bit a h) ∙ has_single a b);
     }
@@ -47,7 +45,6 @@ pub granting_take : (reads writes : List ℕ) (a row s : ℕ) → Granting reads
     → get_or reads s 0 / 2 ^ a % 2 ≡ 1 → Granting reads writes a (bit_or row (get_or writes s 0)) (s + 1)
 granting_take reads writes a row s g h t =
     record {
-      place = omega arith;
       even = g.even;
       bits = λ b. one b ∙ g.bits b;
     }
@@ -62,7 +59,6 @@ pub granting_skip : (reads writes : List ℕ) (a row s : ℕ) → Granting reads
     → (get_or reads s 0 / 2 ^ a % 2 ≡ 1 → ⊥) → Granting reads writes a row (s + 1)
 granting_skip reads writes a row s g h t =
     record {
-      place = omega arith;
       even = g.even;
       bits = λ b. one b ∙ g.bits b;
     }
@@ -85,10 +81,6 @@ pub record Stored (P : ℕ → ℕ → Type 0) (n : ℕ) (before rows : List ℕ
   pub long : length rows ≡ length before
   pub done : (i : ℕ) → i < a → P i (get_or rows i 0)
   pub rest : (i : ℕ) → a ≤ i → get_or rows i 0 ≡ get_or before i 0
-
-pub stored_start : (P : ℕ → ℕ → Type 0) (n : ℕ) (before : List ℕ) → n ≤ length before → Stored P n before before 0
-stored_start P n before h =
-    record { place = omega arith; fit = h; long = refl; done = λ i l. absurd (omega arith); rest = λ i l. refl }
 
 pub stored_next : (P : ℕ → ℕ → Type 0) (n : ℕ) (before rows : List ℕ) (a v : ℕ) → Stored P n before rows a → a < n → P a v → Stored P n before (set rows a v) (a + 1)
 stored_next P n before rows a v s h p =
@@ -166,12 +158,11 @@ spelling_same f g n rows e = ap (λ (x : List ℕ). x ++ drop n rows) (rows_same
 -- ---- rows without a bit beyond the objects, what is read and what is written at once
 
 pub record Checking (objects : ℕ) (reads writes : List ℕ) (s : ℕ) : Type 0 where
-  pub place : s ≤ length reads
   pub even : length writes ≡ length reads
   pub rest : (rows_within objects (drop s reads) && rows_within objects (drop s writes)) ≡ (rows_within objects reads && rows_within objects writes)
 
 pub checking_start : (objects : ℕ) (reads writes : List ℕ) → length writes ≡ length reads → Checking objects reads writes 0
-checking_start objects reads writes e = record { place = omega arith; even = e; rest = refl }
+checking_start objects reads writes e = record { even = e; rest = refl }
 
 rows_next : (objects : ℕ) (rows : List ℕ) (s : ℕ) → s < length rows → rows_within objects (drop s rows) ≡ (ltb (get_or rows s 0) (2 ^ objects) && rows_within objects (drop (s + 1) rows))
 unfolding rows_within every
@@ -197,7 +188,7 @@ module _ (objects : ℕ) (reads writes : List ℕ) (s : ℕ) (o : objects ≤ 32
       let l : bit_or (get_or reads s 0) (get_or writes s 0) < 2 ^ objects = rw (bound_is objects o) at t in
       let p = lt-ltb (get_or reads s 0) (2 ^ objects) (omega (arith, or_left (get_or reads s 0) (get_or writes s 0))) in
       let q = lt-ltb (get_or writes s 0) (2 ^ objects) (omega (arith, or_right (get_or reads s 0) (get_or writes s 0))) in
-      record { place = omega arith; even = c.even; rest = sym (rw (p, q) at turn) ∙ c.rest }
+      record { even = c.even; rest = sym (rw (p, q) at turn) ∙ c.rest }
 
   pub checking_bad : 1 * 2 ^ objects % 2 ^ 64 ≤ bit_or (get_or reads s 0) (get_or writes s 0) → false ≡ (rows_within objects reads && rows_within objects writes)
   checking_bad t = sym (refuted (rows_within objects reads && rows_within objects writes) (λ e. on (sym turn ∙ c.rest ∙ e)))
@@ -232,12 +223,3 @@ granted_end reads writes n before rows a s h =
 
 abbrev pub JoinedAt : ℕ → ℕ → List ℕ → ℕ → ℕ → Type 0
 JoinedAt read other before i x = x ≡ joined_through read other (get_or before i 0)
-
-pub joined_next : (read k n : ℕ) (before rows : List ℕ) (a v : ℕ)
-    → Stored (JoinedAt read (get_or before k 0) before) n before rows a → a < n → v ≡ joined_through read (get_or before k 0) (get_or rows a 0)
-    → Stored (JoinedAt read (get_or before k 0) before) n before (set rows a v) (a + 1)
-joined_next read k n before rows a v s h e =
-    stored_next (JoinedAt read (get_or before k 0) before) n before rows a v s h (e ∙ ap (λ (x : ℕ). joined_through read (get_or before k 0) x) (s.rest a (omega arith)))
-
-pub joined_end : (read k n : ℕ) (before first rows : List ℕ) (a : ℕ) → Stored (JoinedAt read (get_or before k 0) before) n first rows a → n ≤ a → Passed read k n before rows
-joined_end read k n before first rows a s h = record { each = λ i l. s.done i (omega arith) }

@@ -69,13 +69,14 @@ module _ (read other row : ℕ) where
 -- ---- one pass
 
 -- before any pass the rows are what the subjects write
-pub reaching_start : (reads writes : List ℕ) → length writes ≡ length reads → Reaching reads writes writes 0
+pub reaching_start : (reads writes reach : List ℕ) → length writes ≡ length reads → ((s : ℕ) → s < length reads → get_or reach s 0 ≡ get_or writes s 0)
+    → Reaching reads writes reach 0
 unfolding granted
-reaching_start reads writes e =
+reaching_start reads writes reach e same =
     record {
-      holds = λ s b l h. h;
+      holds = λ s b l h. ap (λ (x : ℕ). has x b) (same s l) ∙ h;
       through = λ s t c b l m p q h. absurd (omega arith);
-      paths = λ n s a b g l p q. one n s a b (good_parts reads writes n g) l p q;
+      paths = λ n s a b g l p q. one n s a b (good_parts reads writes n g) l p (sym (ap (λ (x : ℕ). has x b) (same s l)) ∙ q);
     }
   where
     inside : (n k : ℕ) (rows : List ℕ) (s : ℕ) → rows_within n rows ≡ true → has (get_or rows s 0) k ≡ true → Dec (k < n) → k < n
@@ -158,11 +159,7 @@ module _ (reads writes before after : List ℕ) (k : ℕ) (l : k < length reads)
       by s t c b m i x y h (yes e) = last s c b m x (rw e at y) (own b (rw e at h))
       by s t c b m i x y h (no e) = earlier s t c b m (omega arith) x y h
 
--- the first pass, and one of all rows there is room for
-pub passed_first : (reads writes after : List ℕ) → length writes ≡ length reads → 1 ≤ length reads → Passed (get_or reads 0 0) 0 (length reads) writes after
-    → Reaching reads writes after 1
-passed_first reads writes after e l p = reaching_next reads writes writes after 0 (omega arith) (reaching_start reads writes e) p
-
+-- a pass of all rows there is room for
 pub passed_next : (reads writes before after : List ℕ) (k m : ℕ) → k < length reads → length reads ≤ m → Reaching reads writes before k → Passed (get_or reads k 0) k m before after
     → Reaching reads writes after (k + 1)
 passed_next reads writes before after k m l f r p =
@@ -173,9 +170,6 @@ pub record Passing (reads writes reach : List ℕ) (k : ℕ) : Type 0 where
   pub place : k ≤ length reads
   pub long : length reach ≡ subject_limit
   pub rows : Reaching reads writes reach k
-
-pub passing_end : (reads writes reach : List ℕ) (k : ℕ) → Passing reads writes reach k → length reads ≤ k → Reaching reads writes reach (length reads)
-passing_end reads writes reach k p h = let e : k ≡ length reads = omega (arith, p.place) in rw e at p.rows
 
 -- ---- the flows, of rows that hold what is written, take in what leads on, and have nothing that no path leads to
 
@@ -292,7 +286,7 @@ closed_through reads writes g s t a c b l m p x y h = on (or_cases (eqb (get_or 
 pub rows_closed_lem : (reads writes : List ℕ) (n : ℕ) → matrix_good reads writes n ≡ true → rows_closed reads writes ≡ true → Closed reads writes n writes
 rows_closed_lem reads writes n g c =
     let p = good_parts reads writes n g in
-    flows_closed reads writes writes n p p.even (λ s b l h. h) (closed_through reads writes c) (λ s a b l x h. (reaching_start reads writes p.even).paths n s a b g l x h)
+    flows_closed reads writes writes n p p.even (λ s b l h. h) (closed_through reads writes c) (λ s a b l x h. (reaching_start reads writes writes p.even (λ s l. refl)).paths n s a b g l x h)
 
 pub closed_consistent : (reads writes : List ℕ) (n : ℕ) → matrix_good reads writes n ≡ true → rows_closed reads writes ≡ true → consistent reads writes n ≡ true
 closed_consistent reads writes n g c =

@@ -17,11 +17,12 @@ use Rattle.lists.specs.Lists.{elem}
 use Rattle.lists.specs.Conditions.{first_failed, ◌or_refuse◌}
 use Rattle.lists.proofs.Conditions.{passed, failed, none_left}
 use Rattle.answers.specs.Refusals.{matrix}
-use Rattle.matrix.specs.declared.Consistency.{Consistency}
-use Rattle.matrix.specs.declared.Consistency.TheVariants.{Refused, Consistent, Inconsistent}
+use Rattle.std.proofs.Common.{Option, None, Ok, Err}
+use Rattle.answers.specs.declared.Refusal.TheVariants as V
+use Rattle.matrix.specs.declared.Inconsistency.{Inconsistency}
 use Rattle.matrix.specs.Flows.{has, subject_carries, granted, rows_within, matrix_good}
 use Rattle.lists.specs.Counting.{count_below, sum_below, least_below}
-use Rattle.matrix.specs.Verdicts.{ungranted, ungranted_from, flow_count, first_source, first_target, consistent, judged_by, ConsistencyValues}
+use Rattle.matrix.specs.Verdicts.{ungranted, ungranted_from, flow_count, first_source, first_target, consistent, inconsistent, judged_by, ConsistencyValues}
 use Rattle.matrix.specs.Verdicts.{consistency_values, matrix_conditions, unless_refused, matrix_verdict}
 use Rattle.matrix.specs.Limits.{object_limit}
 use Rattle.matrix.specs.Rows.{Grown, Closed}
@@ -83,14 +84,10 @@ missing_end reads writes reach n a row reached s c l m h b =
 -- ---- the objects that subjects read whose row has grown: the subjects before s are done
 
 pub record Growing (reads writes reach : List ℕ) (grown s : ℕ) : Type 0 where
-  pub place : s ≤ length reads
   pub same : (i a : ℕ) → i < s → has (get_or reads i 0) a ≡ true → has grown a ≡ false → get_or reach i 0 ≡ get_or writes i 0
 
-pub growing_start : (reads writes reach : List ℕ) → Growing reads writes reach 0 0
-growing_start reads writes reach = record { place = omega arith; same = λ i a l p q. absurd (omega arith) }
-
-pub growing_take : (reads writes reach : List ℕ) (grown s : ℕ) → Growing reads writes reach grown s → s < length reads → Growing reads writes reach (bit_or grown (get_or reads s 0)) (s + 1)
-growing_take reads writes reach grown s g h = record { place = omega arith; same = λ i a l p q. by i a l p q (ℕ_discrete i s) }
+pub growing_take : (reads writes reach : List ℕ) (grown s : ℕ) → Growing reads writes reach grown s → Growing reads writes reach (bit_or grown (get_or reads s 0)) (s + 1)
+growing_take reads writes reach grown s g = record { same = λ i a l p q. by i a l p q (ℕ_discrete i s) }
   where
     by : (i a : ℕ) → i < s + 1 → has (get_or reads i 0) a ≡ true → has (bit_or grown (get_or reads s 0)) a ≡ false → Dec (i ≡ s) → get_or reach i 0 ≡ get_or writes i 0
     by i a l p q (yes e) = clash (or_1 (has grown a) (has (get_or reads s 0) a) (rw e at p)) (sym (has_or grown (get_or reads s 0) a) ∙ q)
@@ -98,16 +95,13 @@ growing_take reads writes reach grown s g h = record { place = omega arith; same
         g.same i a (omega arith) p
         (refuted (has grown a) (λ h. clash (or_0 (has grown a) (has (get_or reads s 0) a) h) (sym (has_or grown (get_or reads s 0) a) ∙ q)))
 
-pub growing_skip : (reads writes reach : List ℕ) (grown s : ℕ) → Growing reads writes reach grown s → s < length reads → get_or writes s 0 ≡ get_or reach s 0 → Growing reads writes reach grown (s + 1)
-growing_skip reads writes reach grown s g h t =
-    record { place = omega arith; same = λ i a l p q. by i a l p q (ℕ_discrete i s) }
+pub growing_skip : (reads writes reach : List ℕ) (grown s : ℕ) → Growing reads writes reach grown s → get_or writes s 0 ≡ get_or reach s 0 → Growing reads writes reach grown (s + 1)
+growing_skip reads writes reach grown s g t =
+    record { same = λ i a l p q. by i a l p q (ℕ_discrete i s) }
   where
     by : (i a : ℕ) → i < s + 1 → has (get_or reads i 0) a ≡ true → has grown a ≡ false → Dec (i ≡ s) → get_or reach i 0 ≡ get_or writes i 0
     by i a l p q (yes e) = rw e (sym t)
     by i a l p q (no e) = g.same i a (omega arith) p q
-
-pub growing_end : (reads writes reach : List ℕ) (grown s : ℕ) → Growing reads writes reach grown s → length reads ≤ s → Grown reads writes reach grown
-growing_end reads writes reach grown s g h = record { same = λ i a l p q. g.same i a (omega arith) p q }
 
 -- from any other object no flow is missing
 flow_known : (reads writes reach : List ℕ) (n grown a b : ℕ) → Closed reads writes n reach → Grown reads writes reach grown → has grown a ≡ false
@@ -182,70 +176,49 @@ counting_end reads writes n count a k h =
 
 -- ---- searching: no source before a has a flow that is not granted, and from a there is none to a target before b
 
-pub record Searching (reads writes : List ℕ) (n a : ℕ) (found : Consistency) : Type 0 where
-  pub place : a ≤ n
-  pub nothing : found ≡ Consistent
+pub record Searching (reads writes : List ℕ) (n a : ℕ) : Type 0 where
   pub none : (i : ℕ) → i < a → ungranted_from reads writes n i ≡ false
 
-pub record SearchingRow (reads writes : List ℕ) (n a b : ℕ) (found : Consistency) : Type 0 where
-  pub source : a < n
-  pub outer : Searching reads writes n a found
-  pub place : b ≤ n
+pub record SearchingRow (reads writes : List ℕ) (n a b : ℕ) : Type 0 where
+  pub outer : Searching reads writes n a
   pub none : (j : ℕ) → j < b → ungranted reads writes n a j ≡ false
 
-pub searching_start : (reads writes : List ℕ) (n : ℕ) → Searching reads writes n 0 Consistent
-searching_start reads writes n = record { place = omega arith; nothing = refl; none = λ i l. absurd (omega arith) }
+pub row_next : (reads writes : List ℕ) (n a b row : ℕ) → SearchingRow reads writes n a b
+    → ((b : ℕ) → has row b ≡ ungranted reads writes n a b) → (row / 2 ^ b % 2 ≡ 1 → ⊥) → SearchingRow reads writes n a (b + 1)
+row_next reads writes n a b row s e t =
+    record { outer = s.outer; none = below_more (λ j. ungranted reads writes n a j ≡ false) b s.none (sym (e b) ∙ has_not row b t) }
 
-pub row_start : (reads writes : List ℕ) (n a : ℕ) (found : Consistency) → Searching reads writes n a found → a < n → SearchingRow reads writes n a 0 found
-row_start reads writes n a found s l = record { source = l; outer = s; place = omega arith; none = λ j m. absurd (omega arith) }
-
-miss : (reads writes : List ℕ) (n a b row : ℕ) → ((b : ℕ) → has row b ≡ ungranted reads writes n a b) → (row / 2 ^ b % 2 ≡ 1 → ⊥) → ungranted reads writes n a b ≡ false
-miss reads writes n a b row e t = sym (e b) ∙ has_not row b t
-
-hit : (reads writes : List ℕ) (n a b row : ℕ) → ((b : ℕ) → has row b ≡ ungranted reads writes n a b) → row / 2 ^ b % 2 ≡ 1 → ungranted reads writes n a b ≡ true
-hit reads writes n a b row e t = sym (e b) ∙ has_is row b t
-
-pub row_next : (reads writes : List ℕ) (n a b row : ℕ) (found : Consistency) → SearchingRow reads writes n a b found → b < n
-    → ((b : ℕ) → has row b ≡ ungranted reads writes n a b) → (row / 2 ^ b % 2 ≡ 1 → ⊥) → SearchingRow reads writes n a (b + 1) found
-row_next reads writes n a b row found s l e t =
-    record {
-      source = s.source;
-      outer = s.outer;
-      place = omega arith;
-      none = below_more (λ j. ungranted reads writes n a j ≡ false) b s.none (miss reads writes n a b row e t);
-    }
-
-pub searching_next : (reads writes : List ℕ) (n a b : ℕ) (found : Consistency) → SearchingRow reads writes n a b found → n ≤ b → Searching reads writes n (a + 1) found
+pub searching_next : (reads writes : List ℕ) (n a b : ℕ) → SearchingRow reads writes n a b → n ≤ b → Searching reads writes n (a + 1)
 unfolding ungranted_from
-searching_next reads writes n a b found s h =
+searching_next reads writes n a b s h =
     let z : ungranted_from reads writes n a ≡ false = some_none (ungranted reads writes n a) n (λ j l. s.none j (omega arith)) in
-    record { place = omega (arith, s.source); nothing = s.outer.nothing; none = below_more (λ i. ungranted_from reads writes n i ≡ false) a s.outer.none z }
+    record { none = below_more (λ i. ungranted_from reads writes n i ≡ false) a s.outer.none z }
 
 -- a row without any
-pub searching_skip : (reads writes : List ℕ) (n a row : ℕ) (found : Consistency) → Searching reads writes n a found → a < n → row ≡ 0
-    → ((b : ℕ) → has row b ≡ ungranted reads writes n a b) → Searching reads writes n (a + 1) found
-searching_skip reads writes n a row found s l z e =
-    searching_next reads writes n a n found
-    (record { source = l; outer = s; place = omega arith; none = λ j m. sym (e j) ∙ ap (λ (x : ℕ). has x j) z ∙ has_zero j })
+pub searching_skip : (reads writes : List ℕ) (n a row : ℕ) → Searching reads writes n a → row ≡ 0
+    → ((b : ℕ) → has row b ≡ ungranted reads writes n a b) → Searching reads writes n (a + 1)
+searching_skip reads writes n a row s z e =
+    searching_next reads writes n a n
+    (record { outer = s; none = λ j m. sym (e j) ∙ ap (λ (x : ℕ). has x j) z ∙ has_zero j })
     (omega arith)
 
-pub searching_end : (reads writes : List ℕ) (n a count : ℕ) (found : Consistency) → Searching reads writes n a found → n ≤ a → found ≡ judged_by count reads writes n
+pub searching_end : (reads writes : List ℕ) (n a count : ℕ) → Searching reads writes n a → n ≤ a → None ≡ judged_by count reads writes n
 unfolding judged_by consistent
-searching_end reads writes n a count found s h =
-    s.nothing ∙ sym (rw (some_none (ungranted_from reads writes n) n (λ i l. s.none i (omega arith))))
+searching_end reads writes n a count s h =
+    sym (rw (some_none (ungranted_from reads writes n) n (λ i l. s.none i (omega arith))))
 
-pub searching_found : (reads writes : List ℕ) (n a b row count : ℕ) (found : Consistency) → SearchingRow reads writes n a b found → b < n
-    → ((b : ℕ) → has row b ≡ ungranted reads writes n a b) → row / 2 ^ b % 2 ≡ 1 → Inconsistent count a b ≡ judged_by count reads writes n
+pub searching_found : (reads writes : List ℕ) (n a b row count : ℕ) → SearchingRow reads writes n a b → a < n → b < n
+    → ((b : ℕ) → has row b ≡ ungranted reads writes n a b) → row / 2 ^ b % 2 ≡ 1 → inconsistent count a b ≡ judged_by count reads writes n
 unfolding judged_by consistent first_source first_target ungranted_from
-searching_found reads writes n a b row count found s l e t =
-    let u : ungranted reads writes n a b ≡ true = hit reads writes n a b row e t in
+searching_found reads writes n a b row count s m l e t =
+    let u : ungranted reads writes n a b ≡ true = sym (e b) ∙ has_is row b t in
     let v : ungranted_from reads writes n a ≡ true = some_at (ungranted reads writes n a) n b l u in
-    let x : first_source reads writes n ≡ a = least_is (ungranted_from reads writes n) n a s.source v s.outer.none in
+    let x : first_source reads writes n ≡ a = least_is (ungranted_from reads writes n) n a m v s.outer.none in
     let y : first_target reads writes n ≡ b =
     ap (λ (i : ℕ). least_below (ungranted reads writes n i) n) x ∙ least_is (ungranted reads writes n a) n b l u s.none in
     sym
-    (rw (some_at (ungranted_from reads writes n) n a s.source v)
-    (ap₂ (λ (i j : ℕ). Inconsistent count i j) x y))
+    (rw (some_at (ungranted_from reads writes n) n a m v)
+    (ap₂ (λ (i j : ℕ). inconsistent count i j) x y))
 
 -- ---- the verdict
 
@@ -258,27 +231,27 @@ module _ (reads writes : List ℕ) (n : ℕ) where
   unfolding matrix_conditions
   failed_one g = failed (matrix_good reads writes n or_refuse matrix) [] g
 
-  pub verdict_is : (count : ℕ) (v : Consistency) → matrix_good reads writes n ≡ true → count ≡ flow_count reads writes n
-      → v ≡ judged_by count reads writes n → consistency_values v ≡ matrix_verdict reads writes n
+  pub verdict_is : (count : ℕ) (v : Option Inconsistency) → matrix_good reads writes n ≡ true → count ≡ flow_count reads writes n
+      → v ≡ judged_by count reads writes n → consistency_values (Ok v) ≡ matrix_verdict reads writes n
   unfolding matrix_verdict unless_refused
-  verdict_is count v g e f = ap consistency_values (f ∙ ap (λ (k : ℕ). judged_by k reads writes n) e) ∙ sym (rw (passed_all g))
+  verdict_is count v g e f = ap (λ (x : Option Inconsistency). consistency_values (Ok x)) (f ∙ ap (λ (k : ℕ). judged_by k reads writes n) e) ∙ sym (rw (passed_all g))
 
-  pub judged_none : (count : ℕ) → count ≡ flow_count reads writes n → count ≡ 0 → Consistent ≡ judged_by (flow_count reads writes n) reads writes n
+  pub judged_none : (count : ℕ) → count ≡ flow_count reads writes n → count ≡ 0 → None ≡ judged_by (flow_count reads writes n) reads writes n
   unfolding judged_by
   judged_none count e z = sym (rw ((count_consistent reads writes n).0 (sym e ∙ z)))
 
-  pub verdict_refused : matrix_good reads writes n ≡ false → matrix_verdict reads writes n ≡ consistency_values Refused
+  pub verdict_refused : matrix_good reads writes n ≡ false → matrix_verdict reads writes n ≡ consistency_values (Err V.Matrix)
   unfolding matrix_verdict unless_refused
   verdict_refused g = rw (failed_one g)
 
-  pub verdict_consistent : matrix_good reads writes n ≡ true → consistent reads writes n ≡ true → matrix_verdict reads writes n ≡ consistency_values Consistent
+  pub verdict_consistent : matrix_good reads writes n ≡ true → consistent reads writes n ≡ true → matrix_verdict reads writes n ≡ consistency_values (Ok None)
   unfolding judged_by
-  verdict_consistent g c = sym (verdict_is (flow_count reads writes n) Consistent g refl (sym (rw c)))
+  verdict_consistent g c = sym (verdict_is (flow_count reads writes n) None g refl (sym (rw c)))
 
   pub verdict_inconsistent : matrix_good reads writes n ≡ true → consistent reads writes n ≡ false
-      → matrix_verdict reads writes n ≡ consistency_values (Inconsistent (flow_count reads writes n) (first_source reads writes n) (first_target reads writes n))
+      → matrix_verdict reads writes n ≡ consistency_values (Ok (inconsistent (flow_count reads writes n) (first_source reads writes n) (first_target reads writes n)))
   unfolding judged_by
-  verdict_inconsistent g c = sym (verdict_is (flow_count reads writes n) (Inconsistent (flow_count reads writes n) (first_source reads writes n) (first_target reads writes n)) g refl (sym (rw c)))
+  verdict_inconsistent g c = sym (verdict_is (flow_count reads writes n) (inconsistent (flow_count reads writes n) (first_source reads writes n) (first_target reads writes n)) g refl (sym (rw c)))
 
   -- 8 exactly if the matrix is malformed
   pub verdict_8 : ((matrix_verdict reads writes n).number ≡ matrix) ↔ (matrix_good reads writes n ≡ false)

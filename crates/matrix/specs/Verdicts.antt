@@ -1,11 +1,13 @@
 -- The verdict on a matrix (the paper, "Matrix": "The verdict is consistent, or ..").
-use Rattle.std.specs.Prelude.{ℕ, zero, suc, Bool, not, cond, ◌&&◌, List, [], ◌∷◌}
+use Rattle.std.specs.Prelude.{ℕ, zero, suc, Bool, not, cond, ◌&&◌, List, [], ◌∷◌, Option, None, Some, Result, Ok, Err, IfErr, ◌≡◌}
 use Rattle.lists.specs.Counting.{some_below, least_below, count_below, sum_below}
 use Rattle.lists.specs.Conditions.{Condition, ◌or_refuse◌, first_failed}
 use Rattle.answers.specs.Refusals.{matrix}
 use Rattle.matrix.specs.Flows.{matrix_good, granted, composed}
-use Rattle.matrix.specs.declared.Consistency.{Consistency}
-use Rattle.matrix.specs.declared.Consistency.TheVariants.{Refused, Consistent, Inconsistent}
+use Rattle.answers.specs.declared.Refusal.{Refusal}
+use Rattle.answers.specs.declared.Refusal.TheVariants as V
+use Rattle.answers.specs.Outcomes.{refusal_number}
+use Rattle.matrix.specs.declared.Inconsistency.{Inconsistency}
 
 -- ---- "composed flows not granted"
 
@@ -33,12 +35,16 @@ first_target reads writes objects =
 unfoldable pub consistent : List ℕ → List ℕ → ℕ → Bool
 consistent reads writes objects = not (some_below (ungranted_from reads writes objects) objects)
 
+-- the count and the pair of the verdict
+abbrev pub inconsistent : ℕ → ℕ → ℕ → Option Inconsistency
+inconsistent count source target = Some (record { count = count; source = source; target = target })
+
 -- a matrix that is not refused: "consistent, or the count .. and the pair"
-unfoldable pub judged_by : ℕ → List ℕ → List ℕ → ℕ → Consistency
+unfoldable pub judged_by : ℕ → List ℕ → List ℕ → ℕ → Option Inconsistency
 judged_by count reads writes objects =
     cond (consistent reads writes objects)
-    Consistent
-    (Inconsistent count (first_source reads writes objects) (first_target reads writes objects))
+    None
+    (inconsistent count (first_source reads writes objects) (first_target reads writes objects))
 
 -- ---- the verdict in numbers: 0 consistent, 1 not, or the refusal; then count, source and target
 
@@ -49,19 +55,23 @@ pub record ConsistencyValues : Type 0 where
   pub target : ℕ
 
 -- the numbers of each case of the answer; "A refusal returns its number, zeros elsewhere"
-abbrev pub consistency_values : Consistency → ConsistencyValues
-consistency_values Refused = record { number = matrix; count = 0; source = 0; target = 0 }
-consistency_values Consistent = record { number = 0; count = 0; source = 0; target = 0 }
-consistency_values (Inconsistent count source target) = record { number = 1; count = count; source = source; target = target }
+abbrev pub consistency_values : Result (Option Inconsistency) Refusal → ConsistencyValues
+consistency_values (Err refusal) = record { number = refusal_number refusal; count = 0; source = 0; target = 0 }
+consistency_values (Ok None) = record { number = 0; count = 0; source = 0; target = 0 }
+consistency_values (Ok (Some i)) = record { number = 1; count = i.count; source = i.source; target = i.target }
+
+-- an answer that is an error only by a malformed matrix
+abbrev pub MatrixAlone : {A : Type 0} → Result A Refusal → Type 0
+MatrixAlone answer = IfErr answer (λ refusal. refusal ≡ V.Matrix)
 
 -- what a matrix is refused for
 unfoldable pub matrix_conditions : List ℕ → List ℕ → ℕ → List Condition
 matrix_conditions reads writes objects = (matrix_good reads writes objects or_refuse matrix) ∷ []
 
 -- a refusal, or the verdict
-unfoldable pub unless_refused : ℕ → Consistency → Consistency
-unless_refused zero v = v
-unless_refused (suc n) v = Refused
+unfoldable pub unless_refused : ℕ → Option Inconsistency → Result (Option Inconsistency) Refusal
+unless_refused zero v = Ok v
+unless_refused (suc n) v = Err V.Matrix
 
 unfoldable pub matrix_verdict : List ℕ → List ℕ → ℕ → ConsistencyValues
 matrix_verdict reads writes objects =

@@ -1,42 +1,39 @@
 // An access matrix: which flows it composes beyond those that it grants (the paper, "Matrix").
 #![tactic(auto)]
 
-ghost use Rattle.std.specs.Prelude.{◌≡◌, ℕ, ◌+◌, ◌≤◌, ◌<◌, true, ◌&&◌, length, get_or};
+ghost use Rattle.std.specs.Prelude.{◌≡◌, ℕ, ◌+◌, ◌≤◌, ◌<◌, true, ◌&&◌, length};
 ghost use Rattle.matrix.specs.Limits.{subject_limit, object_limit};
 ghost use Rattle.matrix.specs.Flows.{matrix_good, rows_within, count_good, has, granted, composed};
-ghost use Rattle.matrix.specs.Verdicts.{ungranted, flow_count, judged_by, consistency_values, matrix_verdict};
+ghost use Rattle.matrix.specs.Verdicts.{ungranted, flow_count, judged_by, consistency_values, matrix_verdict, MatrixAlone};
 ghost use Rattle.matrix.specs.Rows.{spelling, row_closed, rows_closed, joined_through, Passed, Reaching, Grown, Closed};
+
+use answers::Refusal;
 
 // The most subjects and objects that a matrix has.
 pub const SUBJECT_LIMIT: usize = 8;
 
 pub const OBJECT_LIMIT: usize = 32;
 
-// The answer to a matrix: refused, or whether each composed flow is granted. If not: how many are not, and the first of them.
-#[derive(Clone, Copy)]
-pub enum Consistency {
-    Refused,
-    Consistent,
-    Inconsistent {
-        count: u32,
-        source: u32,
-        target: u32,
-    },
+// What keeps a matrix from being consistent: how many composed flows are not granted, and the first of them.
+#[derive(Clone, Copy, Debug, PartialEq, Eq)]
+pub struct Inconsistency {
+    pub count: u32,
+    pub source: u32,
+    pub target: u32,
 }
 
 // Row a of the granted flows.
+// Kept: the rows stand as two slices, with a clause that they are as many. This function, fill_granted, rows_closed and reach_flows are
+// public, and the parameters of a public function may not change.
 pub fn granted_row(reads: &[u32], writes: &[u32], a: usize) -> u32
     requires { (length writes.now ≡ length reads.now) × (a < object_limit) }
     ensures { (b : ℕ) → has result b ≡ granted reads.now writes.now a b }
 {
     let mut row = 1u32 << a;
-    let mut s = 0;
-    while s < reads.len() {
-        let r = reads[s];
+    for (s, &r) in reads.iter().enumerate() {
         let w = writes[s];
-        s += 1;
         if (r >> a) % 2 == 1 {
-            row = row | w;
+            row |= w;
         }
     }
     row
@@ -47,11 +44,8 @@ pub fn fill_granted(reads: &[u32], writes: &[u32], rows: &mut [u32], n: usize)
     requires { (length writes.now ≡ length reads.now) × (n ≤ object_limit) × (n ≤ length rows.old) }
     ensures { rows.new ≡ spelling (granted reads.now writes.now) n rows.old }
 {
-    let mut a = 0;
-    while a < n {
-        let row = granted_row(reads, writes, a);
-        rows[a] = row;
-        a += 1;
+    for a in 0..n {
+        rows[a] = granted_row(reads, writes, a);
     }
 }
 
@@ -62,15 +56,10 @@ fn row_closed(reads: &[u32], writes: &[u32], row: u32) -> bool
     requires { length writes.now ≡ length reads.now }
     ensures { result ≡ row_closed reads.now writes.now row }
 {
-    let mut t = 0;
-    while t < reads.len() {
-        let r = reads[t];
+    for (t, &r) in reads.iter().enumerate() {
         let w = writes[t];
-        t += 1;
-        if row & r != 0 {
-            if row & w != w {
-                return false;
-            }
+        if row & r != 0 && row & w != w {
+            return false;
         }
     }
     true
@@ -81,15 +70,9 @@ pub fn rows_closed(reads: &[u32], writes: &[u32]) -> bool
     requires { length writes.now ≡ length reads.now }
     ensures { result ≡ rows_closed reads.now writes.now }
 {
-    let mut s = 0;
-    while s < reads.len() {
-        let r = reads[s];
-        let w = writes[s];
-        s += 1;
-        if r != 0 {
-            if !row_closed(reads, writes, w) {
-                return false;
-            }
+    for (s, &r) in reads.iter().enumerate() {
+        if r != 0 && !row_closed(reads, writes, writes[s]) {
+            return false;
         }
     }
     true
@@ -107,32 +90,14 @@ fn joined_through(read: u32, other: u32, row: u32) -> u32
     row | other
 }
 
-// The rows become what the subjects write, and take in that of the first subject where they have an object that it reads.
-fn pass_first(reads: &[u32], writes: &[u32], reach: &mut [u32])
-    requires { (length writes.now ≡ length reads.now) × (1 ≤ length reads.now) × (length reads.now ≤ length reach.old) }
-    ensures { Passed (get_or reads.now 0 0) 0 (length reads.now) writes.now reach.new }
-{
-    let read = reads[0];
-    let other = writes[0];
-    let mut s = 0;
-    while s < writes.len() {
-        let row = joined_through(read, other, writes[s]);
-        reach[s] = row;
-        s += 1;
-    }
-}
-
 // Each row that has an object that is read takes in row k. All rows are looked at, whether there is a subject or not: that is quicker.
 fn pass_through(reach: &mut [u32], read: u32, k: usize)
     requires { (length reach.old ≡ subject_limit) × (k < subject_limit) }
     ensures { Passed read k subject_limit reach.old reach.new }
 {
     let other = reach[k];
-    let mut s = 0;
-    while s < SUBJECT_LIMIT {
-        let row = joined_through(read, other, reach[s]);
-        reach[s] = row;
-        s += 1;
+    for s in 0..SUBJECT_LIMIT {
+        reach[s] = joined_through(read, other, reach[s]);
     }
 }
 
@@ -141,11 +106,9 @@ pub fn reach_flows(reads: &[u32], writes: &[u32], reach: &mut [u32])
     requires { (length writes.now ≡ length reads.now) × (1 ≤ length reads.now) × (length reads.now ≤ subject_limit) × (length reach.old ≡ subject_limit) }
     ensures { Reaching reads.now writes.now reach.new (length reads.now) }
 {
-    pass_first(reads, writes, reach);
-    let mut k = 1;
-    while k < reads.len() {
-        pass_through(reach, reads[k], k);
-        k += 1;
+    reach[..reads.len()].copy_from_slice(writes);
+    for (k, &read) in reads.iter().enumerate() {
+        pass_through(reach, read, k);
     }
 }
 
@@ -155,14 +118,9 @@ fn grown_reads(reads: &[u32], writes: &[u32], reach: &[u32]) -> u32
     ensures { Grown reads.now writes.now reach.now result }
 {
     let mut grown: u32 = 0;
-    let mut s = 0;
-    while s < reads.len() {
-        let r = reads[s];
-        let w = writes[s];
-        let x = reach[s];
-        s += 1;
-        if w != x {
-            grown = grown | r;
+    for (s, &r) in reads.iter().enumerate() {
+        if writes[s] != reach[s] {
+            grown |= r;
         }
     }
     grown
@@ -171,21 +129,19 @@ fn grown_reads(reads: &[u32], writes: &[u32], reach: &[u32]) -> u32
 // ---- the verdict
 
 // Row a of the composed flows without the granted ones.
+// Kept: one loop for both rows. With two calls of granted_row in its place a verdict took a fifth longer or more.
 fn missing_row(reads: &[u32], writes: &[u32], reach: &[u32], n: usize, a: usize) -> u32
     requires { Closed reads.now writes.now n reach.now × (a < n) }
     ensures { (b : ℕ) → has result b ≡ ungranted reads.now writes.now n a b }
 {
     let mut granted = 1u32 << a;
     let mut reached = 1u32 << a;
-    let mut s = 0;
-    while s < reads.len() {
-        let r = reads[s];
+    for (s, &r) in reads.iter().enumerate() {
         let w = writes[s];
         let x = reach[s];
-        s += 1;
         if (r >> a) % 2 == 1 {
-            granted = granted | w;
-            reached = reached | x;
+            granted |= w;
+            reached |= x;
         }
     }
     reached & !granted
@@ -215,18 +171,16 @@ fn count_flows(reads: &[u32], writes: &[u32], reach: &[u32], grown: u32, n: usiz
     ensures { result ≡ flow_count reads.now writes.now n }
 {
     let mut count: u32 = 0;
-    let mut a = 0;
-    while a < n {
+    for a in 0..n {
         let row = ungranted_row(reads, writes, reach, grown, n, a);
-        a += 1;
         if row != 0 {
-            count += u32::count_ones(row);
+            count += row.count_ones();
         }
     }
     count
 }
 
-// The verdict: consistent, unless there is a composed flow that is not granted. It gives the first, with the count of them.
+// The first composed flow that is not granted, with the count of them, if there is one.
 fn first_flow(
     reads: &[u32],
     writes: &[u32],
@@ -234,31 +188,26 @@ fn first_flow(
     grown: u32,
     n: usize,
     count: u32,
-) -> Consistency
+) -> Option<Inconsistency>
     requires { Closed reads.now writes.now n reach.now × Grown reads.now writes.now reach.now grown }
     ensures { result ≡ judged_by count reads.now writes.now n }
 {
-    let mut found = Consistency::Consistent;
-    let mut a = 0;
-    'sources: while a < n {
+    let mut found = None;
+    'sources: for a in 0..n {
         let row = ungranted_row(reads, writes, reach, grown, n, a);
         if row == 0 {
-            a += 1;
             continue;
         }
-        let mut b = 0;
-        while b < n {
+        for b in 0..n {
             if (row >> b) % 2 == 1 {
-                found = Consistency::Inconsistent {
+                found = Some(Inconsistency {
                     count,
                     source: a as u32,
                     target: b as u32,
-                };
+                });
                 break 'sources;
             }
-            b += 1;
         }
-        a += 1;
     }
     found
 }
@@ -269,13 +218,11 @@ fn rows_within(objects: u32, reads: &[u32], writes: &[u32]) -> bool
     ensures { result ≡ (rows_within objects reads.now && rows_within objects writes.now) }
 {
     let bound = 1u64 << objects;
-    let mut s = 0;
-    while s < reads.len() {
-        let both = reads[s] | writes[s];
+    for (s, &r) in reads.iter().enumerate() {
+        let both = r | writes[s];
         if bound <= both as u64 {
             return false;
         }
-        s += 1;
     }
     true
 }
@@ -308,6 +255,7 @@ pub fn compose_flows(reads: &[u32], writes: &[u32], rows: &mut [u32], n: usize)
     requires { (matrix_good reads.now writes.now n ≡ true) × (n ≤ length rows.old) }
     ensures { rows.new ≡ spelling (composed reads.now writes.now n) n rows.old }
 {
+    // Kept: a rule of the project: no heap, so the array has room for the most that there can be.
     let mut reach = [0u32; SUBJECT_LIMIT];
     reach_flows(reads, writes, &mut reach);
     let m = reads.len();
@@ -315,38 +263,43 @@ pub fn compose_flows(reads: &[u32], writes: &[u32], rows: &mut [u32], n: usize)
 }
 
 // The verdict by what the subjects reach.
-fn judge_flows(reads: &[u32], writes: &[u32], reach: &[u32], n: usize) -> Consistency
+fn judge_flows(reads: &[u32], writes: &[u32], reach: &[u32], n: usize) -> Option<Inconsistency>
     requires { Closed reads.now writes.now n reach.now }
     ensures { result ≡ judged_by (flow_count reads.now writes.now n) reads.now writes.now n }
 {
     let grown = grown_reads(reads, writes, reach);
     let count = count_flows(reads, writes, reach, grown, n);
     if count == 0 {
-        return Consistency::Consistent;
+        return None;
     }
     first_flow(reads, writes, reach, grown, n, count)
 }
 
 // The verdict on a matrix that is not refused.
-fn judge_composed(reads: &[u32], writes: &[u32], n: usize) -> Consistency
+fn judge_composed(reads: &[u32], writes: &[u32], n: usize) -> Option<Inconsistency>
     requires { matrix_good reads.now writes.now n ≡ true }
     ensures { result ≡ judged_by (flow_count reads.now writes.now n) reads.now writes.now n }
 {
+    // Kept: a rule of the project: no heap, so the array has room for the most that there can be.
     let mut reach = [0u32; SUBJECT_LIMIT];
     reach_flows(reads, writes, &mut reach);
     let m = reads.len();
     judge_flows(reads, writes, &reach[..m], n)
 }
 
-// The verdict on a matrix. Row s is what subject s reads, or writes, bit k standing for object k.
-pub fn verdict(reads: &[u32], writes: &[u32], objects: u32) -> Consistency
-    ensures { consistency_values result ≡ matrix_verdict reads.now writes.now objects }
+// The verdict on a matrix: none if it is consistent. Row s is what subject s reads, or writes, bit k standing for object k.
+pub fn verdict(
+    reads: &[u32],
+    writes: &[u32],
+    objects: u32,
+) -> Result<Option<Inconsistency>, Refusal>
+    ensures { (consistency_values result ≡ matrix_verdict reads.now writes.now objects) × MatrixAlone result }
 {
     if !matrix_good(reads, writes, objects) {
-        return Consistency::Refused;
+        return Err(Refusal::Matrix);
     }
     if rows_closed(reads, writes) {
-        return Consistency::Consistent;
+        return Ok(None);
     }
-    judge_composed(reads, writes, objects as usize)
+    Ok(judge_composed(reads, writes, objects as usize))
 }

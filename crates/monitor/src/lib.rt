@@ -7,7 +7,7 @@ ghost use Rattle.answers.specs.Answers.{received, refused, answer_number, receiv
 ghost use Rattle.monitor.specs.Steps.{step_answer, step_effect};
 ghost use Rattle.monitor.specs.Stops.{ran, ran_effect};
 
-use answers::{Answer, Received, Verdict};
+use answers::{Answer, Received, Refusal, Verdict};
 use records::RECORD_LENGTH;
 use session::SESSION_LENGTH;
 
@@ -28,14 +28,14 @@ pub fn step_into(
         × (position.old < 256 → position.new < 256) }
 {
     if session.len() != SESSION_LENGTH {
-        return answers::LENT_LENGTH;
+        return Refusal::LentLength as u32;
     }
     if bytes.len() != RECORD_LENGTH {
-        return answers::OPERATION_RECORD;
+        return Refusal::OperationRecord as u32;
     }
     let w = records::word_of(bytes);
     if !records::is_record_word(w) {
-        return answers::OPERATION_RECORD;
+        return Refusal::OperationRecord as u32;
     }
     operations::perform_word(session, w, receiver, tag, position)
 }
@@ -65,8 +65,8 @@ fn refused_at(taken: usize) -> Ran
     ensures { result ≡ record { answer = refused operation_record; taken = taken } }
 {
     Ran {
-        answer: Answer::Refused(answers::OPERATION_RECORD),
-        taken: taken,
+        answer: Answer::Refused(Refusal::OperationRecord as u32),
+        taken,
     }
 }
 
@@ -77,7 +77,7 @@ pub fn run(session: &mut [u64], trace: &[u8]) -> Ran
 {
     if session.len() != SESSION_LENGTH {
         return Ran {
-            answer: Answer::Refused(answers::LENT_LENGTH),
+            answer: Answer::Refused(Refusal::LentLength as u32),
             taken: 0,
         };
     }
@@ -85,9 +85,7 @@ pub fn run(session: &mut [u64], trace: &[u8]) -> Ran
     let mut tag: u64 = 0;
     let mut position: u32 = 0;
     let mut taken: usize = 0;
-    let mut at: usize = 0;
-    while at < trace.len() {
-        let bytes = records::record_at(trace, at);
+    for bytes in trace.chunks(RECORD_LENGTH) {
         taken += 1;
         if bytes.len() != RECORD_LENGTH {
             return refused_at(taken);
@@ -100,10 +98,9 @@ pub fn run(session: &mut [u64], trace: &[u8]) -> Ran
         if number != answers::QUIET_NUMBER {
             return Ran {
                 answer: answers::answer_with(number, receiver, tag, position),
-                taken: taken,
+                taken,
             };
         }
-        at += bytes.len();
     }
     Ran {
         answer: Answer::Given(
@@ -114,6 +111,6 @@ pub fn run(session: &mut [u64], trace: &[u8]) -> Ran
                 position: 0,
             },
         ),
-        taken: taken,
+        taken,
     }
 }

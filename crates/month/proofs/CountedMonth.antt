@@ -8,7 +8,11 @@ use mathlib.Core.List.{List, [], ◌∷◌, ◌++◌}
 use lib.ListN.{length, take, length-append, length-take}
 use lib.Seq.{take_all}
 use borrow.Author.Tests.{eq-eqb}
+use Rattle.std.specs.Prelude.{Result, Ok, Err}
 use Rattle.fields.specs.Ascii.{ascii}
+use Rattle.answers.specs.declared.Refusal.{Refusal}
+use Rattle.answers.specs.Outcomes.{refusal_number, outcome_number}
+use Rattle.answers.proofs.Outcomes.{accepted, refused_by, not_accepted}
 use Rattle.records.specs.Records.{record_length}
 use Rattle.records.specs.Traces.{trace_records}
 use Rattle.monitor.specs.Runs.{run_answers, run_effect}
@@ -28,7 +32,7 @@ use Rattle.figures.proofs.MonthLaws.{part_cut, trace_counters, trace_line_lem, t
 use Rattle.figures.proofs.MonthReads.{lines_snoc, total_snoc, total_shown, records_counted, few_bytes}
 use Rattle.figures.proofs.Theorems.{month_refused}
 use Rattle.files.specs.declared.Part.{Part}
-use Rattle.files.specs.Calls.{Handed, handed_none, handed_then, handed_as, Taken, taken_none, taken_then, Absent, FileLoaded, PartRead}
+use Rattle.files.specs.Calls.{Handed, handed_none, handed_then, handed_as, Taken, taken_none, taken_then, FileLoaded, PartRead}
 use Rattle.month.specs.Runs.{part_size, TraceRead, TracesRead, TraceCounted, TraceShown, TracesShown, MonthOf, MonthShown}
 
 -- ---- a trace part by part
@@ -91,11 +95,11 @@ module _ (name s begun s₁ part₁ : List ℕ) (c₁ : ℕ) (counts₁ alerted�
   now_whole : got.last ≡ false → length (h.trace ++ take got.size part₂) % record_length ≡ 0
   now_whole z = omega (arith, h.whole, length-append h.trace (take got.size part₂), length-take got.size part₂, r.full z, l, h.long)
 
-  pub counted_all_lem : got.last ≡ true → got.good ≡ true → TraceCounted name s (counters c₂ counts₂ alerted₂)
-  counted_all_lem z g =
+  pub counted_all_lem : got.last ≡ true → TraceCounted name s (counters c₂ counts₂ alerted₂)
+  counted_all_lem z =
       record {
         trace = h.trace ++ take got.size part₂;
-        read = inl (record { end = p₂; taken = taken_then h.taken (r.taken g); ends = r.ends g z });
+        read = inl (record { end = p₂; taken = taken_then h.taken r.taken; ends = r.ends z });
         few = omega (arith, now_length);
         counts = now_counts ∙ trace_counters s (h.trace ++ take got.size part₂);
       }
@@ -107,7 +111,7 @@ module _ (name s begun s₁ part₁ : List ℕ) (c₁ : ℕ) (counts₁ alerted�
         trace = h.trace ++ take got.size part₂;
         read =
             inr (
-              record { end = p₂; taken = taken_then h.taken (r.taken (r.going z)) },
+              record { end = p₂; taken = taken_then h.taken r.taken },
               now_whole z,
               sym (ap too_many (now_records ∙ records_counted s (h.trace ++ take got.size part₂) b)) ∙ m,
             );
@@ -125,7 +129,7 @@ module _ (name s begun s₁ part₁ : List ℕ) (c₁ : ℕ) (counts₁ alerted�
         long = l ∙ h.long;
         session = k ∙ h.session;
         wide = w ∙ h.wide;
-        taken = taken_then h.taken (r.taken (r.going z));
+        taken = taken_then h.taken r.taken;
         leaves = now_leaves;
         counted = now_counts;
       }
@@ -187,26 +191,6 @@ module _ (s : List ℕ) (total : Counters) (n a b : ℕ) (h : Showing s total n 
             (handed_then h.handed (handed_as (ap (λ (k : ℕ). trace_line k (trace_figures s v.trace)) z) v.handed));
       }
 
-  pub shown_missing : {name : List ℕ} → name ≡ name_of n → Absent name → TracesShown s total a b
-  shown_missing m x =
-      record {
-        traces = h.traces;
-        read = h.read;
-        complete = (omega (arith, h.count, h.limit), inr (subst Absent (m ∙ ap name_of (sym h.count)) x));
-        sums = h.sums;
-        handed = h.handed;
-      }
-
-  pub shown_limit : trace_limit ≤ n → TracesShown s total a b
-  shown_limit l =
-      record {
-        traces = h.traces;
-        read = h.read;
-        complete = (omega (arith, h.count, h.limit), inl (omega (arith, h.count, h.limit)));
-        sums = h.sums;
-        handed = h.handed;
-      }
-
 -- ---- the month
 
 pub month_of : (s : List ℕ) (k : Counters) (a b d : ℕ) → TracesShown s k a b → Handed (month_total_line (figures_in k)) b d → MonthOf s a d
@@ -221,30 +205,32 @@ month_of s k a b d h w =
           (handed_as (ap (λ (x : Counters). month_total_line (figures_in x)) h.sums ∙ total_shown s h.traces h.complete.0) w);
     }
 
-module _ {name : List ℕ} {room : ℕ} (policy : List ℕ) (refusal : ℕ) (n : name ≡ ascii "policy.bin") (k : room ≡ image_limit + 1) (f : FileLoaded name policy room)
-    (r : refusal ≡ check_of policy) where
+module _ {name : List ℕ} {room : ℕ} (policy : List ℕ) (n : name ≡ ascii "policy.bin") (k : room ≡ image_limit + 1) (f : FileLoaded name policy room)
+    (checked : Result (Unit {0}) Refusal) (r : outcome_number checked ≡ check_of policy) where
   read_policy : FileLoaded (ascii "policy.bin") policy (image_limit + 1)
   read_policy = subst (λ (x : List ℕ). FileLoaded x policy (image_limit + 1)) n (subst (λ (x : ℕ). FileLoaded name policy x) k f)
 
-  pub shown_refused : (a b : ℕ) → (refusal ≡ 0 → ⊥) → Handed (policy_line refusal) a b → MonthShown a b
-  shown_refused a b d h =
+  pub shown_refused : (refusal : Refusal) → checked ≡ Err refusal → (a b : ℕ) → Handed (policy_line (refusal_number refusal)) a b → MonthShown a b
+  shown_refused refusal w a b h =
+      let d : check_of policy ≡ 0 → ⊥ = not_accepted r w in
       record {
         policy = policy;
         traces = [];
         policy_file = read_policy;
-        read = λ e. absurd (d (r ∙ e));
-        complete = λ e. absurd (d (r ∙ e));
-        handed = handed_as (ap policy_line r ∙ sym (month_refused policy [] (λ e. d (r ∙ e)))) h;
+        read = λ e. absurd (d e);
+        complete = λ e. absurd (d e);
+        handed = handed_as (ap policy_line (sym (refused_by r w)) ∙ sym (month_refused policy [] d)) h;
       }
 
-  pub shown_month : (a b : ℕ) → refusal ≡ 0 → MonthOf (start_of (policy_in policy)) a b → MonthShown a b
+  pub shown_month : (u : Unit {0}) → checked ≡ Ok u → (a b : ℕ) → MonthOf (start_of (policy_in policy)) a b → MonthShown a b
   unfolding month_text
-  shown_month a b z h =
+  shown_month u w a b h =
+      let good : check_of policy ≡ 0 = accepted r w in
       record {
         policy = policy;
         traces = h.traces;
         policy_file = read_policy;
         read = λ _. h.read;
         complete = λ _. h.complete;
-        handed = handed_as (sym (rw (eq-eqb (check_of policy) 0 (sym r ∙ z), take_all trace_limit h.traces h.complete.0))) h.handed;
+        handed = handed_as (sym (rw (eq-eqb (check_of policy) 0 good, take_all trace_limit h.traces h.complete.0))) h.handed;
       }

@@ -6,6 +6,7 @@
 
 ghost use Rattle.std.specs.Prelude.{◌≡◌, length};
 ghost use Rattle.std.specs.Fd.{file_raw_fd};
+ghost use Rattle.answers.specs.Outcomes.{refusal_number};
 ghost use Rattle.image.specs.Image.{check_of, policy_in};
 ghost use Rattle.session.specs.Limits.{session_length};
 ghost use Rattle.session.specs.Session.{start_of};
@@ -14,7 +15,9 @@ ghost use Rattle.figures.specs.Counters.{counters, no_counters};
 ghost use Rattle.files.specs.Calls.{DoneOrTold, OpenedAs, Handed};
 ghost use Rattle.month.specs.Runs.{TraceCounted, TraceShown, TracesShown, MonthOf, MonthShown};
 
+use answers::Refusal;
 use figures::{COUNT_LIMIT, TRACE_LIMIT};
+use files::Failure;
 use image::CONTAINER_LIMIT;
 use listing::BUFFER_SIZE;
 use session::SESSION_LENGTH;
@@ -26,15 +29,8 @@ const POLICY_ROOM: usize = image::IMAGE_LIMIT + 1;
 // The bytes of a part of a trace: 8,192 whole records.
 const PART_SIZE: usize = 65536;
 
-// The records so far, and whether all went well.
-#[derive(Clone, Copy)]
-pub struct Progress {
-    pub good: bool,
-    pub records: u64,
-}
-
-// A trace in parts of whole records, only the last of which may end short, counted to its end or until it is too long. Nothing says
-// that a file ends, so the turns are counted down, from more than any file has.
+// A trace in parts of whole records, only the last of which may end short, counted to its end or until it is too long: how many records
+// it has. Nothing says that a file ends, so the turns are counted, to more than any file has.
 fn add_file(
     rt: &HostRuntime,
     file: &File,
@@ -42,40 +38,26 @@ fn add_file(
     session: &mut [u64],
     counts: &mut [u32; COUNT_LIMIT],
     alerted: &mut [u32],
-) -> Progress
+) -> Result<u64, Failure>
     requires { OpenedAs name.now (file_raw_fd file.now) × (counts.old ≡ no_counters.counts) × (alerted.old ≡ no_counters.alerted) }
-    ensures { DoneOrTold result.good (TraceCounted name.now session.old (counters result.records counts.new alerted.new)) }
+    ensures { DoneOrTold result (λ records. TraceCounted name.now session.old (counters records counts.new alerted.new)) }
 {
+    // Kept: a rule of the project: no heap, so the array has room for the most that there can be.
     let mut part = [0u8; PART_SIZE];
     let mut records: u64 = 0;
     let mut place: u64 = 0;
-    let mut turns = u64::MAX;
-    while turns > 0 {
-        turns -= 1;
-        let got = files::read_part(rt, file, name, &mut part, &mut place);
-        let n = got.size;
-        records = figures::add_part(&part[..n], session, counts, alerted, records);
-        if got.last {
-            return Progress {
-                good: got.good,
-                records: records,
-            };
-        }
-        if figures::too_long(records) {
-            return Progress {
-                good: true,
-                records: records,
-            };
+    for _ in 0..u64::MAX {
+        let got = files::read_part(rt, file, name, &mut part, &mut place)?;
+        records = figures::add_part(&part[..got.size], session, counts, alerted, records);
+        if got.last || figures::too_long(records) {
+            return Ok(records);
         }
     }
     files::tell_spent(rt, name);
-    Progress {
-        good: false,
-        records: records,
-    }
+    Err(Failure)
 }
 
-// Trace number n, which is there: counted in a new session, shown, and added to the total.
+// Trace number n, which is there: counted in a new session, shown, and added to the total, whose records are answered.
 fn show_trace(
     rt: &HostRuntime,
     n: usize,
@@ -88,30 +70,22 @@ fn show_trace(
     total: u64,
     out: &mut [u8; BUFFER_SIZE],
     sent: &mut u64,
-) -> Progress
+) -> Result<u64, Failure>
     requires { OpenedAs name.now (file_raw_fd file.now) × (check_of policy.now ≡ 0) × (length session.old ≡ session_length) }
-    ensures { DoneOrTold result.good
-        (TraceShown n name.now (start_of (policy_in policy.now)) (counters total totals.old sums.old)
-        (counters result.records totals.new sums.new) sent.old sent.new) }
+    ensures { DoneOrTold result (λ summed.
+        TraceShown n name.now (start_of (policy_in policy.now)) (counters total totals.old sums.old)
+        (counters summed totals.new sums.new) sent.old sent.new) }
 {
     let mut counts = [0u32; COUNT_LIMIT];
     let mut alerted = [0u32; CONTAINER_LIMIT];
-    session::start(policy, session);
-    let run = add_file(rt, file, name, session, &mut counts, &mut alerted);
-    if !run.good {
-        return run;
-    }
-    let records = run.records;
+    let _ = session::start(policy, session);
+    let records = add_file(rt, file, name, session, &mut counts, &mut alerted)?;
     let end = figures::put_trace(out, n, records, &counts, &alerted);
-    let written = files::write_front(rt, out, end, sent);
-    let summed = figures::add_total(totals, sums, total, &counts, &alerted, records);
-    Progress {
-        good: written,
-        records: summed,
-    }
+    files::write_front(rt, out, end, sent)?;
+    Ok(figures::add_total(totals, sums, total, &counts, &alerted, records))
 }
 
-// The lines of the traces up to the first missing name, and the counts in total.
+// The lines of the traces up to the first missing name, and the counts in total, whose records are answered.
 fn show_traces(
     rt: &HostRuntime,
     policy: &[u8],
@@ -120,91 +94,67 @@ fn show_traces(
     sums: &mut [u32; CONTAINER_LIMIT],
     out: &mut [u8; BUFFER_SIZE],
     sent: &mut u64,
-) -> Progress
+) -> Result<u64, Failure>
     requires { (check_of policy.now ≡ 0) × (length session.old ≡ session_length) × (totals.old ≡ no_counters.counts) × (sums.old ≡ no_counters.alerted) }
-    ensures { DoneOrTold result.good
-        (TracesShown (start_of (policy_in policy.now)) (counters result.records totals.new sums.new)
-        sent.old sent.new) }
+    ensures { DoneOrTold result (λ total.
+        TracesShown (start_of (policy_in policy.now)) (counters total totals.new sums.new) sent.old sent.new) }
 {
     let mut total: u64 = 0;
-    let mut n: usize = 0;
-    while n < TRACE_LIMIT {
+    for n in 0..TRACE_LIMIT {
         let name = figures::trace_name(n);
-        match files::open(rt, &name) {
-            files::Opened::File(file) => {
-                let shown = show_trace(
-                    rt, n, &file, &name, policy, session, totals, sums, total, out, sent,
-                );
-                total = shown.records;
-                if !shown.good {
-                    return shown;
-                }
-            }
-            files::Opened::Missing => {
-                return Progress {
-                    good: true,
-                    records: total,
-                };
-            }
-            files::Opened::Failed => {
-                return Progress {
-                    good: false,
-                    records: total,
-                };
-            }
-        }
-        n += 1;
+        let Some(file) = files::open(rt, &name)? else {
+            return Ok(total);
+        };
+        total = show_trace(
+            rt, n, &file, &name, policy, session, totals, sums, total, out, sent,
+        )?;
     }
-    Progress {
-        good: true,
-        records: total,
-    }
+    Ok(total)
 }
 
-// The lines of the traces and the total line, as far as all goes well: true if it does.
+// The lines of the traces and the total line, as far as nothing fails.
 fn show_month(
     rt: &HostRuntime,
     policy: &[u8],
     session: &mut [u64],
     out: &mut [u8; BUFFER_SIZE],
     sent: &mut u64,
-) -> bool
+) -> Result<(), Failure>
     requires { (check_of policy.now ≡ 0) × (length session.old ≡ session_length) }
-    ensures { DoneOrTold result (MonthOf (start_of (policy_in policy.now)) sent.old sent.new) }
+    ensures { DoneOrTold result (λ _. MonthOf (start_of (policy_in policy.now)) sent.old sent.new) }
 {
     let mut totals = [0u32; COUNT_LIMIT];
     let mut sums = [0u32; CONTAINER_LIMIT];
-    let run = show_traces(rt, policy, session, &mut totals, &mut sums, out, sent);
-    if !run.good {
-        return false;
-    }
+    show_traces(rt, policy, session, &mut totals, &mut sums, out, sent)?;
     let end = figures::put_total(out, &totals, &sums);
     files::write_front(rt, out, end, sent)
 }
 
 // The one line of a refused policy.
-fn refuse(rt: &HostRuntime, refusal: u32, out: &mut [u8; BUFFER_SIZE], sent: &mut u64) -> bool
-    ensures { DoneOrTold result (Handed (policy_line refusal) sent.old sent.new) }
+// Kept: no plainer: the watch program has the same function, and no crate that both stand on knows `files` and the listing.
+fn refuse(
+    rt: &HostRuntime,
+    refusal: Refusal,
+    out: &mut [u8; BUFFER_SIZE],
+    sent: &mut u64,
+) -> Result<(), Failure>
+    ensures { DoneOrTold result (λ _. Handed (policy_line (refusal_number refusal)) sent.old sent.new) }
 {
-    let end = trace_listing::list_refused(out, refusal);
+    let end = trace_listing::list_refused(out, refusal.number());
     files::write_front(rt, out, end, sent)
 }
 
-// The whole program: true if all went well.
-fn show_all(rt: &HostRuntime, sent: &mut u64) -> bool
-    ensures { DoneOrTold result (MonthShown sent.old sent.new) }
+// The whole program.
+fn show_all(rt: &HostRuntime, sent: &mut u64) -> Result<(), Failure>
+    ensures { DoneOrTold result (λ _. MonthShown sent.old sent.new) }
 {
     let mut out = [0u8; BUFFER_SIZE];
     // The session's buffer, which each start fills.
     let mut session = [0u64; SESSION_LENGTH];
+    // Kept: a rule of the project: no heap, so the array has room for the most that there can be.
     let mut policy = [0u8; POLICY_ROOM];
-    let loaded = files::load(rt, b"policy.bin", &mut policy);
-    if !loaded.good {
-        return false;
-    }
-    let n = loaded.size;
-    let refusal = image::check(&policy[..n]);
-    if refusal != 0 {
+    let n = files::load(rt, b"policy.bin", &mut policy)?;
+    if let Err(refusal) = image::check(&policy[..n]) {
         return refuse(rt, refusal, &mut out, sent);
     }
     show_month(rt, &policy[..n], &mut session, &mut out, sent)
@@ -212,5 +162,5 @@ fn show_all(rt: &HostRuntime, sent: &mut u64) -> bool
 
 fn main(rt: HostRuntime) {
     let mut sent: u64 = 0;
-    show_all(&rt, &mut sent);
+    let _ = show_all(&rt, &mut sent);
 }

@@ -112,7 +112,7 @@ module _ (forms : List ℕ) (k j : ℕ) (l : k < length forms / form_width) (g :
       let e : position (words_at forms k) (drop j (records form_width forms)) ≡ suc (position (words_at forms k) (drop (j + 1) (records form_width forms))) = rw (← h) at step in
       record { place = omega arith; rest = omega (arith, g.rest) }
 
-  pub seek_end : k ≤ j → j ≡ position (words_at forms k) (records form_width forms)
+  pub seek_end : k ≤ j → k ≡ position (words_at forms k) (records form_width forms)
   seek_end m =
       let q : j ≡ k = omega (arith, g.place) in
-      seek_found (sym (ap (λ (x : ℕ). same_list (words_at forms k) (words_at forms x)) q ∙ same_refl (words_at forms k)))
+      sym q ∙ seek_found (sym (ap (λ (x : ℕ). same_list (words_at forms k) (words_at forms x)) q ∙ same_refl (words_at forms k)))

@@ -4,8 +4,7 @@ use mathlib.Core.Path.{◌≡◌, refl, sym, ap, ap₂, ◌∙◌}
 use mathlib.Core.Bool.{Bool, true}
 use mathlib.Core.List.{List, [], ◌∷◌, ◌++◌, map}
 use native.Mathlib.Omega.{arith}
-use lib.ListN.{length, get_or, take, drop, set, length-map, length-take, length-append}
-use lib.Seq.{take_at}
+use lib.ListN.{length, get_or, take, drop, set, length-map, length-take}
 use borrow.Author.Tests.{le-leb}
 use borrow.Rule.Slice.PartMut.{put_mid}
 use Rattle.lists.specs.Lists.{every}
@@ -139,12 +138,12 @@ module _ (rules mixtures : List ℕ) (good : rule_records_good rules mixtures �
     unfolding form_words
     forms_end h l = wrote_whole (h ∙ sym given_length) (rows_end g (omega (arith, word_rows_lem)))
 
--- ---- the part of the table that is lent
+-- ---- the words of the table that is lent
 
 pub front_long : (words : List ℕ) (n : ℕ) → n ≤ length words → length (take (n - 0) words) ≡ n
 front_long words n h = let z : n - 0 ≡ n = omega arith in omega (arith, length-take (n - 0) words)
 
-module _ (containers users rules mixtures : List ℕ) (a : SectionsAccepted containers users rules mixtures) where
+module _ {containers users rules mixtures : List ℕ} (a : SectionsAccepted containers users rules mixtures) where
   abbrev policy_rules : List Use
   policy_rules = owned_in rules mixtures
 
@@ -152,22 +151,13 @@ module _ (containers users rules mixtures : List ℕ) (a : SectionsAccepted cont
   unfolding policy_given
   rules_few = omega (arith, a.sound.few_rules, owned_count rules mixtures, length-map policy_rules (λ u. u.mixtures))
 
-  module _ (words : List ℕ) {x : List ℕ} (e : x ≡ form_words policy_rules) where
-    filled_part : take (length rules / rule_size * form_width - 0) (put_mid 0 (length rules / rule_size * form_width - 0) words x) ≡ form_words policy_rules
-    filled_part =
-        let z : length rules / rule_size * form_width - 0 ≡ length x = omega (arith, ap length e, given_length rules mixtures a.spans) in
-        ap (λ (k : ℕ). take k (put_mid 0 (length rules / rule_size * form_width - 0) words x)) z ∙ take_at x (drop (length rules / rule_size * form_width - 0) words) (length x) refl ∙ e
+  module _ {x : List ℕ} (e : x ≡ form_words policy_rules) where
+    pub filled_few : (k : ℕ) → length rules / rule_size ≤ k → length x / form_width ≤ k
+    filled_few k h = omega (arith, ap length e, given_length rules mixtures a.spans)
 
-    pub filled_long : length rules / rule_size * form_width ≤ length (put_mid 0 (length rules / rule_size * form_width - 0) words x)
-    filled_long = omega (arith, ap length e, given_length rules mixtures a.spans, length-append x (drop (length rules / rule_size * form_width - 0) words))
+    pub filled_tabled : Tabled containers users x
+    filled_tabled = rw e (words_tabled containers users policy_rules (sound_usable a.sound))
 
-    pub filled_few : (k : ℕ) → length rules / rule_size ≤ k → length (take (length rules / rule_size * form_width - 0) (put_mid 0 (length rules / rule_size * form_width - 0) words x)) / form_width ≤ k
-    filled_few k h = omega (arith, ap length filled_part, given_length rules mixtures a.spans)
-
-    pub filled_tabled : Tabled containers users (take (length rules / rule_size * form_width - 0) (put_mid 0 (length rules / rule_size * form_width - 0) words x))
-    filled_tabled = rw filled_part (words_tabled containers users policy_rules (sound_usable a.sound))
-
-    pub filled_wrote : {before after : List ℕ} {n : ℕ}
-        → Answered (policy_at containers users (take (length rules / rule_size * form_width - 0) (put_mid 0 (length rules / rule_size * form_width - 0) words x))) before after n
+    pub filled_wrote : {before after : List ℕ} {n : ℕ} → Answered (policy_at containers users x) before after n
         → Wrote (normal_image (policy_given containers users policy_rules)) before after 0 n
-    filled_wrote w = sound_wrote a.sound (words_answered containers users policy_rules (sound_usable a.sound) (rw filled_part at w))
+    filled_wrote w = sound_wrote a.sound (words_answered containers users policy_rules (sound_usable a.sound) (rw e at w))

@@ -37,13 +37,6 @@ spread h = (h / half_words + h % half_words) % half_words * spread_factor % half
 abbrev pub slot_limit : ℕ
 slot_limit = 4096
 
--- how many slots the small and the large table have
-abbrev pub few_slots : ℕ
-few_slots = 64
-
-abbrev pub many_slots : ℕ
-many_slots = 2048
-
 -- the hash of the words among n
 unfoldable pub hash_of : ℕ → List ℕ → ℕ
 hash_of n ws = spread (mixed 0 ws) * n / half_words

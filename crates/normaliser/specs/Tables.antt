@@ -2,7 +2,7 @@
 use Rattle.std.specs.Prelude.{ℕ, suc, ◌-◌, ◌*◌, ◌/◌, ◌≤◌, ◌<◌, ◌≡◌, Bool, true, cond, ◌&&◌, ◌||◌, List, [], ◌∷◌, ◌++◌, eqb, ltb, leb, length, get_or, take}
 use Rattle.lists.specs.Lists.{elem, position}
 use Rattle.rules.specs.Answers.{mixture_limit}
-use Rattle.image.specs.Limits.{unrestricted_number}
+use Rattle.image.specs.Limits.{unrestricted_number, rule_limit}
 use Rattle.fields.specs.Bytes.{records}
 use Rattle.image.specs.Policy.{named}
 use Rattle.image.specs.Normal.{Use, same_use, free_use}
@@ -93,9 +93,9 @@ found classes ranks k =
 
 -- ---- the tables before the first rule
 
--- the most rules for which small tables do
-abbrev pub few_rules : ℕ
-few_rules = 16
+-- the most words of an image's rules
+abbrev pub word_limit : ℕ
+word_limit = rule_limit * form_width
 
 pub record Cleared (forms classes slots order ranks : List ℕ) : Type 0 where
   pub classes_room : length forms / form_width ≤ length classes

@@ -1,18 +1,22 @@
 // The normaliser, and the writer of normal images that it and other producers of a policy call (the paper, "Policy image").
 #![tactic(auto)]
 
-ghost use Rattle.std.specs.Prelude.{◌≡◌, true, cond, ◌&&◌, [], map, ◌+◌, ◌*◌, ◌/◌, ◌≤◌, ◌<◌, eqb, length, get_or, take};
+ghost use Rattle.std.specs.Prelude.{◌≡◌, true, cond, ◌&&◌, [], map, ◌+◌, ◌*◌, ◌/◌, ◌≤◌, ◌<◌, eqb, length, get_or, take, IfOk};
 ghost use Rattle.lists.specs.Lists.{joined, every, position};
 ghost use Rattle.fields.specs.Bytes.{records};
 ghost use Rattle.fields.specs.Writing.{Wrote};
 ghost use Rattle.image.specs.Limits.{pair_size, unrestricted_number, container_size, user_size, rule_size, mixture_size, header_size, output_bound};
-ghost use Rattle.image.specs.Image.{containers_in, users_in, rule_records_good};
+ghost use Rattle.image.specs.Image.{containers_in, users_in};
 ghost use Rattle.image.specs.Normal.{container_bytes, span_bytes, framed, normal_image, same_use, free_use};
-ghost use Rattle.normaliser.specs.Normaliser.{normal_answer, normal_effect};
+ghost use Rattle.answers.specs.Outcomes.{outcome_number};
+ghost use Rattle.normaliser.specs.Normaliser.{written_number, normal_answer, normal_effect, normal_refusal};
 ghost use Rattle.normaliser.specs.Writer.{form_width, form_row, normal_use, form_in, use_limit, container_uses, policy_given, policy_at, form_words, Tabled, Answered};
 ghost use Rattle.normaliser.specs.Hashes.{words_at, mixed, slot_limit, hash_of, alike, slot_of, Hashed};
-ghost use Rattle.normaliser.specs.Tables.{form_at, form_good, class_of, Classified, class_at, class_named, with_class, with_classes, Ordered, Placeable, new_number, found, Cleared, few_rules};
+ghost use Rattle.normaliser.specs.Tables.{form_at, form_good, class_of, Classified, class_at, class_named, with_class, with_classes, Ordered, Placeable, new_number, found, Cleared, word_limit};
 ghost use Rattle.normaliser.specs.Sections.{pair_bytes, header_bytes, container_section, user_section, rule_section, mixture_bytes, mixture_section, Writable, owned_in, SectionsAccepted};
+
+use answers::Refusal;
+use image::RuleSections;
 
 // The words of a rule's row: those of the rule, and behind them its owner.
 pub const FORM_WIDTH: usize = rule_words::RULE_WIDTH + 1;
@@ -108,15 +112,13 @@ fn first_same(forms: &[u64], k: usize) -> usize
     ensures { result ≡ position (words_at forms.now k) (records form_width forms.now) }
 {
     let a = k * FORM_WIDTH;
-    let mut j: usize = 0;
-    while j < k {
+    for j in 0..k {
         let b = j * FORM_WIDTH;
         if rules::same(&forms[a..a + FORM_WIDTH], &forms[b..b + FORM_WIDTH]) {
             return j;
         }
-        j += 1;
     }
-    j
+    k
 }
 
 // The class of a rule, given the first rule with its words.
@@ -135,10 +137,8 @@ fn mixed(words: &[u64]) -> u64
     ensures { result ≡ mixed 0 words.now }
 {
     let mut h: u64 = 0;
-    let mut i: usize = 0;
-    while i < words.len() {
-        h = (h << ROTATION | h >> ROTATED_BACK) ^ words[i];
-        i += 1;
+    for &word in words {
+        h = (h << ROTATION | h >> ROTATED_BACK) ^ word;
     }
     h
 }
@@ -208,17 +208,16 @@ fn classify(forms: &[u64], classes: &mut [u16], slots: &mut [u16])
     ensures { Classified forms.now classes.new (length forms.now / form_width) }
 {
     let n = forms.len() / FORM_WIDTH;
-    let mut k: usize = 0;
-    while k < n {
+    for k in 0..n {
         let v = class_of(forms, classes, slots, k);
         classes[k] = v as u16;
-        k += 1;
     }
 }
 
 // ---- classes by first use
 
 // The class of rule number k takes the next place, unless it is the unrestricted one or has a place: how many places are taken.
+// Kept: no plainer. A struct of order, ranks and m would have `Ordered` as its ghost field, which does not hold between the two writes below.
 fn place(classes: &[u16], order: &mut [u16], ranks: &mut [u16], m: usize, k: usize) -> usize
     requires { Placeable classes.now order.old ranks.old m k }
     ensures { (take result order.new ≡ with_class (take m order.old) (class_at classes.now k)) × Ordered order.new ranks.new result }
@@ -253,14 +252,12 @@ fn place_containers(
 {
     let n = containers.len() / image::CONTAINER_SIZE;
     let mut m: usize = 0;
-    let mut i: usize = 0;
-    while i < n {
+    for i in 0..n {
         let at = i * image::CONTAINER_SIZE;
         let permit = fields::read16(containers, at + 2);
         let run = fields::read16(containers, at + 4);
         let next = place(classes, order, ranks, m, permit);
         m = place(classes, order, ranks, next, run);
-        i += 1;
     }
     m
 }
@@ -281,75 +278,71 @@ fn place_users(
 {
     let n = users.len() / image::USER_SIZE;
     let mut k = m;
-    let mut i: usize = 0;
-    while i < n {
+    for i in 0..n {
         let rule = fields::read16(users, i * image::USER_SIZE);
         k = place(classes, order, ranks, k, rule);
-        i += 1;
     }
     k
 }
 
 // ---- new numbers
 
-// The new number of rule k.
-fn number(classes: &[u16], ranks: &[u16], k: usize) -> usize
-    requires { found classes.now ranks.now k ≡ true }
-    ensures { result ≡ new_number classes.now ranks.now k }
-{
-    if k == image::UNRESTRICTED_NUMBER {
-        return image::UNRESTRICTED_NUMBER;
-    }
-    let v = classes[k] as usize;
-    if v == image::UNRESTRICTED_NUMBER {
-        return image::UNRESTRICTED_NUMBER;
-    }
-    (ranks[v] - 1) as usize
+// How the rule numbers change: the class of each rule, and the place of each class in the order of first use, counted from 1.
+#[derive(Clone, Copy)]
+struct Numbering<'a> {
+    classes: &'a [u16],
+    ranks: &'a [u16],
 }
 
-// ---- sections
-
-// The containers with their new rule numbers: the place behind them.
-fn write_containers(
-    out: &mut [u8],
-    start: usize,
-    containers: &[u8],
-    classes: &[u16],
-    ranks: &[u16],
-) -> usize
-    requires { (start + length containers.now / container_size * container_size ≤ length out.old)
-        × (every (found classes.now ranks.now) (container_uses (containers_in containers.now)) ≡ true) }
-    ensures { Wrote (container_section containers.now classes.now ranks.now) out.old out.new start result }
-{
-    let n = containers.len() / image::CONTAINER_SIZE;
-    let mut at = start;
-    let mut i: usize = 0;
-    while i < n {
-        let from = i * image::CONTAINER_SIZE;
-        let kind = fields::read8(containers, from);
-        let atom = fields::read8(containers, from + 1);
-        let permit = number(classes, ranks, fields::read16(containers, from + 2));
-        let run = number(classes, ranks, fields::read16(containers, from + 4));
-        at = put_container_record(out, at, kind, atom, permit, run);
-        i += 1;
+impl Numbering<'_> {
+    // The new number of rule k.
+    fn number(&self, k: usize) -> usize
+        requires { found self.now.classes.now self.now.ranks.now k ≡ true }
+        ensures { result ≡ new_number self.now.classes.now self.now.ranks.now k }
+    {
+        if k == image::UNRESTRICTED_NUMBER {
+            return image::UNRESTRICTED_NUMBER;
+        }
+        let v = self.classes[k] as usize;
+        if v == image::UNRESTRICTED_NUMBER {
+            return image::UNRESTRICTED_NUMBER;
+        }
+        (self.ranks[v] - 1) as usize
     }
-    at
-}
 
-// The users with their new rule numbers: the place behind them.
-fn write_users(out: &mut [u8], start: usize, users: &[u8], classes: &[u16], ranks: &[u16]) -> usize
-    requires { (start + length users.now / user_size * user_size ≤ length out.old) × (every (found classes.now ranks.now) (users_in users.now) ≡ true) }
-    ensures { Wrote (user_section users.now classes.now ranks.now) out.old out.new start result }
-{
-    let n = users.len() / image::USER_SIZE;
-    let mut at = start;
-    let mut i: usize = 0;
-    while i < n {
-        let rule = number(classes, ranks, fields::read16(users, i * image::USER_SIZE));
-        at = fields::put16(out, at, rule);
-        i += 1;
+    // The containers with their new rule numbers: the place behind them.
+    fn write_containers(&self, out: &mut [u8], start: usize, containers: &[u8]) -> usize
+        requires { (start + length containers.now / container_size * container_size ≤ length out.old)
+            × (every (found self.now.classes.now self.now.ranks.now) (container_uses (containers_in containers.now)) ≡ true) }
+        ensures { Wrote (container_section containers.now self.now.classes.now self.now.ranks.now) out.old out.new start result }
+    {
+        let n = containers.len() / image::CONTAINER_SIZE;
+        let mut at = start;
+        for i in 0..n {
+            let from = i * image::CONTAINER_SIZE;
+            let kind = fields::read8(containers, from);
+            let atom = fields::read8(containers, from + 1);
+            let permit = self.number(fields::read16(containers, from + 2));
+            let run = self.number(fields::read16(containers, from + 4));
+            at = put_container_record(out, at, kind, atom, permit, run);
+        }
+        at
     }
-    at
+
+    // The users with their new rule numbers: the place behind them.
+    fn write_users(&self, out: &mut [u8], start: usize, users: &[u8]) -> usize
+        requires { (start + length users.now / user_size * user_size ≤ length out.old)
+            × (every (found self.now.classes.now self.now.ranks.now) (users_in users.now) ≡ true) }
+        ensures { Wrote (user_section users.now self.now.classes.now self.now.ranks.now) out.old out.new start result }
+    {
+        let n = users.len() / image::USER_SIZE;
+        let mut at = start;
+        for i in 0..n {
+            let rule = self.number(fields::read16(users, i * image::USER_SIZE));
+            at = fields::put16(out, at, rule);
+        }
+        at
+    }
 }
 
 // The rule records of the rules in order: the place behind them.
@@ -359,14 +352,12 @@ fn write_spans(out: &mut [u8], start: usize, forms: &[u64], order: &[u16]) -> us
 {
     let mut at = start;
     let mut first: usize = 0;
-    let mut j: usize = 0;
-    while j < order.len() {
-        let v = (order[j] as usize) * FORM_WIDTH;
+    for &k in order {
+        let v = k as usize * FORM_WIDTH;
         let count = forms[v] as usize;
         let owner = forms[v + OWNER_WORD] as usize;
         at = put_rule_record(out, at, first, count, owner);
         first += count;
-        j += 1;
     }
     at
 }
@@ -377,10 +368,8 @@ fn write_rule(out: &mut [u8], start: usize, rule: &[u64]) -> usize
     ensures { Wrote (mixture_bytes rule.now) out.old out.new start result }
 {
     let mut at = start;
-    let mut i: usize = 0;
-    while i < rule.len() {
-        at = fields::put64(out, at, rule[i]);
-        i += 1;
+    for &mixture in rule {
+        at = fields::put64(out, at, mixture);
     }
     at
 }
@@ -391,12 +380,10 @@ fn write_mixtures(out: &mut [u8], start: usize, forms: &[u64], order: &[u16]) ->
     ensures { Wrote (mixture_section forms.now order.now) out.old out.new start result }
 {
     let mut at = start;
-    let mut j: usize = 0;
-    while j < order.len() {
-        let v = (order[j] as usize) * FORM_WIDTH;
+    for &k in order {
+        let v = k as usize * FORM_WIDTH;
         let count = forms[v] as usize;
         at = write_rule(out, at, &forms[v + 1..v + 1 + count]);
-        j += 1;
     }
     at
 }
@@ -417,96 +404,69 @@ fn write_header(out: &mut [u8], c: usize, u: usize, r: usize, m: usize) -> usize
 
 // ---- the image
 
-// The image of the tables: its length.
-fn write_image(
-    out: &mut [u8],
-    containers: &[u8],
-    users: &[u8],
-    forms: &[u64],
-    classes: &[u16],
-    ranks: &[u16],
-    order: &[u16],
-) -> usize
-    requires { Writable containers.now users.now forms.now classes.now ranks.now order.now out.old }
-    ensures { Wrote
-        (framed (container_section containers.now classes.now ranks.now)
-        (user_section users.now classes.now ranks.now)
-        (rule_section forms.now order.now)
-        (mixture_section forms.now order.now))
-        out.old out.new 0 result }
-{
-    let a = image::HEADER_SIZE;
-    let b = write_containers(out, a, containers, classes, ranks);
-    let c = write_users(out, b, users, classes, ranks);
-    let d = write_spans(out, c, forms, order);
-    let end = write_mixtures(out, d, forms, order);
-    write_header(out, b - a, c - b, d - c, end - d);
-    end
+// A policy in tables: containers and users as an image has them, rules in words and in normal form.
+#[derive(Clone, Copy)]
+struct TabledPolicy<'a> {
+    containers: &'a [u8],
+    users: &'a [u8],
+    forms: &'a [u64],
+    ghost tabled: { Tabled containers.now users.now forms.now },
 }
 
-// The normal image of a policy in tables, by way of tables for classes, hashes, order and ranks.
-fn write_by(
-    classes: &mut [u16],
-    slots: &mut [u16],
-    order: &mut [u16],
-    ranks: &mut [u16],
-    containers: &[u8],
-    users: &[u8],
-    forms: &[u64],
-    out: &mut [u8],
-) -> usize
-    requires { Tabled containers.now users.now forms.now × Cleared forms.now classes.old slots.old order.old ranks.old × (output_bound ≤ length out.old) }
-    ensures { Answered (policy_at containers.now users.now forms.now) out.old out.new result }
-{
-    classify(forms, classes, slots);
-    let first = place_containers(containers, classes, order, ranks);
-    let m = place_users(users, classes, order, ranks, first);
-    if image::RULE_LIMIT < m {
-        return 0;
+impl TabledPolicy<'_> {
+    // The image of the tables: its length.
+    fn write_image(&self, out: &mut [u8], numbering: &Numbering, order: &[u16]) -> usize
+        requires { Writable self.now.containers.now self.now.users.now self.now.forms.now numbering.now.classes.now numbering.now.ranks.now order.now out.old }
+        ensures { Wrote
+            (framed (container_section self.now.containers.now numbering.now.classes.now numbering.now.ranks.now)
+            (user_section self.now.users.now numbering.now.classes.now numbering.now.ranks.now)
+            (rule_section self.now.forms.now order.now)
+            (mixture_section self.now.forms.now order.now))
+            out.old out.new 0 result }
+    {
+        let a = image::HEADER_SIZE;
+        let b = numbering.write_containers(out, a, self.containers);
+        let c = numbering.write_users(out, b, self.users);
+        let d = write_spans(out, c, self.forms, order);
+        let end = write_mixtures(out, d, self.forms, order);
+        write_header(out, b - a, c - b, d - c, end - d);
+        end
     }
-    write_image(out, containers, users, forms, classes, ranks, &order[0..m])
-}
 
-// The normal image of a policy of few rules, by way of tables that are quick to clear.
-fn write_few(containers: &[u8], users: &[u8], forms: &[u64], out: &mut [u8]) -> usize
-    requires { Tabled containers.now users.now forms.now × (length forms.now / form_width ≤ few_rules) × (output_bound ≤ length out.old) }
-    ensures { Answered (policy_at containers.now users.now forms.now) out.old out.new result }
-{
-    let mut classes = [0u16; FEW_RULES];
-    let mut slots = [0u16; FEW_SLOTS];
-    let mut order = [0u16; FEW_RULES];
-    let mut ranks = [0u16; FEW_RULES];
-    write_by(
-        &mut classes,
-        &mut slots,
-        &mut order,
-        &mut ranks,
-        containers,
-        users,
-        forms,
-        out,
-    )
-}
+    // Its normal image, by way of tables for classes, hashes, order and ranks.
+    // Kept: no plainer. This function alone takes all four tables; those that it calls take the two or three of them that they use.
+    fn write_by(
+        &self,
+        classes: &mut [u16],
+        slots: &mut [u16],
+        order: &mut [u16],
+        ranks: &mut [u16],
+        out: &mut [u8],
+    ) -> usize
+        requires { Cleared self.now.forms.now classes.old slots.old order.old ranks.old × (output_bound ≤ length out.old) }
+        ensures { Answered (policy_at self.now.containers.now self.now.users.now self.now.forms.now) out.old out.new result }
+    {
+        classify(self.forms, classes, slots);
+        let first = place_containers(self.containers, classes, order, ranks);
+        let m = place_users(self.users, classes, order, ranks, first);
+        if image::RULE_LIMIT < m {
+            return 0;
+        }
+        let numbering = Numbering { classes, ranks };
+        self.write_image(out, &numbering, &order[0..m])
+    }
 
-// The same of as many rules as there can be.
-fn write_many(containers: &[u8], users: &[u8], forms: &[u64], out: &mut [u8]) -> usize
-    requires { Tabled containers.now users.now forms.now × (output_bound ≤ length out.old) }
-    ensures { Answered (policy_at containers.now users.now forms.now) out.old out.new result }
-{
-    let mut classes = [0u16; USE_LIMIT];
-    let mut slots = [0u16; MANY_SLOTS];
-    let mut order = [0u16; USE_LIMIT];
-    let mut ranks = [0u16; USE_LIMIT];
-    write_by(
-        &mut classes,
-        &mut slots,
-        &mut order,
-        &mut ranks,
-        containers,
-        users,
-        forms,
-        out,
-    )
+    // Its normal image, by way of tables for so many rules, with so many slots. Small tables are quick to clear.
+    fn write_sized<const USES: usize, const SLOTS: usize>(&self, out: &mut [u8]) -> usize
+        requires { (length self.now.forms.now / form_width ≤ USES) × (USES ≤ use_limit) × (0 < SLOTS) × (SLOTS ≤ slot_limit) × (output_bound ≤ length out.old) }
+        ensures { Answered (policy_at self.now.containers.now self.now.users.now self.now.forms.now) out.old out.new result }
+    {
+        let mut classes = [0u16; USES];
+        let mut slots = [0u16; SLOTS];
+        let mut order = [0u16; USES];
+        let mut ranks = [0u16; USES];
+        self.write_by(&mut classes, &mut slots, &mut order, &mut ranks, out)
+    }
 }
 
 // The normal image of a policy: containers and users as an image has them, rules in words and in normal form.
@@ -515,109 +475,118 @@ pub fn write_policy(containers: &[u8], users: &[u8], forms: &[u64], out: &mut [u
     requires { Tabled containers.now users.now forms.now × (output_bound ≤ length out.old) }
     ensures { Answered (policy_at containers.now users.now forms.now) out.old out.new result }
 {
+    let policy = TabledPolicy {
+        containers,
+        users,
+        forms,
+    };
     if forms.len() / FORM_WIDTH <= FEW_RULES {
-        write_few(containers, users, forms, out)
+        policy.write_sized::<FEW_RULES, FEW_SLOTS>(out)
     } else {
-        write_many(containers, users, forms, out)
+        policy.write_sized::<USE_LIMIT, MANY_SLOTS>(out)
     }
 }
 
 // ---- the normaliser
 
-// Rule k of an image's sections in normal form, with its owner.
-fn put_row(row: &mut [u64], rules: &[u8], mixtures: &[u8], k: usize)
-    requires { (length row.old ≡ form_width) × (k < length rules.now / rule_size) × (rule_records_good rules.now mixtures.now ≡ true) }
-    ensures { row.new ≡ form_row (normal_use (get_or (owned_in rules.now mixtures.now) k free_use)) }
-{
-    image::put_own_rule(&mut row[0..OWNER_WORD], rules, mixtures, k);
-    row[OWNER_WORD] = fields::read16(rules, k * image::RULE_SIZE + image::RULE_OWNER_AT) as u64;
+// The sections of an image that is accepted.
+#[derive(Clone, Copy)]
+struct Sections<'a> {
+    containers: &'a [u8],
+    users: &'a [u8],
+    rules: RuleSections<'a>,
+    ghost accepted: { SectionsAccepted containers.now users.now rules.records.now rules.mixtures.now },
 }
 
-// The rules of an image's sections, in normal form.
-fn fill_forms(forms: &mut [u64], rules: &[u8], mixtures: &[u8])
-    requires { (length forms.old ≡ length rules.now / rule_size * form_width) × (rule_records_good rules.now mixtures.now ≡ true) }
-    ensures { forms.new ≡ form_words (owned_in rules.now mixtures.now) }
-{
-    let n = rules.len() / image::RULE_SIZE;
-    let mut k: usize = 0;
-    while k < n {
-        let at = k * FORM_WIDTH;
-        put_row(&mut forms[at..at + FORM_WIDTH], rules, mixtures, k);
-        k += 1;
+impl Sections<'_> {
+    // How many rules they have.
+    fn rule_count(&self) -> usize
+        ensures { result ≡ length self.now.rules.records.now / rule_size }
+    {
+        self.rules.records.len() / image::RULE_SIZE
     }
-}
 
-// The normal image of the policy of an image's sections, of few rules: its length.
-fn rewrite_few(
-    containers: &[u8],
-    users: &[u8],
-    rules: &[u8],
-    mixtures: &[u8],
-    out: &mut [u8],
-) -> usize
-    requires { SectionsAccepted containers.now users.now rules.now mixtures.now × (length rules.now / rule_size ≤ few_rules) × (output_bound ≤ length out.old) }
-    ensures { Wrote (normal_image (policy_given containers.now users.now (owned_in rules.now mixtures.now)))
-        out.old out.new 0 result }
-{
-    let mut forms = [0u64; FEW_WORDS];
-    let n = rules.len() / image::RULE_SIZE * FORM_WIDTH;
-    fill_forms(&mut forms[0..n], rules, mixtures);
-    write_few(containers, users, &forms[0..n], out)
-}
-
-// The same of as many rules as an image can have.
-fn rewrite_many(
-    containers: &[u8],
-    users: &[u8],
-    rules: &[u8],
-    mixtures: &[u8],
-    out: &mut [u8],
-) -> usize
-    requires { SectionsAccepted containers.now users.now rules.now mixtures.now × (output_bound ≤ length out.old) }
-    ensures { Wrote (normal_image (policy_given containers.now users.now (owned_in rules.now mixtures.now)))
-        out.old out.new 0 result }
-{
-    let mut forms = [0u64; MANY_WORDS];
-    let n = rules.len() / image::RULE_SIZE * FORM_WIDTH;
-    fill_forms(&mut forms[0..n], rules, mixtures);
-    write_many(containers, users, &forms[0..n], out)
-}
-
-// There is no container and no user, so that no rule is in use.
-fn names_nothing(containers: &[u8], users: &[u8]) -> bool
-    ensures { result ≡ (eqb (length containers.now) 0 && eqb (length users.now) 0) }
-{
-    containers.len() == 0 && users.len() == 0
-}
-
-// The normal image of the policy of an image's sections: its length. Without any use of a rule it is a header alone, and no table is made.
-fn rewrite(containers: &[u8], users: &[u8], rules: &[u8], mixtures: &[u8], out: &mut [u8]) -> usize
-    requires { SectionsAccepted containers.now users.now rules.now mixtures.now × (output_bound ≤ length out.old) }
-    ensures { Wrote (normal_image (policy_given containers.now users.now (owned_in rules.now mixtures.now)))
-        out.old out.new 0 result }
-{
-    if names_nothing(containers, users) {
-        return write_header(out, 0, 0, 0, 0);
+    // Rule k in normal form, with its owner.
+    fn put_row(&self, row: &mut [u64], k: usize)
+        requires { (length row.old ≡ form_width) × (k < length self.now.rules.records.now / rule_size) }
+        ensures { row.new ≡ form_row (normal_use (get_or (owned_in self.now.rules.records.now self.now.rules.mixtures.now) k free_use)) }
+    {
+        image::put_own_rule(&mut row[0..OWNER_WORD], self.rules, k);
+        let owner = k * image::RULE_SIZE + image::RULE_OWNER_AT;
+        row[OWNER_WORD] = fields::read16(self.rules.records, owner) as u64;
     }
-    if rules.len() / image::RULE_SIZE <= FEW_RULES {
-        return rewrite_few(containers, users, rules, mixtures, out);
+
+    // The rules in normal form.
+    fn fill_forms(&self, forms: &mut [u64])
+        requires { length forms.old ≡ length self.now.rules.records.now / rule_size * form_width }
+        ensures { forms.new ≡ form_words (owned_in self.now.rules.records.now self.now.rules.mixtures.now) }
+    {
+        for k in 0..self.rule_count() {
+            let at = k * FORM_WIDTH;
+            self.put_row(&mut forms[at..at + FORM_WIDTH], k);
+        }
     }
-    rewrite_many(containers, users, rules, mixtures, out)
+
+    // The normal image of their policy, by way of so many words for the rules and tables of so many rules and slots: its length.
+    fn rewrite_sized<const WORDS: usize, const USES: usize, const SLOTS: usize>(
+        &self,
+        out: &mut [u8],
+    ) -> usize
+        requires { (length self.now.rules.records.now / rule_size * form_width ≤ WORDS) × (WORDS ≤ word_limit)
+            × (length self.now.rules.records.now / rule_size ≤ USES) × (USES ≤ use_limit) × (0 < SLOTS) × (SLOTS ≤ slot_limit) × (output_bound ≤ length out.old) }
+        ensures { Wrote (normal_image (policy_given self.now.containers.now self.now.users.now (owned_in self.now.rules.records.now self.now.rules.mixtures.now)))
+            out.old out.new 0 result }
+    {
+        // Kept: a rule of the project: no heap, so the array has room for the most that there can be.
+        let mut words = [0u64; WORDS];
+        let words = &mut words[..];
+        let forms = &mut words[..self.rule_count() * FORM_WIDTH];
+        self.fill_forms(forms);
+        let policy = TabledPolicy {
+            containers: self.containers,
+            users: self.users,
+            forms,
+        };
+        policy.write_sized::<USES, SLOTS>(out)
+    }
+
+    // There is no container and no user, so that no rule is in use.
+    fn names_nothing(&self) -> bool
+        ensures { result ≡ (eqb (length self.now.containers.now) 0 && eqb (length self.now.users.now) 0) }
+    {
+        self.containers.len() == 0 && self.users.len() == 0
+    }
+
+    // The normal image of their policy: its length. Without any use of a rule it is a header alone, and no table is made.
+    fn rewrite(&self, out: &mut [u8]) -> usize
+        requires { output_bound ≤ length out.old }
+        ensures { Wrote (normal_image (policy_given self.now.containers.now self.now.users.now (owned_in self.now.rules.records.now self.now.rules.mixtures.now)))
+            out.old out.new 0 result }
+    {
+        if self.names_nothing() {
+            return write_header(out, 0, 0, 0, 0);
+        }
+        if self.rule_count() <= FEW_RULES {
+            self.rewrite_sized::<FEW_WORDS, FEW_RULES, FEW_SLOTS>(out)
+        } else {
+            self.rewrite_sized::<MANY_WORDS, USE_LIMIT, MANY_SLOTS>(out)
+        }
+    }
 }
 
 // The normal image of an image: its length, or the refusal.
-pub fn normalise(image: &[u8], out: &mut [u8]) -> u32
-    ensures { (result ≡ normal_answer image.now out.old) × (out.new ≡ normal_effect image.now out.old) }
+pub fn normalise(image: &[u8], out: &mut [u8]) -> Result<usize, Refusal>
+    ensures { (written_number result ≡ normal_answer image.now out.old) × (out.new ≡ normal_effect image.now out.old)
+        × IfOk result (λ n. n ≤ output_bound) × (outcome_number result ≡ normal_refusal image.now out.old) }
 {
     if out.len() < image::OUTPUT_BOUND {
-        return answers::LENT_LENGTH;
+        return Err(Refusal::LentLength);
     }
-    let refusal = image::check(image);
-    if refusal != 0 {
-        return refusal;
-    }
-    let containers = image::section(image, 0);
-    let users = image::section(image, 1);
-    let rules = image::section(image, 2);
-    rewrite(containers, users, rules, image::section(image, 3), out) as u32
+    let policy = image::accept(image)?;
+    let sections = Sections {
+        containers: policy.containers(),
+        users: policy.users(),
+        rules: policy.rules(),
+    };
+    Ok(sections.rewrite(out))
 }

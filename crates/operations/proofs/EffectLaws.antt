@@ -7,7 +7,7 @@ use native.Mathlib.Omega.{arith}
 use lib.Bits.{bit_or}
 use lib.Dec.{eqb}
 use lib.ListN.{length, get_or, take, drop, replicate}
-use borrow.Author.Tests.{le-leb, not-true, not-false}
+use borrow.Author.Tests.{not-true, not-false}
 use borrow.Rule.Slice.PartMut.{put_mid}
 use Rattle.lists.specs.Lists.{every}
 use Rattle.lists.proofs.Bools.{and_1}
@@ -19,7 +19,7 @@ use Rattle.rules.specs.Sets.{data_of, running_of}
 use Rattle.rules.specs.Rules.{covers, no_position, cover_from, cover_place, meet, unrestricted}
 use Rattle.rules.specs.Answers.{data_width, tag_width, mixture_limit, padded, bounded_of}
 use Rattle.rules.specs.declared.Bounded.{Bounded}
-use Rattle.rules.proofs.BoundedLaws.{bounded_some, padded_take}
+use Rattle.rules.proofs.BoundedLaws.{padded_take}
 use Rattle.rules.proofs.CoverLaws.{place_missed, place_empty}
 use Rattle.image.specs.Limits.{container_limit, user_limit, file_kind, volatile_kind, process_kind, is_guarded}
 use Rattle.image.specs.Policy.{unrestricted_rule}
@@ -39,7 +39,7 @@ use Rattle.operations.proofs.ViewLaws.{view_row}
 use Rattle.operations.proofs.RefusalTests.{kind_read}
 use Rattle.operations.proofs.ReadyLaws.{process_kind_lem, ready_process, ready_object, ready_user}
 use Rattle.operations.proofs.RowSteps.{KeptAs, words_lent, permit_kept, row_used, row_counts, row_long, run_kept, run_single}
-use Rattle.operations.proofs.RowSteps.{user_kept_as, met, content_row, new_row, fits_short, fits_made, rule_short}
+use Rattle.operations.proofs.RowSteps.{user_kept_as, Made, met, content_row, new_row, fits_short}
 
 -- the answer a and the session s₁ afterwards are as the step t asks
 abbrev pub Done : List ℕ → Step → Answer → List ℕ → Type 0
@@ -73,14 +73,11 @@ lent_permit s c l = ap (λ (x : List ℕ). (row_of x).permit) (row_lent s c) ∙
 pub permit_short_lem : (s : List ℕ) (c : ℕ) → UsedAt s c → length ((view s).row c).permit ≤ mixture_limit
 permit_short_lem s c h = rw (view_row s c h.low) (row_used s c h).permit_short
 
-pub run_short_lem : (s : List ℕ) (c : ℕ) → UsedAt s c → length ((view s).row c).run ≤ mixture_limit
-run_short_lem s c h = rw (view_row s c h.low) (row_used s c h).run_short
-
 -- another tag and run rule, as a row
-content_seen : (s : List ℕ) (c : ℕ) → UsedAt s c → (t : ℕ) (r : List ℕ) (m : Bounded) → m ≡ bounded_of r → length r ≤ mixture_limit → (ws : List ℕ) → ws ≡ content_words (lent s c) t m
+content_seen : (s : List ℕ) (c : ℕ) → UsedAt s c → (t : ℕ) (r : List ℕ) (m : Bounded) → m ≡ bounded_of r → (ws : List ℕ) → ws ≡ content_words (lent s c) t m
     → ws ≡ row_words (record { kind = ((view s).row c).kind; tag = t; permit = ((view s).row c).permit; run = r; behalf = ((view s).row c).behalf })
-content_seen s c h t r m e l ws ew =
-    ew ∙ ap (λ (x : List ℕ). content_words x t m) (row_lent s c) ∙ content_row s c h t r m e l
+content_seen s c h t r m e ws ew =
+    ew ∙ ap (λ (x : List ℕ). content_words x t m) (row_lent s c) ∙ content_row s c h t r m e
     ∙ ap (λ (w : Row). row_words (record { kind = w.kind; tag = t; permit = w.permit; run = r; behalf = w.behalf })) (sym (view_row s c h.low))
 
 -- ---- answers
@@ -120,8 +117,9 @@ verdict_unjudged t w j = rw (unblocked t w j, j)
 
 -- ---- the rule of a `Bounded`
 
-bounded_rule : (r : List ℕ) (m : Bounded) → m ≡ bounded_of r → length r ≤ mixture_limit → (m.count ≤ mixture_limit) × (take m.count m.mixtures ≡ r)
-bounded_rule r m e l = rw (e, bounded_some r (le-leb (length r) mixture_limit l)) (l, padded_take r (length r) refl)
+bounded_rule : (r : List ℕ) (m : Bounded) → m ≡ bounded_of r → (m.count ≡ length r) × (take m.count m.mixtures ≡ r)
+unfolding bounded_of
+bounded_rule r m e = rw e (refl, padded_take r (length r) refl)
 
 -- a process is not guarded
 process_unguarded : (w : Row) → w.kind ≡ process_kind → is_guarded w.kind ≡ false
@@ -143,20 +141,20 @@ module _ (s : List ℕ) (t : Step) (g : meet_good (view s) t ≡ true) where
 
   -- all of it new
   new_done : (w : Row) → is_guarded w.kind ≡ false → (entry (view s) t).row ≡ w → (m n : Bounded) (a : Answer) (ws : List ℕ)
-      → m ≡ bounded_of w.permit → length w.permit ≤ mixture_limit → n ≡ bounded_of w.run → length w.run ≤ mixture_limit
+      → m ≡ bounded_of w.permit → n ≡ bounded_of w.run
       → a ≡ verdict t w → ws ≡ new_words w.kind w.tag m n w.behalf
       → Done s t a (returned s (receiver t) ws)
-  new_done w free ew m n a ws em lm en ln ea e =
-      put_done (ap (blocks t) ew ∙ unguarded t w free) a ws (ea ∙ ap (verdict t) (sym ew)) (e ∙ new_row w.kind w.tag w.permit w.run m n w.behalf em lm en ln ∙ ap row_words (sym ew))
+  new_done w free ew m n a ws em en ea e =
+      put_done (ap (blocks t) ew ∙ unguarded t w free) a ws (ea ∙ ap (verdict t) (sym ew)) (e ∙ new_row w.kind w.tag w.permit w.run m n w.behalf em en ∙ ap row_words (sym ew))
 
   -- of a process
   replace_done : (w : Row) → (entry (view s) t).row ≡ w → (m n : Bounded) (a : Answer) (ws : List ℕ) → judged t ≡ true → w.kind ≡ process_kind
-      → m ≡ bounded_of w.permit → length w.permit ≤ mixture_limit → n ≡ bounded_of w.run → length w.run ≤ mixture_limit
+      → m ≡ bounded_of w.permit → n ≡ bounded_of w.run
       → a ≡ cover_answer (receiver t) (take m.count m.mixtures) w.tag → ws ≡ new_words process_kind w.tag m n w.behalf
       → Done s t a (returned s (receiver t) ws)
-  replace_done w ew m n a ws j ek em lm en ln ea e =
-      new_done w (process_unguarded w ek) ew m n a ws em lm en ln
-      (ea ∙ ap (λ (x : List ℕ). cover_answer (receiver t) x w.tag) (bounded_rule w.permit m em lm).1 ∙ verdict_covers t w (unguarded t w (process_unguarded w ek)) j)
+  replace_done w ew m n a ws j ek em en ea e =
+      new_done w (process_unguarded w ek) ew m n a ws em en
+      (ea ∙ ap (λ (x : List ℕ). cover_answer (receiver t) x w.tag) (bounded_rule w.permit m em).1 ∙ verdict_covers t w (unguarded t w (process_unguarded w ek)) j)
       (e ∙ ap (λ (k : ℕ). new_words k w.tag m n w.behalf) (sym ek))
 
 -- ---- whether the access is blocked
@@ -181,31 +179,31 @@ module _ (s : List ℕ) (c tag : ℕ) (h : UsedAt s c) (b : Bool) (e : b ≡ is_
 
 -- ---- a container that takes in what another has
 
-module _ (s : List ℕ) (c d t : ℕ) (h : UsedAt s c) (m : Bounded) (em : m ≡ bounded_of (meet ((view s).row c).run ((view s).row d).run)) where
-  shared_fits : fits (shared_run s c d) ≡ m.fits
-  unfolding shared_run
-  shared_fits = sym (fits_made (shared_run s c d) m em)
+module _ (s : List ℕ) (c d t : ℕ) where
+  -- the meet does not fit
+  module _ (f : fits (meet ((view s).row c).run ((view s).row d).run) ≡ false) where
+    pub absorb_over : (refused over_limit ≡ absorb_answer s c d t) × (s ≡ absorb_effect s c d t)
+    unfolding absorb_answer absorb_effect shared_run
+    absorb_over = (rw f, rw f)
 
-  pub absorb_over : m.fits ≡ false → (refused over_limit ≡ absorb_answer s c d t) × (s ≡ absorb_effect s c d t)
-  unfolding absorb_answer absorb_effect
-  absorb_over f = (rw (shared_fits ∙ f), rw (shared_fits ∙ f))
+    -- where it is withheld
+    pub withheld_over : refused over_limit ≡ withheld_answer s c d t
+    unfolding withheld_answer shared_run
+    withheld_over = rw f
 
-  pub absorb_done : m.fits ≡ true → (a : Answer) (ws : List ℕ) → a ≡ cover_answer c (row_of (lent s c)).permit t → ws ≡ content_words (lent s c) t m
+  -- it fits
+  pub withheld_fits : fits (meet ((view s).row c).run ((view s).row d).run) ≡ true → (a : Answer) → a ≡ blocked c t no_position → a ≡ withheld_answer s c d t
+  unfolding withheld_answer shared_run
+  withheld_fits f a ea = ea ∙ rw f
+
+  pub absorb_done : UsedAt s c → (m : Bounded) → Made (meet ((view s).row c).run ((view s).row d).run) m → (a : Answer) (ws : List ℕ)
+      → a ≡ cover_answer c (row_of (lent s c)).permit t → ws ≡ content_words (lent s c) t m
       → (a ≡ absorb_answer s c d t) × (returned s c ws ≡ absorb_effect s c d t)
   unfolding absorb_answer absorb_effect absorbed shared_run
-  absorb_done f a ws ea ew =
-      let g : fits (shared_run s c d) ≡ true = shared_fits ∙ f in
-      let e : ws ≡ row_words (absorbed s c d t) = content_seen s c h t (shared_run s c d) m em (fits_short (shared_run s c d) g) ws ew in
+  absorb_done h m k a ws ea ew =
+      let g : fits (shared_run s c d) ≡ true = k.small in
+      let e : ws ≡ row_words (absorbed s c d t) = content_seen s c h t (shared_run s c d) m k.said ws ew in
       (ea ∙ ap (λ (x : List ℕ). cover_answer c x t) (lent_permit s c h.low) ∙ rw g, row_returned s c ws ∙ rw (g, e))
-
-  -- where it is withheld
-  pub withheld_over : m.fits ≡ false → refused over_limit ≡ withheld_answer s c d t
-  unfolding withheld_answer
-  withheld_over f = rw (shared_fits ∙ f)
-
-  pub withheld_fits : m.fits ≡ true → (a : Answer) → a ≡ blocked c t no_position → a ≡ withheld_answer s c d t
-  unfolding withheld_answer
-  withheld_fits f a ea = ea ∙ rw (shared_fits ∙ f)
 
 -- what an absorbing step is answered, and does, is what the table says
 module _ (s : List ℕ) (c d t : ℕ) (step : Step) (j : judged step ≡ true) (er : receiver step ≡ c) (ew : (entry (view s) step).row ≡ absorbed s c d t)
@@ -297,13 +295,13 @@ module _ (s : List ℕ) (p o : ℕ) where
       let w : Row = write_row ((view s).row p) ((view s).row o) in
       put_done s (write p o) refl (write_blocks t et ∙ free) a ws
       (ea ∙ ap₂ (λ (x : List ℕ) (y : ℕ). cover_answer o x y) (lent_permit s o uo.low) et ∙ verdict_covers (write p o) w (write_blocks t et ∙ free) refl)
-      (content_seen s o uo t ((view s).row p).run m em (run_short_lem s p (ready_process s (write p o) h)) ws ew
+      (content_seen s o uo t ((view s).row p).run m em ws ew
       ∙ ap (λ (y : ℕ). row_words (record { kind = ((view s).row o).kind; tag = y; permit = ((view s).row o).permit; run = ((view s).row p).run; behalf = ((view s).row o).behalf })) et)
 
   pub fork_fit : Ready s (fork p o) → (m : Bounded) → m ≡ bounded_of ((view s).row p).permit → (length (lent s o) ≡ row_width) × (m.count ≤ mixture_limit)
   unfolding entry
   fork_fit h m em =
-      (lent_long s o h.long h.object, (bounded_rule ((view s).row p).permit m em (permit_short_lem s p (ready_process s (fork p o) h))).0)
+      (lent_long s o h.long h.object, omega (arith, (bounded_rule ((view s).row p).permit m em).0, permit_short_lem s p (ready_process s (fork p o) h)))
 
   pub fork_done : Ready s (fork p o)
       → (m : Bounded) → m ≡ bounded_of ((view s).row p).permit → (n : Bounded) → n ≡ bounded_of ((view s).row p).run → (t : ℕ) → t ≡ ((view s).row p).tag
@@ -311,8 +309,7 @@ module _ (s : List ℕ) (p o : ℕ) where
       → ws ≡ new_words process_kind t m n b → Done s (fork p o) a (returned s o ws)
   unfolding entry fork_row meet_good every
   fork_done h m em n en t et b eb a ws ea ew =
-      let up : UsedAt s p = ready_process s (fork p o) h in
-      replace_done s (fork p o) refl (fork_row ((view s).row p)) refl m n a ws refl (process_kind_lem s (fork p o) h) em (permit_short_lem s p up) en (run_short_lem s p up)
+      replace_done s (fork p o) refl (fork_row ((view s).row p)) refl m n a ws refl (process_kind_lem s (fork p o) h) em en
       (rw et at ea) (rw (et, eb) at ew)
 
 -- the two rules that an exec meets, and their places
@@ -329,13 +326,9 @@ module _ (s : List ℕ) (p o u : ℕ) (h : Ready s (exec p o u)) where
   unfolding entry
   exec_user = user_kept_as s u (ready_user s (exec p o u) h u refl)
 
-  pub exec_met : (m : Bounded) → m ≡ bounded_of (meet (rule_of (words_from s (o * row_width + run_at))) (rule_of (words_from s (users_at + u * user_width + user_rule_at))))
-      → m ≡ bounded_of (meet ((view s).row o).run (rule_or ((view s).user u)))
-  exec_met m e = met s _ _ _ _ m exec_run exec_user e
-
-pub one_fit : (x : ℕ) (m : Bounded) → m ≡ bounded_of (x ∷ []) → m.fits ≡ true
-unfolding bounded_of
-one_fit x m e = ap (λ (n : Bounded). n.fits) e
+  pub exec_met : meet (rule_of (words_from s (o * row_width + run_at))) (rule_of (words_from s (users_at + u * user_width + user_rule_at)))
+      ≡ meet ((view s).row o).run (rule_or ((view s).user u))
+  exec_met = met s _ _ _ _ exec_run exec_user
 
 pub launch_done : (s : List ℕ) (p o u : ℕ) (m n : Bounded) → n ≡ bounded_of ((view s).row o).run → (t : ℕ) → t ≡ launch_tag s p o → (a : Answer) (ws : List ℕ)
     → a ≡ cover_answer p (take m.count m.mixtures) t → ws ≡ new_words process_kind t m n u → (a ≡ launch_answer s p o m) × (returned s p ws ≡ launch_effect s p o u m)
@@ -347,38 +340,36 @@ pub launch_tag_lem : (s : List ℕ) (p o n k t r : ℕ) → n ≡ ((view s).row 
 unfolding launch_tag
 launch_tag_lem s p o n k t r en er ek et = et ∙ rw (er, en, ek)
 
-module _ (s : List ℕ) (p o u : ℕ) (h : Ready s (exec p o u)) (m : Bounded) (em : m ≡ bounded_of (meet ((view s).row o).run (rule_or ((view s).user u)))) where
-  exec_meet : meet_good (view s) (exec p o u) ≡ m.fits
+module _ (s : List ℕ) (p o u : ℕ) (h : Ready s (exec p o u)) where
+  exec_meet : meet_good (view s) (exec p o u) ≡ fits (meet ((view s).row o).run (rule_or ((view s).user u)))
   unfolding entry meet_good
-  exec_meet = one_fits (meet ((view s).row o).run (rule_or ((view s).user u))) ∙ sym (fits_made (meet ((view s).row o).run (rule_or ((view s).user u))) m em)
+  exec_meet = one_fits (meet ((view s).row o).run (rule_or ((view s).user u)))
 
-  pub exec_over : m.fits ≡ false → Done s (exec p o u) (refused over_limit) s
+  pub exec_over : fits (meet ((view s).row o).run (rule_or ((view s).user u))) ≡ false → Done s (exec p o u) (refused over_limit) s
   exec_over f = refused_done s (exec p o u) (exec_meet ∙ f)
 
-  exec_short : m.fits ≡ true → length (meet ((view s).row o).run (rule_or ((view s).user u))) ≤ mixture_limit
-  exec_short f = fits_short (meet ((view s).row o).run (rule_or ((view s).user u))) (sym (fits_made (meet ((view s).row o).run (rule_or ((view s).user u))) m em) ∙ f)
+  module _ (m : Bounded) (k : Made (meet ((view s).row o).run (rule_or ((view s).user u))) m) where
+    pub exec_fit : (UsedAt s p) × (UsedAt s o) × (m.count ≤ mixture_limit)
+    unfolding entry
+    exec_fit =
+        let l : length (meet ((view s).row o).run (rule_or ((view s).user u))) ≤ mixture_limit = fits_short (meet ((view s).row o).run (rule_or ((view s).user u))) k.small in (
+          ready_process s (exec p o u) h,
+          ready_object s (exec p o u) h refl,
+          omega (arith, (bounded_rule (meet ((view s).row o).run (rule_or ((view s).user u))) m k.said).0),
+        )
 
-  pub exec_fit : m.fits ≡ true → (UsedAt s p) × (UsedAt s o) × (m.count ≤ mixture_limit)
-  unfolding entry
-  exec_fit f = (ready_process s (exec p o u) h, ready_object s (exec p o u) h refl, (bounded_rule (meet ((view s).row o).run (rule_or ((view s).user u))) m em (exec_short f)).0)
-
-  pub exec_done : m.fits ≡ true → (a : Answer) (s₁ : List ℕ) → (a ≡ launch_answer s p o m) × (s₁ ≡ launch_effect s p o u m) → Done s (exec p o u) a s₁
-  unfolding entry exec_row launch_tag launch_answer launch_effect
-  exec_done f a s₁ (ea, es) =
-      let ws : List ℕ = new_words process_kind (launch_tag s p o) m (bounded_of ((view s).row o).run) u in
-      let d : Done s (exec p o u) a (returned s p ws) =
-      replace_done s (exec p o u) (exec_meet ∙ f) (exec_row ((view s).row p) ((view s).row o) (rule_or ((view s).user u)) u) refl m
-      (bounded_of ((view s).row o).run) a ws refl (process_kind_lem s (exec p o u) h) em (exec_short f) refl
-      (run_short_lem s o (ready_object s (exec p o u) h refl)) ea refl in
-      (d.0, es ∙ sym (row_returned s p ws) ∙ d.1)
-
-all_short : length (unrestricted tag_width) ≤ mixture_limit
-unfolding unrestricted
-all_short = omega arith
+    pub exec_done : (a : Answer) (s₁ : List ℕ) → (a ≡ launch_answer s p o m) × (s₁ ≡ launch_effect s p o u m) → Done s (exec p o u) a s₁
+    unfolding entry exec_row launch_tag launch_answer launch_effect
+    exec_done a s₁ (ea, es) =
+        let ws : List ℕ = new_words process_kind (launch_tag s p o) m (bounded_of ((view s).row o).run) u in
+        let d : Done s (exec p o u) a (returned s p ws) =
+        replace_done s (exec p o u) (exec_meet ∙ k.small) (exec_row ((view s).row p) ((view s).row o) (rule_or ((view s).user u)) u) refl m
+        (bounded_of ((view s).row o).run) a ws refl (process_kind_lem s (exec p o u) h) k.said refl ea refl in
+        (d.0, es ∙ sym (row_returned s p ws) ∙ d.1)
 
 -- the position of the empty tag in the rule of a `Bounded`
-empty_place : (r : List ℕ) (m : Bounded) → m ≡ bounded_of r → length r ≤ mixture_limit → (k : ℕ) → k ≡ cond (eqb m.count 0) no_position 0 → k ≡ cover_place r 0
-empty_place r m e l k ek = ek ∙ rw (e, bounded_some r (le-leb (length r) mixture_limit l)) (sym (place_empty r))
+empty_place : (r : List ℕ) (m : Bounded) → m ≡ bounded_of r → (k : ℕ) → k ≡ cond (eqb m.count 0) no_position 0 → k ≡ cover_place r 0
+empty_place r m e k ek = ek ∙ rw (bounded_rule r m e).0 (sym (place_empty r))
 
 pub file_done : (s : List ℕ) (p o u : ℕ) → Ready s (new_file p o u) → (m : Bounded) → m ≡ bounded_of (rule_or ((view s).user u))
     → (n : Bounded) → n ≡ bounded_of (unrestricted tag_width) → (ws : List ℕ)
@@ -386,15 +377,14 @@ pub file_done : (s : List ℕ) (p o u : ℕ) → Ready s (new_file p o u) → (m
 unfolding entry new_file_row unrestricted_rule meet_good every is_guarded
 file_done s p o u h m em n en ws ew k ek =
     let w : Row = new_file_row (rule_or ((view s).user u)) in
-    let short : length (rule_or ((view s).user u)) ≤ mixture_limit = rule_short s u (ready_user s (new_file p o u) h u refl) in
-    new_done s (new_file p o u) refl w refl refl m n (quiet o 0 k) ws em short en all_short
-    (ap (quiet o 0) (empty_place (rule_or ((view s).user u)) m em short k ek) ∙ verdict_unjudged (new_file p o u) w refl) ew
+    new_done s (new_file p o u) refl w refl refl m n (quiet o 0 k) ws em en
+    (ap (quiet o 0) (empty_place (rule_or ((view s).user u)) m em k ek) ∙ verdict_unjudged (new_file p o u) w refl) ew
 
 pub volatile_done : (s : List ℕ) (p o : ℕ) (m : Bounded) → m ≡ bounded_of (unrestricted tag_width) → (ws : List ℕ)
     → ws ≡ new_words volatile_kind 0 m m nobody → Done s (new_volatile p o) (quiet o 0 0) (returned s o ws)
 unfolding entry new_volatile_row unrestricted_rule unrestricted meet_good every is_guarded
 volatile_done s p o m em ws ew =
-    new_done s (new_volatile p o) refl new_volatile_row refl refl m m (quiet o 0 0) ws em all_short em all_short
+    new_done s (new_volatile p o) refl new_volatile_row refl refl m m (quiet o 0 0) ws em em
     (ap (quiet o 0) (sym (place_empty (unrestricted tag_width))) ∙ verdict_unjudged (new_volatile p o) new_volatile_row refl) ew
 
 -- ---- what leaves

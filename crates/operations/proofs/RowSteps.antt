@@ -9,15 +9,17 @@ use native.Mathlib.Omega.{arith}
 use lib.ListN.{length, get_or, take, drop, set, replicate, length-take, length-drop, length-append, take-append-drop, drop_of_length-le}
 use lib.Bits.{bit_and}
 use lib.Seq.{take-nil, take-take, drop-drop, drop-cons, get_or-take, get_or-drop, take_at, set_at}
-use lib.Dec.{eqb}
+use lib.Dec.{eqb, leb}
 use borrow.Author.Tests.{eqb-true, eq-eqb, ne_eqb, leb-true}
 use Rattle.lists.proofs.Bools.{and_0, and_1, or_cases}
 use borrow.Rule.Slice.PartMut.{put_mid}
 use Rattle.rules.specs.Rules.{no_position, cover_place, normal, meet, refines}
 use Rattle.rules.specs.Placewise.{placewise, within, alike}
-use Rattle.rules.specs.Answers.{mixture_limit, padded, bounded_of}
+use Rattle.rules.specs.Answers.{mixture_limit, padded, bounded_of, bounded_if_fits}
 use Rattle.rules.specs.declared.Bounded.{Bounded}
-use Rattle.rules.proofs.BoundedLaws.{bounded_test, bounded_fits}
+use Rattle.std.specs.Prelude.{Option, Some, None}
+use Rattle.std.specs.Option.{is_some}
+use Rattle.rules.proofs.BoundedLaws.{bounded_is, bounded_fits, bounded_some, bounded_none}
 use Rattle.rules.proofs.RuleLaws.{meet_comm}
 use Rattle.rules.proofs.CoverLaws.{place_tells, place_limit}
 use Rattle.rules.proofs.RefineLaws.{refines_meet}
@@ -28,7 +30,7 @@ use Rattle.rule_words.specs.Words.{rule_width, rule_of, words_of}
 use Rattle.session.specs.Rows.{Row, InUse, row_of, row_words, permit_words, run_words, container_row, user_row, user_rule_words, user_rule_of}
 use Rattle.rule_words.proofs.WordLaws.{bounded_words_lem}
 use Rattle.rule_words.proofs.KeptWords.{kept_count, kept_normal, kept_words, rule_length}
-use Rattle.session.proofs.RowMeaning.{row_permit, good_counts, good_used, good_words, good_permit, good_run, user_kept, good_declared}
+use Rattle.session.proofs.RowMeaning.{row_permit, good_counts, good_used, good_words, good_permit, good_run, user_kept}
 use Rattle.session.proofs.RowPuts.{container_row_length, user_row_length}
 use Rattle.chains.specs.Table.{fits, rule_or}
 use Rattle.answers.specs.declared.Answer.{Answer}
@@ -109,7 +111,7 @@ module _ (s : List ℕ) (c : ℕ) (h : UsedAt s c) where
       ∙ row_permit (row_of (container_row s c)) row_used.permit_short row_used.run_short
 
   -- another tag and run rule, as a row
-  pub content_row : (t : ℕ) (r : List ℕ) (m : Bounded) → m ≡ bounded_of r → length r ≤ mixture_limit
+  pub content_row : (t : ℕ) (r : List ℕ) (m : Bounded) → m ≡ bounded_of r
       → content_words (container_row s c) t m
       ≡ row_words (record {
         kind = (row_of (container_row s c)).kind;
@@ -119,13 +121,13 @@ module _ (s : List ℕ) (c : ℕ) (h : UsedAt s c) where
         behalf = (row_of (container_row s c)).behalf;
       })
   unfolding content_words bounded_words row_words row_of
-  content_row t r m e l = ap₂ (λ (x y : List ℕ). get_or (container_row s c) kind_at 0 ∷ t ∷ (x ++ (y ++ (get_or (container_row s c) behalf_at 0 ∷ [])))) permit_kept_words (bounded_words_lem r m e l)
+  content_row t r m e = ap₂ (λ (x y : List ℕ). get_or (container_row s c) kind_at 0 ∷ t ∷ (x ++ (y ++ (get_or (container_row s c) behalf_at 0 ∷ [])))) permit_kept_words (bounded_words_lem r m e)
 
 -- a new row, as a row
-pub new_row : (k t : ℕ) (p r : List ℕ) (m n : Bounded) (b : ℕ) → m ≡ bounded_of p → length p ≤ mixture_limit → n ≡ bounded_of r → length r ≤ mixture_limit
+pub new_row : (k t : ℕ) (p r : List ℕ) (m n : Bounded) (b : ℕ) → m ≡ bounded_of p → n ≡ bounded_of r
     → new_words k t m n b ≡ row_words (record { kind = k; tag = t; permit = p; run = r; behalf = b })
 unfolding new_words bounded_words row_words
-new_row k t p r m n b e l f d = ap₂ (λ (x y : List ℕ). k ∷ t ∷ (x ++ (y ++ (b ∷ [])))) (bounded_words_lem p m e l) (bounded_words_lem r n f d)
+new_row k t p r m n b e f = ap₂ (λ (x y : List ℕ). k ∷ t ∷ (x ++ (y ++ (b ∷ [])))) (bounded_words_lem p m e) (bounded_words_lem r n f)
 
 -- ---- rules that are made
 
@@ -133,9 +135,37 @@ pub fits_short : (r : List ℕ) → fits r ≡ true → length r ≤ mixture_lim
 unfolding fits
 fits_short r h = leb-true (length r) mixture_limit h
 
-pub fits_made : (r : List ℕ) (m : Bounded) → m ≡ bounded_of r → m.fits ≡ fits r
+-- a rule that fits, as it is answered
+pub record Made (r : List ℕ) (m : Bounded) : Type 0 where
+  pub small : fits r ≡ true
+  pub said : m ≡ bounded_of r
+
+pub made_some : (r : List ℕ) {o : Option Bounded} {m : Bounded} → o ≡ bounded_if_fits r → o ≡ Some m → Made r m
 unfolding fits
-fits_made r m e = ap (λ (n : Bounded). n.fits) e ∙ bounded_test r
+made_some r e h = record { small = (bounded_some r e h).0; said = (bounded_some r e h).1 }
+
+-- of one mixture
+pub made_one : (r : List ℕ) (x : ℕ) {m : Bounded} → m ≡ bounded_of (x ∷ []) → x ∷ [] ≡ r → Made r m
+unfolding fits
+made_one r x e h = record { small = ap (λ (l : List ℕ). leb (length l) mixture_limit) (sym h); said = e ∙ ap bounded_of h }
+
+-- and one that is known to be short
+pub made_short : (r x : List ℕ) {m : Bounded} → m ≡ bounded_of x → x ≡ r → length x ≤ mixture_limit → Some m ≡ bounded_if_fits r
+made_short r x e h l = ap Some (e ∙ ap bounded_of h) ∙ bounded_fits r (omega (arith, ap length h))
+
+-- one that does not fit
+pub made_none : (r : List ℕ) {o : Option Bounded} → o ≡ bounded_if_fits r → o ≡ None → fits r ≡ false
+unfolding fits
+made_none r e h = bounded_none r e h
+
+-- whether one is there
+pub made_told : (r : List ℕ) {o : Option Bounded} → o ≡ bounded_if_fits r → is_some o ≡ fits r
+unfolding bounded_if_fits fits
+made_told r e = ap is_some e ∙ by (leb (length r) mixture_limit)
+  where
+    by : (b : Bool) → is_some (cond b (Some (bounded_of r)) None) ≡ b
+    by true = refl
+    by false = refl
 
 -- ---- rules as they are lent
 
@@ -202,20 +232,18 @@ user_kept_as s u h = record {
 pub copied : (s : List ℕ) (at : ℕ) (r : List ℕ) (m : Bounded) → KeptAs s at r → m ≡ bounded_of (rule_of (words_from s at)) → m ≡ bounded_of r
 copied s at r m k e = e ∙ ap bounded_of k.said
 
-pub met : (s : List ℕ) (x y : ℕ) (r v : List ℕ) (m : Bounded) → KeptAs s x r → KeptAs s y v → m ≡ bounded_of (meet (rule_of (words_from s x)) (rule_of (words_from s y))) → m ≡ bounded_of (meet r v)
-met s x y r v m k l e = e ∙ ap₂ (λ (a b : List ℕ). bounded_of (meet a b)) k.said l.said
+pub met : (s : List ℕ) (x y : ℕ) (r v : List ℕ) → KeptAs s x r → KeptAs s y v → meet (rule_of (words_from s x)) (rule_of (words_from s y)) ≡ meet r v
+met s x y r v k l = ap₂ meet k.said l.said
 
-pub met_lent : (s : List ℕ) (x y : ℕ) (r v : List ℕ) (m : Bounded) → KeptAs s x r → KeptAs s y v
-    → m ≡ bounded_of (meet (rule_of (take (x + rule_width - x) (drop x s))) (rule_of (take (y + rule_width - y) (drop y s)))) → m ≡ bounded_of (meet r v)
-met_lent s x y r v m k l e = met s x y r v m k l (e ∙ ap₂ (λ (a b : List ℕ). bounded_of (meet (rule_of a) (rule_of b))) (words_lent s x) (words_lent s y))
+pub met_lent : (s : List ℕ) (x y : ℕ) (r v : List ℕ) {o : Option Bounded} → KeptAs s x r → KeptAs s y v
+    → o ≡ bounded_if_fits (meet (rule_of (take (x + rule_width - x) (drop x s))) (rule_of (take (y + rule_width - y) (drop y s)))) → o ≡ bounded_if_fits (meet r v)
+met_lent s x y r v k l e =
+    e ∙ ap bounded_if_fits (ap₂ (λ (a b : List ℕ). meet (rule_of a) (rule_of b)) (words_lent s x) (words_lent s y) ∙ met s x y r v k l)
 
 -- the run rule of a row in use has one mixture
 pub run_single : (s : List ℕ) (c : ℕ) → UsedAt s c → get_or s (c * row_width + run_at) 0 ≡ 1 → (Kept (run_words (container_row s c))) × (get_or (run_words (container_row s c)) 0 0 ≡ 1)
 run_single s c h e =
     (subst Kept (run_words_lem s c) (run_kept s c h).kept.words, ap (λ (ws : List ℕ). get_or ws 0 0) (sym (run_words_lem s c)) ∙ words_first s (c * row_width + run_at) ∙ e)
-
-pub rule_short : (s : List ℕ) (u : ℕ) → DeclaredAt s u → length (rule_or ((view s).user u)) ≤ mixture_limit
-rule_short s u h = rw (view_user s u h.low, h.declared) (good_declared (user_row s u) h.good h.declared).0
 
 -- ---- the words of a rule, copied as they stand
 
@@ -244,12 +272,11 @@ words_behind ws l =
     ∙ ap (λ (x : List ℕ). get_or ws 8 0 ∷ x) (drop_of_length-le ws {i = 9} (omega arith))))))))))
 
 pub words_copied : (ws : List ℕ) → Kept ws
-    → ◌≡◌ {A = Bounded} (record { fits = true; count = get_or ws 0 0; mixtures = behind ws }) (bounded_of (rule_of ws))
+    → ◌≡◌ {A = Bounded} (record { count = get_or ws 0 0; mixtures = behind ws }) (bounded_of (rule_of ws))
 unfolding words_of
 words_copied ws k =
-    bounded_fits (rule_of ws) (rule_of ws) _ (get_or ws 0 0) refl
+    bounded_is (rule_of ws) (rule_of ws) _ (get_or ws 0 0) refl
     (rule_length ws k.long (kept_count ws k.well))
-    (kept_count ws k.well)
     (words_behind ws k.long ∙ ap (drop 1) (kept_words ws k.long k.well))
 
 -- ---- the meet of two rules
@@ -291,11 +318,10 @@ module _ (a b : List ℕ) (k : Kept a) (l : Kept b) (e : length (rule_of a) ≡ 
       ∙ padded_placewise (mixture_limit - length (rule_of a)) (rule_of a) (rule_of b) e
       ∙ ap (λ (n : ℕ). placewise (rule_of a) (rule_of b) ++ replicate (mixture_limit - n) 0) (sym (placewise_length (rule_of a) (rule_of b) e))
 
-  pub words_met : ◌≡◌ {A = Bounded} (record { fits = true; count = get_or a 0 0; mixtures = both_behind a b }) (bounded_of (placewise (rule_of a) (rule_of b)))
+  pub words_met : ◌≡◌ {A = Bounded} (record { count = get_or a 0 0; mixtures = both_behind a b }) (bounded_of (placewise (rule_of a) (rule_of b)))
   words_met =
-      bounded_fits (placewise (rule_of a) (rule_of b)) (placewise (rule_of a) (rule_of b)) _ (get_or a 0 0) refl
+      bounded_is (placewise (rule_of a) (rule_of b)) (placewise (rule_of a) (rule_of b)) _ (get_or a 0 0) refl
       (placewise_length (rule_of a) (rule_of b) e ∙ rule_length a k.long (kept_count a k.well))
-      (kept_count a k.well)
       both_padded
 
 -- the tests, one after the other

@@ -5,10 +5,11 @@
 ghost use Rattle.std.specs.Prelude.{◌≡◌, true, cond, ◌&&◌, ◌||◌, [], ◌∷◌, eqb, ◌≤◌, ◌<◌, length, get_or, take};
 ghost use Rattle.lists.specs.Conditions.{first_failed};
 ghost use Rattle.answers.specs.Answers.{received, quiet, blocked, answer_number, received_after};
+ghost use Rattle.answers.specs.Outcomes.{outcome_number};
 ghost use Rattle.answers.specs.Refusals.{other_user};
 ghost use Rattle.rules.specs.Rules.{no_position, meet};
 ghost use Rattle.rules.specs.Placewise.{placewise};
-ghost use Rattle.rules.specs.Answers.{mixture_limit, bounded_of};
+ghost use Rattle.rules.specs.Answers.{mixture_limit, bounded_of, bounded_if_fits};
 ghost use Rattle.image.specs.Limits.{container_limit, process_kind, last_kind, kind_in};
 ghost use Rattle.rule_words.specs.Words.{rule_of};
 ghost use Rattle.session.specs.Limits.{session_length, row_width, nobody};
@@ -23,7 +24,7 @@ ghost use Rattle.operations.specs.EarlyTests.{meets_placewise};
 ghost use Rattle.operations.specs.EarlyTests.{first_conditions, Ready, late_answer, late_effect, absorb_answer, absorb_effect, launch_answer, launch_effect};
 ghost use Rattle.operations.specs.EarlyTests.{Kept, KeptAt, UsedAt, words_from, content_words, new_words, cover_verdict, cover_answer, guards_at, withheld_answer};
 
-use answers::{Answer, Received, Verdict};
+use answers::{Answer, Received, Refusal, Verdict};
 use image::{FILE_KIND, PROCESS_KIND, VOLATILE_KIND};
 use records::{Code, Request};
 use rule_words::RULE_WIDTH;
@@ -46,6 +47,7 @@ fn object_fits(need: u8, kind: u64) -> bool
 // The row of the process is as the session says. The usual rows, whose rules have one mixture each, are tested in place; the others by a
 // function that is called. Process and object have a function each, so that this one has two callers: with one it would be put in place
 // too, and the usual rows would pay for its frame.
+// Kept: the C interface: a session is lent as one slice, of which rows and rules are parts, so that their lengths stand in the clauses.
 fn process_row_good(row: &[u64]) -> bool
     requires { length row.now ≡ row_width }
     ensures { result ≡ container_row_good row.now }
@@ -57,6 +59,7 @@ fn process_row_good(row: &[u64]) -> bool
 }
 
 // The same of the object's.
+// Kept: tried and slower: with one function for both the usual rows would pay for its frame, as said above.
 fn object_row_good(row: &[u64]) -> bool
     requires { length row.now ≡ row_width }
     ensures { result ≡ container_row_good row.now }
@@ -87,47 +90,47 @@ fn rows_good(s: &[u64], q: Request, need: Code) -> bool
     session::user_row_good(&s[c..c + USER_WIDTH])
 }
 
-// The refusal 18 of a new file for the user, 0 where there is none.
-fn behalf_refusal(behalf: u64, u: usize) -> u32
-    ensures { result ≡ cond (eqb behalf nobody || eqb behalf u) 0 other_user }
+// The refusal 18 of a new file for the user.
+fn behalf_refusal(behalf: u64, u: usize) -> Result<(), Refusal>
+    ensures { outcome_number result ≡ cond (eqb behalf nobody || eqb behalf u) 0 other_user }
 {
     if behalf == NOBODY {
-        return 0;
+        return Ok(());
     }
     if behalf == u as u64 {
-        return 0;
+        return Ok(());
     }
-    answers::OTHER_USER
+    Err(Refusal::OtherUser)
 }
 
-// The refusals 10 to 14 and 18 in their order, 0 where there is none.
-fn early_refusal(s: &[u64], q: Request, need: Code) -> u32
+// The refusals 10 to 14 and 18 in their order.
+fn early_refusal(s: &[u64], q: Request, need: Code) -> Result<(), Refusal>
     requires { (Named s.now q) × (need ≡ code_at q.code) }
-    ensures { result ≡ first_failed (first_conditions s.now (step_in q)) }
+    ensures { outcome_number result ≡ first_failed (first_conditions s.now (step_in q)) }
 {
     if !rows_good(s, q, need) {
-        return answers::ROW;
+        return Err(Refusal::Row);
     }
     let a = q.p * ROW_WIDTH;
     if !image::is_process(s[a + KIND_AT]) {
-        return answers::NO_PROCESS;
+        return Err(Refusal::NoProcess);
     }
     let b = q.o * ROW_WIDTH;
     if !object_fits(need.object, s[b + KIND_AT]) {
         if need.object == image::FREE_KINDS {
-            return answers::NOT_FREE;
+            return Err(Refusal::NotFree);
         }
-        return answers::WRONG_KIND;
+        return Err(Refusal::WrongKind);
     }
     if !need.user {
-        return 0;
+        return Ok(());
     }
     let c = USERS_AT + q.u * USER_WIDTH;
     if s[c] != DECLARED {
-        return answers::NOT_DECLARED;
+        return Err(Refusal::NotDeclared);
     }
     if q.code != records::NEW_FILE_CODE {
-        return 0;
+        return Ok(());
     }
     behalf_refusal(behalf_of(s, q.p), q.u)
 }
@@ -156,7 +159,6 @@ fn rule_copy(ws: &[u64]) -> Bounded
     ensures { result ≡ bounded_of (rule_of ws.now) }
 {
     Bounded {
-        fits: true,
         count: ws[0] as usize,
         mixtures: [ws[1], ws[2], ws[3], ws[4], ws[5], ws[6], ws[7], ws[8]],
     }
@@ -190,7 +192,6 @@ fn placewise_words(a: &[u64], b: &[u64]) -> Bounded
     ensures { result ≡ bounded_of (placewise (rule_of a.now) (rule_of b.now)) }
 {
     Bounded {
-        fits: true,
         count: a[0] as usize,
         mixtures: [
             a[1] & b[1],
@@ -206,28 +207,28 @@ fn placewise_words(a: &[u64], b: &[u64]) -> Bounded
 }
 
 // The meet of two rules of the session. Place by place where that is the meet; a rule that refines the other is their meet too.
-fn meet_kept(a: &[u64], b: &[u64]) -> Bounded
+fn meet_kept(a: &[u64], b: &[u64]) -> Option<Bounded>
     requires { (Kept a.now) × (Kept b.now) }
-    ensures { result ≡ bounded_of (meet (rule_of a.now) (rule_of b.now)) }
+    ensures { result ≡ bounded_if_fits (meet (rule_of a.now) (rule_of b.now)) }
 {
     let r = rule_words::rule_of(a);
     let v = rule_words::rule_of(b);
     if meets_placewise(r, v) {
-        return placewise_words(a, b);
+        return Some(placewise_words(a, b));
     }
     if rules::refines(r, v) {
-        return rule_copy(a);
+        return Some(rule_copy(a));
     }
     if rules::refines(v, r) {
-        return rule_copy(b);
+        return Some(rule_copy(b));
     }
     rules::meet(r, v)
 }
 
 // The meet of the rules at two places of the session.
-fn meet_at(s: &[u64], x: usize, y: usize) -> Bounded
+fn meet_at(s: &[u64], x: usize, y: usize) -> Option<Bounded>
     requires { (KeptAt s.now x) × (KeptAt s.now y) }
-    ensures { result ≡ bounded_of (meet (rule_of (words_from s.now x)) (rule_of (words_from s.now y))) }
+    ensures { result ≡ bounded_if_fits (meet (rule_of (words_from s.now x)) (rule_of (words_from s.now y))) }
 {
     meet_kept(&s[x..x + RULE_WIDTH], &s[y..y + RULE_WIDTH])
 }
@@ -318,7 +319,8 @@ fn narrow(row: &mut [u64], receiver: usize, tag: u64, mixture: u64) -> Answer
     cover_answer(row, receiver)
 }
 
-// Makes the receiver's row that of a process, and answers.
+// Makes the receiver's row that of a process, and answers. Put in place at each call: the answer would else go through memory twice.
+#[inline(always)]
 fn replace(
     row: &mut [u64],
     receiver: usize,
@@ -385,15 +387,16 @@ fn withheld(s: &[u64], receiver: usize, giver: usize, tag: u64) -> Answer
         &s[a + RUN_AT..a + RUN_AT + RULE_WIDTH],
         &s[b + RUN_AT..b + RUN_AT + RULE_WIDTH],
     );
-    if !met.fits {
-        return Answer::Refused(answers::OVER_LIMIT);
+    if met.is_none() {
+        return Answer::Refused(Refusal::OverLimit as u32);
     }
     blocked(receiver, tag)
 }
 
 // ---- the operations
 
-// The receiver takes in what the giver has: it gets the tag, and the meet of both run rules.
+// The receiver takes in what the giver has: it gets the tag, and the meet of both run rules. Put in place at each call, as `replace` is.
+#[inline(always)]
 fn absorb(s: &mut [u64], receiver: usize, giver: usize, tag: u64) -> Answer
     requires { (UsedAt s.old receiver) × (UsedAt s.old giver) }
     ensures { (result ≡ absorb_answer s.old receiver giver tag) × (s.new ≡ absorb_effect s.old receiver giver tag) }
@@ -404,13 +407,12 @@ fn absorb(s: &mut [u64], receiver: usize, giver: usize, tag: u64) -> Answer
         let mixture = mixture_at(s, a + RUN_AT, b + RUN_AT);
         return narrow(&mut s[a..a + ROW_WIDTH], receiver, tag, mixture);
     }
-    let met = meet_kept(
+    let Some(met) = meet_kept(
         &s[a + RUN_AT..a + RUN_AT + RULE_WIDTH],
         &s[b + RUN_AT..b + RUN_AT + RULE_WIDTH],
-    );
-    if !met.fits {
-        return Answer::Refused(answers::OVER_LIMIT);
-    }
+    ) else {
+        return Answer::Refused(Refusal::OverLimit as u32);
+    };
     update(&mut s[a..a + ROW_WIDTH], receiver, tag, met)
 }
 
@@ -476,10 +478,9 @@ fn exec(s: &mut [u64], p: usize, o: usize, u: usize) -> Answer
         let permit = rules::one(mixture_at(s, x, y));
         return launch(s, p, o, u, permit);
     }
-    let permit = meet_at(s, x, y);
-    if !permit.fits {
-        return Answer::Refused(answers::OVER_LIMIT);
-    }
+    let Some(permit) = meet_at(s, x, y) else {
+        return Answer::Refused(Refusal::OverLimit as u32);
+    };
     launch(s, p, o, u, permit)
 }
 
@@ -558,32 +559,17 @@ fn by_code(s: &mut [u64], q: Request) -> Answer
     requires { (Named s.old q) × (Ready s.old (step_in q)) }
     ensures { (result ≡ late_answer s.old (step_in q)) × (s.new ≡ late_effect s.old (step_in q)) }
 {
-    let code = q.code;
-    let p = q.p;
-    let o = q.o;
-    let u = q.u;
-    if code == records::READ_CODE {
-        return read(s, p, o);
+    let Request { p, o, u, .. } = q;
+    match q.code {
+        records::READ_CODE => read(s, p, o),
+        records::WRITE_CODE => write(s, p, o),
+        records::APPEND_CODE => append(s, p, o),
+        records::EXEC_CODE => exec(s, p, o, u),
+        records::FORK_CODE => fork(s, p, o),
+        records::NEW_FILE_CODE => new_file(s, p, o, u),
+        records::NEW_VOLATILE_CODE => new_volatile(s, p, o),
+        _ => release(s, o),
     }
-    if code == records::WRITE_CODE {
-        return write(s, p, o);
-    }
-    if code == records::APPEND_CODE {
-        return append(s, p, o);
-    }
-    if code == records::EXEC_CODE {
-        return exec(s, p, o, u);
-    }
-    if code == records::FORK_CODE {
-        return fork(s, p, o);
-    }
-    if code == records::NEW_FILE_CODE {
-        return new_file(s, p, o, u);
-    }
-    if code == records::NEW_VOLATILE_CODE {
-        return new_volatile(s, p, o);
-    }
-    release(s, o)
 }
 
 // A request on the session, with what its code needs: the refusal, or the effect and the answer.
@@ -591,11 +577,10 @@ fn perform(s: &mut [u64], q: Request, need: Code) -> Answer
     requires { (Named s.old q) × (need ≡ code_at q.code) }
     ensures { (result ≡ perform_answer s.old (step_in q)) × (s.new ≡ perform_effect s.old (step_in q)) }
 {
-    let n = early_refusal(s, q, need);
-    if n != 0 {
-        return Answer::Refused(n);
+    match early_refusal(s, q, need) {
+        Ok(()) => by_code(s, q),
+        Err(refusal) => Answer::Refused(refusal.number()),
     }
-    by_code(s, q)
 }
 
 // A record that 7 does not refuse, as the number that its bytes spell, on a session that 9 does not refuse. The answer's number comes

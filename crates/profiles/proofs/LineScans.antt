@@ -5,6 +5,8 @@ use mathlib.Core.Logic.{◌≢◌}
 use mathlib.Core.Bool.{Bool, true, false, cond, ◌&&◌}
 use mathlib.Core.List.{List, [], ◌∷◌, ◌++◌}
 use mathlib.Core.Option.{Option, none, some}
+use Rattle.std.proofs.Common.{Some, None}
+use Rattle.profiles.specs.declared.LineKind.TheVariants as K
 use native.Mathlib.Omega.{arith}
 use lib.ListN.{length, get_or, drop, length-append, length-drop}
 use lib.Seq.{get_or-drop, drop-drop}
@@ -13,7 +15,7 @@ use Rattle.lists.specs.Lists.{joined}
 use Rattle.profiles.specs.Profiles.{Mode, PathEntry, mode_text, modes_text, profile_word, profile_end, modes_start, modes_end, profile_line, entry_line, end_line, path_good, modes_good, entry_good}
 use Rattle.profiles.specs.Tokens.{given, starts, tokens}
 use Rattle.profiles.specs.Reading.{Line, opens, enters, closes, line_text, line_good, path_in, modes_in, entry_in, lines_to_try, line_among, line_in, lines_in}
-use Rattle.profiles.specs.Scanning.{mode_bits, profile_kind, entry_kind, end_kind, line_scan, no_scan, line_at, letter_p, closing_brace}
+use Rattle.profiles.specs.Scanning.{mode_bits, line_scan, line_at, letter_p, closing_brace}
 use Rattle.profiles.proofs.TokenLaws.{starts_split, starts_append, tokens_step}
 use Rattle.profiles.proofs.ProfileLines.{and-false, path_front, mode_long, modes_front, line_long, line_passed, no_profile_line, no_entry_line, no_end_line}
 
@@ -53,7 +55,7 @@ entry_order false b c d = refl
 
 -- ---- one line is left to try
 
-tried : (b : Bool) (l : Line) (at : ℕ) → given (cond b (some l) none) no_scan (line_scan at) ≡ cond b (line_scan at l) no_scan
+tried : (b : Bool) (l : Line) (at : ℕ) → given (cond b (some l) none) None (λ x. Some (line_scan at x)) ≡ cond b (Some (line_scan at l)) None
 tried true l at = refl
 tried false l at = refl
 
@@ -84,22 +86,22 @@ module _ (t : List ℕ) (at end : ℕ) (f : get_or t at 0 ≡ letter_p) (e : end
       ∙ ap₂ ◌&&◌ (path_front (drop (at + 8) t)) (ap (starts profile_end) (drop-drop (length p) (at + 8) t ∙ ap (λ (k : ℕ). drop k t) (sym e))))
 
   profile_scan : line_at t at
-      ≡ cond (starts profile_word (drop at t) && (path_good (path_in (drop (at + 8) t)) && starts profile_end (drop end t))) (line_scan at (opens (path_in (drop (at + 8) t)))) no_scan
+      ≡ cond (starts profile_word (drop at t) && (path_good (path_in (drop (at + 8) t)) && starts profile_end (drop end t))) (Some (line_scan at (opens (path_in (drop (at + 8) t))))) None
   unfolding line_at
   profile_scan =
       let p = path_in (drop (at + 8) t) in
-      ap (λ (o : Option Line). given o no_scan (line_scan at)) profile_tried
+      ap (λ (o : Option Line). given o None (λ x. Some (line_scan at x))) profile_tried
       ∙ tried (path_good p && starts (profile_line p) (drop at t)) (opens p) at
-      ∙ ap (λ (b : Bool). cond b (line_scan at (opens p)) no_scan)
+      ∙ ap (λ (b : Bool). cond b (Some (line_scan at (opens p))) None)
       (ap (λ (b : Bool). path_good p && b) profile_parts ∙ profile_order (starts profile_word (drop at t)) (path_good p) (starts profile_end (drop end t)))
 
-  pub profile_no_word : starts profile_word (drop at t) ≡ false → no_scan ≡ line_at t at
+  pub profile_no_word : starts profile_word (drop at t) ≡ false → None ≡ line_at t at
   profile_no_word a = sym (rw a at profile_scan)
 
-  pub profile_no_path : starts profile_word (drop at t) ≡ true → path_good (path_in (drop (at + 8) t)) ≡ false → no_scan ≡ line_at t at
+  pub profile_no_path : starts profile_word (drop at t) ≡ true → path_good (path_in (drop (at + 8) t)) ≡ false → None ≡ line_at t at
   profile_no_path a b = sym (rw (a, b) at profile_scan)
 
-  pub profile_no_end : starts profile_word (drop at t) ≡ true → path_good (path_in (drop (at + 8) t)) ≡ true → starts profile_end (drop end t) ≡ false → no_scan ≡ line_at t at
+  pub profile_no_end : starts profile_word (drop at t) ≡ true → path_good (path_in (drop (at + 8) t)) ≡ true → starts profile_end (drop end t) ≡ false → None ≡ line_at t at
   profile_no_end a b c = sym (rw (a, b, c) at profile_scan)
 
   profile_next : at + length (line_text (opens (path_in (drop (at + 8) t)))) ≡ end + 3
@@ -107,11 +109,11 @@ module _ (t : List ℕ) (at end : ℕ) (f : get_or t at 0 ≡ letter_p) (e : end
   profile_next = omega (arith, e, length-append (path_in (drop (at + 8) t)) profile_end)
 
   pub profile_scanned : starts profile_word (drop at t) ≡ true → path_good (path_in (drop (at + 8) t)) ≡ true → starts profile_end (drop end t) ≡ true
-      → record { kind = profile_kind; path = at + 8; length = end - (at + 8); modes = 0; next = end + 3 } ≡ line_at t at
+      → Some (record { kind = K.Profile; path = at + 8; length = end - (at + 8); modes = 0; next = end + 3 }) ≡ line_at t at
   unfolding line_scan profile_word ascii
   profile_scanned a b c =
       let n : end - (at + 8) ≡ length (path_in (drop (at + 8) t)) = omega arith in
-      (λ i. record { kind = profile_kind; path = at + 8; length = n i; modes = 0; next = sym profile_next i }) ∙ sym (rw (a, b, c) at profile_scan)
+      (λ i. Some (record { kind = K.Profile; path = at + 8; length = n i; modes = 0; next = sym profile_next i })) ∙ sym (rw (a, b, c) at profile_scan)
 
 -- ---- `PATH MODES,`
 
@@ -154,27 +156,27 @@ module _ (t : List ℕ) (at end next : ℕ) (f : get_or t at 0 ≢ letter_p) (g 
 
   entry_scan : line_at t at
       ≡ cond (path_good (path_in (drop at t)) && (starts modes_start (drop end t) && (modes_good (modes_in (drop (end + 1) t)) && starts modes_end (drop next t))))
-      (line_scan at (enters (record { path = path_in (drop at t); modes = modes_in (drop (end + 1) t) }))) no_scan
+      (Some (line_scan at (enters (record { path = path_in (drop at t); modes = modes_in (drop (end + 1) t) })))) None
   unfolding line_at
   entry_scan =
       let p = path_in (drop at t) in
       let ms = modes_in (drop (end + 1) t) in
       let x : PathEntry = record { path = p; modes = ms } in
-      ap (λ (o : Option Line). given o no_scan (line_scan at)) entry_tried
+      ap (λ (o : Option Line). given o None (λ x. Some (line_scan at x))) entry_tried
       ∙ tried ((path_good p && modes_good ms) && starts (entry_line x) (drop at t)) (enters x) at
-      ∙ ap (λ (b : Bool). cond b (line_scan at (enters x)) no_scan)
+      ∙ ap (λ (b : Bool). cond b (Some (line_scan at (enters x))) None)
       (ap (λ (b : Bool). (path_good p && modes_good ms) && b) entry_parts ∙ entry_order (path_good p) (modes_good ms) (starts modes_start (drop end t)) (starts modes_end (drop next t)))
 
-  pub entry_no_path : path_good (path_in (drop at t)) ≡ false → no_scan ≡ line_at t at
+  pub entry_no_path : path_good (path_in (drop at t)) ≡ false → None ≡ line_at t at
   entry_no_path a = sym (rw a at entry_scan)
 
-  pub entry_no_space : path_good (path_in (drop at t)) ≡ true → starts modes_start (drop end t) ≡ false → no_scan ≡ line_at t at
+  pub entry_no_space : path_good (path_in (drop at t)) ≡ true → starts modes_start (drop end t) ≡ false → None ≡ line_at t at
   entry_no_space a b = sym (rw (a, b) at entry_scan)
 
-  pub entry_no_mode : path_good (path_in (drop at t)) ≡ true → starts modes_start (drop end t) ≡ true → next ≡ end + 1 → no_scan ≡ line_at t at
+  pub entry_no_mode : path_good (path_in (drop at t)) ≡ true → starts modes_start (drop end t) ≡ true → next ≡ end + 1 → None ≡ line_at t at
   entry_no_mode a b c = sym (rw (a, b, modes_none (modes_in (drop (end + 1) t)) (end + 1) (sym n ∙ c)) at entry_scan)
 
-  pub entry_no_end : path_good (path_in (drop at t)) ≡ true → starts modes_start (drop end t) ≡ true → (next ≡ end + 1 → ⊥) → starts modes_end (drop next t) ≡ false → no_scan ≡ line_at t at
+  pub entry_no_end : path_good (path_in (drop at t)) ≡ true → starts modes_start (drop end t) ≡ true → (next ≡ end + 1 → ⊥) → starts modes_end (drop next t) ≡ false → None ≡ line_at t at
   entry_no_end a b c d = sym (rw (a, b, modes_some (modes_in (drop (end + 1) t)) (end + 1) (λ q. c (n ∙ q)), d) at entry_scan)
 
   entry_next : at + length (line_text (enters (record { path = path_in (drop at t); modes = modes_in (drop (end + 1) t) }))) ≡ next + 2
@@ -184,30 +186,30 @@ module _ (t : List ℕ) (at end next : ℕ) (f : get_or t at 0 ≢ letter_p) (g 
       omega (arith, e, n, length-append (path_in (drop at t)) (modes_start ++ (m ++ modes_end)), length-append m modes_end)
 
   pub entry_scanned : path_good (path_in (drop at t)) ≡ true → starts modes_start (drop end t) ≡ true → (next ≡ end + 1 → ⊥) → starts modes_end (drop next t) ≡ true
-      → (bits : ℕ) → bits ≡ mode_bits (modes_in (drop (end + 1) t)) → record { kind = entry_kind; path = at; length = end - at; modes = bits; next = next + 2 } ≡ line_at t at
+      → (bits : ℕ) → bits ≡ mode_bits (modes_in (drop (end + 1) t)) → Some (record { kind = K.Entry; path = at; length = end - at; modes = bits; next = next + 2 }) ≡ line_at t at
   unfolding line_scan
   entry_scanned a b c d bits w =
       let k : end - at ≡ length (path_in (drop at t)) = omega arith in
-      (λ i. record { kind = entry_kind; path = at; length = k i; modes = w i; next = sym entry_next i })
+      (λ i. Some (record { kind = K.Entry; path = at; length = k i; modes = w i; next = sym entry_next i }))
       ∙ sym (rw (a, b, modes_some (modes_in (drop (end + 1) t)) (end + 1) (λ q. c (n ∙ q)), d) at entry_scan)
 
 -- ---- `}`
 
 module _ (t : List ℕ) (at : ℕ) (f : get_or t at 0 ≡ closing_brace) where
-  end_scan : line_at t at ≡ cond (starts end_line (drop at t)) (line_scan at closes) no_scan
+  end_scan : line_at t at ≡ cond (starts end_line (drop at t)) (Some (line_scan at closes)) None
   unfolding line_at line_in lines_to_try line_among line_good line_text
   end_scan =
       let u = drop at t in
-      ap (λ (o : Option Line). given o no_scan (line_scan at))
+      ap (λ (o : Option Line). given o None (λ x. Some (line_scan at x)))
       (line_passed (opens (path_in (drop (length profile_word) u))) (enters (entry_in u) ∷ closes ∷ []) u
       (no_profile_line (path_in (drop (length profile_word) u)) u (λ q. omega (arith, first_at t at)))
       ∙ line_passed (enters (entry_in u)) (closes ∷ []) u (no_entry_line u (λ q. omega (arith, first_at t at))))
       ∙ tried (starts end_line u) closes at
 
-  pub end_no_line : starts end_line (drop at t) ≡ false → no_scan ≡ line_at t at
+  pub end_no_line : starts end_line (drop at t) ≡ false → None ≡ line_at t at
   end_no_line a = sym (rw a at end_scan)
 
-  pub end_scanned : starts end_line (drop at t) ≡ true → record { kind = end_kind; path = at; length = 0; modes = 0; next = at + 2 } ≡ line_at t at
+  pub end_scanned : starts end_line (drop at t) ≡ true → Some (record { kind = K.End; path = at; length = 0; modes = 0; next = at + 2 }) ≡ line_at t at
   unfolding line_scan line_text end_line ascii
   end_scanned a = sym (rw a at end_scan)
 

@@ -3,6 +3,7 @@ use Prim.Native.Nat.{ℕ, ◌+◌, ◌*◌, ◌/◌, ◌%◌, ◌^◌, ◌≤◌
 use mathlib.Core.Path.{◌≡◌, refl, sym, ap, ◌∙◌, subst}
 use mathlib.Core.List.{List, [], ◌∷◌, ◌++◌}
 use mathlib.Core.Option.{Option, none, some}
+use Rattle.std.proofs.Common.{Some}
 use native.Mathlib.Omega.{arith}
 use native.Mathlib.Numerals.{add-one}
 use lib.Bits.{bit_or, or_lt}
@@ -13,12 +14,12 @@ use Rattle.profiles.specs.Profiles.{Mode, mode_r, mode_w, mode_a, mode_l, mode_m
 use Rattle.profiles.specs.Reading.{Line, opens, enters, closes, line_text, line_in, lines_in}
 use Rattle.profiles.specs.Texts.{text_limit}
 use Rattle.profiles.specs.Notes.{length_limit}
-use Rattle.profiles.specs.Scanning.{mode_bit, with_modes, mode_bits, line_scan, no_scan, line_at, modes_limit}
+use Rattle.profiles.specs.Scanning.{mode_bit, with_modes, mode_bits, line_scan, line_at, modes_limit}
 use Rattle.profiles.specs.LineWords.{line_word, named_path, line_words}
 use Rattle.profiles.specs.declared.ScannedLine.{ScannedLine}
 use Rattle.profiles.proofs.PathBytes.{path_parts}
 use Rattle.profiles.proofs.LineScans.{lines_more}
-use Rattle.profiles.proofs.Walks.{profile_at, entry_at, scanned, unscanned, walk_end}
+use Rattle.profiles.proofs.Walks.{is_line, no_none, profile_at, entry_at, walk_end}
 
 -- ---- the bits of modes are few
 
@@ -51,27 +52,27 @@ pub record Small (s : ScannedLine) : Type 0 where
   pub size : s.length < length_limit
   pub modes : s.modes < modes_limit
 
-pub small_line : (t : List ℕ) (at : ℕ) → at < length t → length t ≤ text_limit → (s : ScannedLine) → s ≡ line_at t at → Small s
-unfolding line_scan no_scan entry_good
+pub small_line : (t : List ℕ) (at : ℕ) → at < length t → length t ≤ text_limit → (s : ScannedLine) → Some s ≡ line_at t at → Small s
+unfolding line_scan entry_good
 small_line t at i h s q = by (line_in (drop at t)) refl
   where
     by : (o : Option Line) → line_in (drop at t) ≡ o → Small s
-    by none e = subst Small (sym (q ∙ unscanned t at e)) (record { path = omega arith; size = omega arith; modes = omega arith })
+    by none e = absurd (no_none t at (omega arith) s q e)
     by (some (opens p)) e =
-        let x = profile_at t at (omega arith) s q (ap (λ (y : ScannedLine). y.kind) (q ∙ scanned t at (opens p) e)) in
+        let x = profile_at t at (omega arith) s q (ap (λ (y : ScannedLine). y.kind) (is_line t at (omega arith) s q (opens p) e)) in
         record {
           path = omega (arith, x.room, x.ahead);
           size = omega (arith, x.size, (path_parts x.path x.good).2);
-          modes = omega (arith, ap (λ (y : ScannedLine). y.modes) (q ∙ scanned t at (opens p) e));
+          modes = omega (arith, ap (λ (y : ScannedLine). y.modes) (is_line t at (omega arith) s q (opens p) e));
         }
     by (some (enters y)) e =
-        let x = entry_at t at (omega arith) s q (ap (λ (y : ScannedLine). y.kind) (q ∙ scanned t at (enters y) e)) in
+        let x = entry_at t at (omega arith) s q (ap (λ (y : ScannedLine). y.kind) (is_line t at (omega arith) s q (enters y) e)) in
         record {
           path = omega (arith, x.start);
           size = omega (arith, x.size, (path_parts x.entry.path (and_0 (path_good x.entry.path) (modes_good x.entry.modes) x.good)).2);
           modes = omega (arith, x.modes, bits_small x.entry.modes);
         }
-    by (some closes) e = subst Small (sym (q ∙ scanned t at closes e)) (record { path = omega arith; size = omega arith; modes = omega arith })
+    by (some closes) e = subst Small (sym (is_line t at (omega arith) s q closes e)) (record { path = omega arith; size = omega arith; modes = omega arith })
 
 -- the number tells the path again
 pub word_back : (s : ScannedLine) → Small s → named_path (line_word s) ≡ record { start = s.path; size = s.length; modes = s.modes }
@@ -94,19 +95,21 @@ pub words_none : (t : List ℕ) (at : ℕ) → length t ≤ at → words_from t 
 unfolding words_from line_words
 words_none t at l = ap (line_words at) (walk_end t at l)
 
-module _ (t : List ℕ) (at : ℕ) (i : at < length t) (s : ScannedLine) (q : s ≡ line_at t at) where
+module _ (t : List ℕ) (at : ℕ) (i : at < length t) (s : ScannedLine) (q : Some s ≡ line_at t at) where
   pub words_profile : (p : List ℕ) → line_in (drop at t) ≡ some (opens p) → s.next ≡ at + length (line_text (opens p)) → words_from t at ≡ line_word s ∷ words_from t s.next
   unfolding words_from line_words
   words_profile p e n =
       ap (line_words at) (lines_more t at (opens p) i e)
-      ∙ ap (λ (x : ScannedLine). line_word x ∷ line_words (at + length (line_text (opens p))) (lines_in (drop (at + length (line_text (opens p))) t))) (sym (q ∙ scanned t at (opens p) e))
+      ∙ ap (λ (x : ScannedLine). line_word x ∷ line_words (at + length (line_text (opens p))) (lines_in (drop (at + length (line_text (opens p))) t)))
+      (sym (is_line t at (omega arith) s q (opens p) e))
       ∙ ap (λ (k : ℕ). line_word s ∷ line_words k (lines_in (drop k t))) (sym n)
 
   pub words_entry : (x : PathEntry) → line_in (drop at t) ≡ some (enters x) → s.next ≡ at + length (line_text (enters x)) → words_from t at ≡ line_word s ∷ words_from t s.next
   unfolding words_from line_words
   words_entry x e n =
       ap (line_words at) (lines_more t at (enters x) i e)
-      ∙ ap (λ (y : ScannedLine). line_word y ∷ line_words (at + length (line_text (enters x))) (lines_in (drop (at + length (line_text (enters x))) t))) (sym (q ∙ scanned t at (enters x) e))
+      ∙ ap (λ (y : ScannedLine). line_word y ∷ line_words (at + length (line_text (enters x))) (lines_in (drop (at + length (line_text (enters x))) t)))
+      (sym (is_line t at (omega arith) s q (enters x) e))
       ∙ ap (λ (k : ℕ). line_word s ∷ line_words k (lines_in (drop k t))) (sym n)
 
   pub words_end : line_in (drop at t) ≡ some closes → s.next ≡ at + length (line_text closes) → words_from t at ≡ words_from t s.next

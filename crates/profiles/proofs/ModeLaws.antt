@@ -4,6 +4,7 @@ use mathlib.Core.Path.{◌≡◌, refl, sym, ap, ◌∙◌, subst}
 use mathlib.Core.Bool.{Bool, true, false, cond, ◌&&◌}
 use mathlib.Core.List.{List, [], ◌∷◌}
 use mathlib.Core.Option.{Option, none, some}
+use Rattle.std.proofs.Common.{Some, None}
 use native.Mathlib.Omega.{arith}
 use lib.Bits.{bit_or}
 use lib.Dec.{eqb}
@@ -29,9 +30,9 @@ unfolding starts
 byte_behind [] = refl
 byte_behind (c ∷ u) = same_test (eqb 120 c && true) (eqb c 120) (λ h. eq-eqb c 120 (sym (eqb-true 120 c (and_0 (eqb 120 c) true h)))) (λ h. and_in (eq-eqb 120 c (sym (eqb-true c 120 h))) refl)
 
-two_scanned : (m : Mode) → length (mode_text m) ≡ 2 → (q : Bool) → cond q (record { bit = mode_bit m; width = 2 }) (record { bit = 0; width = 0 }) ≡ mode_scan (cond q (some m) none)
+two_scanned : (m : Mode) → length (mode_text m) ≡ 2 → (q : Bool) → cond q (Some (record { bit = mode_bit m; width = 2 })) None ≡ mode_scan (cond q (some m) none)
 unfolding mode_scan
-two_scanned m n true = λ i. record { bit = mode_bit m; width = sym n i }
+two_scanned m n true = λ i. Some (record { bit = mode_bit m; width = sym n i })
 two_scanned m n false = refl
 
 -- a byte that begins no mode
@@ -106,26 +107,36 @@ module _ (t : List ℕ) (at i bits : ℕ) (g : ModesScanned t at i bits) where
   unfolding modes_in mode_in mode_among all_modes mode_text ascii starts
   modes_end_lem l = stopped (ap modes_in (drop_of_length-le t l) ∙ tokens_stop mode_in mode_text [] refl)
 
-  module _ (m : ScannedMode) (e : m ≡ mode_at t i) (l : i < length t) where
-    scanned_is : (o : Option Mode) → mode_in (drop i t) ≡ o → m ≡ mode_scan o
-    unfolding mode_at
-    scanned_is o q = e ∙ ap mode_scan q
+  pub modes_stop : None ≡ mode_at t i → record { bits = bits; next = i } ≡ modes_at t at
+  unfolding modes_in mode_at mode_scan
+  modes_stop e = by (mode_in (drop i t)) refl
+    where
+      by : (o : Option Mode) → mode_in (drop i t) ≡ o → record { bits = bits; next = i } ≡ modes_at t at
+      by none q = stopped (tokens_stop mode_in mode_text (drop i t) q)
+      by (some n) q = let z : None ≡ mode_scan (some n) = e ∙ ap mode_scan q in absurd (cc)
 
-    pub modes_stop : m.width ≡ 0 → record { bits = bits; next = i } ≡ modes_at t at
-    unfolding modes_in mode_scan
-    modes_stop z = by (mode_in (drop i t)) refl
-      where
-        by : (o : Option Mode) → mode_in (drop i t) ≡ o → record { bits = bits; next = i } ≡ modes_at t at
-        by none q = stopped (tokens_stop mode_in mode_text (drop i t) q)
-        by (some n) q = absurd (omega (arith, ap (λ (x : ScannedMode). x.width) (scanned_is (some n) q), mode_long n))
+  module _ (m : ScannedMode) (e : Some m ≡ mode_at t i) (l : i < length t) where
+    scanned_is : (n : Mode) → mode_in (drop i t) ≡ some n → m ≡ record { bit = mode_bit n; width = length (mode_text n) }
+    unfolding mode_at mode_scan
+    scanned_is n q = let z : Some m ≡ mode_scan (some n) = e ∙ ap mode_scan q in cc
+
+    not_none : mode_in (drop i t) ≡ none → ⊥
+    unfolding mode_at mode_scan
+    not_none q = let z : Some m ≡ mode_scan none = e ∙ ap mode_scan q in cc
 
     pub mode_fits : i + m.width ≤ length t
-    unfolding mode_scan
     mode_fits = by (mode_in (drop i t)) refl
       where
         by : (o : Option Mode) → mode_in (drop i t) ≡ o → i + m.width ≤ length t
-        by none q = omega (arith, ap (λ (x : ScannedMode). x.width) (scanned_is none q))
-        by (some n) q = omega (arith, ap (λ (x : ScannedMode). x.width) (scanned_is (some n) q), mode_room t i n q (omega arith))
+        by none q = absurd (not_none q)
+        by (some n) q = omega (arith, ap (λ (x : ScannedMode). x.width) (scanned_is n q), mode_room t i n q (omega arith))
+
+    pub mode_wide : 0 < m.width
+    mode_wide = by (mode_in (drop i t)) refl
+      where
+        by : (o : Option Mode) → mode_in (drop i t) ≡ o → 0 < m.width
+        by none q = absurd (not_none q)
+        by (some n) q = omega (arith, ap (λ (x : ScannedMode). x.width) (scanned_is n q), mode_long n)
 
     passed : (n : Mode) → mode_in (drop i t) ≡ some n → ModesScanned t at (i + length (mode_text n)) (bit_or bits (mode_bit n))
     unfolding with_modes modes_text joined
@@ -137,10 +148,9 @@ module _ (t : List ℕ) (at i bits : ℕ) (g : ModesScanned t at i bits) where
           ends = omega (arith, ap (λ (xs : List Mode). length (modes_text xs)) (modes_more t i n q l), length-append (mode_text n) (modes_text ms), g.ends);
         }
 
-    pub modes_next : (m.width ≡ 0 → ⊥) → ModesScanned t at (i + m.width) (bit_or bits m.bit)
-    unfolding mode_scan
-    modes_next z = by (mode_in (drop i t)) refl
+    pub modes_next : ModesScanned t at (i + m.width) (bit_or bits m.bit)
+    modes_next = by (mode_in (drop i t)) refl
       where
         by : (o : Option Mode) → mode_in (drop i t) ≡ o → ModesScanned t at (i + m.width) (bit_or bits m.bit)
-        by none q = absurd (z (ap (λ (x : ScannedMode). x.width) (scanned_is none q)))
-        by (some n) q = subst (λ (x : ScannedMode). ModesScanned t at (i + x.width) (bit_or bits x.bit)) (sym (scanned_is (some n) q)) (passed n q)
+        by none q = absurd (not_none q)
+        by (some n) q = subst (λ (x : ScannedMode). ModesScanned t at (i + x.width) (bit_or bits x.bit)) (sym (scanned_is n q)) (passed n q)

@@ -2,15 +2,14 @@
 use Prim.Native.Nat.{ℕ, ◌-◌, ◌≤◌}
 use native.Mathlib.Omega.{arith}
 use mathlib.Core.Path.{◌≡◌, refl, sym, ap, ap₂, ◌∙◌}
-use mathlib.Core.Bool.{Bool, true, false, not}
+use mathlib.Core.Bool.{Bool, true, false}
 use mathlib.Core.List.{List, [], ◌++◌, append-nil}
 use lib.ListN.{length, take, replicate, length-append, length-take, drop_of_length-le}
 use lib.Seq.{take-append_seam}
-use borrow.Author.Tests.{not-true, not-false}
+use Rattle.std.proofs.Common.{Some, None}
 use borrow.Rule.Slice.PartMut.{mid_of, post_of, put_mid, Post-is, mid_len}
 use Rattle.profiles.specs.Texts.{text_good}
-use Rattle.profiles.specs.LineWords.{word_limit, text_words, no_text, Judged, good_words, scanned_of, table_of}
-use Rattle.profiles.specs.declared.ScannedText.{ScannedText}
+use Rattle.profiles.specs.LineWords.{word_limit, text_words, ScannedText, scanned, Judged, good_words, scanned_of, table_of}
 
 -- ---- what is left
 
@@ -22,41 +21,39 @@ all_good : (t : List ℕ) → text_good t ≡ true → good_words t ≡ text_wor
 unfolding good_words
 all_good t e = rw e
 
-module _ (t words : List ℕ) (s : ScannedText) (j : Judged t words (text_good t) s) (long : length words ≡ word_limit) where
-  pub refused_table : (x : ScannedText) → x ≡ no_text → not s.good ≡ true → (ws : List ℕ) → ws ≡ replicate (length words) 0 → (x ≡ scanned_of t) × (ws ≡ table_of t)
-  unfolding scanned_of table_of no_text
-  refused_table x e n ws z =
-      let bad : text_good t ≡ false = sym j.right ∙ not-true s.good n in
-      (e ∙ rw (none_good t bad) (ap (λ (b : Bool). record { good = b; count = 0 }) (sym bad)), z ∙ rw (none_good t bad, long) refl)
+module _ (t words : List ℕ) (long : length words ≡ word_limit) where
+  pub refused_table : Judged t words (text_good t) (scanned None) → (ws : List ℕ) → ws ≡ replicate (length words) 0 → (scanned None ≡ scanned_of t) × (ws ≡ table_of t)
+  unfolding scanned_of table_of
+  refused_table j ws z =
+      let bad : text_good t ≡ false = sym j.right in
+      (rw (none_good t bad) (ap (λ (b : Bool). record { good = b; count = 0 }) (sym bad)), z ∙ rw (none_good t bad, long) refl)
 
-  module _ (n : not s.good ≡ false) where
-    good : text_good t ≡ true
-    good = sym j.right ∙ not-false s.good n
+  module _ (n : ℕ) (j : Judged t words (text_good t) (scanned (Some n))) where
+    counted : n ≡ length (good_words t)
+    counted = sym (omega (arith, length-take n words, j.room refl)) ∙ ap length (j.listed refl ∙ sym (all_good t (sym j.right)))
 
-    counted : s.count ≡ length (good_words t)
-    counted =
-        sym (omega (arith, length-take s.count words, j.room (not-false s.good n)))
-        ∙ ap length (j.listed (not-false s.good n) ∙ sym (all_good t good))
-
-    pub good_room : s.count ≤ word_limit
-    good_room = omega (arith, j.room (not-false s.good n), long)
+    pub good_room : n ≤ word_limit
+    good_room = omega (arith, j.room refl, long)
 
     -- the part behind the numbers holds zeros
-    pub good_table : (ys : List ℕ) → ys ≡ replicate (length (mid_of s.count (word_limit - s.count) words)) 0 → (s ≡ scanned_of t) × (put_mid s.count (word_limit - s.count) words ys ≡ table_of t)
+    filled_table : (ys : List ℕ) → ys ≡ replicate (length (mid_of n (word_limit - n) words)) 0 → (scanned (Some n) ≡ scanned_of t) × (put_mid n (word_limit - n) words ys ≡ table_of t)
     unfolding scanned_of table_of
-    good_table ys z = (λ i. record { good = j.right i; count = counted i }, table)
+    filled_table ys z = (λ i. record { good = j.right i; count = counted i }, table)
       where
-        behind : post_of s.count (word_limit - s.count) words ≡ []
-        behind = Post-is s.count word_limit words good_room ∙ drop_of_length-le words {i = word_limit} (omega (arith, long))
+        behind : post_of n (word_limit - n) words ≡ []
+        behind = Post-is n word_limit words good_room ∙ drop_of_length-le words {i = word_limit} (omega (arith, long))
 
-        filled : ys ≡ replicate (word_limit - s.count) 0
-        filled = z ∙ ap (λ (k : ℕ). replicate k 0) (mid_len s.count word_limit words (omega (arith, long)))
+        filled : ys ≡ replicate (word_limit - n) 0
+        filled = z ∙ ap (λ (k : ℕ). replicate k 0) (mid_len n word_limit words (omega (arith, long)))
 
-        table : put_mid s.count (word_limit - s.count) words ys ≡ good_words t ++ replicate (word_limit - length (good_words t)) 0
+        table : put_mid n (word_limit - n) words ys ≡ good_words t ++ replicate (word_limit - length (good_words t)) 0
         table =
-            ap₂ (λ (a b : List ℕ). take s.count words ++ (a ++ b)) filled behind
-            ∙ ap (λ (a : List ℕ). take s.count words ++ a) (append-nil (replicate (word_limit - s.count) 0))
-            ∙ ap₂ (λ (a : List ℕ) (k : ℕ). a ++ replicate (word_limit - k) 0) (j.listed (not-false s.good n) ∙ sym (all_good t good)) counted
+            ap₂ (λ (a b : List ℕ). take n words ++ (a ++ b)) filled behind
+            ∙ ap (λ (a : List ℕ). take n words ++ a) (append-nil (replicate (word_limit - n) 0))
+            ∙ ap₂ (λ (a : List ℕ) (k : ℕ). a ++ replicate (word_limit - k) 0) (j.listed refl ∙ sym (all_good t (sym j.right))) counted
+
+    pub good_table : (ys : List ℕ) → ys ≡ replicate (length (mid_of n (length words - n) words)) 0 → (scanned (Some n) ≡ scanned_of t) × (put_mid n (length words - n) words ys ≡ table_of t)
+    good_table = rw long filled_table
 
 -- ---- what it says, for those who read it
 

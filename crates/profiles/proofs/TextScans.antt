@@ -5,7 +5,7 @@ use mathlib.Core.Path.{◌≡◌, refl, sym, ap, ap₂, ◌∙◌}
 use mathlib.Core.Bool.{Bool, true, false, not, ◌&&◌}
 use mathlib.Core.List.{List, [], ◌∷◌, ◌++◌, append-nil}
 use native.Mathlib.Omega.{arith}
-use native.Mathlib.Decide.{ℕ_discrete}
+use Rattle.std.proofs.Common.{Some, None}
 use lib.ListN.{length, take, drop, set, length-append, length-set}
 use borrow.Author.Tests.{not-true, not-false, lt-leb, le-leb}
 use Rattle.lists.specs.Lists.{every, known}
@@ -15,17 +15,18 @@ use Rattle.lists.proofs.Bools.{and_0, and_1, clash}
 use Rattle.profiles.specs.Profiles.{modes_text, modes_start, modes_end, entry_line, path_good, modes_good, entry_good}
 use Rattle.profiles.specs.Reading.{opens, enters, closes, line_text, path_in, reading_of}
 use Rattle.profiles.specs.Texts.{text_limit, reads_well, text_good}
-use Rattle.profiles.specs.Scanning.{no_line, profile_kind, entry_kind, end_kind, line_at}
-use Rattle.profiles.specs.LineWords.{line_word, text_words, may_stand, no_text, Judged, profile_least, entry_least}
+use Rattle.profiles.specs.Scanning.{line_at}
+use Rattle.profiles.specs.LineWords.{line_word, text_words, may_stand, ScannedText, scanned, Judged, profile_least, entry_least}
 use Rattle.profiles.specs.Notes.{note_good, path_hash, ToNote, noted_paths, noted_place, with_note}
 use Rattle.profiles.specs.Marks.{mark_words, has_mark, with_mark, Marked}
 use Rattle.profiles.proofs.NoteLaws.{is_known, is_new, notes_long, notes_good, paths_more}
 use Rattle.profiles.proofs.HashMarks.{marked_more}
 use Rattle.profiles.specs.declared.ScannedLine.{ScannedLine}
-use Rattle.profiles.specs.declared.ScannedText.{ScannedText}
+use Rattle.profiles.specs.declared.LineKind.{LineKind}
+use Rattle.profiles.specs.declared.LineKind.TheVariants as K
 use Rattle.profiles.proofs.ProfileLines.{line_long, modes_text_long}
 use Rattle.profiles.proofs.PathBytes.{path_parts}
-use Rattle.profiles.proofs.Walks.{ProfileAt, EntryAt, EndAt, profile_at, entry_at, end_at, no_kind, no_line_at}
+use Rattle.profiles.proofs.Walks.{ProfileAt, EntryAt, EndAt, profile_at, entry_at, end_at, none_at}
 use Rattle.profiles.proofs.LineWordLaws.{Small, small_line, words_from, words_none, words_profile, words_entry, words_end, list_more, list_still}
 use Rattle.profiles.proofs.JudgedText.{left_good, left_whole, left_end, left_none, profile_inside, profile_again, profile_new, entry_outside, entry_inside, end_outside, end_inside}
 
@@ -64,35 +65,18 @@ text_start t notes marks words s r m w =
     }
 
 -- a text that is refused
-pub no_text_lem : (t words : List ℕ) (b : Bool) (s : ScannedText) → s ≡ no_text → false ≡ b → Judged t words b s
-unfolding no_text
-no_text_lem t words b s e h =
-    let g : s.good ≡ false = ap (λ (x : ScannedText). x.good) e in
-    record { right = g ∙ h; room = λ k. clash k g; listed = λ k. clash k g }
-
--- ---- where a line may stand
-
-stand_profile : (k : ℕ) (b : Bool) → k ≡ profile_kind → may_stand k b ≡ not b
-unfolding may_stand
-stand_profile k b e = rw e
-
-stand_entry : (k : ℕ) (b : Bool) → k ≡ entry_kind → may_stand k b ≡ b
-unfolding may_stand
-stand_entry k b e = rw e
-
-stand_end : (k : ℕ) (b : Bool) → k ≡ end_kind → may_stand k b ≡ b
-unfolding may_stand
-stand_end k b e = rw e
-
-stand_none : (k : ℕ) (b : Bool) → k ≡ no_line → may_stand k b ≡ false
-unfolding may_stand
-stand_none k b e = rw e
+pub no_text_lem : (t words : List ℕ) (b : Bool) → false ≡ b → Judged t words b (scanned None)
+no_text_lem t words b h = record { right = h; room = λ k. clash k refl; listed = λ k. clash k refl }
 
 module _ (t notes₀ words₀ notes marks words : List ℕ) (at count named : ℕ) (b : Bool) (g : TextScanned t notes₀ words₀ notes marks words at count named b) where
-  pub text_end : length t ≤ at → Judged t words (reads_well (reading_of t)) (record { good = not b; count = named })
-  text_end l =
+  -- the text ends inside of a profile, or outside
+  pub text_open : length t ≤ at → b ≡ true → Judged t words (reads_well (reading_of t)) (scanned None)
+  text_open l e = no_text_lem t words (reads_well (reading_of t)) (sym (left_end t (noted_paths t notes count) b at l ∙ ap not e) ∙ g.rest)
+
+  pub text_end : length t ≤ at → b ≡ false → Judged t words (reads_well (reading_of t)) (scanned (Some named))
+  text_end l e =
       record {
-        right = sym (left_end t (noted_paths t notes count) b at l) ∙ g.rest;
+        right = sym (left_end t (noted_paths t notes count) b at l ∙ ap not e) ∙ g.rest;
         room = λ _. omega (arith, g.fewer, g.wide, g.place);
         listed = λ _. sym (append-nil (take named words)) ∙ ap (λ (ws : List ℕ). take named words ++ ws) (sym (words_none t at l)) ∙ g.listed;
       }
@@ -100,18 +84,23 @@ module _ (t notes₀ words₀ notes marks words : List ℕ) (at count named : �
   pub word_room : at < length t → named < length words
   word_room i = omega (arith, g.fewer, g.wide)
 
-  module _ (s : ScannedLine) (q : s ≡ line_at t at) (i : at < length t) where
+  -- no line
+  pub text_broken : None ≡ line_at t at → at < length t → false ≡ reads_well (reading_of t)
+  text_broken q i = sym (left_none t (noted_paths t notes count) b at i (none_at t at q)) ∙ g.rest
+
+  module _ (s : ScannedLine) (q : Some s ≡ line_at t at) (i : at < length t) where
     pub word_small : Small s
     word_small = small_line t at i g.short s q
+
+    -- where a line may stand
+    stand : (k : LineKind) → s.kind ≡ k → may_stand s.kind b ≡ may_stand k b
+    stand k e = ap (λ (x : LineKind). may_stand x b) e
 
     left_as : (c : Bool) → b ≡ c → left_good t (noted_paths t notes count) c at ≡ reads_well (reading_of t)
     left_as c e = ap (λ (d : Bool). left_good t (noted_paths t notes count) d at) (sym e) ∙ g.rest
 
-    text_broken : (s.kind ≡ profile_kind → ⊥) → (s.kind ≡ entry_kind → ⊥) → (s.kind ≡ end_kind → ⊥) → false ≡ reads_well (reading_of t)
-    text_broken x y z = sym (left_none t (noted_paths t notes count) b at i (no_line_at t at (omega arith) s q x y z)) ∙ g.rest
-
     -- a profile's first line
-    module _ (k : s.kind ≡ profile_kind) where
+    module _ (k : s.kind ≡ K.Profile) where
       profile : ProfileAt t at s
       profile = profile_at t at (omega arith) s q k
 
@@ -137,9 +126,10 @@ module _ (t notes₀ words₀ notes marks words : List ℕ) (at count named : �
             place = omega (arith, profile.room, profile.ahead, g.short);
           }
 
-      module _ (r : ℕ) (e : r ≡ noted_place t notes count s.path s.length) (c : Bool) (d : c ≡ may_stand s.kind b) (z : not c ≡ false) where
+      module _ (r : ℕ) (e : r ≡ noted_place t notes count s.path s.length) (c : Bool) (d : c ≡ may_stand s.kind b) (z : c ≡ true) where
         o : b ≡ false
-        o = not-true b (sym (stand_profile s.kind b k) ∙ sym d ∙ not-false c z)
+        unfolding may_stand
+        o = not-true b (sym (stand K.Profile k) ∙ sym d ∙ z)
 
         pub profile_repeats : r < count → false ≡ reads_well (reading_of t)
         profile_repeats l =
@@ -181,7 +171,7 @@ module _ (t notes₀ words₀ notes marks words : List ℕ) (at count named : �
               }
 
     -- a line of an entry
-    module _ (k : s.kind ≡ entry_kind) where
+    module _ (k : s.kind ≡ K.Entry) where
       entry : EntryAt t at s
       entry = entry_at t at (omega arith) s q k
 
@@ -194,8 +184,9 @@ module _ (t notes₀ words₀ notes marks words : List ℕ) (at count named : �
       entry_stops : b ≡ false → false ≡ reads_well (reading_of t)
       entry_stops e = sym (entry_outside t (noted_paths t notes count) at i entry.entry entry.reads) ∙ left_as false e
 
-      entry_inside' : (c : Bool) → c ≡ may_stand s.kind b → not c ≡ false → b ≡ true
-      entry_inside' c d z = sym (stand_entry s.kind b k) ∙ sym d ∙ not-false c z
+      entry_inside' : (c : Bool) → c ≡ may_stand s.kind b → c ≡ true → b ≡ true
+      unfolding may_stand
+      entry_inside' c d z = sym (stand K.Entry k) ∙ sym d ∙ z
 
       entry_long : 6 ≤ s.next - at
       unfolding line_text entry_line modes_start modes_end ascii entry_good
@@ -210,7 +201,7 @@ module _ (t notes₀ words₀ notes marks words : List ℕ) (at count named : �
             modes_text_long entry.entry.modes (and_1 (path_good entry.entry.path) h),
           )
 
-      pub entry_passed : (c : Bool) → c ≡ may_stand s.kind b → not c ≡ false → (w : ℕ) → w ≡ line_word s
+      pub entry_passed : (c : Bool) → c ≡ may_stand s.kind b → c ≡ true → (w : ℕ) → w ≡ line_word s
           → TextScanned t notes₀ words₀ notes marks (set words named w) s.next count (named + 1) b
       entry_passed c d z v y =
           let e : b ≡ true = entry_inside' c d z in
@@ -235,7 +226,7 @@ module _ (t notes₀ words₀ notes marks words : List ℕ) (at count named : �
           }
 
     -- a profile's last line
-    module _ (k : s.kind ≡ end_kind) where
+    module _ (k : s.kind ≡ K.End) where
       end : EndAt t at s
       end = end_at t at (omega arith) s q k
 
@@ -266,33 +257,26 @@ module _ (t notes₀ words₀ notes marks words : List ℕ) (at count named : �
                 list_still words named v (words_from t at) (words_from t s.next) (text_words t) (words_end t at i s q end.reads end.next) g.listed;
           }
 
+      module _ (c : Bool) (d : c ≡ may_stand s.kind b) (z : c ≡ true) where
+        pub end_less : length t - s.next < length t - at
+        end_less = omega (arith, end_ahead, end.ahead)
+
+        pub end_passed : (w : ℕ) → TextScanned t notes₀ words₀ notes marks (set words named w) s.next count named false
+        unfolding may_stand
+        end_passed w = end_left (sym (stand K.End k) ∙ sym d ∙ z) w
+
     -- a line that may not stand here
-    pub text_stops : (c : Bool) → c ≡ may_stand s.kind b → not c ≡ true → false ≡ reads_well (reading_of t)
-    text_stops c d z = by (ℕ_discrete s.kind profile_kind) (ℕ_discrete s.kind entry_kind) (ℕ_discrete s.kind end_kind)
+    pub text_stops : (c : Bool) → c ≡ may_stand s.kind b → c ≡ false → false ≡ reads_well (reading_of t)
+    unfolding may_stand
+    text_stops c d z = by s.kind refl
       where
         f : may_stand s.kind b ≡ false
-        f = sym d ∙ not-true c z
+        f = sym d ∙ z
 
-        by : Dec (s.kind ≡ profile_kind) → Dec (s.kind ≡ entry_kind) → Dec (s.kind ≡ end_kind) → false ≡ reads_well (reading_of t)
-        by (yes k) y x = profile_stops k (not-false b (sym (stand_profile s.kind b k) ∙ f))
-        by (no n) (yes k) x = entry_stops k (sym (stand_entry s.kind b k) ∙ f)
-        by (no n) (no m) (yes k) = end_stops k (sym (stand_end s.kind b k) ∙ f)
-        by (no n) (no m) (no l) = text_broken n m l
-
-    -- a line that may stand here and is neither of the others
-    module _ (n : s.kind ≡ profile_kind → ⊥) (m : s.kind ≡ entry_kind → ⊥) (c : Bool) (d : c ≡ may_stand s.kind b) (z : not c ≡ false) where
-      ends : s.kind ≡ end_kind
-      ends = by (ℕ_discrete s.kind end_kind)
-        where
-          by : Dec (s.kind ≡ end_kind) → s.kind ≡ end_kind
-          by (yes k) = k
-          by (no l) = clash (sym d ∙ not-false c z) (stand_none s.kind b (no_kind t at (omega arith) s q (no_line_at t at (omega arith) s q n m l)))
-
-      pub end_less : length t - s.next < length t - at
-      end_less = omega (arith, end_ahead ends, (end ends).ahead)
-
-      pub end_passed : (w : ℕ) → TextScanned t notes₀ words₀ notes marks (set words named w) s.next count named false
-      end_passed w = end_left ends (sym (stand_end s.kind b ends) ∙ sym d ∙ not-false c z) w
+        by : (k : LineKind) → s.kind ≡ k → false ≡ reads_well (reading_of t)
+        by K.Profile k = profile_stops k (not-false b (sym (stand K.Profile k) ∙ f))
+        by K.Entry k = entry_stops k (sym (stand K.Entry k) ∙ f)
+        by K.End k = end_stops k (sym (stand K.End k) ∙ f)
 
 -- ---- the length of the text
 

@@ -4,6 +4,7 @@ use mathlib.Core.Path.{◌≡◌, refl, sym, ap, ◌∙◌, subst}
 use mathlib.Core.Bool.{true}
 use mathlib.Core.List.{List, [], ◌∷◌, ◌++◌, map, append_assoc}
 use mathlib.Core.Option.{Option, none, some}
+use Rattle.std.proofs.Common.{Some, None}
 use native.Mathlib.Omega.{arith}
 use lib.ListN.{length, take, drop, length-append, length-drop, drop_of_length-le}
 use lib.Seq.{take-append_seam, drop-append_seam, drop-drop}
@@ -15,10 +16,11 @@ use Rattle.profiles.specs.Profiles.{PathEntry, Profile, modes_text, profile_word
 use Rattle.profiles.specs.Grammar.{Grammar}
 use Rattle.profiles.specs.Tokens.{tokens}
 use Rattle.profiles.specs.Reading.{Line, opens, enters, closes, line_text, line_good, lines_of, path_in, line_in, lines_in, lines_text}
-use Rattle.profiles.specs.Scanning.{mode_bits, no_line, profile_kind, entry_kind, end_kind, line_scan, no_scan, line_at}
+use Rattle.profiles.specs.Scanning.{mode_bits, line_scan, line_at}
 use Rattle.profiles.specs.declared.ScannedLine.{ScannedLine}
+use Rattle.profiles.specs.declared.LineKind.TheVariants as K
 use Rattle.profiles.proofs.TokenLaws.{starts_split, tokens_stop}
-use Rattle.profiles.proofs.ProfileLines.{line_front, line_good_lem, line_long, profile_path, entry_path_read}
+use Rattle.profiles.proofs.ProfileLines.{line_front, line_good_lem, profile_path, entry_path_read}
 use Rattle.profiles.proofs.LineScans.{starts_room, lines_more}
 use Rattle.profiles.proofs.ReadingLaws.{text_lines, lines_read, no_line_left}
 
@@ -64,11 +66,11 @@ pub record EndAt (t : List ℕ) (at : ℕ) (s : ScannedLine) : Type 0 where
   pub ahead : s.next ≤ length t
 
 -- a line in front is scanned so
-pub scanned : (t : List ℕ) (at : ℕ) (l : Line) → line_in (drop at t) ≡ some l → line_at t at ≡ line_scan at l
+pub scanned : (t : List ℕ) (at : ℕ) (l : Line) → line_in (drop at t) ≡ some l → line_at t at ≡ Some (line_scan at l)
 unfolding line_at
 scanned t at l e = rw e
 
-pub unscanned : (t : List ℕ) (at : ℕ) → line_in (drop at t) ≡ none → line_at t at ≡ no_scan
+pub unscanned : (t : List ℕ) (at : ℕ) → line_in (drop at t) ≡ none → line_at t at ≡ None
 unfolding line_at
 unscanned t at e = rw e
 
@@ -118,56 +120,53 @@ module _ (t : List ℕ) (at : ℕ) (l : at ≤ length t) where
   unfolding line_scan
   end_here e = record { reads = e; next = refl; ahead = ahead closes e }
 
-  module _ (s : ScannedLine) (q : s ≡ line_at t at) where
-    is_line : (x : Line) → line_in (drop at t) ≡ some x → s ≡ line_scan at x
-    is_line x e = q ∙ scanned t at x e
+  module _ (s : ScannedLine) (q : Some s ≡ line_at t at) where
+    pub is_line : (x : Line) → line_in (drop at t) ≡ some x → s ≡ line_scan at x
+    is_line x e = let z : Some s ≡ Some (line_scan at x) = q ∙ scanned t at x e in cc
 
     kind_of : (x : Line) → line_in (drop at t) ≡ some x → s.kind ≡ (line_scan at x).kind
     kind_of x e = ap (λ (y : ScannedLine). y.kind) (is_line x e)
 
-    pub no_kind : line_in (drop at t) ≡ none → s.kind ≡ no_line
-    unfolding no_scan
-    no_kind e = ap (λ (y : ScannedLine). y.kind) (q ∙ unscanned t at e)
+    pub no_none : line_in (drop at t) ≡ none → ⊥
+    no_none e = let z : Some s ≡ None = q ∙ unscanned t at e in cc
 
-    pub profile_at : s.kind ≡ profile_kind → ProfileAt t at s
+    pub profile_at : s.kind ≡ K.Profile → ProfileAt t at s
     unfolding line_scan
     profile_at k = by (line_in (drop at t)) refl
       where
         by : (o : Option Line) → line_in (drop at t) ≡ o → ProfileAt t at s
-        by none e = absurd (omega (arith, no_kind e))
+        by none e = absurd (no_none e)
         by (some (opens p)) e = subst (ProfileAt t at) (sym (is_line (opens p) e)) (profile_here p e)
-        by (some (enters x)) e = absurd (omega (arith, kind_of (enters x) e))
-        by (some closes) e = absurd (omega (arith, kind_of closes e))
+        by (some (enters x)) e = let z : K.Profile ≡ K.Entry = sym k ∙ kind_of (enters x) e in absurd (cc)
+        by (some closes) e = let z : K.Profile ≡ K.End = sym k ∙ kind_of closes e in absurd (cc)
 
-    pub entry_at : s.kind ≡ entry_kind → EntryAt t at s
+    pub entry_at : s.kind ≡ K.Entry → EntryAt t at s
     unfolding line_scan
     entry_at k = by (line_in (drop at t)) refl
       where
         by : (o : Option Line) → line_in (drop at t) ≡ o → EntryAt t at s
-        by none e = absurd (omega (arith, no_kind e))
-        by (some (opens p)) e = absurd (omega (arith, kind_of (opens p) e))
+        by none e = absurd (no_none e)
+        by (some (opens p)) e = let z : K.Entry ≡ K.Profile = sym k ∙ kind_of (opens p) e in absurd (cc)
         by (some (enters x)) e = subst (EntryAt t at) (sym (is_line (enters x) e)) (entry_here x e)
-        by (some closes) e = absurd (omega (arith, kind_of closes e))
+        by (some closes) e = let z : K.Entry ≡ K.End = sym k ∙ kind_of closes e in absurd (cc)
 
-    pub end_at : s.kind ≡ end_kind → EndAt t at s
+    pub end_at : s.kind ≡ K.End → EndAt t at s
     unfolding line_scan
     end_at k = by (line_in (drop at t)) refl
       where
         by : (o : Option Line) → line_in (drop at t) ≡ o → EndAt t at s
-        by none e = absurd (omega (arith, no_kind e))
-        by (some (opens p)) e = absurd (omega (arith, kind_of (opens p) e))
-        by (some (enters x)) e = absurd (omega (arith, kind_of (enters x) e))
+        by none e = absurd (no_none e)
+        by (some (opens p)) e = let z : K.End ≡ K.Profile = sym k ∙ kind_of (opens p) e in absurd (cc)
+        by (some (enters x)) e = let z : K.End ≡ K.Entry = sym k ∙ kind_of (enters x) e in absurd (cc)
         by (some closes) e = subst (EndAt t at) (sym (is_line closes e)) (end_here e)
 
-    pub no_line_at : (s.kind ≡ profile_kind → ⊥) → (s.kind ≡ entry_kind → ⊥) → (s.kind ≡ end_kind → ⊥) → line_in (drop at t) ≡ none
-    unfolding line_scan
-    no_line_at a b c = by (line_in (drop at t)) refl
-      where
-        by : (o : Option Line) → line_in (drop at t) ≡ o → o ≡ none
-        by none e = refl
-        by (some (opens p)) e = absurd (a (kind_of (opens p) e))
-        by (some (enters x)) e = absurd (b (kind_of (enters x) e))
-        by (some closes) e = absurd (c (kind_of closes e))
+-- no line stands there
+pub none_at : (t : List ℕ) (at : ℕ) → None ≡ line_at t at → line_in (drop at t) ≡ none
+none_at t at q = by (line_in (drop at t)) refl
+  where
+    by : (o : Option Line) → line_in (drop at t) ≡ o → o ≡ none
+    by none e = refl
+    by (some l) e = let z : None ≡ Some (line_scan at l) = q ∙ scanned t at l e in absurd (cc)
 
 -- ---- the walk through a text that has a reading
 
@@ -203,38 +202,18 @@ module _ (t : List ℕ) (at : ℕ) (w : Walk t at) where
       )
 
 -- the line at a place of the walk, whichever it is, and the walk behind it
-pub record LineHere (t : List ℕ) (at : ℕ) (s : ScannedLine) : Type 0 where
+pub record LineHere (t : List ℕ) (at : ℕ) : Type 0 where
   pub line : Line
   pub reads : line_in (drop at t) ≡ some line
-  pub is : s ≡ line_scan at line
-  pub next : s.next ≡ at + length (line_text line)
-  pub on : at < s.next
-  pub walk : Walk t s.next
-  pub lines : lines_in (drop at t) ≡ line ∷ lines_in (drop s.next t)
+  pub walk : Walk t (at + length (line_text line))
+  pub lines : lines_in (drop at t) ≡ line ∷ lines_in (drop (at + length (line_text line)) t)
 
-scan_next : (at : ℕ) (l : Line) → (line_scan at l).next ≡ at + length (line_text l)
-unfolding line_scan
-scan_next at (opens p) = refl
-scan_next at (enters e) = refl
-scan_next at closes = refl
-
-pub walk_line : (t : List ℕ) (at : ℕ) → Walk t at → at < length t → (s : ScannedLine) → s ≡ line_at t at → LineHere t at s
-walk_line t at w i s q = by (line_in (drop at t)) refl
+pub walk_line : (t : List ℕ) (at : ℕ) → Walk t at → at < length t → LineHere t at
+walk_line t at w i = by (line_in (drop at t)) refl
   where
-    by : (o : Option Line) → line_in (drop at t) ≡ o → LineHere t at s
+    by : (o : Option Line) → line_in (drop at t) ≡ o → LineHere t at
     by none e = absurd (walk_on t at w i e)
-    by (some l) e =
-        let n : s.next ≡ at + length (line_text l) = ap (λ (x : ScannedLine). x.next) (q ∙ scanned t at l e) ∙ scan_next at l in
-        let g = walk_next t at w l i e in
-        record {
-          line = l;
-          reads = e;
-          is = q ∙ scanned t at l e;
-          next = n;
-          on = omega (arith, n, line_long l);
-          walk = subst (Walk t) (sym n) g.0;
-          lines = g.1 ∙ ap (λ (k : ℕ). l ∷ lines_in (drop k t)) (sym n);
-        }
+    by (some l) e = let g = walk_next t at w l i e in record { line = l; reads = e; walk = g.0; lines = g.1 }
 
 -- at the end there is none
 pub walk_end : (t : List ℕ) (at : ℕ) → length t ≤ at → lines_in (drop at t) ≡ []

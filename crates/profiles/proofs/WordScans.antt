@@ -1,56 +1,31 @@
 -- A word, the bytes of a path and modes that are scanned one by one from a place of the text: what is left has what is left of
 -- the answer.
 use Prim.Native.Nat.{ℕ, ◌+◌, ◌≤◌, ◌<◌}
-use mathlib.Core.Path.{◌≡◌, refl, sym, ap, ap₂, ◌∙◌}
-use mathlib.Core.Bool.{true, false, ◌&&◌}
+use mathlib.Core.Path.{◌≡◌, refl, sym, ap, ◌∙◌}
+use mathlib.Core.Bool.{Bool, true, false, ◌&&◌}
 use mathlib.Core.List.{List, [], ◌∷◌}
 use native.Mathlib.Omega.{arith}
 use native.Mathlib.Numerals.{add-one}
 use lib.Dec.{eqb}
-use lib.ListN.{length, get_or, drop, length-append, drop_of_length-le}
+use lib.ListN.{length, get_or, take, drop, drop_of_length-le}
+use lib.Pointwise.{pointwise}
 use lib.Seq.{drop-cons}
-use borrow.Author.Tests.{eq-eqb, ne_eqb}
-use Rattle.lists.proofs.Bools.{refuted}
 use Rattle.profiles.specs.Profiles.{is_path_byte}
 use Rattle.profiles.specs.Tokens.{starts, tokens}
 use Rattle.profiles.specs.Reading.{path_byte_in, byte_text, path_in}
-use Rattle.profiles.proofs.TokenLaws.{starts_split, tokens_stop, tokens_step}
+use Rattle.profiles.proofs.TokenLaws.{tokens_stop, tokens_step}
 
 pub drop_next : (t : List ℕ) (i : ℕ) → i < length t → drop i t ≡ get_or t i 0 ∷ drop (i + 1) t
 drop_next t i l = drop-cons t i 0 l ∙ ap (λ (k : ℕ). get_or t i 0 ∷ drop k t) (sym (add-one i))
 
 -- ---- a word
 
-pub starts_short : (w t : List ℕ) → length t < length w → false ≡ starts w t
-starts_short w t l = sym (refuted (starts w t) (λ h. omega (arith, ap length (starts_split w t h), length-append w (drop (length w) t))))
-
--- the word's bytes up to i stand at the place
-pub record Matched (w t : List ℕ) (at i : ℕ) : Type 0 where
-  pub place : i ≤ length w
-  pub rest : starts (drop i w) (drop (at + i) t) ≡ starts w (drop at t)
-
-pub match_start : (w t : List ℕ) (at : ℕ) → Matched w t at 0
-match_start w t at = let e : at + 0 ≡ at = omega arith in record { place = omega arith; rest = rw e }
-
-module _ (w t : List ℕ) (at i : ℕ) (g : Matched w t at i) where
-  match_step : i < length w → at + i < length t
-      → starts (drop i w) (drop (at + i) t) ≡ (eqb (get_or w i 0) (get_or t (at + i) 0) && starts (drop (i + 1) w) (drop (at + (i + 1)) t))
-  unfolding starts
-  match_step l m =
-      let e : at + (i + 1) ≡ at + i + 1 = omega arith in
-      ap₂ starts (drop_next w i l) (drop_next t (at + i) m)
-      ∙ ap (λ (k : ℕ). eqb (get_or w i 0) (get_or t (at + i) 0) && starts (drop (i + 1) w) (drop k t)) (sym e)
-
-  pub match_next : i < length w → at + i < length t → get_or t (at + i) 0 ≡ get_or w i 0 → Matched w t at (i + 1)
-  match_next l m q =
-      record { place = omega arith; rest = sym (rw (eq-eqb (get_or w i 0) (get_or t (at + i) 0) (sym q)) at (match_step l m)) ∙ g.rest }
-
-  pub match_stop : i < length w → at + i < length t → (get_or t (at + i) 0 ≡ get_or w i 0 → ⊥) → false ≡ starts w (drop at t)
-  match_stop l m q = sym (rw (ne_eqb (get_or w i 0) (get_or t (at + i) 0) (λ e. q (sym e))) at (match_step l m)) ∙ g.rest
-
-  pub match_end : length w ≤ i → true ≡ starts w (drop at t)
-  unfolding starts
-  match_end l = rw (drop_of_length-le w l) at g.rest
+-- what the library's test of a word in front of a text answers
+pub starts_pointwise : (w t : List ℕ) → pointwise eqb w (take (length w) t) ≡ starts w t
+unfolding starts
+starts_pointwise [] t = refl
+starts_pointwise (b ∷ w) [] = refl
+starts_pointwise (b ∷ w) (x ∷ t) = ap (λ (s : Bool). eqb b x && s) (starts_pointwise w t)
 
 -- ---- the bytes of a path
 

@@ -1,13 +1,14 @@
 -- Each line of a text that names a path in one number, as the code that judges a text leaves them to the code that reads it
 -- afterwards: where the path begins, how long it is, and the modes, of which a profile's first line has none.
-use Rattle.std.specs.Prelude.{ℕ, ◌+◌, ◌-◌, ◌*◌, ◌/◌, ◌%◌, ◌≤◌, ◌≡◌, Bool, true, false, not, cond, List, [], ◌∷◌, ◌++◌, eqb, length, take, replicate}
+use Rattle.std.specs.Prelude.{ℕ, ◌+◌, ◌-◌, ◌*◌, ◌/◌, ◌%◌, ◌≤◌, ◌≡◌, Bool, true, false, not, cond, Option, None, Some, List, [], ◌∷◌, ◌++◌, length, take, replicate}
 use Rattle.profiles.specs.Reading.{Line, opens, enters, closes, line_text, lines_in}
 use Rattle.profiles.specs.Texts.{text_limit, text_good}
 use Rattle.profiles.specs.Notes.{length_limit}
-use Rattle.profiles.specs.Scanning.{no_line, profile_kind, line_scan}
+use Rattle.profiles.specs.Scanning.{line_scan}
 use Rattle.profiles.specs.declared.ScannedLine.{ScannedLine}
 use Rattle.profiles.specs.declared.NamedPath.{NamedPath}
-use Rattle.profiles.specs.declared.ScannedText.{ScannedText}
+use Rattle.profiles.specs.declared.LineKind.{LineKind}
+use Rattle.profiles.specs.declared.LineKind.TheVariants as K
 
 unfoldable pub line_word : ScannedLine → ℕ
 line_word s = s.path + text_limit * (s.length + length_limit * s.modes)
@@ -48,12 +49,20 @@ short_limit = few_profiles * profile_least
 -- ---- what the functions give
 
 -- a profile's first line stands outside of profiles, the others inside of one
-unfoldable pub may_stand : ℕ → Bool → Bool
-may_stand kind inside = cond (eqb kind profile_kind) (not inside) (cond (eqb kind no_line) false inside)
+unfoldable pub may_stand : LineKind → Bool → Bool
+may_stand K.Profile inside = not inside
+may_stand K.Entry inside = inside
+may_stand K.End inside = inside
 
--- no reading
-unfoldable pub no_text : ScannedText
-no_text = record { good = false; count = 0 }
+-- whether a text is good, and if so, how many of its lines name a path
+pub record ScannedText : Type 0 where
+  pub good : Bool
+  pub count : ℕ
+
+-- the same as the functions answer it: the count of a good text
+abbrev pub scanned : Option ℕ → ScannedText
+scanned None = record { good = false; count = 0 }
+scanned (Some n) = record { good = true; count = n }
 
 -- whether a text is good, as b says, and if so, the numbers of its lines in front of others
 pub record Judged (t words : List ℕ) (b : Bool) (s : ScannedText) : Type 0 where

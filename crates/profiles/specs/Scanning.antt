@@ -2,6 +2,7 @@
 -- path is, its modes as a set, and where the next line begins. A text that has a reading is, line by line, the lines of it.
 use Rattle.std.specs.Prelude.{ℕ, ◌+◌, ◌^◌, cond, List, [], ◌∷◌, eqb, length, drop}
 use Rattle.std.proofs.Math.Option.{Option, none, some}
+use Rattle.std.specs.Prelude as std
 use Rattle.std.specs.Int.Bits.{bit_or}
 use Rattle.profiles.specs.Profiles.{Mode, mode_r, mode_w, mode_a, mode_l, mode_m, mode_ix, mode_px, mode_Px, mode_ux, mode_Ux, mode_text, modes_text, profile_word}
 use Rattle.profiles.specs.Tokens.{given}
@@ -9,6 +10,7 @@ use Rattle.profiles.specs.Reading.{Line, opens, enters, closes, line_text, line_
 use Rattle.profiles.specs.declared.ScannedMode.{ScannedMode}
 use Rattle.profiles.specs.declared.ScannedModes.{ScannedModes}
 use Rattle.profiles.specs.declared.ScannedLine.{ScannedLine}
+use Rattle.profiles.specs.declared.LineKind.TheVariants as K
 
 -- ---- the bytes by which a line is told: those of `profile` and of `}` in front, and of `x` behind the first letter of a mode
 
@@ -48,16 +50,16 @@ with_modes n (m ∷ ms) = with_modes (bit_or n (mode_bit m)) ms
 unfoldable pub mode_bits : List Mode → ℕ
 mode_bits ms = with_modes 0 ms
 
--- the mode at a place, with its length; no bit and no length where there is none
-unfoldable pub mode_scan : Option Mode → ScannedMode
-mode_scan none = record { bit = 0; width = 0 }
-mode_scan (some m) = record { bit = mode_bit m; width = length (mode_text m) }
+-- the mode at a place, if there is one, with its length
+unfoldable pub mode_scan : Option Mode → std.Option ScannedMode
+mode_scan none = std.None
+mode_scan (some m) = std.Some (record { bit = mode_bit m; width = length (mode_text m) })
 
 -- the mode of two letters that has this bit, if the second is x
-unfoldable pub with_x : ℕ → ℕ → ScannedMode
-with_x second bit = cond (eqb second letter_x) (record { bit = bit; width = 2 }) (record { bit = 0; width = 0 })
+unfoldable pub with_x : ℕ → ℕ → std.Option ScannedMode
+with_x second bit = cond (eqb second letter_x) (std.Some (record { bit = bit; width = 2 })) std.None
 
-unfoldable pub mode_at : List ℕ → ℕ → ScannedMode
+unfoldable pub mode_at : List ℕ → ℕ → std.Option ScannedMode
 mode_at t at = mode_scan (mode_in (drop at t))
 
 -- the modes at a place, and the place behind them
@@ -69,29 +71,14 @@ modes_at t at = modes_scan at (modes_in (drop at t))
 
 -- ---- lines
 
-abbrev pub no_line : ℕ
-no_line = 0
-
-abbrev pub profile_kind : ℕ
-profile_kind = 1
-
-abbrev pub entry_kind : ℕ
-entry_kind = 2
-
-abbrev pub end_kind : ℕ
-end_kind = 3
-
 -- a line that stands at a place
 unfoldable pub line_scan : ℕ → Line → ScannedLine
 line_scan at (opens p) =
-    record { kind = profile_kind; path = at + length profile_word; length = length p; modes = 0; next = at + length (line_text (opens p)) }
+    record { kind = K.Profile; path = at + length profile_word; length = length p; modes = 0; next = at + length (line_text (opens p)) }
 line_scan at (enters e) =
-    record { kind = entry_kind; path = at; length = length e.path; modes = mode_bits e.modes; next = at + length (line_text (enters e)) }
-line_scan at closes = record { kind = end_kind; path = at; length = 0; modes = 0; next = at + length (line_text closes) }
+    record { kind = K.Entry; path = at; length = length e.path; modes = mode_bits e.modes; next = at + length (line_text (enters e)) }
+line_scan at closes = record { kind = K.End; path = at; length = 0; modes = 0; next = at + length (line_text closes) }
 
-unfoldable pub no_scan : ScannedLine
-no_scan = record { kind = no_line; path = 0; length = 0; modes = 0; next = 0 }
-
--- the line at a place of the text
-unfoldable pub line_at : List ℕ → ℕ → ScannedLine
-line_at t at = given (line_in (drop at t)) no_scan (line_scan at)
+-- the line at a place of the text, if there is one
+unfoldable pub line_at : List ℕ → ℕ → std.Option ScannedLine
+line_at t at = given (line_in (drop at t)) std.None (λ l. std.Some (line_scan at l))

@@ -2,13 +2,13 @@
 // place, notes the paths that are profiled.
 #![tactic(auto)]
 
-ghost use Rattle.std.specs.Prelude.{◌≡◌, true, ◌+◌, ◌*◌, ◌≤◌, ◌<◌, length, replicate};
+ghost use Rattle.std.specs.Prelude.{◌≡◌, true, ◌+◌, ◌*◌, ◌≤◌, ◌<◌, length};
 ghost use Rattle.profiles.specs.Reading.{reading_of};
 ghost use Rattle.profiles.specs.Texts.{text_limit, reads_well, text_good};
 ghost use Rattle.profiles.specs.Notes.{length_limit};
 ghost use Rattle.profiles.specs.Marks.{mark_words};
 ghost use Rattle.profiles.specs.Scanning.{modes_limit};
-ghost use Rattle.profiles.specs.LineWords.{line_word, named_path, word_limit, may_stand, no_text, Judged, scanned_of, table_of, profile_least, entry_least, short_limit};
+ghost use Rattle.profiles.specs.LineWords.{line_word, named_path, word_limit, may_stand, scanned, Judged, scanned_of, table_of, profile_least, entry_least};
 
 mod notes;
 mod scanning;
@@ -53,7 +53,7 @@ pub const MODE_UX_SCRUBBED: u64 = 512;
 
 // ---- what is scanned
 
-// A mode's bit and its length; 0 and 0 where there is no mode.
+// A mode's bit and its length.
 #[derive(Clone, Copy)]
 pub struct ScannedMode {
     pub bit: u64,
@@ -67,19 +67,18 @@ pub struct ScannedModes {
     pub next: usize,
 }
 
-// What a line is: nothing of the grammar, or one of its three.
-pub const NO_LINE: usize = 0;
-
-pub const PROFILE_LINE: usize = 1;
-
-pub const ENTRY_LINE: usize = 2;
-
-pub const END_LINE: usize = 3;
+// What a line is: a profile's first, an entry, or a profile's last.
+#[derive(Clone, Copy, Debug, PartialEq, Eq)]
+pub enum LineKind {
+    Profile,
+    Entry,
+    End,
+}
 
 // A line: what it is, where its path begins and how long that is, the bits of its modes, and where the next line begins.
 #[derive(Clone, Copy)]
 pub struct ScannedLine {
-    pub kind: usize,
+    pub kind: LineKind,
     pub path: usize,
     pub length: usize,
     pub modes: u64,
@@ -133,33 +132,15 @@ pub fn named_path(word: u32) -> NamedPath
 
 // ---- the text
 
-// Whether a text is good, and if so, how many of its lines name a path.
-#[derive(Clone, Copy)]
-pub struct ScannedText {
-    pub good: bool,
-    pub count: usize,
-}
-
-fn no_text() -> ScannedText
-    ensures { result ≡ no_text }
-{
-    ScannedText {
-        good: false,
-        count: 0,
-    }
-}
-
 // A profile's first line stands outside of profiles, the others inside of one.
-fn may_stand(kind: usize, inside: bool) -> bool
+#[tactic(auto, unfolding(crate::specs::LineWords::may_stand))]
+fn may_stand(kind: LineKind, inside: bool) -> bool
     ensures { result ≡ may_stand kind inside }
 {
-    if kind == PROFILE_LINE {
-        return !inside;
+    match kind {
+        LineKind::Profile => !inside,
+        LineKind::Entry | LineKind::End => inside,
     }
-    if kind == NO_LINE {
-        return false;
-    }
-    inside
 }
 
 // Notes enough for a text of few profiles, and the most bytes of such a text; notes enough for every text.
@@ -172,105 +153,86 @@ const PROFILE_LIMIT: usize = TEXT_LIMIT / PROFILE_LEAST + 1;
 // The words with a mark for each of so many hashes.
 pub const MARK_WORDS: usize = 128;
 
-// The lines of a text are profiles, and no path is profiled twice; the numbers of its lines. There are not more notes and numbers than
-// room for them, by the least bytes of the lines.
-fn scan_lines(text: &[u8], notes: &mut [u64], marks: &mut [u64], words: &mut [u32]) -> ScannedText
+// How many lines of a text name a path, if its lines are profiles, and no path is profiled twice; the numbers of these lines. There are not
+// more notes and numbers than room for them, by the least bytes of the lines.
+fn scan_lines(text: &[u8], notes: &mut [u64], marks: &mut [u64], words: &mut [u32]) -> Option<usize>
     requires { (length text.now ≤ text_limit) × (length text.now ≤ profile_least * length notes.old) × (length marks.old ≡ mark_words)
         × (length text.now ≤ entry_least * length words.old) }
-    ensures { Judged text.now words.new (reads_well (reading_of text.now)) result }
+    ensures { Judged text.now words.new (reads_well (reading_of text.now)) (scanned result) }
 {
     let mut at = 0;
     let mut profiles = 0;
     let mut count = 0;
     let mut inside = false;
+    // Kept: no plainer: a turn moves `at` by the length of a line, which is known only when the line is read.
     while at < text.len() {
-        let line = scanning::line_at(text, at);
+        let line = scanning::line_at(text, at)?;
         if !may_stand(line.kind, inside) {
-            return no_text();
+            return None;
         }
         words[count] = line_word(line);
         at = line.next;
-        if line.kind == PROFILE_LINE {
-            if notes::note_path(text, notes, marks, profiles, line.path, line.length) < profiles {
-                return no_text();
+        match line.kind {
+            LineKind::Profile => {
+                if notes::note_path(text, notes, marks, profiles, line.path, line.length)
+                    < profiles
+                {
+                    return None;
+                }
+                profiles += 1;
+                count += 1;
+                inside = true;
             }
-            profiles += 1;
-            count += 1;
-            inside = true;
-        } else if line.kind == ENTRY_LINE {
-            count += 1;
-        } else {
-            inside = false;
+            LineKind::Entry => count += 1,
+            LineKind::End => inside = false,
         }
     }
-    ScannedText {
-        good: !inside,
-        count: count,
-    }
+    if inside { None } else { Some(count) }
 }
 
-// A short text, with few notes.
-fn scan_short(text: &[u8], words: &mut [u32]) -> ScannedText
-    requires { (length text.now ≤ short_limit) × (length words.old ≡ word_limit) }
-    ensures { Judged text.now words.new (reads_well (reading_of text.now)) result }
+// The same with so many notes; few are quick to clear. Put in place twice, both arrays would stand in one frame.
+#[inline(never)]
+fn scan_sized<const NOTES: usize>(text: &[u8], words: &mut [u32]) -> Option<usize>
+    requires { (length text.now ≤ text_limit) × (length text.now ≤ profile_least * NOTES) × (NOTES ≤ text_limit) × (length words.old ≡ word_limit) }
+    ensures { Judged text.now words.new (reads_well (reading_of text.now)) (scanned result) }
 {
-    let mut notes = [0u64; FEW_PROFILES];
+    let mut notes = [0u64; NOTES];
     let mut marks = [0u64; MARK_WORDS];
     scan_lines(text, &mut notes, &mut marks, words)
 }
 
-fn scan_long(text: &[u8], words: &mut [u32]) -> ScannedText
-    requires { (length text.now ≤ text_limit) × (length words.old ≡ word_limit) }
-    ensures { Judged text.now words.new (reads_well (reading_of text.now)) result }
-{
-    let mut notes = [0u64; PROFILE_LIMIT];
-    let mut marks = [0u64; MARK_WORDS];
-    scan_lines(text, &mut notes, &mut marks, words)
-}
-
-// Whether the text is not too long, has a reading, and profiles no path twice; if so, the numbers of its lines in front.
-fn judge_text(text: &[u8], words: &mut [u32]) -> ScannedText
+// How many lines of a text name a path, if it is not too long, has a reading, and profiles no path twice; then the numbers of these lines in
+// front.
+fn judge_text(text: &[u8], words: &mut [u32]) -> Option<usize>
     requires { length words.old ≡ word_limit }
-    ensures { Judged text.now words.new (text_good text.now) result }
+    ensures { Judged text.now words.new (text_good text.now) (scanned result) }
 {
     if TEXT_LIMIT < text.len() {
-        return no_text();
+        return None;
     }
     if text.len() <= SHORT_LIMIT {
-        return scan_short(text, words);
-    }
-    scan_long(text, words)
-}
-
-// Zeros.
-fn clear(words: &mut [u32])
-    ensures { words.new ≡ replicate (length words.old) 0 }
-{
-    let mut j: usize = 0;
-    while j < words.len() {
-        words[j] = 0;
-        j += 1;
+        scan_sized::<FEW_PROFILES>(text, words)
+    } else {
+        scan_sized::<PROFILE_LIMIT>(text, words)
     }
 }
 
 // The same, with zeros behind the numbers, and zeros alone for a text that is not good.
-fn scan_table(text: &[u8], words: &mut [u32]) -> ScannedText
+fn scan_table(text: &[u8], words: &mut [u32]) -> Option<usize>
     requires { length words.old ≡ word_limit }
-    ensures { (result ≡ scanned_of text.now) × (words.new ≡ table_of text.now) }
+    ensures { (scanned result ≡ scanned_of text.now) × (words.new ≡ table_of text.now) }
 {
-    let scanned = judge_text(text, words);
-    if !scanned.good {
-        clear(words);
-        return no_text();
-    }
-    let count = scanned.count;
-    clear(&mut words[count..WORD_LIMIT]);
-    scanned
+    let Some(count) = judge_text(text, words) else {
+        words.fill(0);
+        return None;
+    };
+    words[count..].fill(0);
+    Some(count)
 }
 
-// Whether the text is good, with the numbers of its lines and zeros behind them, or zeros alone.
-pub fn scan_text(text: &[u8], words: &mut [u32; WORD_LIMIT]) -> ScannedText
-    ensures { (result ≡ scanned_of text.now) × (words.new ≡ table_of text.now) }
+// How many lines of a good text name a path, with the numbers of these lines and zeros behind them, or zeros alone.
+pub fn scan_text(text: &[u8], words: &mut [u32; WORD_LIMIT]) -> Option<usize>
+    ensures { (scanned result ≡ scanned_of text.now) × (words.new ≡ table_of text.now) }
 {
     scan_table(text, words)
 }

@@ -19,32 +19,13 @@ const WORD_BITS: u64 = 64;
 
 const MARK_LIMIT: u64 = WORD_BITS * MARK_WORDS as u64;
 
-// Two texts are the same.
-fn same(a: &[u8], b: &[u8]) -> bool
-    ensures { result ≡ same_list a.now b.now }
-{
-    if a.len() != b.len() {
-        return false;
-    }
-    let mut i = 0;
-    while i < a.len() {
-        if a[i] != b[i] {
-            return false;
-        }
-        i += 1;
-    }
-    true
-}
-
 // The hash of a path: its length, and a sum of its bytes.
 fn path_hash(path: &[u8]) -> u64
     ensures { result ≡ path_hash path.now }
 {
     let mut sum: u64 = 0;
-    let mut i = 0;
-    while i < path.len() {
-        sum = (sum * HASH_FACTOR + path[i] as u64) % HASH_LIMIT;
-        i += 1;
+    for &b in path {
+        sum = (sum * HASH_FACTOR + b as u64) % HASH_LIMIT;
     }
     (path.len() as u64) + LENGTH_LIMIT * sum
 }
@@ -58,7 +39,7 @@ fn is_noted(text: &[u8], note: u64, at: usize, length: usize, hash: u64) -> bool
         return false;
     }
     let other = (note % NOTE_PLACES) as usize;
-    same(&text[at..at + length], &text[other..other + length])
+    text[at..at + length] == text[other..other + length]
 }
 
 // Whether the hash is marked, and from now on it is.
@@ -90,14 +71,12 @@ fn find_path(
     if !possible {
         return notes.len();
     }
-    let mut j = 0;
-    while j < notes.len() {
-        if is_noted(text, notes[j], at, length, hash) {
+    for (j, &note) in notes.iter().enumerate() {
+        if is_noted(text, note, at, length, hash) {
             return j;
         }
-        j += 1;
     }
-    j
+    notes.len()
 }
 
 // The place of the path among those of the first `count` notes; if none is of it, that is `count`, and it is noted there. Its hash is marked.

@@ -3,12 +3,12 @@ ghost use Rattle.std.specs.Prelude.{◌≡◌, ◌≢◌, ◌+◌, ◌≤◌, �
 ghost use Rattle.profiles.specs.Profiles.{is_between, is_path_byte, path_good};
 ghost use Rattle.profiles.specs.Tokens.{starts};
 ghost use Rattle.profiles.specs.Reading.{path_in};
-ghost use Rattle.profiles.specs.Scanning.{letter_p, closing_brace, with_x, mode_at, modes_at, no_scan, line_at};
+ghost use Rattle.profiles.specs.Scanning.{letter_p, closing_brace, with_x, mode_at, modes_at, line_at};
 
 use crate::{
-    END_LINE, ENTRY_LINE, LINE_END, MODE_A, MODE_IX, MODE_L, MODE_M, MODE_PX, MODE_PX_SCRUBBED,
-    MODE_R, MODE_UX, MODE_UX_SCRUBBED, MODE_W, NO_LINE, PATH_LEAST, PATH_MOST, PROFILE_END,
-    PROFILE_LINE, ScannedLine, ScannedMode, ScannedModes, WORD_LENGTH,
+    LINE_END, LineKind, MODE_A, MODE_IX, MODE_L, MODE_M, MODE_PX, MODE_PX_SCRUBBED, MODE_R,
+    MODE_UX, MODE_UX_SCRUBBED, MODE_W, PATH_LEAST, PATH_MOST, PROFILE_END, ScannedLine,
+    ScannedMode, ScannedModes, WORD_LENGTH,
 };
 
 // The bytes that the grammar names alone.
@@ -39,17 +39,7 @@ fn starts(text: &[u8], at: usize, word: &[u8]) -> bool
     requires { at ≤ length text.now }
     ensures { result ≡ starts word.now (drop at text.now) }
 {
-    if text.len() - at < word.len() {
-        return false;
-    }
-    let mut i = 0;
-    while i < word.len() {
-        if text[at + i] != word[i] {
-            return false;
-        }
-        i += 1;
-    }
-    true
+    text[at..].starts_with(word)
 }
 
 fn is_between(low: u8, high: u8, b: u8) -> bool
@@ -87,14 +77,12 @@ fn path_end(text: &[u8], at: usize) -> usize
     requires { at ≤ length text.now }
     ensures { result ≡ at + length (path_in (drop at text.now)) }
 {
-    let mut i = at;
-    while i < text.len() {
+    for i in at..text.len() {
         if !is_path_byte(text[i]) {
             return i;
         }
-        i += 1;
     }
-    i
+    text.len()
 }
 
 // A slash and 1 to 63 bytes behind it, `end` being the place behind the bytes of a path.
@@ -114,48 +102,38 @@ fn path_good(text: &[u8], at: usize, end: usize) -> bool
 // ---- modes
 
 // The mode of two letters that has this bit, if the second is x.
-fn with_x(second: u8, bit: u64) -> ScannedMode
+#[tactic(auto, unfolding(crate::specs::Scanning::with_x))]
+fn with_x(second: u8, bit: u64) -> Option<ScannedMode>
     ensures { result ≡ with_x second bit }
 {
-    if second == X {
-        return ScannedMode { bit: bit, width: 2 };
-    }
-    ScannedMode { bit: 0, width: 0 }
+    (second == X).then_some(ScannedMode { bit, width: 2 })
+}
+
+// The mode of one letter that has this bit.
+fn letter(bit: u64) -> Option<ScannedMode>
+    ensures { result ≡ Some (record { bit = bit; width = 1 }) }
+{
+    Some(ScannedMode { bit, width: 1 })
 }
 
 // The mode at a place.
-fn mode_at(text: &[u8], at: usize) -> ScannedMode
+fn mode_at(text: &[u8], at: usize) -> Option<ScannedMode>
     requires { at < length text.now }
     ensures { result ≡ mode_at text.now at }
 {
     let second = byte(text, at + 1);
     match byte(text, at) {
-        b'r' => ScannedMode {
-            bit: MODE_R,
-            width: 1,
-        },
-        b'w' => ScannedMode {
-            bit: MODE_W,
-            width: 1,
-        },
-        b'a' => ScannedMode {
-            bit: MODE_A,
-            width: 1,
-        },
-        b'l' => ScannedMode {
-            bit: MODE_L,
-            width: 1,
-        },
-        b'm' => ScannedMode {
-            bit: MODE_M,
-            width: 1,
-        },
+        b'r' => letter(MODE_R),
+        b'w' => letter(MODE_W),
+        b'a' => letter(MODE_A),
+        b'l' => letter(MODE_L),
+        b'm' => letter(MODE_M),
         b'i' => with_x(second, MODE_IX),
         b'p' => with_x(second, MODE_PX),
         b'P' => with_x(second, MODE_PX_SCRUBBED),
         b'u' => with_x(second, MODE_UX),
         b'U' => with_x(second, MODE_UX_SCRUBBED),
-        _ => ScannedMode { bit: 0, width: 0 },
+        _ => None,
     }
 }
 
@@ -166,111 +144,93 @@ fn modes_at(text: &[u8], at: usize) -> ScannedModes
 {
     let mut i = at;
     let mut bits: u64 = 0;
+    // Kept: no plainer: a turn moves `i` by the length of a mode, one byte or two.
     while i < text.len() {
-        let mode = mode_at(text, i);
-        if mode.width == 0 {
-            return ScannedModes {
-                bits: bits,
-                next: i,
-            };
-        }
+        let Some(mode) = mode_at(text, i) else {
+            return ScannedModes { bits, next: i };
+        };
         i += mode.width;
-        bits = bits | mode.bit;
+        bits |= mode.bit;
     }
-    ScannedModes {
-        bits: bits,
-        next: i,
-    }
+    ScannedModes { bits, next: i }
 }
 
 // ---- lines
 
-fn no_line() -> ScannedLine
-    ensures { result ≡ no_scan }
-{
-    ScannedLine {
-        kind: NO_LINE,
-        path: 0,
-        length: 0,
-        modes: 0,
-        next: 0,
-    }
-}
-
 // The line `profile PATH {` at a place that has the letter p.
-fn profile_line(text: &[u8], at: usize) -> ScannedLine
+fn profile_line(text: &[u8], at: usize) -> Option<ScannedLine>
     requires { (at ≤ length text.now) × (get_or text.now at 0 ≡ letter_p) }
     ensures { result ≡ line_at text.now at }
 {
     if !starts(text, at, b"profile ") {
-        return no_line();
+        return None;
     }
     let path = at + WORD_LENGTH;
     let end = path_end(text, path);
     if !path_good(text, path, end) {
-        return no_line();
+        return None;
     }
     if !starts(text, end, b" {\n") {
-        return no_line();
+        return None;
     }
-    ScannedLine {
-        kind: PROFILE_LINE,
-        path: path,
+    Some(ScannedLine {
+        kind: LineKind::Profile,
+        path,
         length: end - path,
         modes: 0,
         next: end + PROFILE_END,
-    }
+    })
 }
 
 // The line `PATH MODES,` at a place.
-fn entry_line(text: &[u8], at: usize) -> ScannedLine
+fn entry_line(text: &[u8], at: usize) -> Option<ScannedLine>
     requires { (at ≤ length text.now) × (get_or text.now at 0 ≢ letter_p) × (get_or text.now at 0 ≢ closing_brace) }
     ensures { result ≡ line_at text.now at }
 {
     let end = path_end(text, at);
     if !path_good(text, at, end) {
-        return no_line();
+        return None;
     }
     if !starts(text, end, b" ") {
-        return no_line();
+        return None;
     }
     let first = end + 1;
     let modes = modes_at(text, first);
     let next = modes.next;
     if next == first {
-        return no_line();
+        return None;
     }
     if !starts(text, next, b",\n") {
-        return no_line();
+        return None;
     }
-    ScannedLine {
-        kind: ENTRY_LINE,
+    Some(ScannedLine {
+        kind: LineKind::Entry,
         path: at,
         length: end - at,
         modes: modes.bits,
         next: next + LINE_END,
-    }
+    })
 }
 
 // The line `}` at a place that has this byte.
-fn end_line(text: &[u8], at: usize) -> ScannedLine
+fn end_line(text: &[u8], at: usize) -> Option<ScannedLine>
     requires { (at ≤ length text.now) × (get_or text.now at 0 ≡ closing_brace) }
     ensures { result ≡ line_at text.now at }
 {
     if !starts(text, at, b"}\n") {
-        return no_line();
+        return None;
     }
-    ScannedLine {
-        kind: END_LINE,
+    Some(ScannedLine {
+        kind: LineKind::End,
         path: at,
         length: 0,
         modes: 0,
         next: at + LINE_END,
-    }
+    })
 }
 
 // The line at a place.
-pub fn line_at(text: &[u8], at: usize) -> ScannedLine
+pub fn line_at(text: &[u8], at: usize) -> Option<ScannedLine>
     requires { at ≤ length text.now }
     ensures { result ≡ line_at text.now at }
 {

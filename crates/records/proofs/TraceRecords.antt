@@ -1,12 +1,13 @@
 -- The records of a trace one by one: the record that begins at a place, and those behind it.
-use Prim.Native.Nat.{ℕ, zero, suc, ◌+◌, ◌-◌, ◌*◌, ◌/◌, ◌%◌, ◌≤◌, ◌<◌}
+use Prim.Native.Nat.{ℕ, zero, suc, ◌+◌, ◌-◌, ◌*◌, ◌/◌, ◌%◌, ◌≤◌, ◌<◌, min}
 use native.Mathlib.Omega.{arith}
 use native.Mathlib.Decide.{dec_lt}
 use native.Mathlib.Nat.{add-sub_cancel_left, suc-mul}
 use mathlib.Core.Path.{◌≡◌, refl, sym, ap, ap₂, ◌∙◌}
-use mathlib.Core.List.{List, [], ◌∷◌, ◌++◌}
+use mathlib.Core.List.{List, [], ◌∷◌, ◌++◌, append-nil}
 use lib.ListN.{length, take, drop, length-append, length-take, length-drop, drop_of_length-le}
-use lib.Seq.{take_all, drop-drop, drop-nil, take-append-le, drop-append-le}
+use lib.Seq.{take_all, take_at, drop_at, drop-drop, drop-nil, take-append-le, drop-append-le}
+use Rattle.std.proofs.lemmas.List.{nil_from_length}
 use Rattle.fields.specs.Bytes.{cut}
 use Rattle.records.specs.Records.{record_length}
 use Rattle.records.specs.Traces.{trace_records}
@@ -50,6 +51,38 @@ pub record_length_lem : (t x : List ℕ) (at : ℕ) → at < length t → x ≡ 
 record_length_lem t x at l xe =
     let e : length x ≡ length (take record_length (drop at t)) = ap length xe in
     (omega (arith, length-take record_length (drop at t), length-drop at t), omega (arith, length-take record_length (drop at t), length-drop at t))
+
+-- ---- the same in chunks of 8 bytes
+
+-- x is the first chunk of t, and rest is left
+pub record FirstChunk (t x rest : List ℕ) : Type 0 where
+  pub parts : t ≡ x ++ rest
+  pub size : length x ≡ min record_length (length t)
+  pub some : 0 < length t
+
+-- what a step of the library's iterator gives
+pub first_chunk : {t x rest : List ℕ} {n : ℕ} → n ≡ record_length → (t ≡ x ++ rest) × (length x ≡ min n (length t)) × (0 < length t) → FirstChunk t x rest
+first_chunk e g = record { parts = g.0; size = rw e at g.1; some = g.2 }
+
+-- a chunk has a byte or more, and the others are left
+pub chunk_length : {t x rest : List ℕ} → FirstChunk t x rest → (1 ≤ length x) × (length x + length rest ≡ length t)
+chunk_length {t} {x} {rest} g = (omega (arith, g.size, g.some), sym (length-append x rest) ∙ sym (ap length g.parts))
+
+-- the first chunk is the first record, and what is left has the others
+pub next_chunk : {t x rest : List ℕ} → FirstChunk t x rest → trace_records t ≡ x ∷ trace_records rest
+next_chunk {t} {x} {rest} g = one_more t g.some ∙ by (dec_lt (length t) record_length)
+  where
+    by : Dec (length t < record_length) → take record_length t ∷ trace_records (drop record_length t) ≡ x ∷ trace_records rest
+    by (yes h) =
+        let none : rest ≡ [] = nil_from_length rest (omega (arith, g.size, chunk_length g)) in
+        let all : t ≡ x = g.parts ∙ ap (λ (r : List ℕ). x ++ r) none ∙ append-nil x in
+        ap₂ (λ (y z : List ℕ). y ∷ trace_records z) (take_all record_length t (omega arith) ∙ all) (drop_of_length-le t {i = record_length} (omega arith) ∙ sym none)
+    by (no h) =
+        let whole : length x ≡ record_length = omega (arith, g.size) in
+        ap₂ (λ (y z : List ℕ). y ∷ trace_records z) (ap (take record_length) g.parts ∙ take_at x rest record_length whole) (ap (drop record_length) g.parts ∙ drop_at x rest record_length whole)
+
+pub no_chunk : (t : List ℕ) → length t ≡ 0 → trace_records t ≡ []
+no_chunk t h = no_record t 0 (omega arith)
 
 -- the records behind the first n are those of the bytes behind them
 pub records_rest : (n : ℕ) (t : List ℕ) → drop n (trace_records t) ≡ trace_records (drop (n * record_length) t)

@@ -11,6 +11,7 @@ use image::USER_LIMIT;
 
 // ---- the codes
 
+// Kept: the C interface: a record is lent with its code as a byte, and `request_in` answers for every byte.
 pub const READ_CODE: usize = 1;
 
 pub const WRITE_CODE: usize = 2;
@@ -31,6 +32,7 @@ pub const END_CODE: usize = 8;
 pub const CODE_COUNT: usize = 10;
 
 // What a code needs of its object, as the set of the kinds that serve, and whether it names a user.
+// Kept: no plainer: `user` tells whether a code names a user, and no field beside it depends on that.
 #[derive(Clone, Copy)]
 pub struct Code {
     pub object: u8,

@@ -7,19 +7,18 @@ use native.Mathlib.Omega.{arith}
 use native.Mathlib.Nat.{add-sub_cancel}
 use lib.ListN.{length, get_or, take, drop, replicate, length-append, length-drop, length-replicate}
 use lib.Seq.{take_all, take-take, drop-cons}
-use borrow.Author.Tests.{le-leb}
 use Rattle.lists.proofs.Bools.{same_test}
 use Rattle.lists.proofs.Same.{same_refl, same_eq}
-use Rattle.rules.proofs.BoundedLaws.{padded_take, bounded_some}
+use Rattle.rules.proofs.BoundedLaws.{padded_take}
 use Rattle.lists.specs.Lists.{same_list}
 use Rattle.rules.specs.Rules.{normal}
 use Rattle.rules.specs.Answers.{mixture_limit, padded, bounded_of}
 use Rattle.rules.specs.declared.Bounded.{Bounded}
 use Rattle.rule_words.specs.Words.{rule_width, rule_of, words_of, is_normal}
 
-pub bounded_words_lem : (rule : List ℕ) (m : Bounded) → m ≡ bounded_of rule → length rule ≤ mixture_limit → m.count ∷ m.mixtures ≡ words_of rule
-unfolding words_of
-bounded_words_lem rule m e l = ap (λ (x : Bounded). x.count ∷ x.mixtures) (e ∙ bounded_some rule (le-leb (length rule) mixture_limit l))
+pub bounded_words_lem : (rule : List ℕ) (m : Bounded) → m ≡ bounded_of rule → m.count ∷ m.mixtures ≡ words_of rule
+unfolding words_of bounded_of
+bounded_words_lem rule m e = ap (λ (x : Bounded). x.count ∷ x.mixtures) e
 
 pub words_nine : (rule : List ℕ) → length rule ≤ mixture_limit → length (words_of rule) ≡ rule_width
 unfolding words_of padded

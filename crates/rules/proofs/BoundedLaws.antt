@@ -1,17 +1,16 @@
--- A rule at the 8 places for its mixtures, and the answer `bounded_of r`, by whether r fits.
+-- A rule at the 8 places for its mixtures, and the answers `bounded_of r` and `bounded_if_fits r`.
 use Prim.Native.Nat.{ℕ, zero, suc, ◌+◌, ◌-◌, ◌≤◌, ◌<◌}
 use mathlib.Core.Path.{◌≡◌, refl, sym, ap, ◌∙◌}
-use mathlib.Core.Bool.{true, false}
+use mathlib.Core.Bool.{Bool, true, false, cond}
 use mathlib.Core.List.{List, ◌∷◌, ◌++◌}
-use mathlib.Core.Logic.{⊎_elim}
 use native.Mathlib.Omega.{arith}
 use lib.Dec.{leb}
 use lib.ListN.{length, take, replicate, length-append, length-replicate}
 use lib.Seq.{take_at, take-append-add}
 use borrow.Author.Tests.{le-leb, lt-leb}
-use Rattle.lists.proofs.Bools.{decide}
+use Rattle.std.specs.Prelude.{Option, Some, None}
 use Rattle.rules.specs.declared.Bounded.{Bounded}
-use Rattle.rules.specs.Answers.{mixture_limit, padded, bounded_of}
+use Rattle.rules.specs.Answers.{mixture_limit, padded, bounded_of, bounded_if_fits}
 
 pub padded_take : (k : List ℕ) (n : ℕ) → length k ≡ n → take n (padded k) ≡ k
 unfolding padded
@@ -36,23 +35,37 @@ pub padded_length : (k : List ℕ) → length k ≤ mixture_limit → length (pa
 unfolding padded
 padded_length k h = omega (arith, length-append k (replicate (mixture_limit - length k) 0), length-replicate {A = ℕ} (mixture_limit - length k) 0)
 
-pub bounded_fits : (r k a : List ℕ) (n : ℕ) → k ≡ r → length k ≡ n → n ≤ mixture_limit → a ≡ padded k → ◌≡◌ {A = Bounded} (record { fits = true; count = n; mixtures = a }) (bounded_of r)
+pub bounded_is : (r k a : List ℕ) (n : ℕ) → k ≡ r → length k ≡ n → a ≡ padded k → ◌≡◌ {A = Bounded} (record { count = n; mixtures = a }) (bounded_of r)
 unfolding bounded_of
-bounded_fits r k a n e f h g = rw (g, ← f, e, le-leb (length r) mixture_limit (omega (arith, ap length e)))
+bounded_is r k a n e f h = rw (h, ← f, e)
 
-pub bounded_over : (r : List ℕ) → mixture_limit < length r → ◌≡◌ {A = Bounded} (record { fits = false; count = 0; mixtures = replicate mixture_limit 0 }) (bounded_of r)
-unfolding bounded_of
+-- ---- by whether it fits
+
+pub bounded_fits : (r : List ℕ) → length r ≤ mixture_limit → Some (bounded_of r) ≡ bounded_if_fits r
+unfolding bounded_if_fits
+bounded_fits r h = rw (le-leb (length r) mixture_limit h)
+
+pub bounded_over : (r : List ℕ) → mixture_limit < length r → None ≡ bounded_if_fits r
+unfolding bounded_if_fits
 bounded_over r h = rw (lt-leb (length r) mixture_limit h)
 
-pub bounded_some : (r : List ℕ) → leb (length r) mixture_limit ≡ true → bounded_of r ≡ record { fits = true; count = length r; mixtures = padded r }
-unfolding bounded_of
-bounded_some r h = rw h
+-- a rule of at most 8 mixtures is there
+pub bounded_there : (r : List ℕ) {o : Option Bounded} → length r ≤ mixture_limit → o ≡ bounded_if_fits r → o ≡ None → ⊥
+bounded_there r l e h = let q : Some (bounded_of r) ≡ None = bounded_fits r l ∙ sym e ∙ h in cc
 
-pub bounded_none : (r : List ℕ) → leb (length r) mixture_limit ≡ false → bounded_of r ≡ record { fits = false; count = 0; mixtures = replicate mixture_limit 0 }
-unfolding bounded_of
-bounded_none r h = rw h
+-- what an answer tells
+pub bounded_some : (r : List ℕ) {o : Option Bounded} {m : Bounded} → o ≡ bounded_if_fits r → o ≡ Some m → (leb (length r) mixture_limit ≡ true) × (m ≡ bounded_of r)
+unfolding bounded_if_fits
+bounded_some r {o} {m} e h = by (leb (length r) mixture_limit) (sym h ∙ e)
+  where
+    by : (b : Bool) → Some m ≡ cond b (Some (bounded_of r)) None → (b ≡ true) × (m ≡ bounded_of r)
+    by true q = (refl, cc)
+    by false q = cc
 
-pub bounded_test : (r : List ℕ) → (bounded_of r).fits ≡ leb (length r) mixture_limit
-bounded_test r =
-    ⊎_elim (λ h. ap (λ (m : Bounded). m.fits) (bounded_some r h) ∙ sym h) (λ h. ap (λ (m : Bounded). m.fits) (bounded_none r h) ∙ sym h)
-    (decide (leb (length r) mixture_limit))
+pub bounded_none : (r : List ℕ) {o : Option Bounded} → o ≡ bounded_if_fits r → o ≡ None → leb (length r) mixture_limit ≡ false
+unfolding bounded_if_fits
+bounded_none r {o} e h = by (leb (length r) mixture_limit) (sym h ∙ e)
+  where
+    by : (b : Bool) → None ≡ cond b (Some (bounded_of r)) None → b ≡ false
+    by true q = cc
+    by false q = refl

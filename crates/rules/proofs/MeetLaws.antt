@@ -1,5 +1,5 @@
 -- The meet, of one mixture by one, and by the sieve.
-use Prim.Native.Nat.{ℕ, suc, ◌-◌, ◌*◌, ◌^◌, ◌<◌}
+use Prim.Native.Nat.{ℕ, suc, ◌*◌, ◌^◌, ◌<◌}
 use mathlib.Core.Path.{◌≡◌, refl, sym, ap, ap₂, ◌∙◌}
 use mathlib.Core.List.{List, [], ◌∷◌}
 use native.Mathlib.Omega.{arith}
@@ -12,7 +12,8 @@ use Rattle.lists.proofs.Elem.{elem_none, elem_cases}
 use Rattle.rules.proofs.RuleLaws.{normal_unique, meet_comm, meet_none, meet_unrestricted}
 use Rattle.rules.specs.Order.{Within}
 use Rattle.rules.specs.Rules.{normal, meet, intersections, unrestricted}
-use Rattle.rules.specs.Answers.{tag_width, bounded_of}
+use Rattle.rules.specs.Answers.{tag_width, bounded_if_fits}
+use Rattle.std.specs.Prelude.{Option}
 use Rattle.rules.specs.declared.Bounded.{Bounded}
 use Rattle.rules.specs.Sieve.{Candidates}
 
@@ -35,9 +36,9 @@ meet_no_pair (m ∷ r) [] e = sym (meet_none (m ∷ r))
 meet_no_pair (m ∷ r) (n ∷ s) e = absurd (omega (arith, suc-mul (length r) (length (n ∷ s))))
 
 -- what is listed covers what all intersections cover: it has their normal form
-pub meet_bounded : (r s a b : List ℕ) (n k : ℕ) (m : Bounded) → Candidates (intersections r s) a b n k → m ≡ bounded_of (normal (take n b)) → m ≡ bounded_of (meet r s)
+pub meet_bounded : (r s a b : List ℕ) (n k : ℕ) (m : Option Bounded) → Candidates (intersections r s) a b n k → m ≡ bounded_if_fits (normal (take n b)) → m ≡ bounded_if_fits (meet r s)
 unfolding meet
-meet_bounded r s a b n k m w e = e ∙ ap bounded_of (normal_unique (take n b) (intersections r s) w.same)
+meet_bounded r s a b n k m w e = e ∙ ap bounded_if_fits (normal_unique (take n b) (intersections r s) w.same)
 
 -- elements below 2 to the w
 pub within_get_d : (w : ℕ) (r : List ℕ) → ((k : ℕ) → get_or r k 0 < 2 ^ w) → Within w r

@@ -1,5 +1,5 @@
 -- The product's numbers ("There are 32 data atoms", "these 64", "0 to 8 mixtures"), and a rule as the functions answer it.
-use Rattle.std.specs.Prelude.{ℕ, ◌-◌, true, false, cond, List, ◌++◌, leb, length, replicate}
+use Rattle.std.specs.Prelude.{ℕ, ◌-◌, cond, List, ◌++◌, leb, length, replicate, Option, Some, None}
 use Rattle.rules.specs.declared.Bounded.{Bounded}
 
 -- the data atoms are 0 to 31
@@ -22,9 +22,10 @@ pair_limit = 64
 unfoldable pub padded : List ℕ → List ℕ
 padded r = r ++ replicate (mixture_limit - length r) 0
 
--- the rule r as the functions answer it; over 8 mixtures, it does not fit, and the rest is 0
+-- the rule r, of at most 8 mixtures, as the functions answer it
 unfoldable pub bounded_of : List ℕ → Bounded
-bounded_of r =
-    cond (leb (length r) mixture_limit)
-    (record { fits = true; count = length r; mixtures = padded r })
-    (record { fits = false; count = 0; mixtures = replicate mixture_limit 0 })
+bounded_of r = record { count = length r; mixtures = padded r }
+
+-- "0 to 8 mixtures": the same of any rule; over 8 mixtures, it does not fit, and there is none
+unfoldable pub bounded_if_fits : List ℕ → Option Bounded
+bounded_if_fits r = cond (leb (length r) mixture_limit) (Some (bounded_of r)) None

@@ -9,7 +9,7 @@ use lib.Seq.{take_at, drop_at, drop-drop}
 use borrow.Author.Tests.{eq-eqb, ne_eqb}
 use borrow.Rule.Slice.PartMut.{put_mid}
 use Rattle.image.specs.Limits.{container_limit, user_limit, container_size, user_size, rule_size}
-use Rattle.image.specs.Image.{part, containers_in, users_in, rules_in, rule_records_good, policy_in, check_of}
+use Rattle.image.specs.Image.{part, containers_in, users_in, rules_in, policy_in, check_of}
 use Rattle.image.specs.Normal.{place_of, normal_at, meaning}
 use Rattle.rule_words.proofs.ZeroLaws.{drop_zeros}
 use Rattle.session.specs.Limits.{session_length, row_width, user_width, users_at}
@@ -40,9 +40,6 @@ rows_part_length i h =
 -- the sections as they are lent: s holds the containers or users, r the rules, m the mixtures
 module _ (i r m : List ℕ) (e : r ≡ part i 2) (f : m ≡ part i 3) where
   module _ (h : check_of i ≡ 0) where
-    pub spans_lent : rule_records_good r m ≡ true
-    spans_lent = rw (e, f) (accepted_spans i h)
-
     pub containers_lent : (s : List ℕ) → s ≡ part i 0 → (length s / container_size ≤ container_limit) × (every (container_good (length r / rule_size)) (containers_in s) ≡ true)
     containers_lent s g = rw (e, g) (few_containers_lem i h, accepted_containers i h)
 

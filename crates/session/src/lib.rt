@@ -2,16 +2,19 @@
 #![tactic(auto)]
 
 ghost use Rattle.std.specs.Prelude.{◌≡◌, true, ◌||◌, [], ◌∷◌, ◌++◌, map, eqb, ltb, ◌*◌, ◌/◌, ◌≤◌, length, replicate};
+ghost use Rattle.answers.specs.Outcomes.{outcome_number};
 ghost use Rattle.rules.specs.Answers.{data_width};
 ghost use Rattle.image.specs.Limits.{no_atom, container_limit, user_limit, container_size, user_size, rule_size};
 ghost use Rattle.lists.specs.Lists.{every};
 ghost use Rattle.image.specs.Policy.{named, container_good};
-ghost use Rattle.image.specs.Image.{container_in, containers_in, users_in, rules_in, rule_records_good};
+ghost use Rattle.image.specs.Image.{container_in, containers_in, users_in, rules_in};
 ghost use Rattle.image.specs.Normal.{normal_at, place_of};
 ghost use Rattle.session.specs.Limits.{row_width, user_width};
 ghost use Rattle.session.specs.Rows.{behalf_good, container_row_good, singles, user_words, user_row_good};
 ghost use Rattle.session.specs.Session.{filled, start_tag, place_words, start_answer, start_effect};
 
+use answers::Refusal;
+use image::RuleSections;
 use rules::Bounded;
 
 // ---- the numbers of the layout, in words
@@ -64,6 +67,7 @@ fn behalf_good(kind: u64, behalf: u64) -> bool
 
 // The container row is as the session keeps it. The test that a free row is 0 names the length, which is then a constant in the
 // loop, and the call needs no length.
+// Kept: the C interface: a session is lent as one slice, of which rows and rules are parts, so that their lengths stand in the clauses.
 pub fn container_row_good(row: &[u64]) -> bool
     requires { length row.now ≡ row_width }
     ensures { result ≡ container_row_good row.now }
@@ -131,37 +135,32 @@ pub fn user_row_good(row: &[u64]) -> bool
 // ---- the start
 
 // The row of a user whose rule has the number n.
-fn put_user(row: &mut [u64], rules: &[u8], m: &[u8], n: usize)
-    requires { (length row.old ≡ user_width) × (named (length rules.now / rule_size) n ≡ true) × (rule_records_good rules.now m.now ≡ true) }
-    ensures { row.new ≡ user_words (normal_at (rules_in rules.now m.now) n) }
+fn put_user(row: &mut [u64], rules: RuleSections, n: usize)
+    requires { (length row.old ≡ user_width) × (named (length rules.records.now / rule_size) n ≡ true) }
+    ensures { row.new ≡ user_words (normal_at (rules_in rules.entry.records.now rules.entry.mixtures.now) n) }
 {
     row[DECLARED_AT] = DECLARED;
     image::put_rule_at(
         &mut row[USER_RULE_AT..USER_RULE_AT + rule_words::RULE_WIDTH],
         rules,
-        m,
         n,
     );
 }
 
 // The user rows: those of the users, over zeros.
-fn fill_users(out: &mut [u64], users: &[u8], rules: &[u8], m: &[u8])
+fn fill_users(out: &mut [u64], users: &[u8], rules: RuleSections)
     requires { (out.old ≡ replicate (user_limit * user_width) 0)
-        × (length users.now / user_size ≤ user_limit) × (every (named (length rules.now / rule_size)) (users_in users.now) ≡ true)
-        × (rule_records_good rules.now m.now ≡ true) }
-    ensures { out.new ≡ filled user_width user_limit (map user_words (map (normal_at (rules_in rules.now m.now)) (users_in users.now))) }
+        × (length users.now / user_size ≤ user_limit) × (every (named (length rules.records.now / rule_size)) (users_in users.now) ≡ true) }
+    ensures { out.new ≡ filled user_width user_limit
+        (map user_words (map (normal_at (rules_in rules.entry.records.now rules.entry.mixtures.now)) (users_in users.now))) }
 {
-    let n = users.len() / image::USER_SIZE;
-    let mut i: usize = 0;
-    while i < n {
+    for i in 0..users.len() / image::USER_SIZE {
         let at = i * USER_WIDTH;
         put_user(
             &mut out[at..at + USER_WIDTH],
             rules,
-            m,
             fields::read16(users, i * image::USER_SIZE),
         );
-        i += 1;
     }
 }
 
@@ -192,10 +191,10 @@ pub fn put_row(row: &mut [u64], kind: u64, tag: u64, permit: Bounded, run: Bound
 }
 
 // The row of a container record.
-fn put_container_row(row: &mut [u64], r: &[u8], rules: &[u8], m: &[u8])
-    requires { (length row.old ≡ row_width) × (length r.now ≡ container_size) × (container_good (length rules.now / rule_size) (container_in r.now) ≡ true)
-        × (rule_records_good rules.now m.now ≡ true) }
-    ensures { row.new ≡ place_words (place_of (rules_in rules.now m.now) (container_in r.now)) }
+fn put_container_row(row: &mut [u64], r: &[u8], rules: RuleSections)
+    requires { (length row.old ≡ row_width) × (length r.now ≡ container_size)
+        × (container_good (length rules.records.now / rule_size) (container_in r.now) ≡ true) }
+    ensures { row.new ≡ place_words (place_of (rules_in rules.entry.records.now rules.entry.mixtures.now) (container_in r.now)) }
 {
     row[BEHALF_AT] = NOBODY;
     row[KIND_AT] = fields::read8(r, image::CONTAINER_KIND_AT) as u64;
@@ -203,66 +202,50 @@ fn put_container_row(row: &mut [u64], r: &[u8], rules: &[u8], m: &[u8])
     image::put_rule_at(
         &mut row[PERMIT_AT..PERMIT_AT + rule_words::RULE_WIDTH],
         rules,
-        m,
         fields::read16(r, image::CONTAINER_PERMIT_AT),
     );
     image::put_rule_at(
         &mut row[RUN_AT..RUN_AT + rule_words::RULE_WIDTH],
         rules,
-        m,
         fields::read16(r, image::CONTAINER_RUN_AT),
     );
 }
 
 // The container rows: those of the containers, over zeros.
-fn fill_containers(out: &mut [u64], cs: &[u8], rules: &[u8], m: &[u8])
+fn fill_containers(out: &mut [u64], cs: &[u8], rules: RuleSections)
     requires { (out.old ≡ replicate (container_limit * row_width) 0)
-        × (length cs.now / container_size ≤ container_limit) × (every (container_good (length rules.now / rule_size)) (containers_in cs.now) ≡ true)
-        × (rule_records_good rules.now m.now ≡ true) }
-    ensures { out.new ≡ filled row_width container_limit (map place_words (map (place_of (rules_in rules.now m.now)) (containers_in cs.now))) }
+        × (length cs.now / container_size ≤ container_limit) × (every (container_good (length rules.records.now / rule_size)) (containers_in cs.now) ≡ true) }
+    ensures { out.new ≡ filled row_width container_limit
+        (map place_words (map (place_of (rules_in rules.entry.records.now rules.entry.mixtures.now)) (containers_in cs.now))) }
 {
-    let n = cs.len() / image::CONTAINER_SIZE;
-    let mut i: usize = 0;
-    while i < n {
+    for i in 0..cs.len() / image::CONTAINER_SIZE {
         let at = i * ROW_WIDTH;
         let r = i * image::CONTAINER_SIZE;
         put_container_row(
             &mut out[at..at + ROW_WIDTH],
             &cs[r..r + image::CONTAINER_SIZE],
             rules,
-            m,
         );
-        i += 1;
     }
 }
 
-// The session of an image's policy, whatever stood there: 0, or the refusal.
-pub fn start(image: &[u8], session: &mut [u64]) -> u32
-    ensures { (result ≡ start_answer image.now session.old) × (session.new ≡ start_effect image.now session.old) }
+// The session of an image's policy, whatever stood there.
+pub fn start(image: &[u8], session: &mut [u64]) -> Result<(), Refusal>
+    ensures { (outcome_number result ≡ start_answer image.now session.old) × (session.new ≡ start_effect image.now session.old) }
 {
     if session.len() != SESSION_LENGTH {
-        return answers::LENT_LENGTH;
+        return Err(Refusal::LentLength);
     }
-    let refusal = image::check(image);
-    if refusal != 0 {
-        return refusal;
-    }
+    let policy = image::accept(image)?;
     rule_words::clear(session);
-    let rules = image::section(image, 2);
-    let mixtures = image::section(image, 3);
-    fill_containers(
-        &mut session[0..USERS_AT],
-        image::section(image, 0),
-        rules,
-        mixtures,
-    );
+    let rules = policy.rules();
+    fill_containers(&mut session[0..USERS_AT], policy.containers(), rules);
     fill_users(
         &mut session[USERS_AT..SESSION_LENGTH],
-        image::section(image, 1),
+        policy.users(),
         rules,
-        mixtures,
     );
-    0
+    Ok(())
 }
 
 // The numbers of a session over those of another.
@@ -270,9 +253,5 @@ pub fn copy(from: &[u64], to: &mut [u64])
     requires { length from.now ≡ length to.old }
     ensures { to.new ≡ from.now }
 {
-    let mut i: usize = 0;
-    while i < from.len() {
-        to[i] = from[i];
-        i += 1;
-    }
+    to.copy_from_slice(from);
 }

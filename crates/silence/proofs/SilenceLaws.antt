@@ -1,7 +1,8 @@
 -- The answer from its parts, and each of its numbers.
 use Prim.Native.Nat.{ℕ}
 use mathlib.Core.Path.{◌≡◌, refl}
-use mathlib.Core.Bool.{Bool, true, false, cond}
+use mathlib.Core.Bool.{Bool, true, false}
+use Rattle.std.proofs.Common.{Ok}
 use mathlib.Core.Logic.{◌⊎◌, inl, inr, ◌↔◌}
 use mathlib.Core.List.{List, [], ◌∷◌}
 use native.Mathlib.Omega.{arith}
@@ -10,7 +11,6 @@ use Rattle.lists.proofs.Bools.{decide}
 use Rattle.answers.specs.Refusals.{matrix}
 use Rattle.matrix.specs.Flows.{matrix_good}
 use Rattle.matrix.proofs.Theorems.{refused_8, refused_none}
-use Rattle.silence.specs.declared.Silence.TheVariants.{Silent, NotSilent}
 use Rattle.silence.specs.Silent.{silent, silence_number, silence_of, unless_refused, matrix_silence}
 
 module _ (reads writes : List ℕ) (n : ℕ) where
@@ -18,7 +18,7 @@ module _ (reads writes : List ℕ) (n : ℕ) where
   unfolding matrix_silence unless_refused
   silence_refused g = rw ((refused_8 reads writes n).1 g)
 
-  judged : matrix_good reads writes n ≡ true → (b : Bool) → silent reads writes n ≡ b → matrix_silence reads writes n ≡ silence_number (cond b Silent NotSilent)
+  pub judged : matrix_good reads writes n ≡ true → (b : Bool) → silent reads writes n ≡ b → matrix_silence reads writes n ≡ silence_number (Ok b)
   unfolding matrix_silence unless_refused silence_of
   judged g b e = rw ((refused_none reads writes n).1 g, e)
 

@@ -1,15 +1,15 @@
 -- Silent, worked out from the composed flows and the permit rules (change request No. 8), and the answer with its numbers.
-use Rattle.std.specs.Prelude.{ℕ, zero, suc, Bool, cond, List}
+use Rattle.std.specs.Prelude.{ℕ, zero, suc, Bool, true, false, List, Result, Ok, Err}
 use Rattle.lists.specs.Counting.{all_below}
 use Rattle.lists.specs.Conditions.{first_failed}
-use Rattle.answers.specs.Refusals.{matrix}
+use Rattle.answers.specs.declared.Refusal.{Refusal}
+use Rattle.answers.specs.declared.Refusal.TheVariants as V
+use Rattle.answers.specs.Outcomes.{refusal_number}
 use Rattle.rules.specs.Rules.{covers}
 use Rattle.matrix.specs.Flows.{composed}
 use Rattle.matrix.specs.Rows.{bits_of}
 use Rattle.matrix.specs.Verdicts.{matrix_conditions}
 use Rattle.derivation.specs.Derived.{permit_of}
-use Rattle.silence.specs.declared.Silence.{Silence}
-use Rattle.silence.specs.declared.Silence.TheVariants.{Refused, Silent, NotSilent}
 
 -- ---- "worked out from the composed flows and the permit rules, without trying sessions"
 
@@ -28,19 +28,19 @@ silent reads writes objects = all_below (quiet_object reads writes objects) obje
 -- ---- the answer in numbers: 1 yes, 0 no, 8 a matrix that is refused
 
 -- the number of each case of the answer
-abbrev pub silence_number : Silence → ℕ
-silence_number Refused = matrix
-silence_number Silent = 1
-silence_number NotSilent = 0
+abbrev pub silence_number : Result Bool Refusal → ℕ
+silence_number (Err refusal) = refusal_number refusal
+silence_number (Ok true) = 1
+silence_number (Ok false) = 0
 
 -- a matrix that is not refused
-unfoldable pub silence_of : List ℕ → List ℕ → ℕ → Silence
-silence_of reads writes objects = cond (silent reads writes objects) Silent NotSilent
+unfoldable pub silence_of : List ℕ → List ℕ → ℕ → Result Bool Refusal
+silence_of reads writes objects = Ok (silent reads writes objects)
 
 -- a refusal, or the answer
-unfoldable pub unless_refused : ℕ → Silence → Silence
+unfoldable pub unless_refused : ℕ → Result Bool Refusal → Result Bool Refusal
 unless_refused zero v = v
-unless_refused (suc n) v = Refused
+unless_refused (suc n) v = Err V.Matrix
 
 -- refused as the verdict is
 unfoldable pub matrix_silence : List ℕ → List ℕ → ℕ → ℕ

@@ -6,16 +6,11 @@ ghost use Rattle.rules.specs.Rules.{covers};
 ghost use Rattle.matrix.specs.Limits.{object_limit};
 ghost use Rattle.matrix.specs.Flows.{matrix_good};
 ghost use Rattle.matrix.specs.Rows.{Closed};
+ghost use Rattle.matrix.specs.Verdicts.{MatrixAlone};
 ghost use Rattle.derivation.specs.Derived.{permit_of};
 ghost use Rattle.silence.specs.Silent.{silent, silence_number, matrix_silence};
 
-// The answer to a matrix: refused, or whether it is silent.
-#[derive(Clone, Copy)]
-pub enum Silence {
-    Refused,
-    Silent,
-    NotSilent,
-}
+use answers::Refusal;
 
 // The permit rule of object b, of what each writer reads and b, covers the tag.
 fn permits(reads: &[u32], writes: &[u32], b: usize, tag: u32) -> bool
@@ -26,15 +21,10 @@ fn permits(reads: &[u32], writes: &[u32], b: usize, tag: u32) -> bool
     if own & tag == tag {
         return true;
     }
-    let mut s = 0;
-    while s < reads.len() {
-        let r = reads[s];
+    for (s, &r) in reads.iter().enumerate() {
         let w = writes[s];
-        s += 1;
-        if (w >> b) % 2 == 1 {
-            if (r | own) & tag == tag {
-                return true;
-            }
+        if (w >> b) % 2 == 1 && (r | own) & tag == tag {
+            return true;
         }
     }
     false
@@ -45,13 +35,11 @@ fn all_quiet(reads: &[u32], writes: &[u32], reach: &[u32], n: usize) -> bool
     requires { Closed writes.now reads.now n reach.now }
     ensures { result ≡ silent reads.now writes.now n }
 {
-    let mut b = 0;
-    while b < n {
+    for b in 0..n {
         let tag = matrix::granted_row(writes, reach, b);
         if !permits(reads, writes, b, tag) {
             return false;
         }
-        b += 1;
     }
     true
 }
@@ -62,6 +50,7 @@ fn composed_quiet(reads: &[u32], writes: &[u32], n: usize) -> bool
     ensures { result ≡ silent reads.now writes.now n }
 {
     let m = reads.len();
+    // Kept: a rule of the project: no heap, so the array has room for the most that there can be.
     let mut reach = [0u32; matrix::SUBJECT_LIMIT];
     matrix::reach_flows(&writes[..m], &reads[..m], &mut reach);
     all_quiet(reads, writes, &reach[..m], n)
@@ -84,25 +73,21 @@ fn matrix_quiet(reads: &[u32], writes: &[u32], n: usize) -> bool
 }
 
 // Whether a matrix is silent. The flows of the matrix with its rows exchanged are its own backwards, so that row b is the sources of b.
-pub fn silent(reads: &[u32], writes: &[u32], objects: u32) -> Silence
-    ensures { silence_number result ≡ matrix_silence reads.now writes.now objects }
+pub fn silent(reads: &[u32], writes: &[u32], objects: u32) -> Result<bool, Refusal>
+    ensures { (silence_number result ≡ matrix_silence reads.now writes.now objects) × MatrixAlone result }
 {
     if !matrix::matrix_good(reads, writes, objects) {
-        return Silence::Refused;
+        return Err(Refusal::Matrix);
     }
-    if matrix_quiet(reads, writes, objects as usize) {
-        return Silence::Silent;
-    }
-    Silence::NotSilent
+    Ok(matrix_quiet(reads, writes, objects as usize))
 }
 
-// The number of each case of the answer.
-pub fn silence_number(silence: Silence) -> u32
+// The number of an answer: 1 silent, 0 not, or the refusal's.
+pub fn silence_number(silence: Result<bool, Refusal>) -> u32
     ensures { result ≡ silence_number silence }
 {
     match silence {
-        Silence::Refused => answers::MATRIX,
-        Silence::Silent => 1,
-        Silence::NotSilent => 0,
+        Ok(silent) => silent as u32,
+        Err(refusal) => refusal.number(),
     }
 }

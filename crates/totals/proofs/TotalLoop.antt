@@ -1,5 +1,6 @@
 -- The loop of `count_trace`, record by record: what is counted, and what is left of the trace, is the whole of it. The refusals of both calls.
-use Rattle.std.proofs.Common.{◌≡◌, ℕ, zero, suc, ◌+◌, ◌%◌, ◌^◌, ◌<◌, ◌≤◌, Bool, true, false, cond, List, [], ◌∷◌, length, get_or, take, drop, set, sym, refl, ap, ◌∙◌, arith, length-set}
+use Rattle.std.proofs.Common.{◌≡◌, ℕ, zero, suc, ◌+◌, ◌%◌, ◌^◌, ◌<◌, ◌≤◌, Bool, true, false, cond, List, [], ◌∷◌, length, get_or, set, sym, replicate, refl, ap, ◌∙◌, arith, length-set}
+use Rattle.std.proofs.lemmas.List.{length-replicate, get_or-replicate}
 use Rattle.std.proofs.Common.{get_or-set_other, get_or-set_same, ext_get_or, eq-eqb, ne_eqb}
 use Rattle.lists.proofs.Bools.{and_in}
 use Rattle.answers.specs.Refusals.{lent_length}
@@ -8,9 +9,8 @@ use Rattle.answers.specs.Answers.{is_quiet}
 use Rattle.answers.specs.Tallies.{count_of}
 use Rattle.session.specs.Limits.{session_length}
 use Rattle.session.specs.Session.{session_length_good}
-use Rattle.records.specs.Records.{record_length}
 use Rattle.records.specs.Traces.{trace_records}
-use Rattle.records.proofs.TraceRecords.{next_record, no_record, record_length_lem}
+use Rattle.records.proofs.TraceRecords.{FirstChunk, chunk_length, next_chunk, no_chunk}
 use Rattle.monitor.specs.Steps.{step_answer, step_effect}
 use Rattle.monitor.specs.Runs.{step_on, run_answers, run_effect}
 use Rattle.monitor.specs.PartSessions.{part_session}
@@ -18,7 +18,6 @@ use Rattle.monitor.proofs.TraceCuts.{answers_length}
 use Rattle.figures.specs.Figures.{test_at, figures_of}
 use Rattle.figures.specs.Counters.{values_below}
 use Rattle.figures.specs.Months.{trace_figures}
-use Rattle.figures.proofs.CounterLaws.{values_length, values_at}
 use Rattle.figures.proofs.FigureLaws.{count_most}
 use Rattle.figures.proofs.MonthLaws.{records_length}
 use Rattle.figures.proofs.Theorems.{accepted_refused}
@@ -28,30 +27,28 @@ use Rattle.totals.proofs.FigureNumbers.{figure_at, numbers_length, numbers_at}
 use Rattle.totals.proofs.CountedEvents.{place_test, quiet_place, event_at}
 use Rattle.totals.proofs.CountedEvents as events
 
--- ---- the loop: so many records are counted, at is the place of the next, s the session now, f the numbers, where the first two are 0
+-- ---- the loop: so many records are counted, rest is what is left of the trace, s the session now, f the numbers, where the first two are 0
 
-pub record Totalling (s₀ t s f : List ℕ) (records at : ℕ) : Type 0 where
+pub record Totalling (s₀ t s f rest : List ℕ) (records : ℕ) : Type 0 where
   pub long : length s ≡ length s₀
   pub wide : length f ≡ figures_length
-  pub within : at ≤ length t
-  pub fewer : records ≤ at
-  pub count : records + length (trace_records (drop at t)) ≡ length (trace_records t)
+  pub fewer : records + length rest ≤ length t
+  pub count : records + length (trace_records rest) ≡ length (trace_records t)
   pub places : (i : ℕ) → 2 ≤ i → i < figures_length
-      → get_or f i 0 + count_of (place_test i) (run_answers s (trace_records (drop at t))) ≡ count_of (place_test i) (run_answers s₀ (trace_records t))
-  pub leaves : run_effect s (trace_records (drop at t)) ≡ part_session s₀ t
+      → get_or f i 0 + count_of (place_test i) (run_answers s (trace_records rest)) ≡ count_of (place_test i) (run_answers s₀ (trace_records t))
+  pub leaves : run_effect s (trace_records rest) ≡ part_session s₀ t
 
-pub total_start : (s t f : List ℕ) → f ≡ values_below (λ k. 0) figures_length → Totalling s t s f 0 0
+pub total_start : (s t f rest : List ℕ) → rest ≡ t → f ≡ replicate figures_length 0 → Totalling s t s f rest 0
 unfolding part_session
-total_start s t f e =
-    record {
+total_start s t f rest re e =
+    rw re (record {
       long = refl;
-      wide = ap length e ∙ values_length (λ k. 0) figures_length;
-      within = omega arith;
+      wide = ap length e ∙ length-replicate {A = ℕ} figures_length 0;
       fewer = omega arith;
       count = omega arith;
-      places = λ i m l. let z : get_or f i 0 ≡ 0 = ap (λ (x : List ℕ). get_or x i 0) e ∙ values_at (λ k. 0) figures_length i l in omega (arith, z);
+      places = λ i m l. let z : get_or f i 0 ≡ 0 = ap (λ (x : List ℕ). get_or x i 0) e ∙ get_or-replicate {A = ℕ} figures_length i 0 0 l in omega (arith, z);
       leaves = refl;
-    }
+    })
 
 -- what is counted at a place are at most the records, whose number is below 2 to the 64
 most : (s t : List ℕ) (f : Answer → Bool) → count_of f (run_answers s (trace_records t)) ≤ length (trace_records t)
@@ -65,46 +62,45 @@ count_one f a l = by (f a)
     by true = omega arith
     by false = omega arith
 
-module _ (s₀ t s f : List ℕ) (records at : ℕ) (h : Totalling s₀ t s f records at) (x s' : List ℕ) (a : Answer) (l : at < length t)
-    (xe : x ≡ take record_length (drop at t)) (se : s' ≡ step_effect s x) (ae : a ≡ step_answer s x) (sl : length s' ≡ length s) where
-  next : trace_records (drop at t) ≡ x ∷ trace_records (drop (at + length x) t)
-  next = rw xe (next_record t at l)
+module _ (s₀ t s f rest : List ℕ) (records : ℕ) (h : Totalling s₀ t s f rest records) (x left s' : List ℕ) (a : Answer) (g : FirstChunk rest x left)
+    (se : s' ≡ step_effect s x) (ae : a ≡ step_answer s x) (sl : length s' ≡ length s) where
+  next : trace_records rest ≡ x ∷ trace_records left
+  next = next_chunk g
 
-  next_answers : run_answers s (trace_records (drop at t)) ≡ a ∷ run_answers s' (trace_records (drop (at + length x) t))
+  next_answers : run_answers s (trace_records rest) ≡ a ∷ run_answers s' (trace_records left)
   unfolding run_answers step_on
   next_answers = rw (next, ae, se)
 
-  next_leaves : run_effect s' (trace_records (drop (at + length x) t)) ≡ part_session s₀ t
+  next_leaves : run_effect s' (trace_records left) ≡ part_session s₀ t
   unfolding run_effect step_on
   next_leaves = rw se (rw next at h.leaves)
 
   -- what is counted at a place with this answer
   next_count : (i : ℕ) → 2 ≤ i → i < figures_length
-      → get_or f i 0 + cond (place_test i a) 1 0 + count_of (place_test i) (run_answers s' (trace_records (drop (at + length x) t))) ≡ count_of (place_test i) (run_answers s₀ (trace_records t))
+      → get_or f i 0 + cond (place_test i a) 1 0 + count_of (place_test i) (run_answers s' (trace_records left)) ≡ count_of (place_test i) (run_answers s₀ (trace_records t))
   next_count i m b =
       let y = ap (count_of (place_test i)) next_answers in
-      omega (arith, h.places i m b, y, count_one (place_test i) a (run_answers s' (trace_records (drop (at + length x) t))))
+      omega (arith, h.places i m b, y, count_one (place_test i) a (run_answers s' (trace_records left)))
 
   -- the numbers afterwards have one more at each place whose test the answer passes
   counted : (f' : List ℕ) → length f' ≡ figures_length → ((i : ℕ) → 2 ≤ i → i < figures_length → get_or f' i 0 ≡ get_or f i 0 + cond (place_test i a) 1 0)
-      → Totalling s₀ t s' f' (records + 1) (at + length x)
+      → Totalling s₀ t s' f' left (records + 1)
   counted f' w e =
       record {
         long = sl ∙ h.long;
         wide = w;
-        within = (record_length_lem t x at l xe).1;
-        fewer = omega (arith, h.fewer, (record_length_lem t x at l xe).0);
+        fewer = omega (arith, h.fewer, chunk_length g);
         count = let z = ap length next in omega (arith, h.count, z);
         places = λ i m b. omega (arith, e i m b, next_count i m b);
         leaves = next_leaves;
       }
 
-  pub total_quiet : is_quiet a ≡ true → Totalling s₀ t s' f (records + 1) (at + length x)
+  pub total_quiet : is_quiet a ≡ true → Totalling s₀ t s' f left (records + 1)
   total_quiet q =
       counted f h.wide
       (λ i m b. let z : ◌≡◌ {A = ℕ} (cond (place_test i a) 1 0) 0 = ap (λ (y : Bool). cond {A = ℕ} y 1 0) (quiet_place i a q) in omega (arith, z))
 
-  pub total_event : is_quiet a ≡ false → length t < 2 ^ 64 → (f' : List ℕ) → f' ≡ event_counted f a → Totalling s₀ t s' f' (records + 1) (at + length x)
+  pub total_event : is_quiet a ≡ false → length t < 2 ^ 64 → (f' : List ℕ) → f' ≡ event_counted f a → Totalling s₀ t s' f' left (records + 1)
   total_event q n f' e =
       counted f' (ap length e ∙ events.event_length_lem f a ∙ h.wide)
       (λ i m b. ap (λ (y : List ℕ). get_or y i 0) e ∙ event_at f h.wide a i q m b (λ p.
@@ -123,16 +119,16 @@ place_figure l (suc (suc (suc zero))) m = refl
 place_figure l (suc (suc (suc (suc zero)))) m = refl
 place_figure l (suc (suc (suc (suc (suc c))))) m = refl
 
-module _ (s₀ t s f : List ℕ) (records at : ℕ) (h : Totalling s₀ t s f records at) (l : length t ≤ at) where
+module _ (s₀ t s f rest : List ℕ) (records : ℕ) (h : Totalling s₀ t s f rest records) (l : length rest ≡ 0) where
   whole : (i : ℕ) → 2 ≤ i → i < figures_length → get_or f i 0 ≡ figure_at (trace_figures s₀ t) i
   unfolding trace_figures
   whole i m b =
-      let z = ap (λ (rs : List (List ℕ)). count_of (place_test i) (run_answers s rs)) (no_record t at l) in
+      let z = ap (λ (rs : List (List ℕ)). count_of (place_test i) (run_answers s rs)) (no_chunk rest l) in
       let y : count_of (place_test i) (run_answers s []) ≡ 0 = unfold run_answers count_of in refl in
       omega (arith, h.places i m b, z, y, place_figure (run_answers s₀ (trace_records t)) i m)
 
   all : records ≡ length (trace_records t)
-  all = let z = ap length (no_record t at l) in omega (arith, h.count, z)
+  all = let z = ap length (no_chunk rest l) in omega (arith, h.count, z)
 
   -- each record is accepted, refused or blocked
   each : figure_at (trace_figures s₀ t) 1 + get_or f refused_count_at 0 + get_or f blocked_count_at 0 ≡ records
@@ -163,7 +159,7 @@ module _ (s₀ t s f : List ℕ) (records at : ℕ) (h : Totalling s₀ t s f re
 
   left_session : s ≡ part_session s₀ t
   unfolding run_effect
-  left_session = rw (no_record t at l) at h.leaves
+  left_session = rw (no_chunk rest l) at h.leaves
 
   pub total_end : (f₀ f' : List ℕ) → total_good s₀ f₀ ≡ true → f' ≡ finished f records → (0 ≡ total_refusal s₀ f₀) × (s ≡ total_session s₀ t f₀) × (f' ≡ total_numbers s₀ t f₀)
   unfolding total_refusal total_session total_numbers

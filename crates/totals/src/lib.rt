@@ -2,14 +2,14 @@
 #![tactic(auto)]
 
 ghost use Rattle.std.specs.Prelude.{◌≡◌, ◌+◌, ◌<◌, ◌≤◌, length, slice_index};
-ghost use Rattle.figures.specs.Counters.{values_below};
+ghost use Rattle.answers.specs.Outcomes.{outcome_number};
 ghost use Rattle.totals.specs.Totals.{figures_length, total_refusal, total_numbers, total_session, add_refusal, add_figures};
 ghost use Rattle.totals.specs.Places.{refused_count_at, blocked_count_at, count_place, one_counted, event_counted, finished};
 
-use answers::{Answer, Verdict};
+use answers::{Answer, Refusal, Verdict};
 use image::CONTAINER_LIMIT;
+use records::RECORD_LENGTH;
 use session::SESSION_LENGTH;
-use std::num::wrapping_add_u64;
 
 // Where each number of figures stands, and how many there are: the records, those accepted, the alerts, those refused and blocked, then the
 // alerts of each container.
@@ -28,17 +28,6 @@ const CONTAINERS_AT: usize = 5;
 pub const FIGURES_LENGTH: usize = CONTAINERS_AT + CONTAINER_LIMIT;
 
 // ---- counting
-
-// Each number 0.
-fn clear_figures(figures: &mut [u64])
-    ensures { figures.new ≡ values_below (λ k. 0) (length figures.old) }
-{
-    let mut k: usize = 0;
-    while k < figures.len() {
-        figures[k] = 0;
-        k += 1;
-    }
-}
 
 // One more at a place.
 fn add_at(figures: &mut [u64], k: usize)
@@ -88,52 +77,47 @@ fn finish(figures: &mut [u64], records: u64)
     figures[ACCEPTED_AT] = accepted;
 }
 
-// 0 with the figures of the records of the trace, run on the session to their end; 9 unless the session has 5,536 numbers and the figures
+// The figures of the records of the trace, run on the session to their end; 9 unless the session has 5,536 numbers and the figures
 // 261, and all is as it was. Any bytes and any numbers are counted.
-pub fn count_trace(session: &mut [u64], trace: &[u8], figures: &mut [u64]) -> u32
-    ensures { (result ≡ total_refusal session.old figures.old)
+pub fn count_trace(session: &mut [u64], trace: &[u8], figures: &mut [u64]) -> Result<(), Refusal>
+    ensures { (outcome_number result ≡ total_refusal session.old figures.old)
         × (session.new ≡ total_session session.old trace.now figures.old)
         × (figures.new ≡ total_numbers session.old trace.now figures.old) }
 {
     if session.len() != SESSION_LENGTH {
-        return answers::LENT_LENGTH;
+        return Err(Refusal::LentLength);
     }
     if figures.len() != FIGURES_LENGTH {
-        return answers::LENT_LENGTH;
+        return Err(Refusal::LentLength);
     }
-    clear_figures(figures);
+    figures.fill(0);
     let mut records: u64 = 0;
-    let mut at: usize = 0;
-    while at < trace.len() {
-        let bytes = records::record_at(trace, at);
+    for bytes in trace.chunks(RECORD_LENGTH) {
         let answer = monitor::step(session, bytes);
         records += 1;
-        at += bytes.len();
         if !answers::is_quiet(answer) {
             add_event(figures, answer);
         }
     }
     finish(figures, records);
-    0
+    Ok(())
 }
 
 // ---- sums
 
-// 0 with each number of the figures added to its like in the total; 9 unless both have 261, and all is as it was. The sums wrap at 2 to the 64.
-pub fn add(total: &mut [u64], figures: &[u64]) -> u32
-    ensures { (result ≡ add_refusal total.old figures.now)
+// Each number of the figures added to its like in the total; 9 unless both have 261, and all is as it was. The sums wrap at 2 to the 64.
+pub fn add(total: &mut [u64], figures: &[u64]) -> Result<(), Refusal>
+    ensures { (outcome_number result ≡ add_refusal total.old figures.now)
         × (total.new ≡ add_figures total.old figures.now) }
 {
     if total.len() != FIGURES_LENGTH {
-        return answers::LENT_LENGTH;
+        return Err(Refusal::LentLength);
     }
     if figures.len() != FIGURES_LENGTH {
-        return answers::LENT_LENGTH;
+        return Err(Refusal::LentLength);
     }
-    let mut k: usize = 0;
-    while k < figures.len() {
-        total[k] = wrapping_add_u64(total[k], figures[k]);
-        k += 1;
+    for (k, &n) in figures.iter().enumerate() {
+        total[k] = total[k].wrapping_add(n);
     }
-    0
+    Ok(())
 }

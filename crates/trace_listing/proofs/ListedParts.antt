@@ -1,12 +1,13 @@
 -- A part of a trace listed record by record: what is written, and what is left of the part, is the whole of it.
-use Prim.Native.Nat.{ℕ, ◌+◌, ◌-◌, ◌*◌, ◌/◌, ◌≤◌, ◌<◌}
+use Prim.Native.Nat.{ℕ, ◌+◌, ◌-◌, ◌*◌, ◌/◌, ◌≤◌, ◌<◌, min}
 use native.Mathlib.Omega.{arith}
-use mathlib.Core.Path.{◌≡◌, refl, sym, ap, ◌∙◌}
+use native.Mathlib.Nat.{zero-add}
+use mathlib.Core.Path.{◌≡◌, refl, sym, ap, ap₂, ◌∙◌}
 use mathlib.Core.Bool.{Bool, true, false, cond}
-use mathlib.Core.List.{List, [], ◌++◌, append_assoc, append-nil}
+use mathlib.Core.List.{List, [], ◌∷◌, ◌++◌, append_assoc, append-nil}
 use lib.Dec.{eqb}
 use borrow.Author.Tests.{eq-eqb, ne_eqb}
-use lib.ListN.{length, take, drop, length-take, length-drop}
+use lib.ListN.{length, take, drop, length-append}
 use Rattle.answers.specs.declared.Answer.{Answer}
 use Rattle.answers.specs.declared.Tally.{Tally}
 use Rattle.answers.specs.Tallies.{more, tallied_all}
@@ -15,7 +16,7 @@ use Rattle.fields.proofs.WritingLaws.{wrote_none, wrote_join, wrote_length, wrot
 use Rattle.records.specs.declared.Request.{Request}
 use Rattle.records.specs.Records.{record_length, request_in}
 use Rattle.records.specs.Traces.{trace_records}
-use Rattle.records.proofs.TraceRecords.{next_record, no_record, record_length_lem}
+use Rattle.records.proofs.TraceRecords.{next_record, no_record}
 use Rattle.monitor.specs.Steps.{step_answer, step_effect}
 use Rattle.monitor.specs.Runs.{step_on, run_answers, run_effect}
 use Rattle.monitor.specs.PartSessions.{part_tally, part_session}
@@ -23,6 +24,7 @@ use Rattle.listing.specs.Buffer.{line_limit, buffer_size}
 use Rattle.answers.specs.Answers.{position_of}
 use Rattle.monitor.proofs.AnswerPositions.{small}
 use Rattle.listing.specs.Lines.{step_line, short_line}
+use Rattle.listing.proofs.Pieces.{piece_front, piece_behind}
 use Rattle.listing.proofs.Theorems.{step_fits, short_fits}
 use Rattle.trace_listing.specs.declared.Listed.{Listed}
 use Rattle.trace_listing.specs.Listings.{record_line, lines_of, part_text}
@@ -52,75 +54,74 @@ module _ (step : ℕ) (bytes : List ℕ) (answer : Answer) where
 
 -- ---- the loop over the records of a part
 
--- how many records are left at a place of a part of n bytes
-abbrev pub left : ℕ → ℕ → ℕ
-left n at = (n - at + (record_length - 1)) / record_length
+-- the next piece of a trace is its next record, and the pieces behind it are the others
+pieces_next : (r x q : List ℕ) → r ≡ x ++ q → length x ≡ min record_length (length r) → 0 < length r → trace_records r ≡ x ∷ trace_records q
+pieces_next r x q e l h =
+    next_record r 0 h
+    ∙ ap₂ (λ (y z : List ℕ). y ∷ trace_records z) (piece_front record_length r x q e l)
+    (ap (λ (n : ℕ). drop n r) (zero-add (length (take record_length r))) ∙ piece_behind record_length r x q e l)
 
--- of the part, the records before `at` are listed: `front` is their text, and there is room for the others
-pub record Listing (part : List ℕ) (t₀ : Tally) (s₀ before s out : List ℕ) (run : Listed) (at : ℕ) : Type 0 where
+-- how many records n bytes are
+abbrev pub left : ℕ → ℕ
+left n = (n + (record_length - 1)) / record_length
+
+-- of the part, the records before `rest` are listed: `front` is their text, and there is room for the others
+pub record Listing (part : List ℕ) (t₀ : Tally) (s₀ before s out : List ℕ) (run : Listed) (rest : List ℕ) : Type 0 where
   pub front : List ℕ
-  pub within : at ≤ length part
   pub session : length s ≡ length s₀
   pub long : length out ≡ buffer_size
   pub begun : length before ≡ buffer_size
-  pub room : run.end + line_limit * left (length part) at ≤ buffer_size
+  pub room : run.end + line_limit * left (length rest) ≤ buffer_size
   pub wrote : Wrote front before out 0 run.end
-  pub text : front ++ lines_of run.tally (trace_records (drop at part)) (run_answers s (trace_records (drop at part))) ≡ part_text t₀ s₀ part
-  pub counts : tallied_all run.tally (run_answers s (trace_records (drop at part))) ≡ part_tally t₀ s₀ part
-  pub leaves : run_effect s (trace_records (drop at part)) ≡ part_session s₀ part
+  pub text : front ++ lines_of run.tally (trace_records rest) (run_answers s (trace_records rest)) ≡ part_text t₀ s₀ part
+  pub counts : tallied_all run.tally (run_answers s (trace_records rest)) ≡ part_tally t₀ s₀ part
+  pub leaves : run_effect s (trace_records rest) ≡ part_session s₀ part
 
-pub listing_start : (part : List ℕ) (t : Tally) (s out : List ℕ) (run : Listed) → length part ≤ part_limit → length out ≡ buffer_size → run.tally ≡ t → run.end ≡ 0
-    → Listing part t s out s out run 0
+pub listing_start : (part : List ℕ) (t : Tally) (s out : List ℕ) (run : Listed) (rest : List ℕ) → length part ≤ part_limit → length out ≡ buffer_size → run.tally ≡ t → run.end ≡ 0
+    → rest ≡ part → Listing part t s out s out run rest
 unfolding part_text part_tally part_session
-listing_start part t s out run l b e z =
+listing_start part t s out run rest l b e z r =
     record {
       front = [];
-      within = omega arith;
       session = refl;
       long = b;
       begun = b;
-      room = omega arith;
+      room = omega (arith, ap length r);
       wrote = rw z (wrote_none 0 out);
-      text = rw e;
-      counts = rw e;
-      leaves = refl;
+      text = rw (e, r);
+      counts = rw (e, r);
+      leaves = rw r;
     }
 
-module _ (part : List ℕ) (t₀ : Tally) (s₀ before s out : List ℕ) (run : Listed) (at : ℕ) (h : Listing part t₀ s₀ before s out run at) (l : at < length part) where
+module _ (part : List ℕ) (t₀ : Tally) (s₀ before s out : List ℕ) (run : Listed) (rest : List ℕ) (h : Listing part t₀ s₀ before s out run rest) (l : 0 < length rest) where
   -- there is room for a line
   pub line_room : run.end + line_limit ≤ length out
   line_room = omega (arith, h.room, h.long)
 
-  module _ (x s' out' : List ℕ) (a : Answer) (run' : Listed) (xe : x ≡ take record_length (drop at part)) (ae : a ≡ step_answer s x) (se : s' ≡ step_effect s x)
+  module _ (x q s' out' : List ℕ) (a : Answer) (run' : Listed) (re : rest ≡ x ++ q) (xe : length x ≡ min record_length (length rest)) (ae : a ≡ step_answer s x) (se : s' ≡ step_effect s x)
       (w : ListedRecord x a run out out' run') where
-    next_text : (h.front ++ record_line (more run.tally.records) x a)
-        ++ lines_of run'.tally (trace_records (drop (at + length x) part)) (run_answers s' (trace_records (drop (at + length x) part)))
-        ≡ part_text t₀ s₀ part
+    next_text : (h.front ++ record_line (more run.tally.records) x a) ++ lines_of run'.tally (trace_records q) (run_answers s' (trace_records q)) ≡ part_text t₀ s₀ part
     unfolding lines_of run_answers step_on
-    next_text =
-        rw (append_assoc h.front, w.counts, ae, se, xe) (rw (next_record part at l) at h.text)
+    next_text = rw (append_assoc h.front, w.counts, ae, se) (rw (pieces_next rest x q re xe l) at h.text)
 
-    next_counts : tallied_all run'.tally (run_answers s' (trace_records (drop (at + length x) part))) ≡ part_tally t₀ s₀ part
+    next_counts : tallied_all run'.tally (run_answers s' (trace_records q)) ≡ part_tally t₀ s₀ part
     unfolding tallied_all run_answers step_on
-    next_counts = rw (w.counts, ae, se, xe) (rw (next_record part at l) at h.counts)
+    next_counts = rw (w.counts, ae, se) (rw (pieces_next rest x q re xe l) at h.counts)
 
-    next_leaves : run_effect s' (trace_records (drop (at + length x) part)) ≡ part_session s₀ part
+    next_leaves : run_effect s' (trace_records q) ≡ part_session s₀ part
     unfolding run_effect step_on
-    next_leaves = rw (se, xe) (rw (next_record part at l) at h.leaves)
+    next_leaves = rw se (rw (pieces_next rest x q re xe l) at h.leaves)
 
     fits : length (record_line (more run.tally.records) x a) ≤ line_limit
     fits = record_fits (more run.tally.records) x a (rw ae (small s x))
 
-    next_room : run'.end + line_limit * left (length part) (at + length x) ≤ buffer_size
-    next_room =
-        let e : length x ≡ length (take record_length (drop at part)) = ap length xe in
-        omega (arith, h.room, w.line.ends, fits, length-take record_length (drop at part), length-drop at part)
+    next_room : run'.end + line_limit * left (length q) ≤ buffer_size
+    next_room = omega (arith, h.room, w.line.ends, fits, ap length re, length-append x q, xe)
 
-    pub listing_next : length s' ≡ length s → Listing part t₀ s₀ before s' out' run' (at + length x)
+    pub listing_next : length s' ≡ length s → Listing part t₀ s₀ before s' out' run' q
     listing_next e =
         record {
           front = h.front ++ record_line (more run.tally.records) x a;
-          within = (record_length_lem part x at l xe).1;
           session = e ∙ h.session;
           long = wrote_length (omega (arith, line_room, fits)) w.line ∙ h.long;
           begun = h.begun;
@@ -131,12 +132,13 @@ module _ (part : List ℕ) (t₀ : Tally) (s₀ before s out : List ℕ) (run : 
           leaves = next_leaves;
         }
 
-pub listing_end : (part : List ℕ) (t₀ : Tally) (s₀ before s out : List ℕ) (run : Listed) (at : ℕ) → Listing part t₀ s₀ before s out run at → length part ≤ at
+pub listing_end : (part : List ℕ) (t₀ : Tally) (s₀ before s out : List ℕ) (run : Listed) (rest : List ℕ) → Listing part t₀ s₀ before s out run rest → length rest ≡ 0
     → ListedPart part t₀ s₀ s before out run
 unfolding lines_of tallied_all run_answers run_effect
-listing_end part t₀ s₀ before s out run at h l =
+listing_end part t₀ s₀ before s out run rest h l =
+    let none : trace_records rest ≡ [] = no_record rest 0 (omega (arith, l)) in
     record {
-      lines = record { front = wrote_as (sym (append-nil h.front) ∙ rw (no_record part at l) at h.text) h.wrote; room = omega (arith, h.room) };
-      counts = rw (no_record part at l) at h.counts;
-      leaves = rw (no_record part at l) at h.leaves;
+      lines = record { front = wrote_as (sym (append-nil h.front) ∙ rw none at h.text) h.wrote; room = omega (arith, h.room) };
+      counts = rw none at h.counts;
+      leaves = rw none at h.leaves;
     }

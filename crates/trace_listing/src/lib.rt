@@ -44,10 +44,9 @@ fn list_record(out: &mut [u8], run: Listed, bytes: &[u8], answer: Answer) -> Lis
     let tally = run.tally;
     let step = answers::more(tally.records);
     let end = put_record(out, run.end, step, bytes, answer);
-    let tallied = answers::count(tally, answer);
     Listed {
-        tally: tallied,
-        end: end,
+        tally: answers::count(tally, answer),
+        end,
     }
 }
 
@@ -60,12 +59,9 @@ fn list_records(part: &[u8], session: &mut [u64], out: &mut [u8], begun: Tally) 
         tally: begun,
         end: 0,
     };
-    let mut at: usize = 0;
-    while at < part.len() {
-        let bytes = records::record_at(part, at);
+    for bytes in part.chunks(RECORD_LENGTH) {
         let answer = monitor::step(session, bytes);
         run = list_record(out, run, bytes, answer);
-        at += bytes.len();
     }
     run
 }

@@ -1,17 +1,14 @@
 -- Two sessions that are the same behind the first numbers; positions numbered, and put at the front of the output.
-use Prim.Native.Nat.{ℕ, ◌+◌, ◌-◌, ◌≤◌, ◌<◌}
+use Prim.Native.Nat.{ℕ, ◌-◌, ◌<◌}
 use native.Mathlib.Omega.{arith}
 use native.Mathlib.Nat.{zero-add}
-use mathlib.Core.Path.{◌≡◌, sym, ap, ap₂, ◌∙◌}
+use mathlib.Core.Path.{◌≡◌, sym, ap, ◌∙◌}
 use mathlib.Core.Bool.{Bool}
 use mathlib.Core.List.{List, ◌++◌}
 use lib.ListN.{length, take, drop, get_or, take-append-drop}
-use lib.Seq.{take_all}
 use borrow.Rule.Slice.PartMut.{put_mid}
 use Rattle.lists.specs.Counting.{count_from}
 use Rattle.lists.proofs.Counting.{count_at}
-use Rattle.lists.proofs.Copying.{Copied}
-use Rattle.fields.specs.Writing.{overwritten}
 use Rattle.trim.specs.Trims.{trim_limit, cut_counts}
 use Rattle.trim.specs.Replays.{Tried, Paired}
 
@@ -31,10 +28,3 @@ module _ (before work t : List ℕ) (m : ℕ) (g : Paired before work t m) where
 -- the number of a place
 pub numbered : (i : ℕ) → i < trim_limit → i ≡ get_or (count_from 0 trim_limit) i 0
 numbered i l = sym (count_at 0 trim_limit i l ∙ zero-add i)
-
--- all are put
-pub put_all : (x out₀ out : List ℕ) (j : ℕ) → Copied x out₀ out 0 j → length x ≤ j → out ≡ overwritten x 0 out₀
-unfolding overwritten
-put_all x out₀ out j g l =
-    let e : 0 + j ≡ 0 + length x = omega (arith, g.place) in
-    g.is ∙ ap₂ (λ (a b : List ℕ). take 0 out₀ ++ a ++ b) (take_all j x l) (ap (λ (n : ℕ). drop n out₀) e)

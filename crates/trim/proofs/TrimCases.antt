@@ -1,7 +1,7 @@
 -- The refusals in their order, and what the function answers and leaves.
-use Prim.Native.Nat.{ℕ, ◌-◌, ◌≤◌, ◌<◌}
+use Prim.Native.Nat.{ℕ, ◌+◌, ◌≤◌, ◌<◌}
 use native.Mathlib.Omega.{arith}
-use mathlib.Core.Path.{◌≡◌, sym, ap, ◌∙◌}
+use mathlib.Core.Path.{◌≡◌, sym, ap, ap₂, ◌∙◌}
 use mathlib.Core.Logic.{◌≢◌}
 use mathlib.Core.Bool.{true, false}
 use mathlib.Core.List.{List, [], ◌∷◌, ◌++◌}
@@ -17,7 +17,6 @@ use Rattle.fields.specs.Writing.{overwritten}
 use Rattle.image.proofs.ImageRefusals.{refused_by_none}
 use Rattle.image.specs.Image.{policy_in, image_conditions, check_of}
 use Rattle.session.specs.Session.{start_of}
-use Rattle.trim.specs.declared.Trimmed.{Trimmed}
 use Rattle.trim.specs.Trims.{trim_limit, cut_counts, last_of, front_of, kept_of, trace_good, trim_conditions, trim_refusal, positions_of, trim_answer, trim_effect}
 use Rattle.trim.specs.Replays.{whole_trace, Found}
 use Rattle.trim.proofs.WholeTraces.{whole_good_lem, part_refused}
@@ -65,16 +64,15 @@ module _ (i t out : List ℕ) where
 
   -- ---- what is answered and left
 
-  pub answered_refused : {r : Trimmed} (n : ℕ) → r ≡ record { refusal = n; kept = 0 } → trim_refusal i t out ≡ n → n ≢ 0
-      → (r ≡ trim_answer i t out) × (out ≡ trim_effect i t out)
+  pub answered_refused : {n : ℕ} → trim_refusal i t out ≡ n → n ≢ 0 → (record { refusal = n; kept = 0 } ≡ trim_answer i t out) × (out ≡ trim_effect i t out)
   unfolding trim_answer trim_effect
-  answered_refused {r} n e h d = let b = ne_eqb (trim_refusal i t out) 0 (λ z. d (sym h ∙ z)) in (e ∙ rw (b, h), rw b)
+  answered_refused h d = let b = ne_eqb (trim_refusal i t out) 0 (λ z. d (sym h ∙ z)) in (rw (b, h), rw b)
 
-  pub answered_kept : {ps' out' : List ℕ} {kept : ℕ} → Found i t ps' kept → kept ≢ 0 → length ps' ≡ trim_limit → out' ≡ overwritten (take (kept - 0) (drop 0 ps')) 0 out
-      → trim_refusal i t out ≡ 0 → (record { refusal = 0; kept = kept } ≡ trim_answer i t out) × (out' ≡ trim_effect i t out)
-  unfolding trim_answer trim_effect positions_of
-  answered_kept {ps'} {out'} {kept} g d l e h =
+  pub answered_kept : {ps' x : List ℕ} {kept : ℕ} → Found i t ps' kept → length ps' ≡ trim_limit → x ≡ take kept ps'
+      → trim_refusal i t out ≡ 0 → (record { refusal = 0; kept = kept } ≡ trim_answer i t out) × (x ++ drop kept out ≡ trim_effect i t out)
+  unfolding trim_answer trim_effect positions_of overwritten
+  answered_kept {ps'} {x} {kept} g l e h =
       let b = eq-eqb (trim_refusal i t out) 0 h in
-      let q : kept - 0 ≡ kept = omega arith in
-      let z : length (kept_of (start_of (policy_in i)) t) ≡ kept = sym (ap length (g.is d)) ∙ length-take-le kept ps' (omega (arith, g.fewer, l)) in
-      (rw (b, z), rw b (e ∙ ap (λ (x : List ℕ). overwritten x 0 out) (ap (λ (n : ℕ). take n ps') q ∙ g.is d)))
+      let z : length (kept_of (start_of (policy_in i)) t) ≡ kept = sym (ap length g.is) ∙ length-take-le kept ps' (omega (arith, g.fewer, l)) in
+      let m : kept ≡ 0 + length (kept_of (start_of (policy_in i)) t) = omega (arith, z) in
+      (rw (b, z), rw b (ap₂ (λ (y : List ℕ) (n : ℕ). y ++ drop n out) (e ∙ g.is) m))

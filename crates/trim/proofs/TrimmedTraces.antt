@@ -61,8 +61,8 @@ module _ (image t ps : List ℕ) (last : ℕ) (ok : check_of image ≡ 0) (w : w
         ∙ ap (λ (x : List ℕ). cut_counts x t last (take (last - 0) (drop 0 ps))) begun
         ∙ ap₂ (λ (n : ℕ) (x : List ℕ). cut_counts (start_of (policy_in image)) t n x) ends front_part
 
-    pub found_none : (ps' : List ℕ) → r ≡ false → Found image t ps' 0
-    found_none ps' h = record { none = λ q. sym told ∙ h; some = λ n. absurd (n refl); fewer = omega arith; is = λ n. absurd (n refl) }
+    pub found_none : r ≡ false → cut_counts (start_of (policy_in image)) t (last_of t) (front_of t) ≡ false
+    found_none h = sym told ∙ h
 
     pub trimmable : (before : List ℕ) (m : ℕ) → length before ≡ session_length → r ≡ true → (m ≤ users_at) × Leaves t m → length work ≡ session_length
         → Trimmable image t ps before work' last m
@@ -84,11 +84,10 @@ module _ (image t ps : List ℕ) (last : ℕ) (ok : check_of image ≡ 0) (w : w
     pub found_some : (ps' : List ℕ) (kept : ℕ) → r ≡ true → length ps' ≡ trim_limit → Kept image t ps' last kept → Found image t (set ps' kept last) (kept + 1)
     unfolding kept_of
     found_some ps' kept h l k = record {
-      none = λ q. absurd (omega (arith, q));
-      some = λ n. sym told ∙ h;
+      counts = sym told ∙ h;
       fewer = omega (arith, k.fewer, last_small);
       is =
-          λ n. ap (λ (j : ℕ). take j (set ps' kept last)) (add-one kept)
+          ap (λ (j : ℕ). take j (set ps' kept last)) (add-one kept)
           ∙ take-suc-set ps' kept last (omega (arith, k.fewer, last_small, l))
           ∙ ap₂ (λ (x : List ℕ) (j : ℕ). x ++ (j ∷ [])) k.is ends;
     }

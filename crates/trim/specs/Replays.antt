@@ -1,6 +1,6 @@
 -- How it is worked out: private contracts. A pass keeps the session that the kept records leave, and tries the rest on a second one, of
 -- which only the rows that the trace names are copied.
-use Rattle.std.specs.Prelude.{ℕ, ◌+◌, ◌*◌, ◌%◌, ◌≤◌, ◌<◌, ◌≡◌, Bool, true, false, not, ◌&&◌, List, leb, eqb, length, take, drop}
+use Rattle.std.specs.Prelude.{ℕ, ◌+◌, ◌*◌, ◌%◌, ◌≤◌, ◌<◌, ◌≡◌, Bool, true, not, ◌&&◌, List, leb, eqb, length, take, drop}
 use Rattle.lists.specs.Lists.{every}
 use Rattle.answers.specs.Answers.{accepted}
 use Rattle.image.specs.Image.{check_of, policy_in}
@@ -80,9 +80,8 @@ pub record Kept (image t ps' : List ℕ) (last r : ℕ) : Type 0 where
   pub fewer : r ≤ last
   pub is : take r ps' ≡ kept_front (start_of (policy_in image)) t
 
--- the kept positions at the front, and how many they are; 0 if the whole trace does not count
+-- the whole trace counts: the kept positions at the front, and how many they are
 pub record Found (image t ps' : List ℕ) (r : ℕ) : Type 0 where
-  pub none : r ≡ 0 → cut_counts (start_of (policy_in image)) t (last_of t) (front_of t) ≡ false
-  pub some : (r ≡ 0 → ⊥) → cut_counts (start_of (policy_in image)) t (last_of t) (front_of t) ≡ true
+  pub counts : cut_counts (start_of (policy_in image)) t (last_of t) (front_of t) ≡ true
   pub fewer : r ≤ trim_limit
-  pub is : (r ≡ 0 → ⊥) → take r ps' ≡ kept_of (start_of (policy_in image)) t
+  pub is : take r ps' ≡ kept_of (start_of (policy_in image)) t

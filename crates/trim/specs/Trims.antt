@@ -1,9 +1,11 @@
 -- A trace trimmed to its alert (change request No. 13): when a cut counts, what is kept, the answer and every byte of the output.
-use Rattle.std.specs.Prelude.{ℕ, ◌-◌, ◌*◌, Bool, cond, ◌&&◌, List, [], ◌∷◌, ◌++◌, map, leb, eqb, length, take, drop}
+use Rattle.std.specs.Prelude.{ℕ, ◌-◌, ◌*◌, Result, Ok, Err, Bool, cond, ◌&&◌, List, [], ◌∷◌, ◌++◌, map, leb, eqb, length, take, drop}
 use Rattle.lists.specs.Lists.{every}
 use Rattle.lists.specs.Counting.{count_from}
 use Rattle.lists.specs.Conditions.{Condition, ◌or_refuse◌, first_failed}
 use Rattle.answers.specs.Refusals.{lent_length, trim_trace}
+use Rattle.answers.specs.declared.Refusal.{Refusal}
+use Rattle.answers.specs.Outcomes.{refusal_number}
 use Rattle.answers.specs.Answers.{accepted, is_alert}
 use Rattle.fields.specs.Writing.{overwritten}
 use Rattle.image.specs.Image.{policy_in, image_conditions}
@@ -12,7 +14,6 @@ use Rattle.records.specs.Records.{record_length}
 use Rattle.records.specs.Traces.{trace_records}
 use Rattle.monitor.specs.Steps.{step_answer}
 use Rattle.monitor.specs.Runs.{run_answers, run_effect}
-use Rattle.trim.specs.declared.Trimmed.{Trimmed}
 use Rattle.trim.specs.Cuts.{trim_in}
 
 -- "up to 256 records", hence as many positions
@@ -74,6 +75,15 @@ unfoldable pub positions_of : List ℕ → List ℕ → List ℕ
 positions_of i t = kept_of (start_of (policy_in i)) t
 
 -- the refusal, or 0 and how many are kept
+pub record Trimmed : Type 0 where
+  pub refusal : ℕ
+  pub kept : ℕ
+
+-- the same of the function's outcome
+abbrev pub trimmed_of : Result ℕ Refusal → Trimmed
+trimmed_of (Ok n) = record { refusal = 0; kept = n }
+trimmed_of (Err r) = record { refusal = refusal_number r; kept = 0 }
+
 unfoldable pub trim_answer : List ℕ → List ℕ → List ℕ → Trimmed
 trim_answer i t out =
     cond (eqb (trim_refusal i t out) 0)

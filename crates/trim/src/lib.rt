@@ -1,30 +1,24 @@
 // A trace trimmed to its alert (change request No. 13).
 #![tactic(auto)]
 
-ghost use Rattle.std.specs.Prelude.{◌≡◌, true, ◌<◌, ◌≤◌, ◌%◌, length};
+ghost use Rattle.std.specs.Prelude.{◌≡◌, true, false, ◌<◌, ◌≤◌, ◌%◌, length, MatchOption};
 ghost use Rattle.lists.specs.Lists.{every};
 ghost use Rattle.lists.specs.Counting.{count_from};
-ghost use Rattle.fields.specs.Writing.{overwritten};
-ghost use Rattle.image.specs.Image.{check_of};
+ghost use Rattle.image.specs.Image.{check_of, policy_in};
 ghost use Rattle.session.specs.Limits.{users_at};
+ghost use Rattle.session.specs.Session.{start_of};
 ghost use Rattle.records.specs.Records.{record_length};
 ghost use Rattle.monitor.specs.Steps.{step_effect};
-ghost use Rattle.trim.specs.Trims.{trim_limit, record_at, cut_counts, trim_answer, trim_effect};
+ghost use Rattle.trim.specs.Trims.{trim_limit, record_at, cut_counts, last_of, front_of, trimmed_of, trim_answer, trim_effect};
 ghost use Rattle.trim.specs.Replays.{in_trace, whole_trace, Leaves, Replayed, Tried, Paired, Passable, Passed, Trimmable, Kept, Found};
 
+use answers::Refusal;
 use image::CONTAINER_LIMIT;
 use records::RECORD_LENGTH;
 use session::{ROW_WIDTH, SESSION_LENGTH, USERS_AT};
 
 // The most records of a trace that is trimmed, and the bytes that the output must have.
 pub const TRIM_LIMIT: usize = 256;
-
-// The refusal, or 0 and how many positions are kept.
-#[derive(Clone, Copy)]
-pub struct Trimmed {
-    pub refusal: u32,
-    pub kept: usize,
-}
 
 // ---- cuts
 
@@ -33,11 +27,9 @@ fn replay(session: &mut [u64], trace: &[u8], positions: &[u8]) -> bool
     requires { every (in_trace trace.now) positions.now ≡ true }
     ensures { Replayed session.old trace.now positions.now session.new result }
 {
-    let mut i: usize = 0;
-    while i < positions.len() {
-        let at = positions[i] as usize * RECORD_LENGTH;
+    for &k in positions {
+        let at = k as usize * RECORD_LENGTH;
         let answer = monitor::step(session, &trace[at..at + RECORD_LENGTH]);
-        i += 1;
         if !answers::is_accepted(answer) {
             return false;
         }
@@ -101,11 +93,9 @@ fn pass(
     ensures { Passed before.old trace.now positions.old n last wide positions.new work.new result }
 {
     let mut kept: usize = 0;
-    let mut i: usize = 0;
-    while i < n {
+    for i in 0..n {
         let k = positions[i];
-        i += 1;
-        if !counts_behind(before, work, trace, &positions[i..n], last, wide) {
+        if !counts_behind(before, work, trace, &positions[i + 1..n], last, wide) {
             keep(before, trace, k);
             positions[kept] = k;
             kept += 1;
@@ -129,9 +119,10 @@ fn passes(
 {
     let mut n = last + 1;
     let mut kept = last;
+    // Kept: no plainer. How many passes there are is not known before: the loop ends with the first pass that drops nothing.
     while kept < n {
         n = kept;
-        session::start(image, before);
+        let _ = session::start(image, before);
         kept = pass(before, work, trace, positions, n, last, wide);
     }
     kept
@@ -139,29 +130,16 @@ fn passes(
 
 // ---- the rows that a trace names
 
-// The larger of two numbers.
-fn larger(a: usize, b: usize) -> usize
-    ensures { (a ≤ result) × (b ≤ result) }
-{
-    if a < b {
-        return b;
-    }
-    a
-}
-
 // How many numbers at the front of a session have the rows that the records of the trace can change.
 fn named_rows(trace: &[u8]) -> usize
     requires { length trace.now % record_length ≡ 0 }
     ensures { (result ≤ users_at) × Leaves trace.now result }
 {
-    let n = trace.len() / RECORD_LENGTH;
     let mut most: usize = 0;
-    let mut i: usize = 0;
-    while i < n {
+    for i in 0..trace.len() / RECORD_LENGTH {
         let at = i * RECORD_LENGTH;
         let request = records::request_of(&trace[at..at + RECORD_LENGTH]);
-        most = larger(most, larger(request.p, request.o));
-        i += 1;
+        most = most.max(request.p).max(request.o);
     }
     if CONTAINER_LIMIT <= most {
         return USERS_AT;
@@ -176,30 +154,30 @@ fn number(positions: &mut [u8])
     requires { length positions.old ≡ trim_limit }
     ensures { positions.new ≡ count_from 0 trim_limit }
 {
-    let mut i: usize = 0;
-    while i < TRIM_LIMIT {
+    for i in 0..TRIM_LIMIT {
         positions[i] = i as u8;
-        i += 1;
     }
 }
 
-// The kept positions of a trace of whole records, at the front of those given. How many they are; 0 if the trace does not count.
-fn kept_positions(image: &[u8], trace: &[u8], positions: &mut [u8]) -> usize
+// The kept positions of a trace of whole records, at the front of those given. How many they are, if the trace counts.
+fn kept_positions(image: &[u8], trace: &[u8], positions: &mut [u8]) -> Option<usize>
     requires { (check_of image.now ≡ 0) × (whole_trace trace.now ≡ true) × (length positions.old ≡ trim_limit) }
-    ensures { Found image.now trace.now positions.new result }
+    ensures { MatchOption result
+        (cut_counts (start_of (policy_in image.now)) trace.now (last_of trace.now) (front_of trace.now) ≡ false)
+        (Found image.now trace.now positions.new) }
 {
     let mut before = [0u64; SESSION_LENGTH];
     let mut work = [0u64; SESSION_LENGTH];
     let last = trace.len() / RECORD_LENGTH - 1;
     number(positions);
-    session::start(image, &mut work);
+    let _ = session::start(image, &mut work);
     if !cut_counts(&mut work, trace, &positions[0..last], last) {
-        return 0;
+        return None;
     }
     let wide = named_rows(trace);
     let kept = passes(image, &mut before, &mut work, trace, positions, last, wide);
     positions[kept] = last as u8;
-    kept + 1
+    Some(kept + 1)
 }
 
 // The trace has whole records, from 1 to 256.
@@ -215,51 +193,23 @@ fn whole_trace(trace: &[u8]) -> bool
     trace.len() <= TRIM_LIMIT * RECORD_LENGTH
 }
 
-// The positions at the front of the output.
-fn put(positions: &[u8], out: &mut [u8])
-    requires { length positions.now ≤ length out.old }
-    ensures { out.new ≡ overwritten positions.now 0 out.old }
-{
-    let mut i: usize = 0;
-    while i < positions.len() {
-        out[i] = positions[i];
-        i += 1;
-    }
-}
-
-// Nothing is kept.
-fn refused(refusal: u32) -> Trimmed
-    ensures { result ≡ record { refusal = refusal; kept = 0 } }
-{
-    Trimmed {
-        refusal: refusal,
-        kept: 0,
-    }
-}
-
-// The positions of the records to which the trace is trimmed, at the front of the output, which must have 256 bytes: 0 and how many they
-// are, or the refusal, and then the output is as it was.
-pub fn trim(image: &[u8], trace: &[u8], out: &mut [u8]) -> Trimmed
-    ensures { (result ≡ trim_answer image.now trace.now out.old) × (out.new ≡ trim_effect image.now trace.now out.old) }
+// The positions of the records to which the trace is trimmed, at the front of the output, which must have 256 bytes: how many they are, or
+// the refusal, and then the output is as it was.
+pub fn trim(image: &[u8], trace: &[u8], out: &mut [u8]) -> Result<usize, Refusal>
+    ensures { (trimmed_of result ≡ trim_answer image.now trace.now out.old) × (out.new ≡ trim_effect image.now trace.now out.old) }
 {
     if out.len() < TRIM_LIMIT {
-        return refused(answers::LENT_LENGTH);
+        return Err(Refusal::LentLength);
     }
-    let refusal = image::check(image);
-    if refusal != 0 {
-        return refused(refusal);
-    }
+    image::check(image)?;
     if !whole_trace(trace) {
-        return refused(answers::TRIM_TRACE);
+        return Err(Refusal::TrimTrace);
     }
+    // Kept: a rule of the project: no heap, so the array has room for the most that there can be.
     let mut positions = [0u8; TRIM_LIMIT];
-    let kept = kept_positions(image, trace, &mut positions);
-    if kept == 0 {
-        return refused(answers::TRIM_TRACE);
-    }
-    put(&positions[0..kept], out);
-    Trimmed {
-        refusal: 0,
-        kept: kept,
-    }
+    let Some(kept) = kept_positions(image, trace, &mut positions) else {
+        return Err(Refusal::TrimTrace);
+    };
+    out[..kept].copy_from_slice(&positions[..kept]);
+    Ok(kept)
 }

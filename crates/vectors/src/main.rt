@@ -1,6 +1,7 @@
 // The checked examples of the paper that are run and not proved; the listing is the watch program's.
 #![tactic(auto)]
 
+use answers::Refusal;
 use image::{HEADER_SIZE, OUTPUT_BOUND};
 use records::RECORD_LENGTH;
 use session::SESSION_LENGTH;
@@ -11,27 +12,32 @@ fn line(rt: &impl Print, name: &str, number: u64) -> io::Result<()> {
     println!(rt; "{name} {number}")
 }
 
+// The number of an outcome.
+fn told(outcome: Result<(), Refusal>) -> u64 {
+    answers::outcome_number(outcome) as u64
+}
+
 // "Empty policy: 18 bytes."
 fn empty_policy(rt: &impl Print) -> io::Result<()> {
     let image: [u8; HEADER_SIZE] = [5, 0, 18, 0, 0, 0, 18, 0, 0, 0, 18, 0, 0, 0, 18, 0, 0, 0];
     let mut session = [0u64; SESSION_LENGTH];
-    line(rt, "empty policy, check", image::check(&image) as u64)?;
+    line(rt, "empty policy, check", told(image::check(&image)))?;
     line(
         rt,
         "empty policy, start",
-        session::start(&image, &mut session) as u64,
+        told(session::start(&image, &mut session)),
     )?;
     line(
         rt,
         "17 bytes of it, check",
-        image::check(&image[0..17]) as u64,
+        told(image::check(&image[0..17])),
     )?;
     let mut out = [0u8; OUTPUT_BOUND];
-    line(
-        rt,
-        "empty policy, length of the normal image",
-        normaliser::normalise(&image, &mut out) as u64,
-    )
+    let length = match normaliser::normalise(&image, &mut out) {
+        Ok(length) => length as u64,
+        Err(refusal) => refusal.number() as u64,
+    };
+    line(rt, "empty policy, length of the normal image", length)
 }
 
 // "Every image now leads with a 16-bit 5, and 2 refuses the old 4."
@@ -40,7 +46,7 @@ fn old_image(rt: &impl Print) -> io::Result<()> {
     line(
         rt,
         "empty policy that leads with 4, check",
-        image::check(&image) as u64,
+        told(image::check(&image)),
     )
 }
 
@@ -56,14 +62,14 @@ fn owners(rt: &impl Print) -> io::Result<()> {
     line(
         rt,
         "unused rule of user 0, no user declared, check",
-        image::check(&image) as u64,
+        told(image::check(&image)),
     )?;
     image[22] = 255;
     image[23] = 255;
     line(
         rt,
         "unused rule of nobody, check",
-        image::check(&image) as u64,
+        told(image::check(&image)),
     )
 }
 

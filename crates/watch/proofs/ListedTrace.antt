@@ -7,7 +7,11 @@ use mathlib.Core.Logic.{inl, inr}
 use mathlib.Core.List.{List, [], ◌++◌}
 use lib.ListN.{length, take, length-append, length-take}
 use borrow.Author.Tests.{eq-eqb}
+use Rattle.std.specs.Prelude.{Result, Ok, Err}
 use Rattle.fields.specs.Ascii.{ascii}
+use Rattle.answers.specs.declared.Refusal.{Refusal}
+use Rattle.answers.specs.Outcomes.{refusal_number, outcome_number}
+use Rattle.answers.proofs.Outcomes.{accepted, refused_by, not_accepted}
 use Rattle.answers.specs.declared.Tally.{Tally}
 use Rattle.answers.specs.Tallies.{no_tally, tallied_all}
 use Rattle.records.specs.Records.{record_length}
@@ -82,13 +86,13 @@ module _ (name s : List ℕ) (a : ℕ) (s₁ part₁ : List ℕ) (t₁ : Tally) 
     (out out₂ s₂ : List ℕ) (listed : Listed) (l : (length part₂ ≡ part_limit) × ListedPart (take got.size part₂) t₁ s₁ s₂ out out₂ listed)
     (a₂ : ℕ) (w : Handed (take listed.end out₂) a₁ a₂) where
   -- one part more
-  pub next_so_far : got.good ≡ true → ListedSoFar name s a (h.trace ++ take got.size part₂) s₂ listed.tally p₂ a₂
-  next_so_far g =
+  pub next_so_far : ListedSoFar name s a (h.trace ++ take got.size part₂) s₂ listed.tally p₂ a₂
+  next_so_far =
       let x : List ℕ = h.trace in
       let y : List ℕ = take got.size part₂ in
       let f = h.so_far in
       record {
-        taken = taken_then f.taken (r.taken g);
+        taken = taken_then f.taken r.taken;
         leaves = l.1.leaves ∙ ap (λ (z : List ℕ). part_session z y) f.leaves ∙ sym (session_cut s x y h.whole);
         counts = l.1.counts ∙ ap₂ (λ (t : Tally) (z : List ℕ). part_tally t z y) f.counts f.leaves ∙ sym (tally_cut s x y h.whole no_tally);
         handed =
@@ -98,12 +102,12 @@ module _ (name s : List ℕ) (a : ℕ) (s₁ part₁ : List ℕ) (t₁ : Tally) 
       }
 
   -- the last part
-  pub trace_listed : got.last ≡ true → got.good ≡ true → TraceListed name s s₂ listed.tally a a₂
-  trace_listed e g =
-      let n = next_so_far g in
+  pub trace_listed : got.last ≡ true → TraceListed name s s₂ listed.tally a a₂
+  trace_listed e =
+      let n = next_so_far in
       record {
         trace = h.trace ++ take got.size part₂;
-        file = inl (record { end = p₂; taken = n.taken; ends = r.ends g e });
+        file = inl (record { end = p₂; taken = n.taken; ends = r.ends e });
         leaves = n.leaves;
         counts = n.counts;
         handed = n.handed;
@@ -117,7 +121,7 @@ module _ (name s : List ℕ) (a : ℕ) (s₁ part₁ : List ℕ) (t₁ : Tally) 
         whole = omega (arith, h.whole, length-append h.trace (take got.size part₂), length-take got.size part₂, r.full e, l.0);
         long = l.0;
         session = k ∙ h.session;
-        so_far = next_so_far (r.going e);
+        so_far = next_so_far;
       }
 
 -- ---- the whole listing
@@ -143,28 +147,29 @@ all_watched s s' t a b d e n x h y =
 
 -- ---- the program
 
-module _ {name : List ℕ} {room : ℕ} (policy lent : List ℕ) (refusal : ℕ) (n : name ≡ ascii "policy.bin") (k : room ≡ image_limit + 1) (f : FileLoaded name policy room)
-    (l : length lent ≡ session_length) (r : refusal ≡ start_answer policy lent) where
-  checked : refusal ≡ check_of policy
+module _ {name : List ℕ} {room : ℕ} (policy lent : List ℕ) (n : name ≡ ascii "policy.bin") (k : room ≡ image_limit + 1) (f : FileLoaded name policy room)
+    (l : length lent ≡ session_length) (started : Result (Unit {0}) Refusal) (r : outcome_number started ≡ start_answer policy lent) where
+  checked : outcome_number started ≡ check_of policy
   checked = r ∙ length_passed policy lent ((length_good lent).1 l)
 
   read_policy : FileLoaded (ascii "policy.bin") policy (image_limit + 1)
   read_policy = subst (λ (x : List ℕ). FileLoaded x policy (image_limit + 1)) n (subst (λ (x : ℕ). FileLoaded name policy x) k f)
 
-  pub shown_refused : (a b : ℕ) → (refusal ≡ 0 → ⊥) → Handed (policy_line refusal) a b → ListingShown a b
-  shown_refused a b d h =
+  pub shown_refused : (refusal : Refusal) → started ≡ Err refusal → (a b : ℕ) → Handed (policy_line (refusal_number refusal)) a b → ListingShown a b
+  shown_refused refusal w a b h =
+      let d : check_of policy ≡ 0 → ⊥ = not_accepted checked w in
       record {
         policy = policy;
         trace = [];
         policy_file = read_policy;
-        trace_file = λ e. absurd (d (checked ∙ e));
-        handed = handed_as (ap policy_line checked ∙ sym (listing_refused policy [] (λ e. d (checked ∙ e)))) h;
+        trace_file = λ e. absurd (d e);
+        handed = handed_as (ap policy_line (sym (refused_by checked w)) ∙ sym (listing_refused policy [] d)) h;
       }
 
-  pub shown_listing : (s : List ℕ) (a b : ℕ) → refusal ≡ 0 → s ≡ start_effect policy lent → Watched s a b → ListingShown a b
+  pub shown_listing : (u : Unit {0}) → started ≡ Ok u → (s : List ℕ) (a b : ℕ) → s ≡ start_effect policy lent → Watched s a b → ListingShown a b
   unfolding listing_of
-  shown_listing s a b z e h =
-      let good : check_of policy ≡ 0 = sym checked ∙ z in
+  shown_listing u w s a b e h =
+      let good : check_of policy ≡ 0 = accepted checked w in
       let start : s ≡ start_of (policy_in policy) = e ∙ started_effect policy lent good l in
       record {
         policy = policy;

@@ -8,12 +8,15 @@ use lib.ListN.{length}
 use borrow.Author.Tests.{eq-eqb, eqb-true}
 use Rattle.lists.specs.Conditions.{first_failed}
 use Rattle.lists.proofs.Bools.{and_in, and_0, and_1}
+use Rattle.std.proofs.Common.{Result, Ok, Err}
 use Rattle.answers.specs.Refusals.{matrix}
+use Rattle.answers.specs.declared.Refusal.{Refusal}
+use Rattle.answers.specs.declared.Refusal.TheVariants as V
 use Rattle.matrix.specs.Flows.{matrix_good, Matrix, matrix_of, well_formed}
-use Rattle.matrix.specs.Verdicts.{consistent}
+use Rattle.matrix.specs.Verdicts.{consistent, MatrixAlone}
 use Rattle.matrix.proofs.GoodLaws.{good_parts}
 use Rattle.withdrawals.specs.declared.Judgement.{Judgement}
-use Rattle.withdrawals.specs.declared.Judgement.TheVariants.{Accepted, RightAdded, RightLost, Inconsistent, NotMinimal, Refused}
+use Rattle.withdrawals.specs.declared.Judgement.TheVariants.{Accepted, RightAdded, RightLost, Inconsistent, NotMinimal}
 use Rattle.withdrawals.specs.Judgements.{same_counts, comparable, rows_held, none_added, all_kept, stays_consistent, read_needed}
 use Rattle.withdrawals.specs.Judgements.{write_needed, subject_needed, minimal, judgement_conditions, judgement_of, judgement_number}
 use Rattle.withdrawals.specs.Rights.{Comparable}
@@ -116,19 +119,19 @@ module _ (old_reads old_writes reads writes : List ℕ) (n : ℕ) where
 -- ---- the cases of the answer
 
 -- the case of a number
-case_of : ℕ → Judgement
+case_of : ℕ → Result Judgement Refusal
 case_of n =
-    cond (eqb n 0) Accepted
-    (cond (eqb n 1) RightAdded (cond (eqb n 2) RightLost (cond (eqb n 3) Inconsistent (cond (eqb n 4) NotMinimal Refused))))
+    cond (eqb n 0) (Ok Accepted)
+    (cond (eqb n 1) (Ok RightAdded) (cond (eqb n 2) (Ok RightLost) (cond (eqb n 3) (Ok Inconsistent) (cond (eqb n 4) (Ok NotMinimal) (Err V.Matrix)))))
 
-case_back : (j : Judgement) → case_of (judgement_number j) ≡ j
+case_back : (j : Result Judgement Refusal) → MatrixAlone j → case_of (judgement_number j) ≡ j
 unfolding case_of
-case_back Accepted = refl
-case_back RightAdded = refl
-case_back RightLost = refl
-case_back Inconsistent = refl
-case_back NotMinimal = refl
-case_back Refused = refl
+case_back (Ok Accepted) h = refl
+case_back (Ok RightAdded) h = refl
+case_back (Ok RightLost) h = refl
+case_back (Ok Inconsistent) h = refl
+case_back (Ok NotMinimal) h = refl
+case_back (Err refusal) h = rw h
 
-pub numbers_apart : (i j : Judgement) → judgement_number i ≡ judgement_number j → i ≡ j
-numbers_apart i j e = sym (case_back i) ∙ ap case_of e ∙ case_back j
+pub numbers_apart : (i j : Result Judgement Refusal) → MatrixAlone i → MatrixAlone j → judgement_number i ≡ judgement_number j → i ≡ j
+numbers_apart i j h k e = sym (case_back i h) ∙ ap case_of e ∙ case_back j k

@@ -11,9 +11,11 @@ use Rattle.lists.specs.Lists.{elem}
 use Rattle.lists.specs.Conditions.{Condition, numbers_of, number_at, numbers_distinct}
 use Rattle.lists.proofs.Conditions.{given_exactly, given_none, given_among}
 use Rattle.lists.proofs.Bools.{refuted, clash}
+use Rattle.std.proofs.Common.{Result}
+use Rattle.answers.specs.declared.Refusal.{Refusal}
 use Rattle.answers.specs.Refusals.{matrix}
 use Rattle.matrix.specs.Flows.{granted, Matrix, well_formed}
-use Rattle.matrix.specs.Verdicts.{consistent, matrix_verdict}
+use Rattle.matrix.specs.Verdicts.{consistent, matrix_verdict, MatrixAlone}
 use Rattle.matrix.specs.Rows.{bit_at}
 use Rattle.withdrawals.specs.Judgements.{with_right, comparable, stays_consistent, judgement_conditions, judgement_of, judgement_number}
 use Rattle.withdrawals.specs.declared.Judgement.{Judgement}
@@ -137,7 +139,7 @@ module _ (old required proposed : Matrix) where
   judged_among = given_among cs
 
 -- an answer is known by its number: what fixes the number fixes the case
-pub numbers_apart : (i j : Judgement) → judgement_number i ≡ judgement_number j → i ≡ j
+pub numbers_apart : (i j : Result Judgement Refusal) → MatrixAlone i → MatrixAlone j → judgement_number i ≡ judgement_number j → i ≡ j
 numbers_apart = judgements.numbers_apart
 
 -- ---- a proposal that withdraws nothing

@@ -1,15 +1,17 @@
 -- The judgement on a proposal to withdraw rights of a matrix (change request No. 7, "Which rights to withdraw").
-use Rattle.std.specs.Prelude.{ℕ, ◌^◌, Bool, true, not, cond, ◌&&◌, List, [], ◌∷◌, eqb, length, get_or, set}
+use Rattle.std.specs.Prelude.{ℕ, ◌^◌, Bool, true, not, cond, ◌&&◌, List, [], ◌∷◌, eqb, length, get_or, set, Result, Ok, Err}
 use Rattle.std.specs.Int.Bits.{bit_or}
 use Rattle.rules.specs.Sets.{holds}
 use Rattle.lists.specs.Counting.{all_below}
 use Rattle.lists.specs.Conditions.{Condition, ◌or_refuse◌, first_failed}
-use Rattle.answers.specs.Refusals.{matrix}
+use Rattle.answers.specs.declared.Refusal.{Refusal}
+use Rattle.answers.specs.declared.Refusal.TheVariants as V
+use Rattle.answers.specs.Outcomes.{refusal_number}
 use Rattle.matrix.specs.Flows.{Matrix, well_formed}
 use Rattle.matrix.specs.Verdicts.{consistent}
 use Rattle.matrix.specs.Rows.{bit_at}
 use Rattle.withdrawals.specs.declared.Judgement.{Judgement}
-use Rattle.withdrawals.specs.declared.Judgement.TheVariants.{Accepted, RightAdded, RightLost, Inconsistent, NotMinimal, Refused}
+use Rattle.withdrawals.specs.declared.Judgement.TheVariants.{Accepted, RightAdded, RightLost, Inconsistent, NotMinimal}
 
 -- ---- the three matrices: "a matrix, the rights that must stay as a second one, and a proposed matrix"
 
@@ -73,21 +75,21 @@ minimal old proposed = all_below (subject_needed old proposed) (length proposed.
 -- ---- the judgement: "Otherwise it gives the first condition that fails, 1 to 4"
 
 -- the number of each case of the answer
-abbrev pub judgement_number : Judgement → ℕ
-judgement_number Accepted = 0
-judgement_number RightAdded = 1
-judgement_number RightLost = 2
-judgement_number Inconsistent = 3
-judgement_number NotMinimal = 4
-judgement_number Refused = matrix
+abbrev pub judgement_number : Result Judgement Refusal → ℕ
+judgement_number (Ok Accepted) = 0
+judgement_number (Ok RightAdded) = 1
+judgement_number (Ok RightLost) = 2
+judgement_number (Ok Inconsistent) = 3
+judgement_number (Ok NotMinimal) = 4
+judgement_number (Err refusal) = refusal_number refusal
 
 unfoldable pub judgement_conditions : Matrix → Matrix → Matrix → List Condition
 judgement_conditions old required proposed =
-    (comparable old required proposed or_refuse judgement_number Refused)
-    ∷ (none_added old proposed or_refuse judgement_number RightAdded)
-    ∷ (all_kept required proposed or_refuse judgement_number RightLost)
-    ∷ (stays_consistent proposed or_refuse judgement_number Inconsistent)
-    ∷ (minimal old proposed or_refuse judgement_number NotMinimal)
+    (comparable old required proposed or_refuse judgement_number (Err V.Matrix))
+    ∷ (none_added old proposed or_refuse judgement_number (Ok RightAdded))
+    ∷ (all_kept required proposed or_refuse judgement_number (Ok RightLost))
+    ∷ (stays_consistent proposed or_refuse judgement_number (Ok Inconsistent))
+    ∷ (minimal old proposed or_refuse judgement_number (Ok NotMinimal))
     ∷ []
 
 -- 0 accepted, the condition, or 8

@@ -1,52 +1,47 @@
 // A proposal to withdraw rights of a matrix, judged (change request No. 7).
 #![tactic(auto)]
 
-ghost use Rattle.std.specs.Prelude.{◌≡◌, ℕ, ◌<◌, ◌&&◌, eqb, length};
+ghost use Rattle.std.specs.Prelude.{◌≡◌, ℕ, ◌<◌, ◌&&◌, eqb, length, Ok};
 ghost use Rattle.matrix.specs.Limits.{object_limit};
 ghost use Rattle.matrix.specs.Flows.{has, matrix_of};
 ghost use Rattle.matrix.specs.Rows.{bit_at};
+ghost use Rattle.matrix.specs.Verdicts.{MatrixAlone};
 ghost use Rattle.withdrawals.specs.Judgements.{comparable, rows_held, minimal, judgement_of, judgement_number};
 ghost use Rattle.withdrawals.specs.Returns.{FlowTable, reached_from, table_closed, stays_closed, row_fits, loss_needed, losses_needed, Proposed, Judging, flow_judgement};
 
+use answers::Refusal;
 use matrix::{OBJECT_LIMIT, fill_granted, matrix_good};
 
-// The answer to a proposal: accepted, the first condition that fails, or refused.
-#[derive(Clone, Copy)]
+// The answer to a proposal: accepted, or the first condition that fails.
+#[derive(Clone, Copy, Debug, PartialEq, Eq)]
 pub enum Judgement {
-    Accepted,
-    RightAdded,
-    RightLost,
-    Inconsistent,
-    NotMinimal,
-    Refused,
+    Accepted = 0,
+    RightAdded = 1,
+    RightLost = 2,
+    Inconsistent = 3,
+    NotMinimal = 4,
 }
 
-// The number of an answer.
-pub fn judgement_number(judgement: Judgement) -> u32
+// The number of an answer, or of the refusal.
+pub fn judgement_number(judgement: Result<Judgement, Refusal>) -> u32
     ensures { result ≡ judgement_number judgement }
 {
     match judgement {
-        Judgement::Accepted => 0,
-        Judgement::RightAdded => 1,
-        Judgement::RightLost => 2,
-        Judgement::Inconsistent => 3,
-        Judgement::NotMinimal => 4,
-        Judgement::Refused => answers::MATRIX,
+        Ok(judgement) => judgement as u32,
+        Err(refusal) => refusal.number(),
     }
 }
 
 // Each right in the rows is also in the others.
+// Kept: no plainer: `rules::within` is the same test of numbers of 64 bits; one function for both would need a trait with the laws of `&`.
 fn rows_held(others: &[u32], rows: &[u32]) -> bool
     requires { length others.now ≡ length rows.now }
     ensures { result ≡ rows_held others.now rows.now }
 {
-    let mut s = 0;
-    while s < rows.len() {
-        let row = rows[s];
+    for (s, &row) in rows.iter().enumerate() {
         if others[s] & row != row {
             return false;
         }
-        s += 1;
     }
     true
 }
@@ -75,13 +70,10 @@ fn reached_from(flows: &[u32], n: usize, targets: u32) -> u32
     ensures { (b : ℕ) → has result b ≡ reached_from (bit_at flows.now) n targets b }
 {
     let mut reached: u32 = 0;
-    let mut y = 0;
-    while y < n {
+    for y in 0..n {
         let row = flows[y];
-        let one = targets >> y;
-        y += 1;
-        if one % 2 == 1 {
-            reached = reached | row;
+        if (targets >> y) % 2 == 1 {
+            reached |= row;
         }
     }
     reached
@@ -92,14 +84,12 @@ fn table_closed(flows: &[u32], n: usize) -> bool
     requires { FlowTable n flows.now }
     ensures { result ≡ table_closed flows.now n }
 {
-    let mut a = 0;
-    while a < n {
+    for a in 0..n {
         let row = flows[a];
         let reached = reached_from(flows, n, row);
         if row & reached != reached {
             return false;
         }
-        a += 1;
     }
     true
 }
@@ -124,12 +114,10 @@ fn stays_closed(flows: &[u32], n: usize, sources: u32, targets: u32) -> bool
     ensures { result ≡ stays_closed (bit_at flows.now) n sources targets }
 {
     let reached = reached_from(flows, n, targets);
-    let mut a = 0;
-    while a < n {
+    for a in 0..n {
         if !row_fits(flows[a], a, sources, targets, reached) {
             return false;
         }
-        a += 1;
     }
     true
 }
@@ -157,8 +145,7 @@ fn losses_needed(
     requires { FlowTable n flows.now }
     ensures { result ≡ losses_needed (bit_at flows.now) n lost_reads lost_writes reads writes }
 {
-    let mut k = 0;
-    while k < n {
+    for k in 0..n {
         let object = 1u32 << k;
         if !loss_needed(flows, n, lost_reads, k, object, writes) {
             return false;
@@ -166,7 +153,6 @@ fn losses_needed(
         if !loss_needed(flows, n, lost_writes, k, reads, object) {
             return false;
         }
-        k += 1;
     }
     true
 }
@@ -183,14 +169,11 @@ fn subjects_needed(
     requires { Judging old_reads.now old_writes.now reads.now writes.now flows.now n }
     ensures { result ≡ minimal (matrix_of old_reads.now old_writes.now n) (matrix_of reads.now writes.now n) }
 {
-    let mut s = 0;
-    while s < reads.len() {
-        let r = reads[s];
+    for (s, &r) in reads.iter().enumerate() {
         let w = writes[s];
         if !losses_needed(flows, n, old_reads[s] & !r, old_writes[s] & !w, r, w) {
             return false;
         }
-        s += 1;
     }
     true
 }
@@ -242,7 +225,7 @@ fn judge_flows(
     objects: u32,
 ) -> Judgement
     requires { Proposed old_reads.now old_writes.now reads.now writes.now objects }
-    ensures { judgement_number result ≡ flow_judgement (matrix_of old_reads.now old_writes.now objects) (matrix_of reads.now writes.now objects) }
+    ensures { judgement_number (Ok result) ≡ flow_judgement (matrix_of old_reads.now old_writes.now objects) (matrix_of reads.now writes.now objects) }
 {
     let n = objects as usize;
     let mut flows = [0u32; OBJECT_LIMIT];
@@ -268,11 +251,11 @@ pub fn judge(
     reads: &[u32],
     writes: &[u32],
     objects: u32,
-) -> Judgement
-    ensures { judgement_number result ≡ judgement_of
+) -> Result<Judgement, Refusal>
+    ensures { (judgement_number result ≡ judgement_of
         (matrix_of old_reads.now old_writes.now old_objects)
         (matrix_of required_reads.now required_writes.now required_objects)
-        (matrix_of reads.now writes.now objects) }
+        (matrix_of reads.now writes.now objects)) × MatrixAlone result }
 {
     if !comparable(
         old_reads,
@@ -285,13 +268,13 @@ pub fn judge(
         writes,
         objects,
     ) {
-        return Judgement::Refused;
+        return Err(Refusal::Matrix);
     }
     if !rights_held(old_reads, old_writes, reads, writes) {
-        return Judgement::RightAdded;
+        return Ok(Judgement::RightAdded);
     }
     if !rights_held(reads, writes, required_reads, required_writes) {
-        return Judgement::RightLost;
+        return Ok(Judgement::RightLost);
     }
-    judge_flows(old_reads, old_writes, reads, writes, objects)
+    Ok(judge_flows(old_reads, old_writes, reads, writes, objects))
 }

@@ -137,3 +137,12 @@ module _ (links : List ℕ) where
             let y : v - 1 ≡ w.file = omega (arith, b.0) in
             (ap₂ (λ (j k : ℕ). record { file = j; first = k }) y u.0, u.1)
         at (some w) (i ∷ rest, b, e, n) = absurd (omega (arith, b.0, down))
+
+    -- the file is a container
+    pub following_inside : (v ≡ 0 → ⊥) → v - 1 < container_limit
+    following_inside z = at w (F.left ns w st room)
+      where
+        at : (w : Option Witness) → Left ns w v first steps → v - 1 < container_limit
+        at none (y, e) = absurd (z y)
+        at (some w) ([], b, e, n) = omega (arith, b.0, b.1)
+        at (some w) (i ∷ rest, b, e, n) = absurd (omega (arith, b.0, down))

@@ -3,22 +3,23 @@ use Prim.Native.Nat.{ℕ, suc, zero, ◌+◌, ◌*◌, ◌/◌, ◌-◌, ◌≤�
 use native.Mathlib.Omega.{arith}
 use native.Mathlib.Decide.{dec_lt, ℕ_discrete}
 use mathlib.Core.Path.{◌≡◌, refl, sym, ◌∙◌, ap}
-use mathlib.Core.Bool.{Bool, true, false, not, cond, ◌&&◌, ◌||◌}
+use mathlib.Core.Bool.{Bool, true, false, cond, ◌&&◌, ◌||◌}
 use mathlib.Core.List.{List, [], ◌∷◌}
 use mathlib.Core.Option.{Option, none, some}
 use lib.Dec.{eqb, ltb}
 use lib.ListN.{length, get_or, set, get_elem?, take, drop, length-set, length-map}
 use lib.Seq.{get_or-set_same, get_or-set_other}
-use borrow.Author.Tests.{ne_eqb, not-true, not-false}
+use borrow.Author.Tests.{ne_eqb}
 use Rattle.lists.specs.Lists.{same_list, every}
 use Rattle.lists.proofs.Bools.{and_1}
 use Rattle.lists.proofs.Places.{every_at, none_some}
 use Rattle.fields.specs.Bytes.{field, records}
 use Rattle.fields.proofs.SectionRecords.{records_count, record_at}
 use Rattle.rules.specs.Answers.{data_width}
-use Rattle.image.specs.Limits.{container_limit, container_size, container_kind_at, container_atom_at, container_permit_at, container_run_at, size8, size16, is_file, no_atom}
+use Rattle.image.specs.Limits.{container_limit, rule_size, container_size, container_kind_at, container_atom_at, container_permit_at, container_run_at, size8, size16, is_file, no_atom}
 use Rattle.image.specs.Policy.{Container, Policy, named, container_good, rule_at}
-use Rattle.image.specs.Image.{container_in, containers_in}
+use Rattle.image.specs.Image.{part, container_in, containers_in, check_of, policy_in}
+use Rattle.image.proofs.AcceptedImage.{accepted_containers}
 use Rattle.chains.specs.History.{start}
 use Rattle.chains.specs.Chains.{Item, data_atom, running_atom, run_rule}
 use Rattle.witness.specs.Witness.{starts_as, starts_in, witness}
@@ -72,11 +73,11 @@ module _ (rules : List (List ℕ)) (y : Item) (cs : List ℕ) (c : ℕ) where
   node_past h = rw (at_past (containers_in cs) c (omega (arith, containers_count cs)))
 
   module _ (h : c < length cs / container_size) (b : Bool) (e : b ≡ starts_as rules y (container_in (take container_size (drop (c * container_size) cs)))) where
-    pub node_none : not b ≡ true → 0 ≡ start_node rules y (get_elem? (containers_in cs) c) c
-    node_none t = rw (container_in_lem cs c h, sym e, not-true b t)
+    pub node_none : b ≡ false → 0 ≡ start_node rules y (get_elem? (containers_in cs) c) c
+    node_none t = rw (container_in_lem cs c h, sym e, t)
 
-    pub node_own : not b ≡ false → c + 1 ≡ start_node rules y (get_elem? (containers_in cs) c) c
-    node_own t = let z : c + 1 ≡ suc c = omega arith in rw (container_in_lem cs c h, sym e, not-false b t) z
+    pub node_own : b ≡ true → c + 1 ≡ start_node rules y (get_elem? (containers_in cs) c) c
+    node_own t = let z : c + 1 ≡ suc c = omega arith in rw (container_in_lem cs c h, sym e, t) z
 
 -- ---- the loop over the containers
 
@@ -174,52 +175,56 @@ tracked_begin P F ns held links B =
       shown = λ y a c l. (begun_item P F ns held links B y a c l).1;
     }
 
--- the rules do not matter to an atom
-atom_starts : (rules : List (List ℕ)) (d : ℕ) (m : Option Container) → starts_in [] (data_atom d) m ≡ starts_in rules (data_atom d) m
-unfolding starts_as
-atom_starts rules d none = refl
-atom_starts rules d (some K) = refl
-
-pub begun_atom : (containers : List Container) (rules : List (List ℕ)) (d : ℕ) (held : List ℕ) → Begun containers [] (of_atom d) held → Begun containers rules (of_atom d) held
-begun_atom containers rules d held B =
-    record {
-      long = B.long;
-      main_nodes = λ c l. B.main_nodes c l ∙ ap (λ (b : Bool). cond b (suc c) 0) (atom_starts rules d (get_elem? containers c));
-      running_nodes = B.running_nodes;
-    }
-
 -- ---- the record of a container
 
 module _ (r : List ℕ) (kind : ℕ) (b : Bool) (ek : kind ≡ field r container_kind_at size8) (eb : b ≡ is_file kind) where
   kept_kind : is_file (field r container_kind_at size8) ≡ b
   kept_kind = ap is_file (sym ek) ∙ sym eb
 
-  pub no_file : (rules : List (List ℕ)) (d : ℕ) → not b ≡ true → false ≡ starts_as rules (data_atom d) (container_in r)
+  pub no_file : (rules : List (List ℕ)) (F : Family) → b ≡ false → false ≡ starts_as rules (main_item F) (container_in r)
   unfolding starts_as container_in
-  no_file rules d t = rw (kept_kind, not-true b t)
+  no_file rules (of_atom d) t = rw (kept_kind, t)
+  no_file rules (of_rule q) t = rw (kept_kind, t)
 
-  pub no_rule_file : (rules : List (List ℕ)) (q : List ℕ) → not b ≡ true → false ≡ starts_as rules (run_rule q) (container_in r)
-  unfolding starts_as container_in
-  no_rule_file rules q t = rw (kept_kind, not-true b t)
-
-  pub file_atom : (rules : List (List ℕ)) (d atom : ℕ) → d < data_width → atom ≡ field r container_atom_at size8 → not b ≡ false
+  pub file_atom : (rules : List (List ℕ)) (d atom : ℕ) → d < data_width → atom ≡ field r container_atom_at size8 → b ≡ true
       → eqb atom d ≡ starts_as rules (data_atom d) (container_in r)
   unfolding starts_as container_in
-  file_atom rules d atom l ea t = rw (kept_kind, not-false b t, sym ea, ne_eqb d no_atom (λ e. absurd (omega (arith, e, l)))) (by (eqb atom d))
+  file_atom rules d atom l ea t = rw (kept_kind, t, sym ea, ne_eqb d no_atom (λ e. absurd (omega (arith, e, l)))) (by (eqb atom d))
     where
       by : (x : Bool) → x ≡ (x && true)
       by true = refl
       by false = refl
 
-  pub file_rule : (rules : List (List ℕ)) (q : List ℕ) (run : ℕ) (x : Bool) → run ≡ field r container_run_at size16 → x ≡ same_list (rule_at rules run) q → not b ≡ false
+  pub file_rule : (rules : List (List ℕ)) (q : List ℕ) (run : ℕ) (x : Bool) → run ≡ field r container_run_at size16 → x ≡ same_list (rule_at rules run) q → b ≡ true
       → x ≡ starts_as rules (run_rule q) (container_in r)
   unfolding starts_as container_in
-  file_rule rules q run x er ex t = rw (kept_kind, not-false b t, sym er) ex
+  file_rule rules q run x er ex t = rw (kept_kind, t, sym er) ex
 
   -- a file names a rule of the image
-  pub run_named : (n run : ℕ) → container_good n (container_in r) ≡ true → run ≡ field r container_run_at size16 → not b ≡ false → named n run ≡ true
+  pub run_named : (n run : ℕ) → container_good n (container_in r) ≡ true → run ≡ field r container_run_at size16 → b ≡ true → named n run ≡ true
   unfolding container_good container_in
   run_named n run g er t =
       let h : ((ltb (field r container_atom_at size8) data_width || eqb (field r container_atom_at size8) no_atom) &&
-      (named n (field r container_permit_at size16) && named n (field r container_run_at size16))) ≡ true = rw (kept_kind, not-false b t) at g in
+      (named n (field r container_permit_at size16) && named n (field r container_run_at size16))) ≡ true = rw (kept_kind, t) at g in
       rw er (and_1 (named n (field r container_permit_at size16)) (and_1 (ltb (field r container_atom_at size8) data_width || eqb (field r container_atom_at size8) no_atom) h))
+
+-- ---- a container of an accepted image
+
+module _ (i : List ℕ) {cs : List ℕ} (ec : cs ≡ part i 0) (c : ℕ) where
+  pub accepted_container : check_of i ≡ 0 → c < length cs / container_size
+      → container_good (length (part i 2) / rule_size) (container_in (take container_size (drop (c * container_size) cs))) ≡ true
+  accepted_container ok h = container_good_lem cs (length (part i 2) / rule_size) c (rw ec (accepted_containers i ok)) h
+
+  module _ (y : Item) where
+    pub start_past : length cs / container_size ≤ c → 0 ≡ start_node (policy_in i).rules y (get_elem? (policy_in i).containers c) c
+    unfolding policy_in
+    start_past h = rw (← ec) (node_past (policy_in i).rules y cs c h)
+
+    module _ (h : c < length cs / container_size) {b : Bool} (e : b ≡ starts_as (policy_in i).rules y (container_in (take container_size (drop (c * container_size) cs)))) where
+      pub start_none : b ≡ false → 0 ≡ start_node (policy_in i).rules y (get_elem? (policy_in i).containers c) c
+      unfolding policy_in
+      start_none t = rw (← ec) (node_none (policy_in i).rules y cs c h b e t)
+
+      pub start_own : b ≡ true → c + 1 ≡ start_node (policy_in i).rules y (get_elem? (policy_in i).containers c) c
+      unfolding policy_in
+      start_own t = rw (← ec) (node_own (policy_in i).rules y cs c h b e t)

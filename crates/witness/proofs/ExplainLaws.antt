@@ -1,9 +1,9 @@
 -- The refusals of an explanation in their order, and what it answers and leaves.
-use Prim.Native.Nat.{ℕ, ◌+◌, ◌*◌, ◌-◌, ◌/◌, ◌%◌, ◌≤◌, ◌<◌}
+use Prim.Native.Nat.{ℕ, ◌+◌, ◌*◌, ◌-◌, ◌%◌, ◌≤◌, ◌<◌}
 use native.Mathlib.Omega.{arith}
 use native.Mathlib.Decide.{dec_lt}
-use mathlib.Core.Path.{◌≡◌, sym, ◌∙◌}
-use mathlib.Core.Logic.{◌≢◌}
+use mathlib.Core.Path.{◌≡◌, sym, ap, ◌∙◌}
+use mathlib.Core.Logic.{◌≢◌, ◌⊎◌, inl, inr}
 use mathlib.Core.Bool.{true, false, cond, ◌&&◌}
 use mathlib.Core.List.{List, [], ◌∷◌, ◌++◌}
 use lib.Dec.{leb, ltb}
@@ -12,6 +12,11 @@ use borrow.Author.Tests.{eq-eqb, ne_eqb, le-leb, leb-true, lt-ltb, le-ltb}
 use Rattle.lists.specs.Conditions.{Condition, ◌or_refuse◌, first_failed}
 use Rattle.lists.proofs.Bools.{refuted, and_in, and_0, and_1}
 use Rattle.lists.proofs.Conditions.{passed, failed, none_left, first_stops, first_passed}
+use Rattle.std.proofs.Common.{Result, Err}
+use Rattle.std.specs.Prelude.{IfOk}
+use Rattle.answers.specs.declared.Refusal.{Refusal}
+use Rattle.answers.specs.Outcomes.{refusal_number}
+use Rattle.answers.proofs.Outcomes.{refusal_number_positive}
 use Rattle.answers.specs.Refusals.{lent_length, explain_bounds}
 use Rattle.rules.specs.Answers.{data_width, tag_width}
 use Rattle.image.proofs.ImageRefusals.{refused_by_none}
@@ -21,14 +26,13 @@ use Rattle.image.specs.Image.{image_conditions, check_of}
 use Rattle.chains.specs.History.{History}
 use Rattle.chains.specs.Chains.{Item, data_atom, running_atom}
 use Rattle.records.specs.Traces.{trace_records}
-use Rattle.witness.specs.declared.Found.{Found}
-use Rattle.witness.specs.declared.Explained.{Explained}
+use Rattle.witness.specs.declared.Found as code
+use Rattle.witness.specs.Found.{Found, file_number, found_numbers, Inside}
 use Rattle.witness.specs.Witness.{witness}
 use Rattle.witness.specs.Told.{item_of, chain_records, found_in, at_end}
-use Rattle.witness.specs.Links.{node_of, Family, of_atom}
+use Rattle.witness.specs.Links.{first_node, node_of, Family, of_atom}
 use Rattle.witness.specs.Nodes.{place_of, OfFamily, Tracked, Backed, ToldBack}
-use Rattle.witness.specs.Explains.{atom_found, atom_steps, atom_links, lent_good, asked_good, explain_conditions, explain_refusal, explain_answer, explain_steps, explain_links}
-use Rattle.witness.proofs.TraceParts.{records_count}
+use Rattle.witness.specs.Explains.{Explained, explained, atom_found, atom_steps, atom_links, lent_good, asked_good, explain_conditions, explain_refusal, explain_answer, explain_steps, explain_links}
 use Rattle.witness.proofs.BackLaws.{stored_room}
 
 -- ---- the atom's number, and the place of its node
@@ -70,21 +74,21 @@ module _ (P : Policy) (F : Family) (ns : List ℕ) (h : History) (n : ℕ) (held
 -- ---- what is lent
 
 module _ (t links steps : List ℕ) where
-  pub lent_short : length links < 258 + 2 * ((length t + 7) / 8) → false ≡ lent_good t links steps
-  unfolding lent_good
-  lent_short l =
-      sym (refuted (leb (node_of (length (trace_records t))) (length links) && leb (length (trace_records t)) (length steps))
-      (λ h. omega (
-        arith,
-        l,
-        records_count t,
-        leb-true (node_of (length (trace_records t))) (length links)
-            (and_0 (leb (node_of (length (trace_records t))) (length links)) (leb (length (trace_records t)) (length steps)) h),
-      )))
+  module _ {n : ℕ} (e : n ≡ length (trace_records t)) where
+    pub lent_short : length links < first_node + 2 * n → false ≡ lent_good t links steps
+    unfolding lent_good
+    lent_short l =
+        sym (refuted (leb (node_of (length (trace_records t))) (length links) && leb (length (trace_records t)) (length steps))
+        (λ h. omega (
+          arith,
+          l,
+          e,
+          leb-true (node_of (length (trace_records t))) (length links) (and_0 (leb (node_of (length (trace_records t))) (length links)) (leb (length (trace_records t)) (length steps)) h),
+        )))
 
-  pub lent_long : 258 + 2 * ((length t + 7) / 8) ≤ length links → leb ((length t + 7) / 8) (length steps) ≡ lent_good t links steps
-  unfolding lent_good
-  lent_long l = rw (le-leb (node_of (length (trace_records t))) (length links) (omega (arith, l, records_count t)), records_count t)
+    pub lent_long : first_node + 2 * n ≤ length links → leb n (length steps) ≡ lent_good t links steps
+    unfolding lent_good
+    lent_long l = rw (le-leb (node_of (length (trace_records t))) (length links) (omega (arith, l, e)), e)
 
 -- what was lent is long enough
 pub lent_room : (t links steps : List ℕ) → lent_good t links steps ≡ true → (node_of (length (trace_records t)) ≤ length links) × (length (trace_records t) ≤ length steps)
@@ -96,17 +100,17 @@ lent_room t links steps g = (
 
 -- ---- what is asked for
 
-pub no_container : (c k : ℕ) → container_limit ≤ c → asked_good c k ≡ false
+pub none_asked : (c k : ℕ) → (container_limit ≤ c) ⊎ ((c < container_limit) × (tag_width ≤ k)) → asked_good c k ≡ false
 unfolding asked_good
-no_container c k l = rw (le-ltb c container_limit l)
-
-pub no_atom : (c k : ℕ) → tag_width ≤ k → c < container_limit → asked_good c k ≡ false
-unfolding asked_good
-no_atom c k l m = rw (lt-ltb c container_limit m, le-ltb k tag_width l)
+none_asked c k (inl l) = rw (le-ltb c container_limit l)
+none_asked c k (inr m) = rw (lt-ltb c container_limit m.0, le-ltb k tag_width m.1)
 
 pub both_there : (c k : ℕ) → c < container_limit → k < tag_width → asked_good c k ≡ true
 unfolding asked_good
 both_there c k l m = and_in (lt-ltb c container_limit l) (lt-ltb k tag_width m)
+
+abbrev told_as : Found → Explained
+told_as x = record { refusal = 0; file = x.file; first = x.first }
 
 -- ---- the conditions in their order
 
@@ -139,15 +143,19 @@ module _ (i t : List ℕ) (c k : ℕ) (links steps : List ℕ) where
 
   -- ---- what is answered and left
 
-  pub answered_refused : {r : Explained} (n : ℕ) → r ≡ record { refusal = n; file = 0; first = 0 } → explain_refusal i t c k links steps ≡ n → n ≢ 0
-      → (r ≡ explain_answer i t c k links steps) × (links ≡ explain_links i t c k links steps) × (steps ≡ explain_steps i t c k links steps)
+  pub answered_refused : {r : Result code.Found Refusal} (f : Refusal) → r ≡ Err f → explain_refusal i t c k links steps ≡ refusal_number f
+      → (explained r ≡ explain_answer i t c k links steps) × (links ≡ explain_links i t c k links steps) × (steps ≡ explain_steps i t c k links steps)
+      × IfOk r (λ x. Inside x.file)
   unfolding explain_answer explain_links explain_steps
-  answered_refused {r} n e h d = let b = ne_eqb (explain_refusal i t c k links steps) 0 (λ z. d (sym h ∙ z)) in (e ∙ rw (b, h), rw b, rw b)
+  answered_refused {r} f e h =
+      let b = ne_eqb (explain_refusal i t c k links steps) 0 (λ z. absurd (omega (arith, refusal_number_positive f, h, z))) in
+      (ap explained e ∙ rw (b, h), rw b, rw b, rw e tt)
 
-  pub answered_found : {r : Found} {links' steps' : List ℕ} → r ≡ atom_found i t c k steps → steps' ≡ atom_steps i t c k steps
-      → links' ≡ atom_links i t (k % data_width) links → explain_refusal i t c k links steps ≡ 0
-      → (record { refusal = 0; file = r.file; first = r.first } ≡ explain_answer i t c k links steps) × (links' ≡ explain_links i t c k links steps)
-      × (steps' ≡ explain_steps i t c k links steps)
+  pub answered_found : {links' steps' : List ℕ} (r : code.Found) → found_numbers r ≡ atom_found i t c k steps → steps' ≡ atom_steps i t c k steps
+      → links' ≡ atom_links i t (k % data_width) links → explain_refusal i t c k links steps ≡ 0 → Inside r.file
+      → (record { refusal = 0; file = file_number r.file; first = r.first } ≡ explain_answer i t c k links steps) × (links' ≡ explain_links i t c k links steps)
+      × (steps' ≡ explain_steps i t c k links steps) × Inside r.file
   unfolding explain_answer explain_links explain_steps
-  answered_found {r} {links'} {steps'} er es el h =
-      let b = eq-eqb (explain_refusal i t c k links steps) 0 h in (rw (b, er), rw b el, rw b es)
+  answered_found {links'} {steps'} r er es el h inside =
+      let b = eq-eqb (explain_refusal i t c k links steps) 0 h in
+      (rw b (ap told_as er), rw b el, rw b es, inside)

@@ -1,38 +1,36 @@
 -- How many records a trace has, and which of them is the last.
-use Prim.Native.Nat.{ℕ, ◌+◌, ◌-◌, ◌/◌, ◌≤◌, ◌<◌}
+use Prim.Native.Nat.{ℕ, ◌+◌, ◌-◌, ◌/◌, ◌%◌}
 use native.Mathlib.Omega.{arith}
-use native.Mathlib.Decide.{dec_lt, ℕ_discrete}
-use mathlib.Core.Path.{◌≡◌, ap}
-use mathlib.Core.List.{List}
+use mathlib.Core.Path.{◌≡◌, ◌∙◌}
+use mathlib.Core.Bool.{Bool, true, false}
+use mathlib.Core.List.{List, [], ◌∷◌}
 use lib.Dec.{eqb}
-use lib.ListN.{length, take, drop, length-take, length-drop}
+use lib.ListN.{length}
+use Rattle.std.proofs.Common.{min}
 use borrow.Author.Tests.{eq-eqb, ne_eqb}
 use Rattle.fields.proofs.SectionRecords.{cut_count}
 use Rattle.records.specs.Records.{record_length}
 use Rattle.records.specs.Traces.{trace_records}
-use Rattle.records.proofs.TraceRecords.{next_record, no_record}
-use Rattle.witness.specs.Nodes.{is_none}
+use Rattle.witness.specs.Nodes.{is_none, is_last}
 
 pub records_count : (t : List ℕ) → length (trace_records t) ≡ (length t + (record_length - 1)) / record_length
 unfolding trace_records
 records_count t = cut_count record_length ((length t + (record_length - 1)) / record_length) t
 
--- no record is behind the end of the trace, and one is anywhere before
-pub none_behind : (t : List ℕ) (at : ℕ) → at ≤ length t → eqb at (length t) ≡ is_none (trace_records (drop at t))
-none_behind t at l = on (ℕ_discrete at (length t))
-  where
-    on : Dec (at ≡ length t) → eqb at (length t) ≡ is_none (trace_records (drop at t))
-    on (yes e) = rw (eq-eqb at (length t) e, no_record t at (omega (arith, e)))
-    on (no e) = rw (ne_eqb at (length t) e, next_record t at (omega (arith, e, l)))
+-- as the code counts them
+pub ceil_count : (t : List ℕ) {n : ℕ} → n ≡ length t / record_length + min 1 (length t % record_length) → n ≡ length (trace_records t)
+ceil_count t e = omega (arith, e, records_count t)
 
--- a record that others follow is whole
-pub followed_whole : (t x : List ℕ) (at : ℕ) → x ≡ take record_length (drop at t) → at + length x < length t → length x ≡ record_length
-followed_whole t x at e l = omega (arith, ap length e, length-take record_length (drop at t), length-drop at t)
-
--- a record that is left lies before the end
-pub left_before : (t : List ℕ) (at : ℕ) → 0 < length (trace_records (drop at t)) → at < length t
-left_before t at m = on (dec_lt at (length t))
+-- the record behind which so many are left is the last of an explanation, as the code tests it
+pub last_told : {told : Bool} {n m all : ℕ} (t : List ℕ) (rs : List (List ℕ)) → told ≡ true → n + 1 + length rs ≡ length (trace_records t) → m ≡ n
+    → all ≡ length (trace_records t) → eqb (m + 1) all ≡ is_last told rs
+unfolding is_last
+last_told {told} {n} {m} {all} t rs e l z c = rw e (on rs l)
   where
-    on : Dec (at < length t) → at < length t
-    on (yes l) = l
-    on (no l) = absurd (omega (arith, m, ap length (no_record t at (omega arith))))
+    on : (rs : List (List ℕ)) → n + 1 + length rs ≡ length (trace_records t) → eqb (m + 1) all ≡ is_none rs
+    on [] l = eq-eqb (m + 1) all (omega (arith, l, z, c))
+    on (r ∷ rs) l = ne_eqb (m + 1) all (λ y. absurd (omega (arith, l, z, c, y)))
+
+pub last_plain : {told b : Bool} (rs : List (List ℕ)) → told ≡ false → b ≡ told → b ≡ is_last told rs
+unfolding is_last
+last_plain rs e eb = rw e (eb ∙ e)

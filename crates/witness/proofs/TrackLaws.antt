@@ -1,6 +1,8 @@
 -- The nodes that are held after a trace stand for the chains of its history, and the links are those that are left.
-use Prim.Native.Nat.{ℕ, suc, zero, ◌+◌, ◌-◌, ◌/◌, ◌%◌, ◌≤◌, ◌<◌}
+use Prim.Native.Nat.{ℕ, suc, zero, ◌+◌, ◌-◌, ◌≤◌, ◌<◌}
 use native.Mathlib.Omega.{arith}
+use native.Mathlib.Numerals.{add-one}
+use native.Mathlib.Nat.{zero-add}
 use mathlib.Core.Path.{◌≡◌, refl, sym, subst, ◌∙◌, ap}
 use mathlib.Core.Bool.{Bool, true, false, not, cond}
 use mathlib.Core.List.{List, [], ◌∷◌, ◌++◌, append-nil}
@@ -17,7 +19,7 @@ use Rattle.records.specs.Records.{record_length, request_in, step_in, step_of, A
 use Rattle.records.specs.Traces.{trace_records}
 use Rattle.records.proofs.RecordLaws.{asked, record_spelling}
 use Rattle.records.specs.declared.Request.{Request}
-use Rattle.records.proofs.TraceRecords.{next_record, no_record, record_length_lem}
+use Rattle.records.proofs.TraceRecords.{FirstChunk, next_chunk, no_chunk}
 use Rattle.monitor.specs.Steps.{step_asked, step_answer, step_effect}
 use Rattle.monitor.specs.Runs.{step_on, run_effect}
 use Rattle.monitor.proofs.StepLaws.{step_record, answered_zero}
@@ -27,7 +29,6 @@ use Rattle.witness.specs.Links.{node_of, Family, of_atom, links_at, links_from, 
 use Rattle.witness.specs.Nodes.{held_length, is_rule, held_after, links_after, is_step, Tracks, tracks, tracks_on, is_last, tracks_all, Tracked}
 use Rattle.witness.proofs.NodeLaws.{StepWithin, tracked_skip, tracked_next, links_next}
 use Rattle.witness.proofs.StepSources.{within}
-use Rattle.witness.proofs.TraceParts.{followed_whole, left_before}
 
 -- a step of the history is not refused
 pub step_given : (told : Bool) (a : Answer) → is_step told a ≡ true → is_refused a ≡ false
@@ -221,51 +222,39 @@ followed_told P d t s rs room T =
 
 -- ---- the loop over the records of a trace
 
--- the records before `at` are followed
-pub record Tracking (b told : Bool) (trace : List ℕ) (t₀ : Tracks) (s₀ s : List ℕ) (t : Tracks) (at : ℕ) : Type 0 where
-  pub inside : at ≤ length trace
-  pub whole : at < length trace → at % record_length ≡ 0
-  pub session : length s ≡ length s₀
+-- the first n records are followed, and the bytes of `rest` are left
+pub record Tracking (b told : Bool) (trace : List ℕ) (t₀ : Tracks) (s₀ s : List ℕ) (t : Tracks) (n : ℕ) (rest : List ℕ) : Type 0 where
   pub long_held : length t.held ≡ held_length
   pub long_links : length t.links ≡ length t₀.links
-  pub same : tracks_all b told t (at / record_length) s (trace_records (drop at trace)) ≡ tracks_all b told t₀ 0 s₀ (trace_records trace)
+  pub count : n + length (trace_records rest) ≡ length (trace_records trace)
+  pub same : tracks_all b told t n s (trace_records rest) ≡ tracks_all b told t₀ 0 s₀ (trace_records trace)
 
-pub tracking_start : (b told : Bool) (trace : List ℕ) (t : Tracks) (s : List ℕ) → length t.held ≡ held_length → Tracking b told trace t s s t 0
-tracking_start b told trace t s l = record { inside = omega arith; whole = λ z. omega arith; session = refl; long_held = l; long_links = refl; same = refl }
+pub tracking_start : {b told : Bool} {trace : List ℕ} {t : Tracks} {s : List ℕ} {n : ℕ} {rest : List ℕ} → length t.held ≡ held_length → n ≡ 0 → rest ≡ trace
+    → Tracking b told trace t s s t n rest
+tracking_start {b} {told} {trace} {t} {s} l z e = rw (z, e) (record { long_held = l; long_links = refl; count = zero-add (length (trace_records trace)); same = refl })
 
-module _ (b told : Bool) (trace : List ℕ) (t₀ : Tracks) (s₀ s : List ℕ) (t : Tracks) (at : ℕ) (h : Tracking b told trace t₀ s₀ s t at) (l : at < length trace)
-    (x s' : List ℕ) (t' : Tracks) (last : Bool) (xe : x ≡ take record_length (drop at trace))
-    (le : last ≡ is_last told (trace_records (drop (at + length x) trace))) (se : s' ≡ step_effect s x)
-    (te : t' ≡ tracks_on b last t (at / record_length) s x) where
-  next_same : tracks_all b told t' (suc (at / record_length)) s' (trace_records (drop (at + length x) trace)) ≡ tracks_all b told t₀ 0 s₀ (trace_records trace)
+module _ {b told : Bool} {trace : List ℕ} {t₀ : Tracks} {s₀ s : List ℕ} {t : Tracks} {n : ℕ} {rest : List ℕ} (h : Tracking b told trace t₀ s₀ s t n rest) where
+  module _ {x rest' : List ℕ} (d : FirstChunk rest x rest') where
+    pub tracking_room : node_of (length (trace_records trace)) ≤ length t₀.links → node_of n + 2 ≤ length t.links
+    tracking_room room = omega (arith, room, h.long_links, h.count, ap length (next_chunk d))
+
+    pub tracking_count : n + 1 + length (trace_records rest') ≡ length (trace_records trace)
+    tracking_count = omega (arith, h.count, ap length (next_chunk d))
+
+    pub tracking_next : {s' : List ℕ} {t' : Tracks} {last : Bool} {m n' : ℕ} → last ≡ is_last told (trace_records rest') → m ≡ n → n' ≡ n + 1 → s' ≡ step_effect s x
+        → t' ≡ tracks_on b last t m s x → length t'.held ≡ length t.held → length t'.links ≡ length t.links → Tracking b told trace t₀ s₀ s' t' n' rest'
+    unfolding tracks_all
+    tracking_next le me ne se te eh el =
+        record {
+          long_held = eh ∙ h.long_held;
+          long_links = el ∙ h.long_links;
+          count = omega (arith, ne, tracking_count);
+          same = rw (te, le, se, me, ne, add-one n) (rw (next_chunk d) at h.same);
+        }
+
+  pub tracking_end : length rest ≡ 0 → t ≡ tracks_all b told t₀ 0 s₀ (trace_records trace)
   unfolding tracks_all
-  next_same = rw (te, le, se, xe) (rw (next_record trace at l) at h.same)
-
-  -- the number of the next record matters only if there is one
-  renumber : (t : Tracks) (n m : ℕ) (s : List ℕ) (rs : List (List ℕ)) → (0 < length rs → n ≡ m) → tracks_all b told t n s rs ≡ tracks_all b told t m s rs
-  unfolding tracks_all
-  renumber t n m s [] e = refl
-  renumber t n m s (r ∷ rs) e = let z : n ≡ m = e (omega arith) in rw z
-
-  pub tracking_next : length s' ≡ length s → length t'.held ≡ length t.held → length t'.links ≡ length t.links
-      → Tracking b told trace t₀ s₀ s' t' (at + length x)
-  tracking_next es eh el =
-      record {
-        inside = (record_length_lem trace x at l xe).1;
-        whole = λ m. omega (arith, followed_whole trace x at xe m, h.whole l);
-        session = es ∙ h.session;
-        long_held = eh ∙ h.long_held;
-        long_links = el ∙ h.long_links;
-        same =
-            renumber t' ((at + length x) / record_length) (suc (at / record_length)) s' (trace_records (drop (at + length x) trace))
-            (λ m. omega (arith, followed_whole trace x at xe (left_before trace (at + length x) m), h.whole l))
-            ∙ next_same;
-      }
-
-pub tracking_end : (b told : Bool) (trace : List ℕ) (t₀ : Tracks) (s₀ s : List ℕ) (t : Tracks) (at : ℕ) → Tracking b told trace t₀ s₀ s t at → length trace ≤ at
-    → t ≡ tracks_all b told t₀ 0 s₀ (trace_records trace)
-unfolding tracks_all
-tracking_end b told trace t₀ s₀ s t at h l = rw (no_record trace at l) at h.same
+  tracking_end l = rw (no_chunk rest l) at h.same
 
 -- ---- one record
 

@@ -1,7 +1,9 @@
 -- How an atom came into a container, and how a run rule did: the answers, what they are refused for, and every lent number afterwards.
-use Rattle.std.specs.Prelude.{ℕ, ◌%◌, Bool, cond, ◌&&◌, List, [], ◌∷◌, ◌++◌, eqb, ltb, leb, length}
+use Rattle.std.specs.Prelude.{ℕ, Result, Ok, Err, ◌%◌, Bool, cond, ◌&&◌, List, [], ◌∷◌, ◌++◌, eqb, ltb, leb, length}
 use Rattle.std.proofs.Math.Option.{Option}
 use Rattle.lists.specs.Conditions.{Condition, ◌or_refuse◌, first_failed}
+use Rattle.answers.specs.declared.Refusal.{Refusal}
+use Rattle.answers.specs.Outcomes.{refusal_number}
 use Rattle.answers.specs.Refusals.{lent_length, explain_bounds}
 use Rattle.rules.specs.Answers.{data_width, tag_width}
 use Rattle.image.specs.Limits.{container_limit}
@@ -12,8 +14,8 @@ use Rattle.chains.specs.Demand.{history_of}
 use Rattle.records.specs.Records.{step_of}
 use Rattle.records.specs.Traces.{trace_records}
 use Rattle.monitor.specs.Runs.{step_on}
-use Rattle.witness.specs.declared.Found.{Found}
-use Rattle.witness.specs.declared.Explained.{Explained}
+use Rattle.witness.specs.declared.Found as code
+use Rattle.witness.specs.Found.{Found, file_number}
 use Rattle.witness.specs.Witness.{Witness, witness}
 use Rattle.witness.specs.Told.{told_history, accepted_numbers, told_numbers, item_of, chain_records, found_in, at_end}
 use Rattle.witness.specs.Links.{node_of, of_atom, of_rule, links_left, told_links}
@@ -72,6 +74,17 @@ explain_conditions i t c k links steps =
 -- the refusal, 0 if there is none
 unfoldable pub explain_refusal : List ℕ → List ℕ → ℕ → ℕ → List ℕ → List ℕ → ℕ
 explain_refusal i t c k links steps = first_failed (explain_conditions i t c k links steps)
+
+-- three numbers: the refusal, or 0 and the chain
+pub record Explained : Type 0 where
+  pub refusal : ℕ
+  pub file : ℕ
+  pub first : ℕ
+
+-- of an outcome
+abbrev pub explained : Result code.Found Refusal → Explained
+explained (Ok f) = record { refusal = 0; file = file_number f.file; first = f.first }
+explained (Err r) = record { refusal = refusal_number r; file = 0; first = 0 }
 
 -- the refusal with zeros, or the chain
 unfoldable pub explain_answer : List ℕ → List ℕ → ℕ → ℕ → List ℕ → List ℕ → Explained

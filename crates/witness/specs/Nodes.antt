@@ -5,6 +5,7 @@ use Rattle.std.proofs.Math.Option.{Option, none, some}
 use Rattle.std.proofs.Math.ListN.{get_elem?}
 use Rattle.answers.specs.declared.Answer.{Answer}
 use Rattle.answers.specs.Answers.{accepted, is_refused}
+use Rattle.rules.specs.Answers.{data_width}
 use Rattle.image.specs.Limits.{container_limit}
 use Rattle.image.specs.Policy.{Container, Policy}
 use Rattle.image.specs.Image.{policy_in}
@@ -16,10 +17,12 @@ use Rattle.records.specs.Records.{step_of}
 use Rattle.records.specs.Traces.{trace_records}
 use Rattle.monitor.specs.Steps.{step_asked, step_answer, step_effect}
 use Rattle.monitor.specs.Runs.{step_on}
-use Rattle.witness.specs.declared.Found.{Found}
+use Rattle.witness.specs.Found.{Found}
+use Rattle.witness.specs.declared.Followed.{Followed}
+use Rattle.witness.specs.declared.Followed.TheVariants as V
 use Rattle.witness.specs.Witness.{Source, takes_up, ends_item, starts_in, Witness, witness}
 use Rattle.witness.specs.Told.{told_history, chain_records, found_in, at_end}
-use Rattle.witness.specs.Explains.{rule_numbers, atom_numbers}
+use Rattle.witness.specs.Explains.{rule_numbers, rule_links, atom_numbers, atom_links}
 use Rattle.witness.specs.Links.{first_node, node_of, chain_node, Family, of_atom, of_rule, main_item}
 
 -- ---- the table
@@ -32,6 +35,16 @@ abbrev pub place_of : Item → ℕ → ℕ
 place_of (data_atom d) c = c
 place_of (running_atom d) c = container_limit + c
 place_of (run_rule r) c = c
+
+-- the chains that are followed for what the code is given
+abbrev pub family_of : Followed → Family
+family_of (V.Atom d) = of_atom d
+family_of (V.Rule r) = of_rule r.now
+
+-- a data atom, or any rule
+abbrev pub Followable : Followed → Type 0
+Followable (V.Atom d) = d < data_width
+Followable (V.Rule r) = Unit {0}
 
 abbrev pub is_rule : Family → Bool
 is_rule (of_atom d) = false
@@ -151,6 +164,15 @@ RuleFollowed i t r held links =
 abbrev pub AtomFollowed : List ℕ → List ℕ → ℕ → List ℕ → List ℕ → Type 0
 AtomFollowed i t d held links =
     Tracked (policy_in i) (of_atom d) (atom_numbers i t) (told_history (start_of (policy_in i)) (trace_records t)) (length (trace_records t)) held links
+
+-- of the family
+abbrev pub FamilyFollowed : List ℕ → List ℕ → Family → List ℕ → List ℕ → Type 0
+FamilyFollowed i t (of_atom d) held links = AtomFollowed i t d held links
+FamilyFollowed i t (of_rule r) held links = RuleFollowed i t r held links
+
+abbrev pub family_links : List ℕ → List ℕ → Family → List ℕ → List ℕ
+family_links i t (of_atom d) links = atom_links i t d links
+family_links i t (of_rule r) links = rule_links i t r links
 
 -- ---- the start
 

@@ -10,7 +10,7 @@ use Rattle.chains.specs.Demand.{extend, history_of}
 use Rattle.records.specs.Records.{step_of}
 use Rattle.monitor.specs.Steps.{step_answer, step_effect}
 use Rattle.monitor.specs.Runs.{step_on, run_effect}
-use Rattle.witness.specs.declared.Found.{Found}
+use Rattle.witness.specs.Found.{Found}
 use Rattle.witness.specs.Witness.{Witness, rising}
 
 -- ---- the history

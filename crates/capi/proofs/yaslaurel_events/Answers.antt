@@ -1,19 +1,17 @@
 -- `yaslaurel_events`: the refusal is what `events::gather_events` ensures, and the counts are handed on unless it is one.
-use mathlib.Core.Path.{sym, ap, ◌∙◌}
-use borrow.Author.Tests.{eq-eqb, ne_eqb}
-use Rattle.events.specs.declared.Gathered.{Gathered}
+use Rattle.std.proofs.Common.{sym, ap, ◌∙◌, ne_eqb, arith}
+use Rattle.answers.specs.Outcomes.{refusal_number}
+use Rattle.answers.proofs.Outcomes.{refusal_number_positive}
+use Rattle.events.specs.Events.{gathered_of}
 use Rattle.capi.proofs.yaslaurel_events.Goals as goal
 
-pub returns-then-refusal-ne0 : goal.returns-then-refusal-ne0
-returns-then-refusal-ne0 c =
-    let gather = c.gather_events-gathered.ensures in
-    let refusal = ap (λ (x : Gathered). x.refusal) gather.0 in
-    let refused = ne_eqb _ _ (λ z. c.if-refusal-ne0.true (refusal ∙ z)) in
-    (refusal, gather.1, gather.2, rw refused, rw refused)
+pub returns-in-Ok : goal.returns-in-Ok
+returns-in-Ok c =
+    let e = sym c.gather_events.ensures.0 ∙ ap gathered_of c.in-Ok.is in
+    (rw e, c.gather_events.ensures.1, c.gather_events.ensures.2, rw e, rw e)
 
-pub returns : goal.returns
-returns c =
-    let gather = c.gather_events-gathered.ensures in
-    let refusal = ap (λ (x : Gathered). x.refusal) gather.0 in
-    let given = eq-eqb _ _ (sym refusal ∙ c.if-refusal-ne0.false) in
-    (refusal, gather.1, gather.2, rw given (ap (λ (x : Gathered). x.taken) gather.0), rw given (ap (λ (x : Gathered). x.written) gather.0))
+pub returns-in-Err : goal.returns-in-Err
+returns-in-Err c =
+    let e = sym c.gather_events.ensures.0 ∙ ap gathered_of c.in-Err.is in
+    let refused = ne_eqb (refusal_number c.in-Err.refusal) 0 (λ z. omega (arith, refusal_number_positive c.in-Err.refusal, z)) in
+    (c.number.ensures ∙ rw e, c.gather_events.ensures.1, c.gather_events.ensures.2, rw (e, refused), rw (e, refused))

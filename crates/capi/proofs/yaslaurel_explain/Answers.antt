@@ -1,19 +1,19 @@
 -- `yaslaurel_explain`: the refusal is what `witness::explain` ensures, and the two numbers are handed on unless it is one.
-use mathlib.Core.Path.{sym, ap, ◌∙◌}
-use borrow.Author.Tests.{eq-eqb, ne_eqb}
-use Rattle.witness.specs.declared.Explained.{Explained}
+use Rattle.std.proofs.Common.{◌≡◌, sym, ap, ◌∙◌, ne_eqb, arith, rules}
+use Rattle.answers.specs.Outcomes.{refusal_number}
+use Rattle.answers.proofs.Outcomes.{refusal_number_positive}
+use Rattle.witness.specs.Found.{file_number}
+use Rattle.witness.specs.Explains.{explained}
 use Rattle.capi.proofs.yaslaurel_explain.Goals as goal
 
-pub returns-then-refusal-ne0 : goal.returns-then-refusal-ne0
-returns-then-refusal-ne0 c =
-    let explain = c.explain-explained.ensures in
-    let refusal = ap (λ (x : Explained). x.refusal) explain.0 in
-    let refused = ne_eqb _ _ (λ z. c.if-refusal-ne0.true (refusal ∙ z)) in
-    (refusal, explain.1, explain.2, rw refused, rw refused)
+pub returns-in-Ok : goal.returns-in-Ok
+returns-in-Ok c =
+    let e = sym c.explain.ensures.0 ∙ ap explained c.in-Ok.is in
+    let file : c.unwrap_or.result ≡ file_number c.in-Ok.found.file = search rules in
+    (rw e, c.explain.ensures.1, c.explain.ensures.2, rw e file, rw e)
 
-pub returns : goal.returns
-returns c =
-    let explain = c.explain-explained.ensures in
-    let refusal = ap (λ (x : Explained). x.refusal) explain.0 in
-    let given = eq-eqb _ _ (sym refusal ∙ c.if-refusal-ne0.false) in
-    (refusal, explain.1, explain.2, rw given (ap (λ (x : Explained). x.file) explain.0), rw given (ap (λ (x : Explained). x.first) explain.0))
+pub returns-in-Err : goal.returns-in-Err
+returns-in-Err c =
+    let e = sym c.explain.ensures.0 ∙ ap explained c.in-Err.is in
+    let refused = ne_eqb (refusal_number c.in-Err.refusal) 0 (λ z. omega (arith, refusal_number_positive c.in-Err.refusal, z)) in
+    (c.number.ensures ∙ rw e, c.explain.ensures.1, c.explain.ensures.2, rw (e, refused), rw (e, refused))

@@ -1,23 +1,17 @@
 -- `capi::yaslaurel_image_compose`. In a refusal the length is as it was.
-use Prim.Native.Nat.{ℕ}
-use mathlib.Core.Path.{◌≡◌, sym, ap, ◌∙◌}
-use borrow.Author.Tests.{eq-eqb, ne_eqb}
-use Rattle.composition.specs.declared.Composition.{Composition}
-use Rattle.capi.specs.Hosts.{length_after}
+use Rattle.std.proofs.Common.{sym, ap, ◌∙◌, ne_eqb, arith}
+use Rattle.answers.specs.Outcomes.{refusal_number}
+use Rattle.answers.proofs.Outcomes.{refusal_number_positive}
+use Rattle.composition.specs.Images.{composition_of}
 use Rattle.capi.proofs.yaslaurel_image_compose.Goals as goal
 
-stays : {x y : Composition} (old : ℕ) → x ≡ y → (x.refusal ≡ 0 → ⊥) → old ≡ length_after y old
-stays {x} {y} old e d = rw (ne_eqb y.refusal 0 (λ z. d (ap (λ (m : Composition). m.refusal) e ∙ z)))
+pub returns-in-Ok : goal.returns-in-Ok
+returns-in-Ok c =
+    let e = sym c.compose.ensures.0 ∙ ap composition_of c.in-Ok.is in
+    (rw e, rw e, c.compose.ensures.1)
 
-written : {x y : Composition} (old : ℕ) → x ≡ y → x.refusal ≡ 0 → x.length ≡ length_after y old
-written {x} {y} old e z = rw (eq-eqb y.refusal 0 (sym (ap (λ (m : Composition). m.refusal) e) ∙ z)) (ap (λ (m : Composition). m.length) e)
-
-pub returns-then-refusal-ne0 : goal.returns-then-refusal-ne0
-returns-then-refusal-ne0 c =
-    let e = c.compose-composed.ensures in
-    (ap (λ (m : Composition). m.refusal) e.0, stays _ e.0 c.if-refusal-ne0.true, e.1)
-
-pub returns : goal.returns
-returns c =
-    let e = c.compose-composed.ensures in
-    (sym c.if-refusal-ne0.false ∙ ap (λ (m : Composition). m.refusal) e.0, written _ e.0 c.if-refusal-ne0.false, e.1)
+pub returns-in-Err : goal.returns-in-Err
+returns-in-Err c =
+    let e = sym c.compose.ensures.0 ∙ ap composition_of c.in-Err.is in
+    let refused = ne_eqb (refusal_number c.in-Err.refusal) 0 (λ z. omega (arith, refusal_number_positive c.in-Err.refusal, z)) in
+    (c.number.ensures ∙ rw e, rw (e, refused), c.compose.ensures.1)

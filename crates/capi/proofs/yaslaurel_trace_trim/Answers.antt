@@ -1,19 +1,17 @@
 -- `yaslaurel_trace_trim`: the refusal is what `trim::trim` ensures, and the count is handed on unless it is one.
-use mathlib.Core.Path.{sym, ap, ◌∙◌}
-use borrow.Author.Tests.{eq-eqb, ne_eqb}
-use Rattle.trim.specs.declared.Trimmed.{Trimmed}
+use Rattle.std.proofs.Common.{sym, ap, ◌∙◌, ne_eqb, arith}
+use Rattle.answers.specs.Outcomes.{refusal_number}
+use Rattle.answers.proofs.Outcomes.{refusal_number_positive}
+use Rattle.trim.specs.Trims.{trimmed_of}
 use Rattle.capi.proofs.yaslaurel_trace_trim.Goals as goal
 
-pub returns-then-refusal-ne0 : goal.returns-then-refusal-ne0
-returns-then-refusal-ne0 c =
-    let trim = c.trim-trimmed.ensures in
-    let refusal = ap (λ (x : Trimmed). x.refusal) trim.0 in
-    let refused = ne_eqb _ _ (λ z. c.if-refusal-ne0.true (refusal ∙ z)) in
-    (refusal, trim.1, rw refused)
+pub returns-in-Ok : goal.returns-in-Ok
+returns-in-Ok c =
+    let e = sym c.trim.ensures.0 ∙ ap trimmed_of c.in-Ok.is in
+    (rw e, c.trim.ensures.1, rw e)
 
-pub returns : goal.returns
-returns c =
-    let trim = c.trim-trimmed.ensures in
-    let refusal = ap (λ (x : Trimmed). x.refusal) trim.0 in
-    let given = eq-eqb _ _ (sym refusal ∙ c.if-refusal-ne0.false) in
-    (refusal, trim.1, rw given (ap (λ (x : Trimmed). x.kept) trim.0))
+pub returns-in-Err : goal.returns-in-Err
+returns-in-Err c =
+    let e = sym c.trim.ensures.0 ∙ ap trimmed_of c.in-Err.is in
+    let refused = ne_eqb (refusal_number c.in-Err.refusal) 0 (λ z. omega (arith, refusal_number_positive c.in-Err.refusal, z)) in
+    (c.number.ensures ∙ rw e, c.trim.ensures.1, rw (e, refused))

@@ -1,27 +1,29 @@
 use native.Mathlib.Omega.{arith}
-use Rattle.records.proofs.TraceRecords.{record_length_lem}
-use Rattle.certificate.proofs.FollowedMarks.{following_start, following_next, following_end}
+use mathlib.Core.Path.{◌∙◌}
+use Rattle.records.proofs.TraceRecords.{first_chunk}
+use Rattle.certificate.proofs.FollowedMarks.{following_start, following_few, following_next, following_end}
 use borrow.Author.Rules.{rules}
 use Rattle.certificate.proofs.follow_trace.Goals as goal
 
-pub loop-at-init : goal.loop-at-init
-loop-at-init c = following_start _ _ _ c.requires
+pub loop-n-init : goal.loop-n-init
+loop-n-init c = record { sized = search rules; following = following_start c.requires (search rules) (search rules) }
 
 pub follow_record-answer-requires : goal.follow_record-answer-requires
-follow_record-answer-requires c = let i = c.loop-at.invariant in (i.long, omega (arith, c.loop-at-test.true))
+follow_record-answer-requires c =
+    let i = c.loop-n.invariant in
+    let e = c.in-Some.ensures.steps in
+    let few = following_few i.following (first_chunk i.sized e.0.1) (omega arith) in
+    (i.following.long, omega (arith, e.1, few))
 
-pub overflow_add-at : goal.overflow_add-at
-overflow_add-at c =
-    omega (arith, record_length_lem _ _ _ c.loop-at-test.true c.record_at-bytes.ensures)
-
-pub loop-at-smaller : goal.loop-at-smaller
-loop-at-smaller c =
-    omega (arith, record_length_lem _ _ _ c.loop-at-test.true c.record_at-bytes.ensures)
-
-pub loop-at-preserved : goal.loop-at-preserved
-loop-at-preserved c =
+pub loop-n-preserved : goal.loop-n-preserved
+loop-n-preserved c =
+    let i = c.loop-n.invariant in
+    let e = c.in-Some.ensures.steps in
     let f = c.follow_record-answer.ensures in
-    following_next _ _ _ _ _ _ _ c.loop-at.invariant c.loop-at-test.true _ _ _ _ c.record_at-bytes.ensures f.0 f.1 f.2 (search rules) (search rules)
+    record {
+      sized = e.0.0 ∙ i.sized;
+      following = following_next i.following (first_chunk i.sized e.0.1) e.1 e.2 f.0 f.1 f.2 (search rules);
+    }
 
 pub returns : goal.returns
-returns c = following_end _ _ _ _ _ _ _ c.loop-at.invariant c.loop-at-test.false
+returns c = following_end c.loop-n.invariant.following c.in-None.ensures.steps.0.1.0

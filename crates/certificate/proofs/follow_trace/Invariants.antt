@@ -1,11 +1,14 @@
--- The records before `at` are followed (`Following`).
-use Prim.Native.Nat.{◌-◌}
-use lib.ListN.{length}
+-- What is followed, and what is left of the trace, is the whole of it (`Following`).
+use mathlib.Core.Path.{◌≡◌}
+use Rattle.std.specs.Slice.Iter.{chunks_rest, chunks_size}
+use Rattle.std.specs.Iterator.Adapters.{enumerate_source, enumerate_count}
+use Rattle.records.specs.Records.{record_length}
 use Rattle.certificate.proofs.FollowedMarks.{Following}
 use Rattle.certificate.proofs.follow_trace.Given as goal
 
-abbrev pub invariant-loop-at : goal.invariant-loop-at
-invariant-loop-at l = Following l.trace l.initial.marks l.initial.session l.session l.marks l.answer l.at
-
-abbrev pub decreases-loop-at : goal.decreases-loop-at
-decreases-loop-at l = length l.trace - l.at
+abbrev pub invariant-loop-n : goal.invariant-loop-n
+invariant-loop-n l =
+    record {
+      sized : chunks_size (enumerate_source l.n-iterator) ≡ record_length;
+      following : Following l.trace l.initial.marks l.initial.session l.session l.marks l.answer (enumerate_count l.n-iterator) (chunks_rest (enumerate_source l.n-iterator));
+    }

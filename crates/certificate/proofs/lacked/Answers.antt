@@ -12,9 +12,6 @@ pub loop-i-init : goal.loop-i-init
 loop-i-init c =
     padded_start (map (lacked_by c.args.tag) c.args.mixtures.now) (omega (arith, c.requires, length-map c.args.mixtures.now (lacked_by c.args.tag)))
 
-pub bounds-atoms-i : goal.bounds-atoms-i
-bounds-atoms-i c = omega (arith, c.loop-i-test.true, c.requires)
-
 pub loop-i-preserved : goal.loop-i-preserved
 loop-i-preserved c =
     copied_next _ _ _ _ _ c.loop-i.invariant _ _ (omega arith) (omega (arith, c.loop-i-test.true, length-map c.args.mixtures.now (lacked_by c.args.tag)))

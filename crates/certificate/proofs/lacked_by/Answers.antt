@@ -1,10 +1,7 @@
 use mathlib.Core.Path.{sym, ◌∙◌}
-use Rattle.lists.proofs.Below.{failing_start, failing_next}
+use Rattle.lists.proofs.Below.{failing_next}
 use Rattle.certificate.proofs.FollowedMarks.{lacked_here, lacked_none}
 use Rattle.certificate.proofs.lacked_by.Goals as goal
-
-pub loop-k-init : goal.loop-k-init
-loop-k-init c = failing_start _ _
 
 pub returns-then-lacks : goal.returns-then-lacks
 returns-then-lacks c = lacked_here _ _ _ c.loop-k.invariant c.lacks.ensures c.if-lacks.true c.loop-k-test.true

@@ -1,5 +1,4 @@
 -- The atoms before k are not lacked.
-use Prim.Native.Nat.{◌-◌}
 use Rattle.lists.proofs.Below.{Failing}
 use Rattle.rules.specs.Answers.{tag_width}
 use Rattle.certificate.specs.Origins.{lacks_at}
@@ -7,6 +6,3 @@ use Rattle.certificate.proofs.lacked_by.Given as goal
 
 abbrev pub invariant-loop-k : goal.invariant-loop-k
 invariant-loop-k l = Failing (lacks_at l.tag l.mixture) tag_width l.k
-
-abbrev pub decreases-loop-k : goal.decreases-loop-k
-decreases-loop-k l = tag_width - l.k

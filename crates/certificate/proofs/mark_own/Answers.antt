@@ -9,9 +9,6 @@ use Rattle.certificate.proofs.mark_own.Goals as goal
 pub loop-c-init : goal.loop-c-init
 loop-c-init c = copied_start _ _ _ (omega (arith, c.requires, count_length 0 container_limit))
 
-pub bounds-marks-c : goal.bounds-marks-c
-bounds-marks-c c = omega (arith, c.requires, c.loop-c.invariant.long, c.loop-c-test.true)
-
 pub loop-c-preserved : goal.loop-c-preserved
 loop-c-preserved c =
     copied_next _ _ _ _ _ c.loop-c.invariant _ _ (omega arith) (omega (arith, c.loop-c-test.true, count_length 0 container_limit))

@@ -4,4 +4,4 @@ use Rattle.certificate.proofs.ToldReasons.{told_own}
 use Rattle.certificate.proofs.own_told.Goals as goal
 
 pub returns : goal.returns
-returns c = told_own (policy_in c.args.image.now) _ _ c.permit_number.ensures
+returns c = told_own (policy_in c.args.image.bytes.now) _ _ c.permit_number.ensures

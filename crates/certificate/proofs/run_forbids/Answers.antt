@@ -1,21 +1,16 @@
 -- No container, no file, or a file whose run rule is tested.
-use native.Mathlib.Omega.{arith}
-use Rattle.image.proofs.AcceptedImage.{accepted_section}
 use Rattle.certificate.proofs.ImageRules.{forbids_missed, forbids_no_file, forbids_file}
 use Rattle.certificate.proofs.run_forbids.Goals as goal
 
-pub section-containers-requires : goal.section-containers-requires
-section-containers-requires c = accepted_section _ c.requires 0 (omega arith)
-
 pub returns-then-containers-c : goal.returns-then-containers-c
-returns-then-containers-c c = forbids_missed c.args.image.now c.args.c c.section-containers.ensures c.args.tag c.if-containers-c.true
+returns-then-containers-c c = forbids_missed c.args.image.bytes.now c.args.c c.section-containers.ensures c.args.tag c.if-containers-c.true
 
 pub returns-then-not-is_file : goal.returns-then-not-is_file
 returns-then-not-is_file c =
-    forbids_no_file c.args.image.now c.args.c c.section-containers.ensures c.args.tag c.if-containers-c.false c.read8.ensures.0 c.is_file.ensures
+    forbids_no_file c.args.image.bytes.now c.args.c c.section-containers.ensures c.args.tag c.if-containers-c.false c.read8.ensures.0 c.is_file.ensures
     c.if-not-is_file.true-raw
 
 pub returns : goal.returns
 returns c =
-    forbids_file c.args.image.now c.args.c c.section-containers.ensures c.args.tag c.if-containers-c.false c.read8.ensures.0 c.is_file.ensures c.if-not-is_file.false-raw
+    forbids_file c.args.image.bytes.now c.args.c c.section-containers.ensures c.args.tag c.if-containers-c.false c.read8.ensures.0 c.is_file.ensures c.if-not-is_file.false-raw
     c.run_number.ensures c.covers_by.ensures

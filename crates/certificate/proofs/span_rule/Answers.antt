@@ -15,18 +15,6 @@ loop-j-init c =
     padded_start (take c.args.count (drop c.args.first (mixtures_in c.args.m.now)))
     (omega (arith, c.requires, from_length c.args.m.now c.args.first c.args.count c.requires.1))
 
-pub overflow_add-first : goal.overflow_add-first
-overflow_add-first c = omega (arith, c.loop-j-test.true, c.requires)
-
-pub overflow_mul-first : goal.overflow_mul-first
-overflow_mul-first c = omega (arith, c.loop-j-test.true, c.requires)
-
-pub read64-requires : goal.read64-requires
-read64-requires c = omega (arith, c.loop-j-test.true, c.requires)
-
-pub bounds-mixtures-j : goal.bounds-mixtures-j
-bounds-mixtures-j c = omega (arith, c.loop-j-test.true, c.requires)
-
 pub loop-j-preserved : goal.loop-j-preserved
 loop-j-preserved c =
     copied_next _ _ _ _ _ c.loop-j.invariant _ _ (omega arith)

@@ -12,8 +12,8 @@ rule_of-requires c = (c.requires.0, kept_count _ c.requires.2)
 pub rule_of-requires-2 : goal.rule_of-requires-2
 rule_of-requires-2 c = (c.requires.1, kept_count _ c.requires.3)
 
-pub composed-rule-requires : goal.composed-rule-requires
-composed-rule-requires c =
+pub composed-requires : goal.composed-requires
+composed-requires c =
     rw (c.rule_of.ensures, c.rule_of-2.ensures) (
       kept_short c.args.words.now c.requires.2,
       kept_short c.args.other.now c.requires.3,
@@ -21,13 +21,13 @@ composed-rule-requires c =
       kept_normal c.args.other.now c.requires.3,
     )
 
-pub returns-then-not-rule : goal.returns-then-not-rule
-returns-then-not-rule c =
+pub returns-in_default : goal.returns-in_default
+returns-in_default c =
     words_over _ c.args.words.now c.args.other.now
-    (rw (c.rule_of.ensures, c.rule_of-2.ensures) at c.composed-rule.ensures) c.requires.0 c.if-not-rule.true
+    (rw (c.rule_of.ensures, c.rule_of-2.ensures) at c.composed.ensures) c.requires.0 c.in_default.is
 
 pub returns : goal.returns
 returns c =
     words_put _ c.args.words.now c.args.other.now
-    (rw (c.rule_of.ensures, c.rule_of-2.ensures) at c.composed-rule.ensures) c.if-not-rule.false
+    (rw (c.rule_of.ensures, c.rule_of-2.ensures) at c.composed.ensures) c.in-Some.is
     c.put_rule.ensures

@@ -1,17 +1,17 @@
-use Rattle.composition.proofs.ConsentLoops.{judging_start, judging_next, judging_stop, judging_end, other_length}
+-- `composition::consent_good`. Each byte is tested, as the definition has it.
+use borrow.Author.Rules.{rules}
+use borrow.Author.Tests.{tests}
+use Rattle.std.proofs.lemmas.Iterator.{YieldsList-from_slice}
+use Rattle.std.proofs.lemmas.Iterator.Search.{all_from_yields_List}
+use Rattle.composition.proofs.ConsentLaws.{zero_or_one}
+use Rattle.composition.proofs.ConsentLoops.{judged, other_length}
 use Rattle.composition.proofs.consent_good.Goals as goal
 
 pub returns-then-consent-ne-DATA_WIDTH : goal.returns-then-consent-ne-DATA_WIDTH
 returns-then-consent-ne-DATA_WIDTH c = other_length _ c.if-consent-ne-DATA_WIDTH.true
 
-pub loop-k-init : goal.loop-k-init
-loop-k-init c = judging_start _
-
-pub returns-then-b-gt1 : goal.returns-then-b-gt1
-returns-then-b-gt1 c = judging_stop _ _ c.loop-k.invariant c.loop-k-test.true c.if-b-gt1.true c.if-consent-ne-DATA_WIDTH.false
-
-pub loop-k-preserved : goal.loop-k-preserved
-loop-k-preserved c = judging_next _ _ c.loop-k.invariant c.loop-k-test.true c.if-b-gt1.false
-
 pub returns : goal.returns
-returns c = judging_end _ _ c.loop-k.invariant c.loop-k-test.false c.if-consent-ne-DATA_WIDTH.false
+returns c =
+    let bytes = YieldsList-from_slice c.args.consent.now cc in
+    judged c.args.consent.now c.if-consent-ne-DATA_WIDTH.false
+    (all_from_yields_List zero_or_one _ _ _ c.all.ensures.ran bytes (λ x b q k. search (rules, tests)))

@@ -1,11 +1,7 @@
 -- The invariant: the first i containers are written.
-use Prim.Native.Nat.{◌-◌}
 use Rattle.fields.proofs.RowWriting.{RowsWritten}
 use Rattle.composition.proofs.RecordLoops.{own_rows}
 use Rattle.composition.proofs.put_places.Given as goal
 
 abbrev pub invariant-loop-i : goal.invariant-loop-i
 invariant-loop-i l = RowsWritten (own_rows l.containers) l.initial.out 0 l.out l.at l.i
-
-abbrev pub decreases-loop-i : goal.decreases-loop-i
-decreases-loop-i l = l.n - l.i

@@ -2,10 +2,8 @@
 use Rattle.confinement.proofs.ListedLaws.{form_over, form_put}
 use Rattle.confinement.proofs.put_form.Goals as goal
 
-pub returns-then-not-rule : goal.returns-then-not-rule
-returns-then-not-rule c = form_over _ _ c.normal-rule.ensures _ c.if-not-rule.true
+pub returns-in_default : goal.returns-in_default
+returns-in_default c = form_over _ c.normal.ensures _ c.in_default.is
 
 pub returns : goal.returns
-returns c =
-    form_put _ _ c.normal-rule.ensures c.args.form.now c.requires.0 c.if-not-rule.false
-    c.put_rule.ensures
+returns c = form_put _ c.normal.ensures c.args.form.now c.requires.0 c.in-Some.is c.put_rule.ensures

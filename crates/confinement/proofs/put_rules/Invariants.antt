@@ -1,5 +1,4 @@
 -- `confinement::put_rules`. The invariant: the words of the rules so far, each of which fits (`Forming`).
-use Prim.Native.Nat.{◌-◌}
 use mathlib.Core.Path.{◌≡◌}
 use lib.ListN.{length}
 use Rattle.rules.specs.Answers.{data_width}
@@ -9,6 +8,3 @@ use Rattle.confinement.proofs.put_rules.Given as goal
 
 abbrev pub invariant-loop-i : goal.invariant-loop-i
 invariant-loop-i l = Forming (rule_from l.own l.modes l.runs) l.count l.forms l.i × (length l.words ≡ data_width)
-
-abbrev pub decreases-loop-i : goal.decreases-loop-i
-decreases-loop-i l = l.count - l.i

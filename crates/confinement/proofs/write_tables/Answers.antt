@@ -1,10 +1,9 @@
 -- `confinement::write_tables`. The policy of the tables is that of their profiles, which the writer takes (`tables_tabled`).
 use borrow.Author.Rules.{rules}
 use native.Mathlib.Omega.{arith}
-use borrow.Author.Tests.{not-true, not-false}
 use Rattle.confinement.specs.Confinement.{initial_process}
 use Rattle.confinement.proofs.TablePolicy.{own_less}
-use Rattle.confinement.proofs.DeriveLaws.{forms_as, rule_lent, over_limit, files_end_at, containers_end, tables_tabled, tables_small, tables_written}
+use Rattle.confinement.proofs.DeriveLaws.{forms_as, rule_lent, over_limit, files_end_at, containers_end, tables_tabled, tables_written}
 use Rattle.confinement.proofs.write_tables.Goals as goal
 
 pub put_mixtures-requires : goal.put_mixtures-requires
@@ -22,7 +21,7 @@ pub returns-then-not-put_rules : goal.returns-then-not-put_rules
 returns-then-not-put_rules c =
     over_limit c.args.own.now c.args.modes.now c.args.n c.args.m (forms_as (rule_lent c.args.own.now c.args.modes.now _
     c.args.n c.args.m c.put_mixtures.ensures)
-    c.put_rules.ensures) (not-true _ c.if-not-put_rules.true-raw) _
+    c.put_rules.ensures) c.if-not-put_rules.true _
 
 pub put_container_record-end-requires : goal.put_container_record-end-requires
 put_container_record-end-requires c =
@@ -57,20 +56,9 @@ write_policy-requires c = (
   tables_tabled c.requires.0.profiles c.args.own.now c.args.modes.now c.args.n c.args.m c.requires.0.tables
       c.put_files-process.ensures c.put_container_record-end.ensures c.put16.ensures (search rules)
       (forms_as (rule_lent c.args.own.now c.args.modes.now _ c.args.n c.args.m c.put_mixtures.ensures)
-      c.put_rules.ensures) (not-false _ c.if-not-put_rules.false-raw),
+      c.put_rules.ensures) c.if-not-put_rules.false,
   c.requires.1,
 )
-
-pub overflow_cast-result : goal.overflow_cast-result
-unfolding initial_process
-overflow_cast-result c =
-    omega (
-      arith,
-      tables_small c.requires.0.profiles c.args.own.now c.args.modes.now c.args.n c.args.m c.requires.0.tables
-          c.put_files-process.ensures c.put_container_record-end.ensures c.put16.ensures (search rules)
-          (forms_as (rule_lent c.args.own.now c.args.modes.now _ c.args.n c.args.m c.put_mixtures.ensures)
-          c.put_rules.ensures) (not-false _ c.if-not-put_rules.false-raw) c.write_policy.ensures,
-    )
 
 pub returns : goal.returns
 unfolding initial_process
@@ -78,4 +66,4 @@ returns c =
     tables_written c.requires.0.profiles c.args.own.now c.args.modes.now c.args.n c.args.m c.requires.0.tables
     c.put_files-process.ensures c.put_container_record-end.ensures c.put16.ensures (search rules)
     (forms_as (rule_lent c.args.own.now c.args.modes.now _ c.args.n c.args.m c.put_mixtures.ensures)
-    c.put_rules.ensures) (not-false _ c.if-not-put_rules.false-raw) c.write_policy.ensures
+    c.put_rules.ensures) c.if-not-put_rules.false c.write_policy.ensures

@@ -20,42 +20,45 @@ pub returns-then-not-matrix_good : goal.returns-then-not-matrix_good
 returns-then-not-matrix_good c = derive_refused _ _ _ _ c.if-out-lt-OUTPUT_BOUND.false (fails_test c.matrix_good.ensures c.if-not-matrix_good.true-raw)
 
 pub put_objects-subjects-requires : goal.put_objects-subjects-requires
-put_objects-subjects-requires c = let g = good_parts _ _ _ ((passes_test c.matrix_good.ensures c.if-not-matrix_good.false-raw)) in (g.few, omega (arith, g.few))
+put_objects-subjects-requires c = let g = good_parts _ _ _ (passes_test c.matrix_good.ensures c.if-not-matrix_good.false-raw) in (g.few, omega (arith, g.few))
 
 pub put_subjects-end-requires : goal.put_subjects-end-requires
 put_subjects-end-requires c =
-    let g = good_parts _ _ _ ((passes_test c.matrix_good.ensures c.if-not-matrix_good.false-raw)) in
+    let g = good_parts _ _ _ (passes_test c.matrix_good.ensures c.if-not-matrix_good.false-raw) in
     let a = c.args in
-    (g.subjects, omega (arith, g.few, g.subjects, objects_end a.reads.now a.writes.now a.objects ((passes_test c.matrix_good.ensures c.if-not-matrix_good.false-raw)) c.put_objects-subjects.ensures))
+    (g.subjects, omega (arith, g.few, g.subjects, objects_end a.reads.now a.writes.now a.objects (passes_test c.matrix_good.ensures c.if-not-matrix_good.false-raw) c.put_objects-subjects.ensures))
 
 pub slice_bounds-words-end : goal.slice_bounds-words-end
-slice_bounds-words-end c = omega (arith, (good_parts _ _ _ ((passes_test c.matrix_good.ensures c.if-not-matrix_good.false-raw))).few)
+slice_bounds-words-end c = omega (arith, (good_parts _ _ _ (passes_test c.matrix_good.ensures c.if-not-matrix_good.false-raw)).few)
 
 pub put_permits-requires : goal.put_permits-requires
 put_permits-requires c =
-    let g = good_parts _ _ _ ((passes_test c.matrix_good.ensures c.if-not-matrix_good.false-raw)) in
-    (g.even, g.subjects, g.few, zeros_front (c.args.objects * form_width) (object_limit * form_width) (omega (arith, g.few)))
+    let g = good_parts _ _ _ (passes_test c.matrix_good.ensures c.if-not-matrix_good.false-raw) in
+    (g.few, zeros_front (c.args.objects * form_width) (object_limit * form_width) (omega (arith, g.few)))
+
+pub invariant_of-put_permits : goal.invariant_of-put_permits
+invariant_of-put_permits c = let g = good_parts _ _ _ (passes_test c.matrix_good.ensures c.if-not-matrix_good.false-raw) in record { even = g.even; few = g.subjects }
 
 pub slice_bounds-write_policy-end : goal.slice_bounds-write_policy-end
 slice_bounds-write_policy-end c =
-    let g = good_parts _ _ _ ((passes_test c.matrix_good.ensures c.if-not-matrix_good.false-raw)) in
+    let g = good_parts _ _ _ (passes_test c.matrix_good.ensures c.if-not-matrix_good.false-raw) in
     let a = c.args in
     omega (
       arith,
       g.few,
       g.subjects,
-      containers_end a.reads.now a.writes.now a.objects ((passes_test c.matrix_good.ensures c.if-not-matrix_good.false-raw)) c.put_objects-subjects.ensures c.put_subjects-end.ensures,
+      containers_end a.reads.now a.writes.now a.objects (passes_test c.matrix_good.ensures c.if-not-matrix_good.false-raw) c.put_objects-subjects.ensures c.put_subjects-end.ensures,
     )
 
 pub slice_bounds-write_policy-end-3 : goal.slice_bounds-write_policy-end-3
 slice_bounds-write_policy-end-3 c =
     let a = c.args in
-    words_end a.reads.now a.writes.now a.objects ((passes_test c.matrix_good.ensures c.if-not-matrix_good.false-raw)) _ _ c.put_permits.ensures
+    words_end a.reads.now a.writes.now a.objects (passes_test c.matrix_good.ensures c.if-not-matrix_good.false-raw) _ _ c.put_permits.ensures
 
 pub write_policy-requires : goal.write_policy-requires
 write_policy-requires c =
     let a = c.args in (
-      derive_tabled a.reads.now a.writes.now a.objects ((passes_test c.matrix_good.ensures c.if-not-matrix_good.false-raw)) c.put_objects-subjects.ensures
+      derive_tabled a.reads.now a.writes.now a.objects (passes_test c.matrix_good.ensures c.if-not-matrix_good.false-raw) c.put_objects-subjects.ensures
           c.put_subjects-end.ensures c.put16.ensures (search rules) _ _ c.put_permits.ensures,
       c.if-out-lt-OUTPUT_BOUND.false,
     )
@@ -65,8 +68,8 @@ overflow_cast-result c =
     let a = c.args in
     omega (
       arith,
-      derived_small a.reads.now a.writes.now a.objects ((passes_test c.matrix_good.ensures c.if-not-matrix_good.false-raw))
-          (derive_wrote a.reads.now a.writes.now a.objects ((passes_test c.matrix_good.ensures c.if-not-matrix_good.false-raw)) c.put_objects-subjects.ensures
+      derived_small a.reads.now a.writes.now a.objects (passes_test c.matrix_good.ensures c.if-not-matrix_good.false-raw)
+          (derive_wrote a.reads.now a.writes.now a.objects (passes_test c.matrix_good.ensures c.if-not-matrix_good.false-raw) c.put_objects-subjects.ensures
           c.put_subjects-end.ensures c.put16.ensures (search rules) _ _ c.put_permits.ensures
           c.write_policy.ensures),
     )
@@ -74,7 +77,7 @@ overflow_cast-result c =
 pub returns : goal.returns
 returns c =
     let a = c.args in
-    derive_done _ _ _ _ c.if-out-lt-OUTPUT_BOUND.false ((passes_test c.matrix_good.ensures c.if-not-matrix_good.false-raw))
-    (derive_wrote a.reads.now a.writes.now a.objects ((passes_test c.matrix_good.ensures c.if-not-matrix_good.false-raw)) c.put_objects-subjects.ensures
+    derive_done _ _ _ _ c.if-out-lt-OUTPUT_BOUND.false (passes_test c.matrix_good.ensures c.if-not-matrix_good.false-raw)
+    (derive_wrote a.reads.now a.writes.now a.objects (passes_test c.matrix_good.ensures c.if-not-matrix_good.false-raw) c.put_objects-subjects.ensures
     c.put_subjects-end.ensures c.put16.ensures (search rules) _ _ c.put_permits.ensures
     c.write_policy.ensures)

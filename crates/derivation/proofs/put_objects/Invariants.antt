@@ -1,11 +1,7 @@
 -- The invariant: the first b objects are written.
-use Prim.Native.Nat.{◌-◌}
 use Rattle.fields.proofs.RowWriting.{RowsWritten}
 use Rattle.derivation.proofs.ContainerRows.{container_rows, object_files}
 use Rattle.derivation.proofs.put_objects.Given as goal
 
 abbrev pub invariant-loop-b : goal.invariant-loop-b
 invariant-loop-b l = RowsWritten (container_rows (object_files l.n)) l.initial.out l.start l.out l.at l.b
-
-abbrev pub decreases-loop-b : goal.decreases-loop-b
-decreases-loop-b l = l.n - l.b

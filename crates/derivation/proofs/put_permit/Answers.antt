@@ -6,7 +6,7 @@ use Rattle.derivation.proofs.put_permit.Goals as goal
 
 pub settle-requires : goal.settle-requires
 settle-requires c =
-    words_good _ _ c.list_permit.ensures (few_mixtures c.args.reads.now c.args.writes.now c.args.b c.requires.1)
+    words_good _ _ c.list_permit.ensures (few_mixtures c.args.rights.reads.now c.args.rights.writes.now c.args.b c.args.rights.few)
 
 pub returns : goal.returns
 returns c = normal_out _ _ _ _ c.settle.ensures c.list_permit.ensures refl

@@ -9,13 +9,13 @@ use Rattle.derivation.proofs.put_row.Goals as goal
 
 pub slice_bounds-put_permit-end : goal.slice_bounds-put_permit-end
 slice_bounds-put_permit-end c =
-    omega (arith, ap length c.requires.3 ∙ length-replicate {A = ℕ} form_width 0)
+    omega (arith, ap length c.requires.1 ∙ length-replicate {A = ℕ} form_width 0)
 
 pub bounds-row-9 : goal.bounds-row-9
 bounds-row-9 c =
-    omega (arith, c.put_permit.auto.words, ap length c.requires.3 ∙ length-replicate {A = ℕ} form_width 0)
+    omega (arith, c.put_permit.auto.words, ap length c.requires.1 ∙ length-replicate {A = ℕ} form_width 0)
 
 pub returns : goal.returns
 returns c =
-    row_done c.args.reads.now c.args.writes.now 0 c.requires.1 c.args.b c.args.row.now
-    (ap length c.requires.3 ∙ length-replicate {A = ℕ} form_width 0) c.put_permit.ensures
+    row_done c.args.rights.reads.now c.args.rights.writes.now 0 c.args.rights.few c.args.b c.args.row.now
+    (ap length c.requires.1 ∙ length-replicate {A = ℕ} form_width 0) c.put_permit.ensures

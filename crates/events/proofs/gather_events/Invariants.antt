@@ -1,11 +1,14 @@
 -- `events::gather_events`. Invariant: what is left, behind what was gathered, comes to the whole (`Gathering`).
-use Prim.Native.Nat.{◌-◌}
-use lib.ListN.{length}
+use mathlib.Core.Path.{◌≡◌}
+use Rattle.std.specs.Slice.Iter.{chunks_rest, chunks_size}
+use Rattle.records.specs.Records.{record_length}
 use Rattle.events.proofs.GatherLoop.{Gathering}
 use Rattle.events.proofs.gather_events.Given as goal
 
-abbrev pub invariant-loop-at : goal.invariant-loop-at
-invariant-loop-at l = Gathering l.initial.session l.trace l.initial.events l.session l.events l.room l.taken l.written l.at
-
-abbrev pub decreases-loop-at : goal.decreases-loop-at
-decreases-loop-at l = length l.trace - l.at
+abbrev pub invariant-loop-bytes : goal.invariant-loop-bytes
+invariant-loop-bytes l = record {
+  can_next : goal.iterator-loop-bytes.can_next l.bytes-iterator;
+  finite : goal.iterator-loop-bytes.is_finite l.bytes-iterator;
+  size : chunks_size l.bytes-iterator ≡ record_length;
+  gathering : Gathering l.initial.session l.trace l.initial.events l.session l.events (chunks_rest l.bytes-iterator) l.room l.taken l.written;
+}

@@ -1,7 +1,5 @@
 -- `explain::hand_steps`. Invariant: the steps of the first numbers are handed on (`HandedSteps`).
 use native.Mathlib.Omega.{arith}
-use borrow.Author.Tests.{not-true, not-false}
-use Rattle.files.proofs.CallLaws.{went, failed}
 use Rattle.explain.proofs.HandLaws.{steps_start, part_few, part_some, steps_next, steps_end}
 use Rattle.explain.proofs.hand_steps.Goals as goal
 
@@ -15,9 +13,6 @@ pub put_steps-end-requires : goal.put_steps-end-requires
 put_steps-end-requires c = let part = c.part_at-part in omega
     (arith, part_few c.args.numbers.now part.result.now c.loop-at.at part.ensures)
 
-pub returns-then-not-write_front : goal.returns-then-not-write_front
-returns-then-not-write_front c = failed (c.write_front.ensures.told (not-true _ c.if-not-write_front.true-raw))
-
 pub overflow_add-at : goal.overflow_add-at
 overflow_add-at c =
     omega (arith, part_some _ _ _ c.part_at-part.ensures c.loop-at-test.true)
@@ -28,8 +23,7 @@ loop-at-smaller c =
 
 pub loop-at-preserved : goal.loop-at-preserved
 loop-at-preserved c =
-    steps_next _ _ _ c.part_at-part.ensures _ _ _ _ _ _ c.loop-at.invariant c.loop-at-test.true c.put_steps-end.ensures
-    (c.write_front.ensures.done (not-false _ c.if-not-write_front.false-raw))
+    steps_next _ _ _ c.part_at-part.ensures _ _ _ _ _ _ c.loop-at.invariant c.loop-at-test.true c.put_steps-end.ensures c.in_ok-write_front.ensures
 
 pub returns : goal.returns
-returns c = went (steps_end _ _ _ _ c.loop-at.invariant c.loop-at-test.false)
+returns c = steps_end _ _ _ _ c.loop-at.invariant c.loop-at-test.false

@@ -1,23 +1,7 @@
--- `fields::read16`. Two bytes, the lower first.
+-- `fields::read16`. The bytes, the lowest first.
+use Rattle.std.proofs.Common.{rules, arith}
 use Rattle.fields.proofs.FieldLaws.{field_two}
-use Prim.Native.Nat.{◌+◌}
-use native.Mathlib.Omega.{arith}
 use Rattle.fields.proofs.read16.Goals as goal
 
-pub overflow_cast-result : goal.overflow_cast-result
-overflow_cast-result c = omega (arith, c.shared_slice_known-1.given c.args.at)
-
-pub overflow_cast-result-2 : goal.overflow_cast-result-2
-overflow_cast-result-2 c = omega (arith, c.shared_slice_known-2-1.given c.args.at, c.shared_slice_known-2-1.given (c.args.at + 1))
-
-pub overflow_mul-result : goal.overflow_mul-result
-overflow_mul-result c = omega (arith, c.shared_slice_known-2-1.given c.args.at, c.shared_slice_known-2-1.given (c.args.at + 1))
-
-pub overflow_add-result-2 : goal.overflow_add-result-2
-overflow_add-result-2 c = omega (arith, c.shared_slice_known-2-1.given c.args.at, c.shared_slice_known-2-1.given (c.args.at + 1))
-
 pub returns : goal.returns
-returns c = (
-  field_two c.args.s.now c.args.at c.requires,
-  omega (arith, c.shared_slice_known-2-1.given c.args.at, c.shared_slice_known-2-1.given (c.args.at + 1)),
-)
+returns c = (omega (arith, c.from_le_bytes.ensures, field_two c.args.s.now c.args.at c.requires), search rules)

@@ -1,7 +1,7 @@
--- `fields::read64`. Two fields of 32 bits.
-use Rattle.fields.proofs.FieldLaws.{field_split}
-use native.Mathlib.Omega.{arith}
+-- `fields::read64`. The bytes, the lowest first.
+use Rattle.std.proofs.Common.{arith}
+use Rattle.fields.proofs.FieldLaws.{field_eight}
 use Rattle.fields.proofs.read64.Goals as goal
 
 pub returns : goal.returns
-returns c = omega (arith, field_split c.args.s.now c.args.at 4 4 (omega arith), c.read32.ensures, c.read32-2.ensures)
+returns c = omega (arith, c.from_le_bytes.ensures, field_eight c.args.s.now c.args.at c.requires)

@@ -1,12 +1,12 @@
 -- `figures::add_one`. One place is set; a place behind the last changes none.
-use Rattle.std.proofs.Common.{sym}
+use Rattle.std.proofs.Common.{refl, sym}
 use lib.Seq.{set_out}
 use Rattle.figures.specs.Counters.{one_added}
 use Rattle.figures.proofs.add_one.Goals as goal
 
 pub returns-then-k-numbers : goal.returns-then-k-numbers
 unfolding one_added
-returns-then-k-numbers c = rw c.wrapping_add_u32.ensures.value
+returns-then-k-numbers c = refl
 
 pub returns-else-k-numbers : goal.returns-else-k-numbers
 unfolding one_added

@@ -19,5 +19,4 @@ returns c =
       sym c.too_long.ensures ∙ c.if-too_long.false,
       c.add_numbers.ensures ∙ ap (values_below (λ i. (get_or a.totals.now i 0 + get_or a.counts.now i 0) % 2 ^ 32)) k,
       c.add_numbers-2.ensures ∙ ap (values_below (λ i. (get_or a.sums.now i 0 + get_or a.alerted.now i 0) % 2 ^ 32)) l,
-      c.wrapping_add_u64.ensures.value,
     )

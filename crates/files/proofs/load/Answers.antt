@@ -2,5 +2,5 @@
 use Rattle.files.proofs.CallLaws.{loaded_part}
 use Rattle.files.proofs.load.Goals as goal
 
-pub returns-in-File : goal.returns-in-File
-returns-in-File c = (c.read_part.ensures.within, loaded_part _ _ _ _ c.read_part.ensures)
+pub returns : goal.returns
+returns c = (c.in_ok-part.ensures.within, loaded_part _ _ _ _ c.in_ok-part.ensures)

@@ -2,8 +2,8 @@
 use Rattle.files.specs.Calls.{opened_by_system, absent_by_system}
 use Rattle.files.proofs.open.Goals as goal
 
-pub returns-then-eq : goal.returns-then-eq
-returns-then-eq c = absent_by_system _
+pub returns-in-Err : goal.returns-in-Err
+returns-in-Err c = absent_by_system _
 
 pub returns-in-Ok-open : goal.returns-in-Ok-open
 returns-in-Ok-open c = opened_by_system _ _

@@ -3,7 +3,7 @@ use Rattle.std.proofs.Common.{◌≤◌, length}
 use Rattle.files.specs.Calls.{handed_by_system}
 use Rattle.files.proofs.write_some.Goals as goal
 
-pub returns-else-n-eq0 : goal.returns-else-n-eq0
-returns-else-n-eq0 c =
+pub returns-in-Ok : goal.returns-in-Ok
+returns-in-Ok c =
     let l : c.in-Ok.n ≤ length c.args.bytes.now = c.in-Ok.ensures.bound in
     (l, handed_by_system c.args.bytes.now c.in-Ok.n c.args.sent.now l)

@@ -1,6 +1,6 @@
 -- `game::desk` and `game::guard` call each other: the rounds fall, then whose turn it is.
 -- Invariants: no move before k wins; no withdrawal before k saves the guard.
-use Prim.Native.Nat.{◌+◌, ◌-◌, ◌*◌}
+use Prim.Native.Nat.{◌+◌, ◌*◌}
 use Rattle.lists.proofs.Below.{Failing, Passing}
 use Rattle.game.specs.Limits.{right_count}
 use Rattle.game.specs.Search.{addition_wins}
@@ -16,11 +16,5 @@ decreases-guard l = 2 * l.rounds
 abbrev pub invariant-desk-loop-k : goal.invariant-desk-loop-k
 invariant-desk-loop-k l = Failing (addition_wins l.rounds l.b l.left l.p) right_count l.k
 
-abbrev pub decreases-desk-loop-k : goal.decreases-desk-loop-k
-decreases-desk-loop-k l = right_count - l.k
-
 abbrev pub invariant-guard-loop-k : goal.invariant-guard-loop-k
 invariant-guard-loop-k l = Passing (reply_loses l.rounds l.b l.left l.p) right_count l.k
-
-abbrev pub decreases-guard-loop-k : goal.decreases-guard-loop-k
-decreases-guard-loop-k l = right_count - l.k

@@ -1,11 +1,10 @@
 -- The six conditions, each tested once those before it have passed; the last three in `check_records`.
 use native.Mathlib.Omega.{arith}
 use mathlib.Core.Path.{sym, ◌∙◌}
-use mathlib.Core.Bool.{true}
 use Rattle.lists.specs.Conditions.{numbers_of, number_at}
 use Rattle.lists.proofs.Bools.{passes_test, fails_test}
 use Rattle.lists.proofs.Conditions.{passed}
-use Rattle.image.specs.Image.{pairs_good, sections_good, image_conditions, check_of}
+use Rattle.image.specs.Image.{image_conditions, check_of}
 use Rattle.image.proofs.ImageRefusals.{refused_at, too_short, too_long, long_enough}
 use Rattle.image.proofs.check.Goals as goal
 

@@ -6,7 +6,6 @@ use Rattle.image.specs.Image.{container_in, containers_in}
 use lib.ListN.{length-take, length-drop}
 use native.Mathlib.Nat.{add-sub_cancel_left}
 use mathlib.Core.Path.{sym}
-use Prim.Native.Nat.{◌-◌}
 use native.Mathlib.Omega.{arith}
 use Rattle.image.proofs.containers_good.Goals as goal
 

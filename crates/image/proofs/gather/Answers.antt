@@ -3,7 +3,6 @@ use Rattle.image.proofs.RulesByNumber.{from_length, from_at}
 use Rattle.image.specs.Image.{mixtures_in}
 use lib.ListN.{length, take, drop}
 use mathlib.Core.Path.{◌∙◌}
-use Prim.Native.Nat.{◌-◌}
 use native.Mathlib.Omega.{arith}
 use Rattle.image.proofs.gather.Goals as goal
 
@@ -26,4 +25,4 @@ returns c =
     let n = length c.args.out.now in
     let at = c.loop-j in
     copied_all (take n (drop c.args.first (mixtures_in c.args.m.now))) c.args.out.now at.out at.j at.invariant
-    (from_length c.args.m.now c.args.first n c.requires) c.loop-j-test.false
+    (from_length c.args.m.now c.args.first n c.requires) (omega (arith, c.loop-j-test.false, c.loop-j.auto.out))

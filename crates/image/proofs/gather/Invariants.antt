@@ -2,11 +2,7 @@
 use Rattle.lists.proofs.Copying.{Copied}
 use Rattle.image.specs.Image.{mixtures_in}
 use lib.ListN.{length, take, drop}
-use Prim.Native.Nat.{◌-◌}
 use Rattle.image.proofs.gather.Given as goal
 
 abbrev pub invariant-loop-j : goal.invariant-loop-j
 invariant-loop-j l = Copied (take (length l.initial.out) (drop l.first (mixtures_in l.m))) l.initial.out l.out 0 l.j
-
-abbrev pub decreases-loop-j : goal.decreases-loop-j
-decreases-loop-j l = length l.initial.out - l.j

@@ -1,12 +1,11 @@
 -- The leading number and the four pairs, each tested once those before it have passed.
 use Prim.Native.Nat.{ℕ}
 use mathlib.Core.Path.{ap, sym, ◌∙◌}
-use mathlib.Core.Bool.{true}
 use lib.Dec.{eqb}
 use borrow.Author.Tests.{eq-eqb, ne_eqb}
 use Rattle.lists.proofs.Bools.{passes_test, fails_test}
 use Rattle.image.specs.Limits.{leading_number}
-use Rattle.image.specs.Image.{part_good, pairs_good}
+use Rattle.image.specs.Image.{pairs_good}
 use Rattle.image.proofs.pairs_good.Goals as goal
 
 -- ---- the tests that have passed, where each is left behind

@@ -5,7 +5,6 @@ use Rattle.image.proofs.RecordsByPlace.{rule_fits}
 use Rattle.image.specs.Image.{mixtures_in}
 use native.Mathlib.Omega.{arith}
 use lib.ListN.{drop, length-take}
-use borrow.Author.Rules.{rules}
 use Rattle.image.proofs.put_own_rule.Goals as goal
 
 pub put_span-requires : goal.put_span-requires
@@ -13,13 +12,13 @@ put_span-requires c = (
   c.requires.0,
   omega (
     arith,
-    rule_fits c.args.rules.now c.args.m.now c.requires.2 c.args.n c.requires.1,
+    rule_fits c.args.rules.records.now c.args.rules.mixtures.now c.args.rules.good c.args.n c.requires.1,
     c.read16-first.ensures.0,
     c.read16-count.ensures.0,
   ),
   omega (
     arith,
-    rule_fits c.args.rules.now c.args.m.now c.requires.2 c.args.n c.requires.1,
+    rule_fits c.args.rules.records.now c.args.rules.mixtures.now c.args.rules.good c.args.n c.requires.1,
     c.read16-first.ensures.0,
     c.read16-count.ensures.0,
   ),
@@ -31,8 +30,8 @@ make_normal-requires c =
     (omega (
       arith,
       length-take c.read16-count.result
-          (drop c.read16-first.result (mixtures_in c.args.m.now)),
-      rule_fits c.args.rules.now c.args.m.now c.requires.2 c.args.n c.requires.1,
+          (drop c.read16-first.result (mixtures_in c.args.rules.mixtures.now)),
+      rule_fits c.args.rules.records.now c.args.rules.mixtures.now c.args.rules.good c.args.n c.requires.1,
       c.read16-first.ensures.0,
       c.read16-count.ensures.0,
     ))
@@ -40,6 +39,6 @@ make_normal-requires c =
 pub returns : goal.returns
 returns c =
     normal_out _ _ _ _ c.make_normal.ensures c.put_span.ensures
-    (own_rule c.args.rules.now c.args.m.now c.args.n _ _ c.requires.2 c.requires.1
+    (own_rule c.args.rules.records.now c.args.rules.mixtures.now c.args.n _ _ c.args.rules.good c.requires.1
     c.read16-first.ensures.0
     c.read16-count.ensures.0)

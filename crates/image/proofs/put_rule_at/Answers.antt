@@ -6,7 +6,7 @@ use Rattle.image.proofs.put_rule_at.Goals as goal
 
 pub put_own_rule-requires : goal.put_own_rule-requires
 put_own_rule-requires c =
-    (c.requires.0, named_own _ c.args.n c.requires.1 c.if-n-eq-UNRESTRICTED_NUMBER.false, c.requires.2)
+    (c.requires.0, named_own _ c.args.n c.requires.1 c.if-n-eq-UNRESTRICTED_NUMBER.false)
 
 pub returns-then-n-eq-UNRESTRICTED_NUMBER : goal.returns-then-n-eq-UNRESTRICTED_NUMBER
 returns-then-n-eq-UNRESTRICTED_NUMBER c =

@@ -1,6 +1,5 @@
 use Rattle.image.proofs.RuleRecordScan.{rules_start, rules_first, rules_count, rules_over, rules_owner, rules_next, rules_end}
 use Rattle.lists.proofs.Bools.{passes_test, fails_test}
-use Prim.Native.Nat.{◌-◌}
 use native.Mathlib.Omega.{arith}
 use Rattle.image.proofs.rules_good.Goals as goal
 

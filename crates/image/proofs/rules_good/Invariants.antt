@@ -1,10 +1,6 @@
 -- The records passed are good with their owners, and the first of the last one is carried along.
 use Rattle.image.proofs.RuleRecordScan.{RulesScanned}
-use Prim.Native.Nat.{◌-◌}
 use Rattle.image.proofs.rules_good.Given as goal
 
 abbrev pub invariant-loop-i : goal.invariant-loop-i
 invariant-loop-i l = RulesScanned l.m l.users l.s l.n l.from l.i
-
-abbrev pub decreases-loop-i : goal.decreases-loop-i
-decreases-loop-i l = l.n - l.i

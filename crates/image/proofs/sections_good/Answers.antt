@@ -1,7 +1,7 @@
 -- The four sections, each tested once the ones before it have passed.
 use native.Mathlib.Omega.{arith}
 use Rattle.lists.proofs.Bools.{passes_test, fails_test}
-use Rattle.image.specs.Image.{whole_good, sections_good}
+use Rattle.image.specs.Image.{sections_good}
 use Rattle.image.proofs.AcceptedImage.{part_ends}
 use Rattle.image.proofs.sections_good.Goals as goal
 

@@ -4,7 +4,6 @@ use Rattle.image.specs.Policy.{named}
 use Rattle.fields.specs.Bytes.{number_in, field}
 use Rattle.image.specs.Image.{users_in}
 use mathlib.Core.Path.{sym}
-use Prim.Native.Nat.{◌-◌}
 use native.Mathlib.Omega.{arith}
 use Rattle.image.specs.Limits.{user_size}
 use Rattle.image.proofs.users_good.Goals as goal

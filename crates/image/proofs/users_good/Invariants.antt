@@ -2,12 +2,10 @@
 use Rattle.fields.proofs.SectionRecords.{Scanned}
 use Rattle.image.specs.Policy.{named}
 use Rattle.fields.specs.Bytes.{number_in}
-use Prim.Native.Nat.{◌-◌}
 use Rattle.image.specs.Limits.{user_size}
+use Prim.Native.Nat.{◌/◌}
+use lib.ListN.{length}
 use Rattle.image.proofs.users_good.Given as goal
 
 abbrev pub invariant-loop-i : goal.invariant-loop-i
-invariant-loop-i l = Scanned (named l.n) number_in user_size l.s l.count l.i
-
-abbrev pub decreases-loop-i : goal.decreases-loop-i
-decreases-loop-i l = l.count - l.i
+invariant-loop-i l = Scanned (named l.n) number_in user_size l.s (length l.s / user_size) l.i

@@ -4,6 +4,3 @@ use Rattle.listing.proofs.put_long.Given as goal
 
 abbrev pub invariant-loop-i : goal.invariant-loop-i
 invariant-loop-i l = Spelling 10 l.k l.n l.at l.initial.out l.out l.i l.rest
-
-abbrev pub decreases-loop-i : goal.decreases-loop-i
-decreases-loop-i l = l.i

@@ -1,30 +1,22 @@
-use native.Mathlib.Numerals.{add-one}
+-- `listing::put_text`. The text in its place is the buffer overwritten.
+use Prim.Native.Nat.{ℕ, ◌+◌}
 use native.Mathlib.Omega.{arith}
-use mathlib.Core.Path.{◌≡◌, refl}
-use lib.ListN.{length, length-set}
-use lib.Seq.{paste-zero, paste-suc}
-use Rattle.fields.proofs.WritingLaws.{wrote_paste}
-use borrow.Author.Rules.{rules}
+use mathlib.Core.Path.{refl, sym, ap₂, ◌∙◌}
+use mathlib.Core.List.{List, ◌++◌, append_assoc}
+use lib.ListN.{length, take, drop}
+use borrow.Rule.Slice.PartMut.{Post-is}
+use Rattle.fields.specs.Writing.{overwritten}
 use Rattle.listing.proofs.put_text.Goals as goal
 
-pub loop-i-init : goal.loop-i-init
-loop-i-init c = let a = c.args in (search rules, refl, paste-zero a.out.now a.at a.text.now)
-
-pub loop-i-preserved : goal.loop-i-preserved
-loop-i-preserved c =
-    let a = c.args in
-    let l = c.loop-i in (
-      search rules,
-      simp length-set l.invariant.1,
-      rw (l.invariant.2, add-one) (paste-suc a.out.now a.at a.text.now l.i 0 (omega arith) (omega arith)),
-    )
-
-pub shape_of-out : goal.shape_of-out
-shape_of-out c = c.loop-i.invariant.1
-
 pub returns : goal.returns
+unfolding overwritten
 returns c =
-    let a = c.args in
-    let l = c.loop-i in
-    let e : l.i ≡ length a.text.now = omega arith in
-    wrote_paste a.text.now a.out.now l.out a.at l.i e l.invariant.2
+    let b = c.args.out.now in
+    let x = c.args.text.now in
+    let at = c.args.at in
+    record {
+      buffer =
+          ap₂ (λ (y z : List ℕ). take at b ++ (y ++ z)) c.copy_from_slice.ensures.after (Post-is at (at + length x) b (omega arith))
+          ∙ sym (append_assoc (take at b) x (drop (at + length x) b));
+      ends = refl;
+    }

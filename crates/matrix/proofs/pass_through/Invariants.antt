@@ -1,5 +1,4 @@
 -- The invariant: the rows before s have taken in row k.
-use Prim.Native.Nat.{◌-◌}
 use lib.ListN.{get_or}
 use Rattle.matrix.specs.Limits.{subject_limit}
 use Rattle.matrix.proofs.RowLoops.{Stored, JoinedAt}
@@ -7,6 +6,3 @@ use Rattle.matrix.proofs.pass_through.Given as goal
 
 abbrev pub invariant-loop-s : goal.invariant-loop-s
 invariant-loop-s l = Stored (JoinedAt l.read (get_or l.initial.reach l.k 0) l.initial.reach) subject_limit l.initial.reach l.reach l.s
-
-abbrev pub decreases-loop-s : goal.decreases-loop-s
-decreases-loop-s l = subject_limit - l.s

@@ -1,14 +1,23 @@
-use mathlib.Core.Path.{◌∙◌}
+use Prim.Native.Nat.{ℕ, ◌<◌}
+use mathlib.Core.List.{List}
+use mathlib.Core.Path.{◌≡◌, ap, ◌∙◌}
+use lib.ListN.{length, get_or, length-append, length-drop, get_or-append}
 use native.Mathlib.Omega.{arith}
-use Rattle.matrix.proofs.SubjectReach.{passed_first, passed_next, passing_end}
+use Rattle.matrix.proofs.SubjectReach.{reaching_start, passed_next}
 use Rattle.matrix.proofs.reach_flows.Goals as goal
-
-pub pass_first-requires : goal.pass_first-requires
-pass_first-requires c = (c.requires.0, c.requires.1, omega (arith, c.requires.2, c.requires.3))
 
 pub loop-k-init : goal.loop-k-init
 loop-k-init c =
-    record { place = c.requires.1; long = c.pass_first.auto.reach ∙ c.requires.3; rows = passed_first _ _ _ c.requires.0 c.requires.1 c.pass_first.ensures }
+    let e : length c.copy_from_slice.new.self ≡ length c.args.reads.now = omega (arith, ap length c.copy_from_slice.ensures.after) in
+    record {
+      place = omega arith;
+      long = simp (length-append, length-drop, e) (omega arith);
+      rows =
+          reaching_start _ _ _ c.requires.0
+          (λ s l.
+          let m : s < length c.copy_from_slice.new.self = omega arith in
+          get_or-append _ _ 0 s m ∙ ap (λ (x : List ℕ). get_or x s 0) c.copy_from_slice.ensures.after);
+    }
 
 pub loop-k-preserved : goal.loop-k-preserved
 loop-k-preserved c =
@@ -19,9 +28,3 @@ loop-k-preserved c =
       long = c.pass_through.auto.reach ∙ l.invariant.long;
       rows = passed_next _ _ _ _ _ _ t.true c.requires.2 l.invariant.rows c.pass_through.ensures;
     }
-
-pub shape_of-reach : goal.shape_of-reach
-shape_of-reach c = omega (arith, c.loop-k.invariant.long, c.requires.3)
-
-pub returns : goal.returns
-returns c = passing_end _ _ _ _ c.loop-k.invariant c.loop-k-test.false

@@ -1,5 +1,4 @@
 -- The invariant: the subjects before s are closed.
-use Prim.Native.Nat.{◌-◌}
 use lib.ListN.{length}
 use Rattle.lists.proofs.Below.{Passing}
 use Rattle.matrix.specs.Rows.{subject_closed}
@@ -7,6 +6,3 @@ use Rattle.matrix.proofs.rows_closed.Given as goal
 
 abbrev pub invariant-loop-s : goal.invariant-loop-s
 invariant-loop-s l = Passing (subject_closed l.reads l.writes) (length l.reads) l.s
-
-abbrev pub decreases-loop-s : goal.decreases-loop-s
-decreases-loop-s l = length l.reads - l.s

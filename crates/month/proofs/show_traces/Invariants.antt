@@ -1,17 +1,12 @@
 -- `month::show_traces`. Invariant: so many traces are shown (`Showing`); the names count up.
 use Rattle.month.proofs.CountedMonth.{Showing}
 use Rattle.figures.specs.Counters.{counters}
-use Rattle.figures.specs.Months.{trace_limit}
 use Rattle.session.specs.Session.{start_of}
 use Rattle.image.specs.Image.{policy_in}
 use lib.ListN.{length}
 use mathlib.Core.Path.{◌≡◌}
-use Prim.Native.Nat.{◌-◌}
 use Rattle.month.proofs.show_traces.Given as goal
 
 abbrev pub invariant-loop-n : goal.invariant-loop-n
 invariant-loop-n l =
     (length l.session ≡ length l.initial.session) × Showing (start_of (policy_in l.policy)) (counters l.total l.totals l.sums) l.n l.initial.sent l.sent
-
-abbrev pub decreases-loop-n : goal.decreases-loop-n
-decreases-loop-n l = trace_limit - l.n

@@ -1,5 +1,4 @@
 -- The invariant: the table has the classes of the first k rules, and each of them has its slot.
-use Prim.Native.Nat.{◌-◌}
 use mathlib.Core.Path.{◌≡◌}
 use lib.ListN.{length}
 use Rattle.normaliser.specs.Hashes.{Hashed}
@@ -8,6 +7,3 @@ use Rattle.normaliser.proofs.classify.Given as goal
 
 abbrev pub invariant-loop-k : goal.invariant-loop-k
 invariant-loop-k l = Classing l.forms l.initial.classes l.classes l.n l.k × Hashed l.forms l.slots l.k × (length l.slots ≡ length l.initial.slots)
-
-abbrev pub decreases-loop-k : goal.decreases-loop-k
-decreases-loop-k l = l.n - l.k

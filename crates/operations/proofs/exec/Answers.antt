@@ -1,9 +1,9 @@
 -- `operations::exec`. The meet of o's run rule and u's rule has one mixture, or fits, or not (`exec_over`, `exec_done`).
 use mathlib.Core.Path.{sym, ap, ◌∙◌}
 use native.Mathlib.Omega.{arith}
-use borrow.Author.Tests.{not-true, not-false}
-use Rattle.rules.specs.Answers.{bounded_of}
-use Rattle.operations.proofs.EffectLaws.{exec_places, exec_run, exec_user, exec_met, one_fit, exec_over, exec_fit, exec_done}
+use Rattle.rules.specs.Answers.{bounded_if_fits}
+use Rattle.operations.proofs.RowSteps.{made_some, made_one, made_none}
+use Rattle.operations.proofs.EffectLaws.{exec_places, exec_run, exec_user, exec_met, exec_over, exec_fit, exec_done}
 use Rattle.operations.proofs.exec.Goals as goal
 
 pub overflow_mul-x : goal.overflow_mul-x
@@ -44,38 +44,36 @@ mixture_at-requires c =
 pub launch-requires : goal.launch-requires
 launch-requires c =
     let s = c.args.s.now in
-    exec_fit s c.args.p c.args.o c.args.u c.requires _ (exec_met s c.args.p c.args.o c.args.u c.requires _
-    (c.one-permit.ensures ∙ ap bounded_of c.mixture_at.ensures)) (one_fit _ _ c.one-permit.ensures)
+    exec_fit s c.args.p c.args.o c.args.u c.requires _
+    (made_one _ _ c.one-permit.ensures (c.mixture_at.ensures ∙ exec_met s c.args.p c.args.o c.args.u c.requires))
 
 pub returns-then-both_single : goal.returns-then-both_single
 returns-then-both_single c =
-    let mixture_at = c.mixture_at in
-    let one = c.one-permit in
     let s = c.args.s.now in
     exec_done s c.args.p c.args.o c.args.u c.requires _
-    (exec_met s c.args.p c.args.o c.args.u c.requires _ (one.ensures ∙ ap bounded_of mixture_at.ensures))
-    (one_fit _ _ one.ensures) _ _ c.launch.ensures
+    (made_one _ _ c.one-permit.ensures (c.mixture_at.ensures ∙ exec_met s c.args.p c.args.o c.args.u c.requires))
+    _ _ c.launch.ensures
 
-pub meet_at-permit-requires : goal.meet_at-permit-requires
-meet_at-permit-requires c =
+pub meet_at-requires : goal.meet_at-requires
+meet_at-requires c =
     let s = c.args.s.now in
     ((exec_run s c.args.p c.args.o c.args.u c.requires).kept, (exec_user s c.args.p c.args.o c.args.u c.requires).kept)
 
-pub returns-then-not-permit : goal.returns-then-not-permit
-returns-then-not-permit c =
+pub returns-in_default : goal.returns-in_default
+returns-in_default c =
     let s = c.args.s.now in
-    exec_over s c.args.p c.args.o c.args.u c.requires _ (exec_met s c.args.p c.args.o c.args.u c.requires _
-    c.meet_at-permit.ensures) (not-true _ c.if-not-permit.true)
+    exec_over s c.args.p c.args.o c.args.u c.requires
+    (made_none _ (c.meet_at.ensures ∙ ap bounded_if_fits (exec_met s c.args.p c.args.o c.args.u c.requires)) c.in_default.is)
 
 pub launch-requires-2 : goal.launch-requires-2
 launch-requires-2 c =
     let s = c.args.s.now in
-    exec_fit s c.args.p c.args.o c.args.u c.requires _ (exec_met s c.args.p c.args.o c.args.u c.requires _
-    c.meet_at-permit.ensures) (not-false _ c.if-not-permit.false)
+    exec_fit s c.args.p c.args.o c.args.u c.requires _
+    (made_some _ (c.meet_at.ensures ∙ ap bounded_if_fits (exec_met s c.args.p c.args.o c.args.u c.requires)) c.in-Some.is)
 
 pub returns : goal.returns
 returns c =
     let s = c.args.s.now in
-    exec_done s c.args.p c.args.o c.args.u c.requires _ (exec_met s c.args.p c.args.o c.args.u c.requires _
-    c.meet_at-permit.ensures) (not-false _ c.if-not-permit.false) _ _
-    c.launch-2.ensures
+    exec_done s c.args.p c.args.o c.args.u c.requires _
+    (made_some _ (c.meet_at.ensures ∙ ap bounded_if_fits (exec_met s c.args.p c.args.o c.args.u c.requires)) c.in-Some.is)
+    _ _ c.launch-2.ensures

@@ -14,32 +14,31 @@ use Rattle.session.proofs.fill_users.Goals as goal
 
 pub loop-i-init : goal.loop-i-init
 loop-i-init c =
-    rowed_start user_width user_limit (user_rows c.args.users.now c.args.rules.now c.args.m.now) c.args.out.now
+    rowed_start user_width user_limit (user_rows c.args.users.now c.args.rules.records.now c.args.rules.mixtures.now) c.args.out.now
     (ap length c.requires.0 ∙ length-replicate {A = ℕ} (user_limit * user_width) 0)
 
 pub put_user-requires : goal.put_user-requires
 put_user-requires c = (
   simp (length-take, length-drop, add-sub_cancel_left) (omega (arith, c.loop-i.invariant.long, c.requires.1)),
   rw c.read16.ensures.0
-      (user_named c.args.users.now c.args.rules.now c.args.m.now c.requires.2 c.requires.3
+      (user_named c.args.users.now c.args.rules.records.now c.args.rules.mixtures.now c.requires.2 c.args.rules.good
       c.loop-i.i c.loop-i-test.true),
-  c.requires.3,
 )
 
 pub loop-i-preserved : goal.loop-i-preserved
 loop-i-preserved c =
-    users_next c.args.users.now c.args.rules.now c.args.m.now c.requires.2 c.requires.3 c.args.out.now
+    users_next c.args.users.now c.args.rules.records.now c.args.rules.mixtures.now c.requires.2 c.args.rules.good c.args.out.now
     c.loop-i.out c.loop-i.i
     c.loop-i.invariant
     (omega (arith, c.loop-i-test.true, c.requires.1))
     c.loop-i-test.true _
     (c.put_user.ensures
-    ∙ ap (λ (n : ℕ). user_words (normal_at (rules_in c.args.rules.now c.args.m.now) n)) c.read16.ensures.0)
+    ∙ ap (λ (n : ℕ). user_words (normal_at (rules_in c.args.rules.records.now c.args.rules.mixtures.now) n)) c.read16.ensures.0)
 
 pub shape_of-out : goal.shape_of-out
 shape_of-out c = c.loop-i.invariant.same
 
 pub returns : goal.returns
 returns c =
-    users_end c.args.users.now c.args.rules.now c.args.m.now c.requires.2 c.requires.3 c.args.out.now
+    users_end c.args.users.now c.args.rules.records.now c.args.rules.mixtures.now c.requires.2 c.args.rules.good c.args.out.now
     c.loop-i.out c.loop-i.i c.loop-i.invariant c.loop-i-test.false c.requires.0

@@ -14,7 +14,7 @@ use Rattle.session.proofs.put_container_row.Goals as goal
 
 pub start_tag-requires : goal.start_tag-requires
 start_tag-requires c =
-    rw c.read8-2.ensures.0 (atom_good c.args.r.now c.args.rules.now c.args.m.now c.requires.2 c.requires.3)
+    rw c.read8-2.ensures.0 (atom_good c.args.r.now c.args.rules.records.now c.args.rules.mixtures.now c.requires.2 c.args.rules.good)
 
 pub slice_bounds-put_rule_at-end : goal.slice_bounds-put_rule_at-end
 slice_bounds-put_rule_at-end c = simp length-set (omega arith)
@@ -22,8 +22,7 @@ slice_bounds-put_rule_at-end c = simp length-set (omega arith)
 pub put_rule_at-requires : goal.put_rule_at-requires
 put_rule_at-requires c = (
   lent_permit c.args.row.now nobody c.read8.result c.start_tag.result c.requires.0,
-  rw c.read16.ensures.0 (permit_named c.args.r.now c.args.rules.now c.args.m.now c.requires.2 c.requires.3),
-  c.requires.3,
+  rw c.read16.ensures.0 (permit_named c.args.r.now c.args.rules.records.now c.args.rules.mixtures.now c.requires.2 c.args.rules.good),
 )
 
 pub slice_bounds-put_rule_at-end-2 : goal.slice_bounds-put_rule_at-end-2
@@ -38,8 +37,7 @@ pub put_rule_at-requires-2 : goal.put_rule_at-requires-2
 put_rule_at-requires-2 c = (
   lent_run c.args.row.now c.put_rule_at.new.words nobody c.read8.result c.start_tag.result c.requires.0
       ((c.put_rule_at.auto.words ∙ lent_permit c.args.row.now nobody c.read8.result c.start_tag.result c.requires.0)),
-  rw c.read16-2.ensures.0 (run_named c.args.r.now c.args.rules.now c.args.m.now c.requires.2 c.requires.3),
-  c.requires.3,
+  rw c.read16-2.ensures.0 (run_named c.args.r.now c.args.rules.records.now c.args.rules.mixtures.now c.requires.2 c.args.rules.good),
 )
 
 pub shape_of-row : goal.shape_of-row
@@ -53,7 +51,7 @@ pub returns : goal.returns
 returns c =
     row_put c.args.row.now c.put_rule_at.new.words nobody c.read8.result c.start_tag.result c.requires.0
     ((c.put_rule_at.auto.words ∙ lent_permit c.args.row.now nobody c.read8.result c.start_tag.result c.requires.0)) c.put_rule_at-2.new.words
-    ∙ container_row c.args.r.now c.args.rules.now c.args.m.now c.requires.2 c.requires.3 _ _ _ _
+    ∙ container_row c.args.r.now c.args.rules.records.now c.args.rules.mixtures.now c.requires.2 c.args.rules.good _ _ _ _
     c.read8.ensures.0
     (c.start_tag.ensures ∙ ap start_tag c.read8-2.ensures.0)
     (rw c.read16.ensures.0 at c.put_rule_at.ensures)

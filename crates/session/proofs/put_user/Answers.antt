@@ -11,7 +11,7 @@ slice_bounds-put_rule_at-end c = simp length-set (omega arith)
 pub shape_of-row : goal.shape_of-row
 shape_of-row c =
     user_long c.args.row.now _ _ c.requires.0 c.put_rule_at.ensures
-    (normal_short c.args.rules.now c.args.m.now c.args.n c.requires.2 c.requires.1)
+    (normal_short c.args.rules.records.now c.args.rules.mixtures.now c.args.n c.args.rules.good c.requires.1)
 
 pub returns : goal.returns
 returns c =

@@ -1,13 +1,10 @@
 use native.Mathlib.Omega.{arith}
 use mathlib.Core.Path.{sym, ◌∙◌}
 use Rattle.lists.proofs.Bools.{passes_test, fails_test}
-use Rattle.lists.proofs.Below.{passing_start, passing_next, passing_fails, passing_end}
+use Rattle.lists.proofs.Below.{passing_next, passing_fails, passing_end}
 use Rattle.silence.specs.Silent.{silent}
 use Rattle.silence.proofs.ExchangeLaws.{quiet_reached}
 use Rattle.silence.proofs.all_quiet.Goals as goal
-
-pub loop-b-init : goal.loop-b-init
-loop-b-init c = passing_start _ _
 
 pub granted_row-tag-requires : goal.granted_row-tag-requires
 granted_row-tag-requires c =

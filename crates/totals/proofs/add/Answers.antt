@@ -1,4 +1,4 @@
-use Rattle.std.proofs.Common.{rules}
+use Rattle.std.proofs.Common.{refl, rules}
 use Rattle.figures.proofs.CountedParts.{changing_start, changing_next, changing_end}
 use Rattle.totals.proofs.TotalLoop.{add_refused, bad_total, bad_figures, add_done}
 use Rattle.totals.proofs.add.Goals as goal
@@ -13,7 +13,7 @@ pub loop-k-init : goal.loop-k-init
 loop-k-init c = changing_start _ _ _ c.if-total-ne-FIGURES_LENGTH.false
 
 pub loop-k-preserved : goal.loop-k-preserved
-loop-k-preserved c = changing_next _ _ _ _ _ _ c.loop-k.invariant (search rules) c.wrapping_add_u64.ensures.value
+loop-k-preserved c = changing_next _ _ _ _ _ _ c.loop-k.invariant (search rules) refl
 
 pub returns : goal.returns
 returns c =

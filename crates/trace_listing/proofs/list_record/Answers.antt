@@ -4,5 +4,5 @@ use Rattle.trace_listing.proofs.list_record.Goals as goal
 pub returns : goal.returns
 returns c = record {
   line = rw c.more-step.ensures at c.put_record-end.ensures;
-  counts = c.count-tallied.ensures;
+  counts = c.count.ensures;
 }

@@ -1,11 +1,9 @@
 -- `trace_listing::list_records`. The invariant: what is written, and what is left of the part, is the whole of it (`Listing`).
-use Prim.Native.Nat.{◌-◌}
-use lib.ListN.{length}
+use mathlib.Core.Path.{◌≡◌}
+use Rattle.records.specs.Records.{record_length}
 use Rattle.trace_listing.proofs.ListedParts.{Listing}
 use Rattle.trace_listing.proofs.list_records.Given as goal
 
-abbrev pub invariant-loop-at : goal.invariant-loop-at
-invariant-loop-at l = Listing l.part l.initial.run.tally l.initial.session l.initial.out l.session l.out l.run l.at
-
-abbrev pub decreases-loop-at : goal.decreases-loop-at
-decreases-loop-at l = length l.part - l.at
+abbrev pub invariant-loop-bytes : goal.invariant-loop-bytes
+invariant-loop-bytes l =
+    (l.bytes-iterator.size ≡ record_length) × Listing l.part l.initial.run.tally l.initial.session l.initial.out l.session l.out l.run l.bytes-iterator.rest.now

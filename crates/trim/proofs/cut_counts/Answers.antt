@@ -8,12 +8,6 @@ use Rattle.trim.proofs.cut_counts.Goals as goal
 pub returns-then-not-replay : goal.returns-then-not-replay
 returns-then-not-replay c = counts_not _ _ _ _ c.replay.ensures (not-true _ c.if-not-replay.true-raw)
 
-pub overflow_mul-at : goal.overflow_mul-at
-overflow_mul-at c = omega (arith, c.requires.2)
-
-pub overflow_add-at : goal.overflow_add-at
-overflow_add-at c = omega (arith, c.requires.2)
-
 pub slice_bounds-step-end : goal.slice_bounds-step-end
 slice_bounds-step-end c = omega (arith, in_trace_lem _ _ c.requires.1)
 

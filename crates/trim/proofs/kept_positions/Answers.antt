@@ -24,7 +24,7 @@ cut_counts-requires c = (
 
 pub returns-then-not-cut_counts : goal.returns-then-not-cut_counts
 returns-then-not-cut_counts c =
-    found_none _ _ _ _ c.requires.0 c.requires.1 refl c.number.ensures _ c.start.ensures.1 (search rules) c.cut_counts.ensures _ (not-true _ c.if-not-cut_counts.true-raw)
+    found_none _ _ _ _ c.requires.0 c.requires.1 refl c.number.ensures _ c.start.ensures.1 (search rules) c.cut_counts.ensures (not-true _ c.if-not-cut_counts.true-raw)
 
 pub named_rows-wide-requires : goal.named_rows-wide-requires
 named_rows-wide-requires c = (whole_is _ c.requires.1).even

@@ -17,8 +17,7 @@ slice_bounds-request_of-end c = omega (arith, c.loop-i.invariant.whole, c.loop-i
 pub loop-i-preserved : goal.loop-i-preserved
 loop-i-preserved c =
     looked_next _ _ _ _ _ _ c.loop-i.invariant c.loop-i-test.true (c.request_of-request.ensures ∙ ap request_in (record_part _ _))
-    c.larger-most.ensures.0 (omega (arith, c.larger.ensures.0, c.larger-most.ensures.1))
-    (omega (arith, c.larger.ensures.1, c.larger-most.ensures.1))
+    (omega arith) (omega arith) (omega arith)
 
 pub returns-then-most-ge-CONTAINER_LIMIT : goal.returns-then-most-ge-CONTAINER_LIMIT
 returns-then-most-ge-CONTAINER_LIMIT c = (omega arith, leaves_all _)

@@ -9,9 +9,6 @@ use Rattle.trim.proofs.number.Goals as goal
 pub loop-i-init : goal.loop-i-init
 loop-i-init c = copied_start _ _ _ (omega (arith, c.requires, count_length 0 trim_limit))
 
-pub bounds-positions-i : goal.bounds-positions-i
-bounds-positions-i c = omega (arith, c.requires, c.loop-i.invariant.long, c.loop-i-test.true)
-
 pub loop-i-preserved : goal.loop-i-preserved
 loop-i-preserved c = copied_next _ _ _ _ _ c.loop-i.invariant _ _ (omega arith) (omega (arith, c.loop-i-test.true, count_length 0 trim_limit)) (numbered _ c.loop-i-test.true)
 

@@ -1,5 +1,4 @@
 -- `trim::number`: the places before i have their numbers.
-use Prim.Native.Nat.{◌-◌}
 use Rattle.lists.specs.Counting.{count_from}
 use Rattle.lists.proofs.Copying.{Copied}
 use Rattle.trim.specs.Trims.{trim_limit}
@@ -7,6 +6,3 @@ use Rattle.trim.proofs.number.Given as goal
 
 abbrev pub invariant-loop-i : goal.invariant-loop-i
 invariant-loop-i l = Copied (count_from 0 trim_limit) l.initial.positions l.positions 0 l.i
-
-abbrev pub decreases-loop-i : goal.decreases-loop-i
-decreases-loop-i l = trim_limit - l.i

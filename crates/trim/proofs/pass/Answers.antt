@@ -8,6 +8,7 @@ use Rattle.trim.specs.Replays.{in_trace}
 use Rattle.trim.proofs.PassLaws.{passes_start, passes_drop, passes_keep, passes_end, next_fits, rest_fits, part_is}
 use borrow.Author.Rules.{rules}
 use Rattle.trim.proofs.pass.Goals as goal
+use Rattle.trim.proofs.pass.Goals.{then-not-counts_behind, else-not-counts_behind}
 
 pub loop-i-init : goal.loop-i-init
 loop-i-init c = passes_start _ _ _ _ _ _ _ c.requires
@@ -31,19 +32,19 @@ pub keep-requires : goal.keep-requires
 keep-requires c =
     next_fits _ _ _ _ _ _ _ _ _ _ _ c.loop-i.invariant c.loop-i-test.true
 
-pub loop-i-preserved-then-not-counts_behind : goal.loop-i-preserved-then-not-counts_behind
-loop-i-preserved-then-not-counts_behind c =
-    passes_keep _ _ _ _ _ _ _ _ _ _ _ c.loop-i.invariant c.loop-i-test.true
-    (c.counts_behind.ensures.0
-    ∙ ap (cut_counts c.loop-i.before c.args.trace.now c.args.last) (part_is c.args.n (c.loop-i.i + 1) c.loop-i.positions))
-    (not-true _ c.if-not-counts_behind.true-raw) c.keep.ensures (search rules) c.counts_behind.ensures.1
-
 pub loop-i-preserved : goal.loop-i-preserved
 loop-i-preserved c =
-    passes_drop _ _ _ _ _ _ _ _ _ _ _ c.loop-i.invariant c.loop-i-test.true
-    (c.counts_behind.ensures.0
-    ∙ ap (cut_counts c.loop-i.before c.args.trace.now c.args.last) (part_is c.args.n (c.loop-i.i + 1) c.loop-i.positions))
-    (not-false _ c.if-not-counts_behind.false-raw) c.counts_behind.ensures.1
+    let inv = c.loop-i.invariant in
+    let told = c.counts_behind.ensures.0
+    ∙ ap (cut_counts c.loop-i.before c.args.trace.now c.args.last) (part_is c.args.n (c.loop-i.i + 1) c.loop-i.positions) in
+    elim c.if-not-counts_behind.branch [
+      | then-not-counts_behind w ↦
+          rw (w.before-is, w.positions-is, w.kept-is) (passes_keep _ _ _ _ _ _ _ _ _ _ _ inv c.loop-i-test.true told
+          (not-true _ w.if-not-counts_behind.true-raw) w.keep.ensures (search rules) c.counts_behind.ensures.1)
+      | else-not-counts_behind w ↦
+          rw (w.before-is, w.positions-is, w.kept-is) (passes_drop _ _ _ _ _ _ _ _ _ _ _ inv c.loop-i-test.true told
+          (not-false _ w.if-not-counts_behind.false-raw) c.counts_behind.ensures.1)
+    ]
 
 pub shape_of-before : goal.shape_of-before
 shape_of-before c = c.loop-i.invariant.long_before

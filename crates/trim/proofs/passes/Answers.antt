@@ -4,9 +4,6 @@ use Rattle.trim.proofs.TrimLoop.{trimming_start, trimming_ready, trimming_next, 
 use borrow.Author.Rules.{rules}
 use Rattle.trim.proofs.passes.Goals as goal
 
-pub overflow_add-n : goal.overflow_add-n
-overflow_add-n c = omega (arith, c.requires.small)
-
 pub loop-kept-init : goal.loop-kept-init
 loop-kept-init c = trimming_start _ _ _ _ _ _ _ c.requires
 

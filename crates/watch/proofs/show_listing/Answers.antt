@@ -1,29 +1,19 @@
 -- `watch::show_listing`. The policy is the bytes that were read.
 use Rattle.watch.proofs.ListedTrace.{shown_refused, shown_listing}
-use Rattle.files.proofs.CallLaws.{failed, done_as}
+use Rattle.files.proofs.CallLaws.{done_as}
 use Rattle.fields.specs.Ascii.{ascii}
-use borrow.Author.Tests.{not-true, not-false}
 use mathlib.Core.Path.{refl}
-use lib.ListN.{length-take}
-use native.Mathlib.Omega.{arith}
 use Rattle.watch.proofs.show_listing.Goals as goal
 
-pub returns-then-not-loaded : goal.returns-then-not-loaded
-returns-then-not-loaded c = failed (c.load-loaded.ensures.1.told (not-true _ c.if-not-loaded.true))
-
-pub slice_bounds-start-end : goal.slice_bounds-start-end
-slice_bounds-start-end c = simp length-take (omega arith)
-
-pub returns-then-refusal-ne0 : goal.returns-then-refusal-ne0
+pub returns-in-Err : goal.returns-in-Err
 unfolding ascii
-returns-then-refusal-ne0 c =
-    done_as
-    (shown_refused _ _ _ refl c.load-loaded.auto.buf (c.load-loaded.ensures.1.done (not-false _ c.if-not-loaded.false)) refl
-    c.start-refusal.ensures.0 _ _ c.if-refusal-ne0.true) c.refuse.ensures
+returns-in-Err c =
+    done_as c.refuse.result
+    (λ _. shown_refused _ _ refl c.load.auto.buf c.in_ok-n.ensures.1 refl _ c.start.ensures.0 _ c.in-Err.is _ _) c.refuse.ensures
 
 pub returns : goal.returns
 unfolding ascii
 returns c =
-    done_as
-    (shown_listing _ _ _ refl c.load-loaded.auto.buf (c.load-loaded.ensures.1.done (not-false _ c.if-not-loaded.false)) refl
-    c.start-refusal.ensures.0 _ _ _ c.if-refusal-ne0.false c.start-refusal.ensures.1) c.watch.ensures
+    done_as c.watch.result
+    (λ _. shown_listing _ _ refl c.load.auto.buf c.in_ok-n.ensures.1 refl _ c.start.ensures.0 _ c.in_default.is _ _ _ c.start.ensures.1)
+    c.watch.ensures

@@ -1,12 +1,9 @@
 use native.Mathlib.Omega.{arith}
 use Rattle.lists.proofs.Bools.{passes_test, fails_test}
 use Rattle.withdrawals.specs.Returns.{losses_needed}
-use Rattle.lists.proofs.Below.{passing_start, passing_next, passing_fails, passing_end}
+use Rattle.lists.proofs.Below.{passing_next, passing_fails, passing_end}
 use Rattle.withdrawals.proofs.NeedLaws.{read_not_needed, write_not_needed, both_needed}
 use Rattle.withdrawals.proofs.losses_needed.Goals as goal
-
-pub loop-k-init : goal.loop-k-init
-loop-k-init c = passing_start _ _
 
 pub returns-then-not-loss_needed : goal.returns-then-not-loss_needed
 unfolding losses_needed

@@ -1,5 +1,4 @@
 -- The invariant: the rights to the objects before k are needed.
-use Prim.Native.Nat.{◌-◌}
 use Rattle.matrix.specs.Rows.{bit_at}
 use Rattle.withdrawals.specs.Returns.{object_needed}
 use Rattle.lists.proofs.Below.{Passing}
@@ -7,6 +6,3 @@ use Rattle.withdrawals.proofs.losses_needed.Given as goal
 
 abbrev pub invariant-loop-k : goal.invariant-loop-k
 invariant-loop-k l = Passing (object_needed (bit_at l.flows) l.n l.lost_reads l.lost_writes l.reads l.writes) l.n l.k
-
-abbrev pub decreases-loop-k : goal.decreases-loop-k
-decreases-loop-k l = l.n - l.k

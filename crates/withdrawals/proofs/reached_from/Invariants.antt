@@ -1,10 +1,6 @@
 -- The invariant: the rows of the targets before y are in the row.
-use Prim.Native.Nat.{◌-◌}
 use Rattle.withdrawals.proofs.FitLaws.{Reaching}
 use Rattle.withdrawals.proofs.reached_from.Given as goal
 
 abbrev pub invariant-loop-y : goal.invariant-loop-y
 invariant-loop-y l = Reaching l.flows l.n l.targets l.reached l.y
-
-abbrev pub decreases-loop-y : goal.decreases-loop-y
-decreases-loop-y l = l.n - l.y

@@ -1,10 +1,7 @@
 use Rattle.rules.proofs.SetLaws.{holds_is, holds_not}
 use Rattle.withdrawals.specs.Judgements.{rows_held}
-use Rattle.lists.proofs.Below.{passing_start, passing_next, passing_fails, passing_end}
+use Rattle.lists.proofs.Below.{passing_next, passing_fails, passing_end}
 use Rattle.withdrawals.proofs.rows_held.Goals as goal
-
-pub loop-s-init : goal.loop-s-init
-loop-s-init c = passing_start _ _
 
 pub returns-then-others-s : goal.returns-then-others-s
 unfolding rows_held

@@ -1,12 +1,9 @@
 use mathlib.Core.Path.{sym, ◌∙◌}
 use Rattle.lists.proofs.Bools.{passes_test, fails_test}
 use Rattle.withdrawals.specs.Returns.{stays_closed}
-use Rattle.lists.proofs.Below.{passing_start, passing_next, passing_fails, passing_end}
+use Rattle.lists.proofs.Below.{passing_next, passing_fails, passing_end}
 use Rattle.withdrawals.proofs.FitLaws.{row_fits_is}
 use Rattle.withdrawals.proofs.stays_closed.Goals as goal
-
-pub loop-a-init : goal.loop-a-init
-loop-a-init c = passing_start _ _
 
 pub returns-then-not-row_fits : goal.returns-then-not-row_fits
 unfolding stays_closed

@@ -1,12 +1,9 @@
 use mathlib.Core.Path.{sym, ◌∙◌}
 use Rattle.rules.proofs.SetLaws.{holds_is, holds_not}
 use Rattle.withdrawals.specs.Returns.{table_closed}
-use Rattle.lists.proofs.Below.{passing_start, passing_next, passing_fails, passing_end}
+use Rattle.lists.proofs.Below.{passing_next, passing_fails, passing_end}
 use Rattle.withdrawals.proofs.FitLaws.{row_closed_is}
 use Rattle.withdrawals.proofs.table_closed.Goals as goal
-
-pub loop-a-init : goal.loop-a-init
-loop-a-init c = passing_start _ _
 
 pub returns-then-row-reached : goal.returns-then-row-reached
 unfolding table_closed

@@ -13,4 +13,4 @@ bounds-links-node-2 c = simp length-set (omega arith)
 pub returns : goal.returns
 returns c =
     carried _ _ _ _ _ _ _ _ _ _ _ _ c.receiver_of-to.ensures.0 c.main_source-main.ensures c.running_source-running.ensures c.ends_main.ensures
-    c.ends_main-2.ensures c.next_node-main_node.ensures c.next_node-running_node.ensures
+    c.ends_running.ensures c.next_node-main_node.ensures c.next_node-running_node.ensures

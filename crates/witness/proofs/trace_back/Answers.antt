@@ -1,6 +1,6 @@
 use native.Mathlib.Omega.{arith}
 use mathlib.Core.Path.{refl}
-use Rattle.witness.proofs.BackLaws.{following_start, following_some, following_next, following_none, following_end}
+use Rattle.witness.proofs.BackLaws.{following_start, following_some, following_next, following_none, following_end, following_inside}
 use Rattle.witness.proofs.trace_back.Goals as goal
 
 pub loop-v-init : goal.loop-v-init
@@ -24,7 +24,11 @@ loop-v-preserved c =
     following_next _ _ _ _ _ _ c.loop-v.invariant c.loop-v-test.true f.0 f.1 _ refl
 
 pub returns-then-v-eq0 : goal.returns-then-v-eq0
-returns-then-v-eq0 c = λ ns w st room. following_none _ _ _ _ _ _ c.loop-v.invariant c.loop-v-test.false ns w st room c.if-v-eq0.true
+returns-then-v-eq0 c = (λ ns w st room. following_none _ _ _ _ _ _ c.loop-v.invariant c.loop-v-test.false ns w st room c.if-v-eq0.true, tt)
 
 pub returns : goal.returns
-returns c = λ ns w st room. following_end _ _ _ _ _ _ c.loop-v.invariant c.loop-v-test.false ns w st room c.if-v-eq0.false
+returns c =
+    let b = c.requires.1 in (
+      λ ns w st room. following_end _ _ _ _ _ _ c.loop-v.invariant c.loop-v-test.false ns w st room c.if-v-eq0.false,
+      following_inside _ _ _ _ _ _ c.loop-v.invariant c.loop-v-test.false b.0 b.1 b.2 b.3 c.if-v-eq0.false,
+    )

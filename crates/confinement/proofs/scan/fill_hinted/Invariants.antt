@@ -1,14 +1,10 @@
 -- Each line's path takes its number; then the line adds a program, or modes to the last one.
-use Prim.Native.Nat.{◌-◌}
 use mathlib.Core.Path.{◌≡◌}
 use lib.ListN.{length}
 use Rattle.confinement.specs.Scans.{hint_count}
 use Rattle.confinement.proofs.FilledTables.{TextScan}
 use Rattle.confinement.proofs.scan.fill_hinted.Given as goal
 
-abbrev pub invariant-loop-i : goal.invariant-loop-i
-invariant-loop-i l =
-    TextScan l.text l.words l.starts l.sizes l.own l.modes l.i l.n l.m × (length l.hints ≡ hint_count)
-
-abbrev pub decreases-loop-i : goal.decreases-loop-i
-decreases-loop-i l = length l.words - l.i
+abbrev pub invariant-loop-word : goal.invariant-loop-word
+invariant-loop-word l =
+    TextScan l.text l.words l.starts l.sizes l.own l.modes l.word-index l.n l.m × (length l.hints ≡ hint_count)

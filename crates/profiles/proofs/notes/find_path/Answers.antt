@@ -1,5 +1,6 @@
 use mathlib.Core.Path.{sym, ◌∙◌}
 use lib.ListN.{take, drop}
+use native.Mathlib.Omega.{arith}
 use borrow.Author.Tests.{not-true}
 use Rattle.lists.proofs.Every.{every_get_d}
 use Rattle.profiles.specs.Notes.{note_good}
@@ -24,4 +25,4 @@ pub loop-j-preserved : goal.loop-j-preserved
 loop-j-preserved c = notes_next _ _ _ _ c.loop-j.invariant c.loop-j-test.true (sym c.is_noted.ensures ∙ c.if-is_noted.false)
 
 pub returns : goal.returns
-returns c = notes_end _ _ _ _ c.loop-j.invariant c.loop-j-test.false
+returns c = omega (arith, notes_end _ _ _ _ c.loop-j.invariant c.loop-j-test.false)

@@ -1,5 +1,4 @@
 -- The word is the line.
-use mathlib.Core.Path.{◌∙◌}
 use Rattle.fields.specs.Ascii.{ascii}
 use Rattle.lists.proofs.Bools.{passes_test, fails_test}
 use Rattle.profiles.specs.Profiles.{end_line}
@@ -9,7 +8,7 @@ use Rattle.profiles.proofs.scanning.end_line.Goals as goal
 pub returns-then-not-starts : goal.returns-then-not-starts
 unfolding end_line ascii
 returns-then-not-starts c =
-    c.no_line.ensures ∙ end_no_line c.args.text.now c.args.at c.requires.1 (fails_test c.starts.ensures c.if-not-starts.true-raw)
+    end_no_line c.args.text.now c.args.at c.requires.1 (fails_test c.starts.ensures c.if-not-starts.true-raw)
 
 pub returns : goal.returns
 unfolding end_line ascii

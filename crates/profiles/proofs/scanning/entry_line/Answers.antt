@@ -1,6 +1,6 @@
 -- The parts of the line are tested one after the other.
 use Prim.Native.Nat.{◌+◌}
-use mathlib.Core.Path.{refl, ap, ◌∙◌}
+use mathlib.Core.Path.{refl, ap}
 use native.Mathlib.Omega.{arith}
 use Rattle.fields.specs.Ascii.{ascii}
 use Rattle.lists.proofs.Bools.{passes_test, fails_test}
@@ -12,7 +12,7 @@ use Rattle.profiles.proofs.scanning.entry_line.Goals as goal
 
 pub returns-then-not-path_good : goal.returns-then-not-path_good
 returns-then-not-path_good c =
-    c.no_line.ensures ∙ entry_no_path c.args.text.now c.args.at _ _ c.requires.1 c.requires.2 c.path_end-end.ensures
+    entry_no_path c.args.text.now c.args.at _ _ c.requires.1 c.requires.2 c.path_end-end.ensures
     refl (fails_test c.path_good.ensures c.if-not-path_good.true-raw)
 
 pub starts-requires : goal.starts-requires
@@ -21,8 +21,7 @@ starts-requires c = (omega (arith, c.path_end-end.ensures, path_room c.args.text
 pub returns-then-not-starts : goal.returns-then-not-starts
 unfolding modes_start ascii
 returns-then-not-starts c =
-    c.no_line-then-not-starts.ensures
-    ∙ entry_no_space c.args.text.now c.args.at _ _ c.requires.1 c.requires.2 c.path_end-end.ensures refl
+    entry_no_space c.args.text.now c.args.at _ _ c.requires.1 c.requires.2 c.path_end-end.ensures refl
     (passes_test c.path_good.ensures c.if-not-path_good.false-raw) (fails_test c.starts.ensures c.if-not-starts.true-raw)
 
 pub overflow_add-first : goal.overflow_add-first
@@ -36,8 +35,7 @@ modes_at-modes-requires c = (starts_room modes_start c.args.text.now c.path_end-
 pub returns-then-next-first : goal.returns-then-next-first
 unfolding modes_start ascii modes_at modes_scan
 returns-then-next-first c =
-    c.no_line-then-next-first.ensures
-    ∙ entry_no_mode c.args.text.now c.args.at _ _ c.requires.1 c.requires.2 c.path_end-end.ensures
+    entry_no_mode c.args.text.now c.args.at _ _ c.requires.1 c.requires.2 c.path_end-end.ensures
     ((ap (λ (m : ScannedModes). m.next) c.modes_at-modes.ensures))
     (passes_test c.path_good.ensures c.if-not-path_good.false-raw)
     (passes_test c.starts.ensures c.if-not-starts.false-raw) c.if-next-first.true
@@ -55,8 +53,7 @@ starts-requires-2 c = (
 pub returns-then-not-starts-2 : goal.returns-then-not-starts-2
 unfolding modes_start modes_end ascii modes_at modes_scan
 returns-then-not-starts-2 c =
-    c.no_line-then-not-starts-2.ensures
-    ∙ entry_no_end c.args.text.now c.args.at _ _ c.requires.1 c.requires.2 c.path_end-end.ensures ((ap (λ (m : ScannedModes). m.next) c.modes_at-modes.ensures))
+    entry_no_end c.args.text.now c.args.at _ _ c.requires.1 c.requires.2 c.path_end-end.ensures ((ap (λ (m : ScannedModes). m.next) c.modes_at-modes.ensures))
     (passes_test c.path_good.ensures c.if-not-path_good.false-raw) (passes_test c.starts.ensures c.if-not-starts.false-raw)
     c.if-next-first.false (fails_test c.starts-2.ensures c.if-not-starts-2.true-raw)
 

@@ -11,28 +11,33 @@ use Rattle.profiles.proofs.scanning.mode_at.Goals as goal
 
 pub returns-in-114 : goal.returns-in-114
 unfolding mode_in mode_among all_modes mode_text mode_bit mode_scan ascii starts
-returns-in-114 c = one_letter c.args.text.now c.args.at c.requires
-    _ (sym c.byte.ensures ∙ c.in-114.is) mode_r (λ u. refl)
+returns-in-114 c =
+    c.letter.ensures
+    ∙ one_letter c.args.text.now c.args.at c.requires _ (sym c.byte.ensures ∙ c.in-114.is) mode_r (λ u. refl)
 
 pub returns-in-119 : goal.returns-in-119
 unfolding mode_in mode_among all_modes mode_text mode_bit mode_scan ascii starts
-returns-in-119 c = one_letter c.args.text.now c.args.at c.requires
-    _ (sym c.byte.ensures ∙ c.in-119.is) mode_w (λ u. refl)
+returns-in-119 c =
+    c.letter-in-119.ensures
+    ∙ one_letter c.args.text.now c.args.at c.requires _ (sym c.byte.ensures ∙ c.in-119.is) mode_w (λ u. refl)
 
 pub returns-in-97 : goal.returns-in-97
 unfolding mode_in mode_among all_modes mode_text mode_bit mode_scan ascii starts
-returns-in-97 c = one_letter c.args.text.now c.args.at c.requires
-    _ (sym c.byte.ensures ∙ c.in-97.is) mode_a (λ u. refl)
+returns-in-97 c =
+    c.letter-in-97.ensures
+    ∙ one_letter c.args.text.now c.args.at c.requires _ (sym c.byte.ensures ∙ c.in-97.is) mode_a (λ u. refl)
 
 pub returns-in-108 : goal.returns-in-108
 unfolding mode_in mode_among all_modes mode_text mode_bit mode_scan ascii starts
-returns-in-108 c = one_letter c.args.text.now c.args.at c.requires
-    _ (sym c.byte.ensures ∙ c.in-108.is) mode_l (λ u. refl)
+returns-in-108 c =
+    c.letter-in-108.ensures
+    ∙ one_letter c.args.text.now c.args.at c.requires _ (sym c.byte.ensures ∙ c.in-108.is) mode_l (λ u. refl)
 
 pub returns-in-109 : goal.returns-in-109
 unfolding mode_in mode_among all_modes mode_text mode_bit mode_scan ascii starts
-returns-in-109 c = one_letter c.args.text.now c.args.at c.requires
-    _ (sym c.byte.ensures ∙ c.in-109.is) mode_m (λ u. refl)
+returns-in-109 c =
+    c.letter-in-109.ensures
+    ∙ one_letter c.args.text.now c.args.at c.requires _ (sym c.byte.ensures ∙ c.in-109.is) mode_m (λ u. refl)
 
 pub returns-in-105 : goal.returns-in-105
 unfolding mode_in mode_among all_modes mode_text mode_bit mode_scan ascii starts

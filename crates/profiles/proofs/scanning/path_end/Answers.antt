@@ -1,3 +1,4 @@
+use native.Mathlib.Omega.{arith}
 use Rattle.lists.proofs.Bools.{passes_test, fails_test}
 use Rattle.profiles.proofs.WordScans.{path_start, path_next, path_stop, path_end_lem}
 use Rattle.profiles.proofs.scanning.path_end.Goals as goal
@@ -12,4 +13,4 @@ pub loop-i-preserved : goal.loop-i-preserved
 loop-i-preserved c = path_next _ _ _ c.loop-i.invariant c.loop-i-test.true (passes_test c.is_path_byte.ensures c.if-not-is_path_byte.false-raw)
 
 pub returns : goal.returns
-returns c = path_end_lem _ _ _ c.loop-i.invariant c.loop-i-test.false
+returns c = omega (arith, path_end_lem _ _ _ c.loop-i.invariant c.loop-i-test.false, c.requires)

@@ -1,6 +1,6 @@
 -- The parts of the line are tested one after the other.
 use Prim.Native.Nat.{◌+◌}
-use mathlib.Core.Path.{refl, ◌∙◌}
+use mathlib.Core.Path.{refl}
 use native.Mathlib.Omega.{arith}
 use Rattle.fields.specs.Ascii.{ascii}
 use Rattle.lists.proofs.Bools.{passes_test, fails_test}
@@ -11,7 +11,7 @@ use Rattle.profiles.proofs.scanning.profile_line.Goals as goal
 pub returns-then-not-starts : goal.returns-then-not-starts
 unfolding profile_word ascii
 returns-then-not-starts c =
-    c.no_line.ensures ∙ profile_no_word c.args.text.now c.args.at _ c.requires.1 refl (fails_test c.starts.ensures c.if-not-starts.true-raw)
+    profile_no_word c.args.text.now c.args.at _ c.requires.1 refl (fails_test c.starts.ensures c.if-not-starts.true-raw)
 
 pub path_end-end-requires : goal.path_end-end-requires
 unfolding ascii profile_word
@@ -21,8 +21,7 @@ path_end-end-requires c = (starts_room profile_word c.args.text.now c.args.at (p
 pub returns-then-not-path_good : goal.returns-then-not-path_good
 unfolding profile_word ascii
 returns-then-not-path_good c =
-    c.no_line-then-not-path_good.ensures
-    ∙ profile_no_path c.args.text.now c.args.at _ c.requires.1 c.path_end-end.ensures
+    profile_no_path c.args.text.now c.args.at _ c.requires.1 c.path_end-end.ensures
     (passes_test c.starts.ensures c.if-not-starts.false-raw)
     (fails_test c.path_good.ensures c.if-not-path_good.true-raw)
 
@@ -39,8 +38,7 @@ starts-requires-2 c =
 pub returns-then-not-starts-2 : goal.returns-then-not-starts-2
 unfolding profile_word profile_end ascii
 returns-then-not-starts-2 c =
-    c.no_line-then-not-starts-2.ensures
-    ∙ profile_no_end c.args.text.now c.args.at _ c.requires.1 c.path_end-end.ensures
+    profile_no_end c.args.text.now c.args.at _ c.requires.1 c.path_end-end.ensures
     (passes_test c.starts.ensures c.if-not-starts.false-raw) (passes_test c.path_good.ensures c.if-not-path_good.false-raw)
     (fails_test c.starts-2.ensures c.if-not-starts-2.true-raw)
 

@@ -1,0 +1,9 @@
+-- Both tests are the definition's.
+use borrow.Author.Tests.{eq-eqb, ne_eqb}
+use Rattle.normaliser.proofs.Sections.names_nothing.Goals as goal
+
+pub returns-then-self-eq0 : goal.returns-then-self-eq0
+returns-then-self-eq0 c = rw (eq-eqb _ _ c.if-self-eq0.true)
+
+pub returns-else-self-eq0 : goal.returns-else-self-eq0
+returns-else-self-eq0 c = rw (ne_eqb _ _ c.if-self-eq0.false)
