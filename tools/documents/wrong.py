@@ -1,10 +1,11 @@
-"""The table of wrong programs in docs/ARCHITECTURE.md, from the first lines of crates/*/must-fail/*.edit. What an edit changes is the function or the
-definition around its text; an edit whose first line begins with names of functions stands under these."""
+"""The table of wrong programs in docs/ARCHITECTURE.md, from the first lines of crates/*/must-fail/*.edit. What an edit changes is the function, the enum or
+the definition around its text; an edit whose first line begins with names of functions stands under these."""
 import glob
 import re
 
 FUNCTION = re.compile(r'^ *(?:pub )?(?:extern "C" )?fn (\w+)', re.M)
 CONSTANT = re.compile(r"^ *(?:pub )?const (\w+)", re.M)
+ENUM = re.compile(r"^ *(?:pub )?enum (\w+)", re.M)
 # The head of a definition: a signature, a clause, or a declared type with its constructors below it.
 DEFINITION = re.compile(r"^(?:(?:abbrev|unfoldable|pub|data|record) )*(?!mutual\b|module\b|use\b)([^\W\d][^\s(){}:]*)", re.M)
 # The same inside a block of definitions that call each other, or that share a parameter.
@@ -37,7 +38,7 @@ class Edit:
         self.at = source.index(re.search(r"^old: (.*)$", text, re.M).group(1))
         self.definition = self.file.startswith("specs/")
         # Past the indent: a line of a body is of the function above it.
-        self.of = around(source, self.at, (DEFINITION, INSIDE) if self.definition else (FUNCTION, CONSTANT))
+        self.of = around(source, self.at, (DEFINITION, INSIDE) if self.definition else (FUNCTION, CONSTANT, ENUM))
         head = re.match(r"([a-z]\w*(?:, [a-z]\w*)*): (.*)", self.words)
         if head and not self.definition and set(head.group(1).split(", ")) <= set(FUNCTION.findall(source)):
             self.of, self.words = head.groups()

@@ -19,7 +19,7 @@ import header
 START = re.compile(r"^[0-9a-f]+ <(.+)>:$")
 BRANCH = re.compile(r"\t(call|j[a-z]+) +[0-9a-f]+ <([^+]+)(\+0x[0-9a-f]+)?>$")
 RELOCATED = re.compile(r"\bR_X86_64_\w+\s")
-TARGET = re.compile(r"R_X86_64_(?:PLT32|PC32)\s+(?:\.text\.)?([\w:]+)-0x4$")
+TARGET = re.compile(r"R_X86_64_(?:PLT32|PC32)\s+(?:\.text\.)?(\S+)-0x4$")
 TABLE = re.compile(r"^RELOCATION RECORDS FOR \[(.+)\]:$")
 PLACE = re.compile(r"R_X86_64_\w+\s+\.text\.([\w:]+)")
 SUB = re.compile(r"\bsub +\$0x([0-9a-f]+),%rsp$")
