@@ -38,11 +38,11 @@ module _ (reads writes : List ℕ) (n : ℕ) (out : List ℕ) where
   abbrev refusal : ℕ
   refusal = first_failed (derived_conditions reads writes n out)
 
-  refusal_short : length out < output_bound → refusal ≡ lent_length
+  pub refusal_short : length out < output_bound → refusal ≡ lent_length
   unfolding derived_conditions
   refusal_short h = failed (leb output_bound (length out) or_refuse lent_length) _ (lt-leb output_bound (length out) h)
 
-  refusal_matrix : output_bound ≤ length out → matrix_good reads writes n ≡ false → refusal ≡ matrix
+  pub refusal_matrix : output_bound ≤ length out → matrix_good reads writes n ≡ false → refusal ≡ matrix
   unfolding derived_conditions
   refusal_matrix h g =
       passed (leb output_bound (length out) or_refuse lent_length) _ (le-leb output_bound (length out) h)

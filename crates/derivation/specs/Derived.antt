@@ -1,13 +1,11 @@
 -- The policy derived from a matrix (the paper, "Matrix": "The derived policy, a normal image"), and the answer and effect of writing it.
-use Rattle.std.specs.Prelude.{ℕ, ◌^◌, cond, List, [], ◌∷◌, ◌++◌, map, leb, length, replicate, Result, Ok, Err}
+use Rattle.std.specs.Prelude.{ℕ, ◌^◌, cond, List, [], ◌∷◌, ◌++◌, map, leb, length, replicate}
 use Rattle.std.specs.Int.Bits.{bit_or}
 use Rattle.image.specs.Limits.{file_kind, process_kind, no_atom, unrestricted_number, no_owner, output_bound}
 use Rattle.image.specs.Policy.{Container, Policy}
 use Rattle.image.specs.Normal.{normal_image}
 use Rattle.normaliser.specs.Normaliser.{length_unless, written_unless}
 use Rattle.answers.specs.Refusals.{matrix, lent_length}
-use Rattle.answers.specs.declared.Refusal.{Refusal}
-use Rattle.answers.specs.Outcomes.{refusal_number}
 use Rattle.lists.specs.Counting.{count_from}
 use Rattle.lists.specs.Conditions.{Condition, ◌or_refuse◌, first_failed}
 use Rattle.matrix.specs.Flows.{has, matrix_good}
@@ -58,10 +56,9 @@ derived_image reads writes objects = normal_image (derived_policy reads writes o
 unfoldable pub derived_conditions : List ℕ → List ℕ → ℕ → List ℕ → List Condition
 derived_conditions reads writes objects out = (leb output_bound (length out) or_refuse lent_length) ∷ (matrix_good reads writes objects or_refuse matrix) ∷ []
 
--- the refusal's number, or the length of the image: what the code answers as one number
-abbrev pub derived_number : Result ℕ Refusal → ℕ
-derived_number (Err refusal) = refusal_number refusal
-derived_number (Ok length) = length
+-- the refusal, 0 if there is none
+abbrev pub derived_refusal : List ℕ → List ℕ → ℕ → List ℕ → ℕ
+derived_refusal reads writes objects out = first_failed (derived_conditions reads writes objects out)
 
 unfoldable pub derived_answer : List ℕ → List ℕ → ℕ → List ℕ → ℕ
 derived_answer reads writes objects out = length_unless (first_failed (derived_conditions reads writes objects out)) (derived_image reads writes objects)

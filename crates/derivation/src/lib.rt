@@ -12,7 +12,9 @@ ghost use Rattle.image.specs.Normal.{container_bytes};
 ghost use Rattle.normaliser.specs.Writer.{unowned, form_width, form_row, normal_use, form_words};
 ghost use Rattle.matrix.specs.Limits.{subject_limit, object_limit};
 ghost use Rattle.lists.specs.Counting.{count_from};
-ghost use Rattle.derivation.specs.Derived.{permit_of, object_file, subject_process, derived_number, derived_answer, derived_effect};
+ghost use Rattle.derivation.specs.Derived.{permit_of, object_file, subject_process, derived_refusal, derived_answer, derived_effect};
+ghost use Rattle.answers.specs.Outcomes.{outcome_number};
+ghost use Rattle.normaliser.specs.Normaliser.{written_number};
 
 use answers::Refusal;
 
@@ -135,8 +137,9 @@ fn put_permits(words: &mut [u64], rights: Rights, n: usize)
 
 // Writes the derived policy as a normal image and gives its length. The output's length is looked at first, then the matrix.
 pub fn derive(reads: &[u32], writes: &[u32], objects: u32, out: &mut [u8]) -> Result<u32, Refusal>
-    ensures { (derived_number result ≡ derived_answer reads.now writes.now objects out.old)
-        × (out.new ≡ derived_effect reads.now writes.now objects out.old) }
+    ensures { (written_number result ≡ derived_answer reads.now writes.now objects out.old)
+        × (out.new ≡ derived_effect reads.now writes.now objects out.old)
+        × (outcome_number result ≡ derived_refusal reads.now writes.now objects out.old) }
 {
     if out.len() < image::OUTPUT_BOUND {
         return Err(Refusal::LentLength);
