@@ -106,7 +106,10 @@ pub fn reach_flows(reads: &[u32], writes: &[u32], reach: &mut [u32])
     requires { (length writes.now ≡ length reads.now) × (1 ≤ length reads.now) × (length reads.now ≤ subject_limit) × (length reach.old ≡ subject_limit) }
     ensures { Reaching reads.now writes.now reach.new (length reads.now) }
 {
-    reach[..reads.len()].copy_from_slice(writes);
+    // Kept: the C interface: `copy_from_slice` would be a call of memmove, and the archive needs no function but memcpy and memset.
+    for (s, &row) in writes.iter().enumerate() {
+        reach[s] = row;
+    }
     for (k, &read) in reads.iter().enumerate() {
         pass_through(reach, read, k);
     }

@@ -1,22 +1,29 @@
-use Prim.Native.Nat.{ℕ, ◌<◌}
-use mathlib.Core.List.{List}
-use mathlib.Core.Path.{◌≡◌, ap, ◌∙◌}
-use lib.ListN.{length, get_or, length-append, length-drop, get_or-append}
+use mathlib.Core.Path.{refl, ◌∙◌}
 use native.Mathlib.Omega.{arith}
+use Rattle.matrix.proofs.RowLoops.{stored_next}
 use Rattle.matrix.proofs.SubjectReach.{reaching_start, passed_next}
 use Rattle.matrix.proofs.reach_flows.Goals as goal
 
-pub loop-k-init : goal.loop-k-init
-loop-k-init c =
-    let e : length c.copy_from_slice.new.self ≡ length c.args.reads.now = omega (arith, ap length c.copy_from_slice.ensures.after) in
+pub loop-s-init : goal.loop-s-init
+loop-s-init c =
     record {
       place = omega arith;
-      long = simp (length-append, length-drop, e) (omega arith);
-      rows =
-          reaching_start _ _ _ c.requires.0
-          (λ s l.
-          let m : s < length c.copy_from_slice.new.self = omega arith in
-          get_or-append _ _ 0 s m ∙ ap (λ (x : List ℕ). get_or x s 0) c.copy_from_slice.ensures.after);
+      fit = omega arith;
+      long = refl;
+      done = λ i l. absurd (omega arith);
+      rest = λ i l. refl;
+    }
+
+pub loop-s-preserved : goal.loop-s-preserved
+loop-s-preserved c = stored_next _ _ _ _ _ _ c.loop-s.invariant c.loop-s-test.true refl
+
+pub loop-k-init : goal.loop-k-init
+loop-k-init c =
+    let s = c.loop-s.invariant in
+    record {
+      place = omega arith;
+      long = omega (arith, s.long);
+      rows = reaching_start _ _ _ c.requires.0 (λ i l. s.done i (omega (arith, c.loop-s-test.false)));
     }
 
 pub loop-k-preserved : goal.loop-k-preserved
